@@ -1,0 +1,2 @@
+pub mod NoMemory
+pub mod Trial

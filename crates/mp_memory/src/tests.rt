@@ -1,0 +1,3 @@
+mod handle;
+mod threads;
+mod trials;

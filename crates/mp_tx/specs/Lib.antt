@@ -1,0 +1,11 @@
+pub mod Reference
+pub mod Plain
+pub mod Output
+pub mod Transaction
+pub mod Ledger
+pub mod Held
+pub mod Lookup
+pub mod LedgerFault
+pub mod TokenName
+pub mod Kept
+pub mod Fault

@@ -1,0 +1,22 @@
+//! Transactions and ledger states.
+#![tactic(auto)]
+
+mod digest;
+mod fault;
+mod input;
+mod ledger;
+mod output;
+mod plain;
+mod reference;
+mod spelling;
+mod token_name;
+mod tx;
+
+pub use fault::{LedgerFault, TxFault};
+pub use input::Input;
+pub use ledger::Ledger;
+pub use output::Output;
+pub use plain::{Data, Script};
+pub use reference::{Address, Hash, Key, OutRef, Sig, TxId};
+pub use token_name::TokenName;
+pub use tx::{Tx, TxParts};

@@ -1,0 +1,129 @@
+//! The bytes of a transaction.
+
+ghost use Rattle.std.specs.Prelude.{◌≡◌, ℕ, List, ◌<◌, ◌≤◌, ◌^◌, ◌++◌, length, OnOk, IfOk};
+ghost use Rattle.std.specs.Int.{w16, to_be_bytes};
+ghost use Rattle.mp_tx.specs.Transaction.{Transaction, sized, counted, input_bytes, coin_bytes, output_bytes, widest_interval, body, spelling, id_of};
+
+use crate::digest::digest;
+use crate::input::Input;
+use mp_memory::{Memory, NoMemory};
+use crate::output::Output;
+use crate::reference::TxId;
+
+// A count of none.
+const NOTHING: [u8; NOTHING_LEN] = [0; NOTHING_LEN];
+const NOTHING_LEN: usize = 2;
+const VERSION: u8 = 1;
+const COIN_POLICY: [u8; 32] = [0; 32];
+
+// Everything that no plain transaction changes.
+const FIXED: usize = 27;
+const INPUT: usize = 47;
+const OUTPUT: usize = 107;
+
+fn put_sized(out: &mut Vec<u8, Memory>, bytes: &[u8]) -> Result<(), NoMemory>
+    requires { length bytes.now < 2 ^ 16 }
+    ensures { OnOk result (out.new.items ≡ out.old.items ++ sized bytes.now) }
+{
+    out.extend_from_slice(&(bytes.len() as u16).to_be_bytes())?;
+    out.extend_from_slice(bytes)?;
+    Ok(())
+}
+
+#[tactic(auto, unfolding(crate::specs::Transaction::input_bytes))]
+fn put_input(out: &mut Vec<u8, Memory>, input: &Input) -> Result<(), NoMemory>
+    ensures { OnOk result (out.new.items ≡ out.old.items ++ input_bytes input.now) }
+{
+    out.extend_from_slice(&input.from.id)?;
+    out.extend_from_slice(&input.from.index.to_be_bytes())?;
+    put_sized(out, input.validator.bytes())?;
+    put_sized(out, input.datum.bytes())?;
+    put_sized(out, input.redeemer.bytes())
+}
+
+#[tactic(auto, unfolding(crate::specs::Transaction::coin_bytes))]
+fn put_coin(out: &mut Vec<u8, Memory>, coin: u64) -> Result<(), NoMemory>
+    ensures { OnOk result (out.new.items ≡ out.old.items ++ coin_bytes coin) }
+{
+    out.extend_from_slice(&1u16.to_be_bytes())?;
+    out.extend_from_slice(&COIN_POLICY)?;
+    out.push(0)?;
+    out.extend_from_slice(&coin.to_be_bytes())?;
+    Ok(())
+}
+
+#[tactic(auto, unfolding(crate::specs::Transaction::output_bytes))]
+fn put_output(out: &mut Vec<u8, Memory>, output: &Output) -> Result<(), NoMemory>
+    ensures { OnOk result (out.new.items ≡ out.old.items ++ output_bytes output.now) }
+{
+    out.extend_from_slice(output.address())?;
+    out.extend_from_slice(output.datum_hash())?;
+    put_coin(out, output.coin())
+}
+
+#[tactic(auto, unfolding(crate::specs::Transaction::counted))]
+fn put_inputs(out: &mut Vec<u8, Memory>, inputs: &[Input]) -> Result<(), NoMemory>
+    requires { length inputs.now < 2 ^ 16 }
+    ensures { OnOk result (out.new.items ≡ out.old.items ++ counted input_bytes inputs.now) }
+{
+    out.extend_from_slice(&(inputs.len() as u16).to_be_bytes())?;
+    for input in inputs {
+        put_input(out, input)?;
+    }
+    Ok(())
+}
+
+#[tactic(auto, unfolding(crate::specs::Transaction::counted))]
+fn put_outputs(out: &mut Vec<u8, Memory>, outputs: &[Output]) -> Result<(), NoMemory>
+    requires { length outputs.now < 2 ^ 16 }
+    ensures { OnOk result (out.new.items ≡ out.old.items ++ counted output_bytes outputs.now) }
+{
+    out.extend_from_slice(&(outputs.len() as u16).to_be_bytes())?;
+    for output in outputs {
+        put_output(out, output)?;
+    }
+    Ok(())
+}
+
+#[tactic(auto, unfolding(crate::specs::Transaction::widest_interval))]
+fn put_interval(out: &mut Vec<u8, Memory>) -> Result<(), NoMemory>
+    ensures { OnOk result (out.new.items ≡ out.old.items ++ widest_interval) }
+{
+    out.extend_from_slice(&0u64.to_be_bytes())?;
+    out.extend_from_slice(&u64::MAX.to_be_bytes())?;
+    Ok(())
+}
+
+/// The spelling, in one growth.
+pub fn spell(memory: Memory, inputs: &[Input], outputs: &[Output]) -> Result<Vec<u8, Memory>, NoMemory>
+    requires inputs { length inputs.now ≤ 256 }
+    requires outputs { length outputs.now ≤ 256 }
+    ensures { IfOk result (λ v. v.items ≡ spelling (record { inputs = inputs.now; outputs = outputs.now })) }
+{
+    let size = FIXED + INPUT * inputs.len() + OUTPUT * outputs.len();
+    let mut out = Vec::with_capacity(memory, size)?;
+    out.push(VERSION)?;
+    put_inputs(&mut out, inputs)?;
+    put_outputs(&mut out, outputs)?;
+    put_interval(&mut out)?;
+    out.extend_from_slice(&NOTHING)?;
+    out.extend_from_slice(&NOTHING)?;
+    out.extend_from_slice(&NOTHING)?;
+    Ok(out)
+}
+
+fn body_of(bytes: &[u8]) -> &[u8]
+    requires { NOTHING_LEN ≤ length bytes.now }
+    ensures { (text : List ℕ) → bytes.now ≡ text ++ to_be_bytes w16 0 → result.now ≡ text }
+{
+    &bytes[..bytes.len() - NOTHING_LEN]
+}
+
+/// The id of the transaction with this spelling.
+#[tactic(auto, unfolding(crate::specs::Transaction::id_of))]
+pub fn id_of_spelling(bytes: &[u8]) -> TxId
+    requires { NOTHING_LEN ≤ length bytes.now }
+    ensures { (t : Transaction) → bytes.now ≡ spelling t → result ≡ id_of t }
+{
+    digest(body_of(bytes))
+}
