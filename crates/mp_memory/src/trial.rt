@@ -27,7 +27,7 @@ impl<B: Allocator> Refusals for Metered<B> {
     }
 }
 
-/// A trial gives up on a call that makes as many growths: it makes about half the square of them.
+/// A trial gives up on a call that makes as many growths, since it makes more than half their square.
 pub const MOST_GROWTHS: u64 = 10_000;
 
 /// What a trial came to where the call stood each refusal.
@@ -35,7 +35,7 @@ pub const MOST_GROWTHS: u64 = 10_000;
 pub struct Trialled<A> {
     /// What the call answers where no growth is refused.
     pub answer: A,
-    /// How many growths the call makes, each of which was refused once.
+    /// How many growths the call makes on a new value, each of which was refused once.
     pub growths: u64,
 }
 
@@ -208,7 +208,7 @@ where
 /// Tries `call` on a value of `make` under the refusal of each of its growths in turn, each time on a new value.
 /// After each refusal the call has to say no memory, `is_unchanged` has to hold of the value, and the same call on it
 /// has to answer as the call does where nothing is refused. An `Err` says what did not hold. At `NotMade` and `Unasked`
-/// the system itself may have had no memory. The meter is disarmed afterwards.
+/// the system itself may have had no memory. No refusal waits afterwards.
 pub fn under_each_refusal<R, S, A, M, C, N, U>(
     memory: &R,
     make: M,

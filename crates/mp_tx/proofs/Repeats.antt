@@ -27,10 +27,10 @@ apart rs r none k d lt is = none (k, lt, get_or_default rs k r d lt ∙ is)
 pub one_more : (es : List (OutRef × Paid)) (place : ℕ) (e : OutRef × Paid) → place < length es → e ≡ get_or es place e → ¬ (Contains (refs (take place es)) e.0) → AreDistinct (take place (refs es)) → AreDistinct (take (place + 1) (refs es))
 one_more es place e lt is none before =
     let more : take (place + 1) (refs es) ≡ take place (refs es) ++ (e.0 ∷ []) =
-          ap (λ n. take n (refs es)) (add-one place) ∙ take-suc (refs es) place e.0 (subst (λ n. place < n) (sym (length-map es (λ (e : OutRef × Paid). e.0))) lt)
-          ∙ ap (λ r. take place (refs es) ++ (r ∷ [])) (ref_at es place e e.0 lt is) in
+    ap (λ n. take n (refs es)) (add-one place) ∙ take-suc (refs es) place e.0 (subst (λ n. place < n) (sym (length-map es (λ (e : OutRef × Paid). e.0))) lt)
+    ∙ ap (λ r. take place (refs es) ++ (r ∷ [])) (ref_at es place e e.0 lt is) in
     subst AreDistinct (sym more) (all_pairs_push (λ a b. a ≢ b) (take place (refs es)) e.0 before
-      (apart _ e.0 (λ c. none (subst (λ rs. Contains rs e.0) (take-map (λ (e : OutRef × Paid). e.0) place es) c))))
+    (apart _ e.0 (λ c. none (subst (λ rs. Contains rs e.0) (take-map (λ (e : OutRef × Paid). e.0) place es) c))))
 
 pub all_seen : (es : List (OutRef × Paid)) (place : ℕ) → length es ≤ place → AreDistinct (take place (refs es)) → AreDistinct (refs es)
 all_seen es place le before = subst AreDistinct (take_all place (refs es) (subst (λ n. n ≤ place) (sym (length-map es (λ (e : OutRef × Paid). e.0))) le)) before

@@ -11,7 +11,7 @@ HasFault NoMemory block_bytes rs = Unit {0}
 HasFault (Repeated place) block_bytes rs = HasBlockBytes block_bytes × IsFirstRepeat rs place
 HasFault BadBlockBytes block_bytes rs = ¬ HasBlockBytes block_bytes
 
-abbrev pub fault_number : LedgerFault → ℕ
-fault_number NoMemory = 1
-fault_number (Repeated place) = 2
-fault_number BadBlockBytes = 3
+abbrev pub number : LedgerFault → ℕ
+number NoMemory = 1
+number (Repeated place) = 2
+number BadBlockBytes = 3

@@ -8,4 +8,4 @@ pub mod Lookup
 pub mod LedgerFault
 pub mod TokenName
 pub mod Kept
-pub mod Fault
+pub mod TxFault

@@ -20,5 +20,5 @@ pub padded-name : (t : Inside) → IsPadded t → padded (name t) ≡ t
 padded-name t h =
     let e : length (take t.len t.bytes) ≡ t.len = length-take-le t.len t.bytes (subst (λ n. t.len ≤ n) (sym h.whole) h.fits) in
     let b : take t.len t.bytes ++ replicate (32 - length (take t.len t.bytes)) 0 ≡ t.bytes =
-          ap (λ n. take t.len t.bytes ++ replicate (32 - n) 0) e ∙ ap (λ z. take t.len t.bytes ++ z) (sym h.zeros) ∙ take-append-drop t.len t.bytes in
+    ap (λ n. take t.len t.bytes ++ replicate (32 - n) 0) e ∙ ap (λ z. take t.len t.bytes ++ z) (sym h.zeros) ∙ take-append-drop t.len t.bytes in
     λ i. record { bytes = b i; len = e i }

@@ -1,63 +1,80 @@
-//! Why parts make no transaction.
+//! Why parts make no transaction, and outputs no ledger state.
 
 ghost use Rattle.std.specs.Prelude.{◌≡◌};
-ghost use Rattle.mp_tx.specs.declared.fault.TxFault.TheVariants as faults;
+ghost use Rattle.mp_tx.specs.declared.fault.TxFault.TheVariants as tx_faults;
 ghost use Rattle.mp_tx.specs.declared.fault.LedgerFault.TheVariants as ledger_faults;
+ghost use Rattle.mp_tx.specs.TxFault as tx_fault;
+ghost use Rattle.mp_tx.specs.LedgerFault as ledger_fault;
 
 use mp_memory::NoMemory;
-use std::alloc::{AllocError, AllocFailed};
+use std::alloc::AllocFailed;
 use thiserror::Error;
 
-/// Why bytes or parts are no transaction.
+/// Why parts make no transaction. Where several hold, the one with the least number is told, but `NoMemory` may stand in
+/// place of any.
 #[derive(Clone, Copy, Debug, PartialEq, Eq, Error)]
 pub enum TxFault {
     #[error("no memory")]
     NoMemory,
+    /// An input doesn't come after the one before it.
     #[error("the inputs don't rise")]
     NotRising,
+    /// Over 256 inputs, over 256 outputs or over 16,384 bytes.
     #[error("the transaction is too large")]
     TooLarge,
 }
 
-impl From<AllocError> for TxFault {
-    ghost from_gives = { λ _ e. e ≡ faults.NoMemory };
-
-    fn from(_error: AllocError) -> TxFault {
-        TxFault::NoMemory
-    }
-}
-
-impl<T: Drop> From<AllocFailed<T>> for TxFault {
-    ghost from_gives = { λ _ e. e ≡ faults.NoMemory };
-
-    fn from(_error: AllocFailed<T>) -> TxFault {
-        TxFault::NoMemory
+impl TxFault {
+    /// The number of the fault: 1, 5 or 10.
+    pub const fn number(self) -> u64
+        ensures { result ≡ tx_fault.number self }
+    {
+        match self {
+            TxFault::NoMemory => 1,
+            TxFault::NotRising => 5,
+            TxFault::TooLarge => 10,
+        }
     }
 }
 
 impl From<NoMemory> for TxFault {
-    ghost from_gives = { λ _ e. e ≡ faults.NoMemory };
+    ghost from_gives = { λ _ e. e ≡ tx_faults.NoMemory };
 
     fn from(_error: NoMemory) -> TxFault {
         TxFault::NoMemory
     }
 }
 
-/// Why outputs make no ledger state.
+/// Why outputs make no ledger state. `NoMemory` may stand in place of the others.
 #[derive(Clone, Copy, Debug, PartialEq, Eq, Error)]
 pub enum LedgerFault {
     #[error("no memory")]
     NoMemory,
+    /// The first place, from 0, whose reference an earlier output has. It is told where the block bytes are in range.
     #[error("output {0} has the reference of an earlier one")]
     Repeated(usize),
-    #[error("a block has 1 to 549755813888 bytes")]
+    /// A block may not have 0 bytes, nor more than 2^39.
+    #[error("the block bytes are not 1 to 549755813888")]
     BadBlockBytes,
+}
+
+impl LedgerFault {
+    /// The number of the fault: 1 to 3.
+    pub const fn number(self) -> u64
+        ensures { result ≡ ledger_fault.number self }
+    {
+        match self {
+            LedgerFault::NoMemory => 1,
+            LedgerFault::Repeated(_) => 2,
+            LedgerFault::BadBlockBytes => 3,
+        }
+    }
 }
 
 impl<T: Drop> From<AllocFailed<T>> for LedgerFault {
     ghost from_gives = { λ _ e. e ≡ ledger_faults.NoMemory };
 
-    fn from(_error: AllocFailed<T>) -> LedgerFault {
+    fn from(_refused: AllocFailed<T>) -> LedgerFault {
         LedgerFault::NoMemory
     }
 }

@@ -7,9 +7,9 @@ ghost use Rattle.mp_tx.specs.Ledger.{refs, AreDistinct, IsFirstRepeat};
 ghost use Rattle.mp_tx.specs.Lookup.{found};
 
 use crate::fault::LedgerFault;
-use mp_memory::{Memory, NoMemory};
 use crate::output::Output;
 use crate::reference::OutRef;
+use mp_memory::{Memory, NoMemory};
 use std::marker::Model;
 use std::sync::Arc;
 

@@ -14,9 +14,12 @@ mod tx;
 
 pub use fault::{LedgerFault, TxFault};
 pub use input::Input;
-pub use ledger::Ledger;
+pub use ledger::{Ledger, MOST_BLOCK_BYTES};
 pub use output::Output;
 pub use plain::{Data, Script};
 pub use reference::{Address, Hash, Key, OutRef, Sig, TxId};
 pub use token_name::TokenName;
-pub use tx::{Tx, TxParts};
+pub use tx::{MOST_BYTES, MOST_PARTS, Tx, TxParts};
+
+#[cfg(test)]
+mod tests;

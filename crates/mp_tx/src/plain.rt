@@ -1,6 +1,7 @@
 //! The plain script and the plain datum. They stand in for full scripts and data.
 
 const TRUE: [u8; 1] = [0x01];
+
 const EMPTY_LIST: [u8; 3] = [0x03, 0x00, 0x00];
 
 /// The script of one operator, which is true.

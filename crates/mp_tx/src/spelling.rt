@@ -1,25 +1,30 @@
-//! The bytes of a transaction.
+//! The bytes of a transaction: transaction format 1, whole, with the plain constants in their places.
 
 ghost use Rattle.std.specs.Prelude.{◌≡◌, ℕ, List, ◌<◌, ◌≤◌, ◌^◌, ◌++◌, length, OnOk, IfOk};
 ghost use Rattle.std.specs.Int.{w16, to_be_bytes};
-ghost use Rattle.mp_tx.specs.Transaction.{Transaction, sized, counted, input_bytes, coin_bytes, output_bytes, widest_interval, body, spelling, id_of};
+ghost use Rattle.mp_tx.specs.Transaction.{Transaction, sized, counted, input_bytes, coin_bytes, output_bytes, widest_interval, spelling, id_of};
 
 use crate::digest::digest;
 use crate::input::Input;
-use mp_memory::{Memory, NoMemory};
 use crate::output::Output;
 use crate::reference::TxId;
+use mp_memory::{Memory, NoMemory};
 
-// A count of none.
-const NOTHING: [u8; NOTHING_LEN] = [0; NOTHING_LEN];
-const NOTHING_LEN: usize = 2;
 const VERSION: u8 = 1;
+
 const COIN_POLICY: [u8; 32] = [0; 32];
 
-// Everything that no plain transaction changes.
-const FIXED: usize = 27;
-const INPUT: usize = 47;
-const OUTPUT: usize = 107;
+// A count of no things, which each part that no plain transaction has is spelled as.
+const NONE: [u8; NONE_LEN] = [0; NONE_LEN];
+
+const NONE_LEN: usize = 2;
+
+// How many bytes there are with no input and no output, and how many each input and each output adds.
+const EMPTY_LEN: usize = 27;
+
+const INPUT_LEN: usize = 47;
+
+const OUTPUT_LEN: usize = 107;
 
 fn put_sized(out: &mut Vec<u8, Memory>, bytes: &[u8]) -> Result<(), NoMemory>
     requires { length bytes.now < 2 ^ 16 }
@@ -94,35 +99,39 @@ fn put_interval(out: &mut Vec<u8, Memory>) -> Result<(), NoMemory>
     Ok(())
 }
 
-/// The spelling, in one growth.
-pub fn spell(memory: Memory, inputs: &[Input], outputs: &[Output]) -> Result<Vec<u8, Memory>, NoMemory>
+/// The spelling, made in one growth of just its length.
+pub fn spell(
+    memory: Memory,
+    inputs: &[Input],
+    outputs: &[Output],
+) -> Result<Vec<u8, Memory>, NoMemory>
     requires inputs { length inputs.now ≤ 256 }
     requires outputs { length outputs.now ≤ 256 }
     ensures { IfOk result (λ v. v.items ≡ spelling (record { inputs = inputs.now; outputs = outputs.now })) }
 {
-    let size = FIXED + INPUT * inputs.len() + OUTPUT * outputs.len();
-    let mut out = Vec::with_capacity(memory, size)?;
+    let len = EMPTY_LEN + INPUT_LEN * inputs.len() + OUTPUT_LEN * outputs.len();
+    let mut out = Vec::with_capacity(memory, len)?;
     out.push(VERSION)?;
     put_inputs(&mut out, inputs)?;
     put_outputs(&mut out, outputs)?;
     put_interval(&mut out)?;
-    out.extend_from_slice(&NOTHING)?;
-    out.extend_from_slice(&NOTHING)?;
-    out.extend_from_slice(&NOTHING)?;
+    out.extend_from_slice(&NONE)?; // forged
+    out.extend_from_slice(&NONE)?; // policy scripts
+    out.extend_from_slice(&NONE)?; // signatures
     Ok(out)
 }
 
 fn body_of(bytes: &[u8]) -> &[u8]
-    requires { NOTHING_LEN ≤ length bytes.now }
+    requires { NONE_LEN ≤ length bytes.now }
     ensures { (text : List ℕ) → bytes.now ≡ text ++ to_be_bytes w16 0 → result.now ≡ text }
 {
-    &bytes[..bytes.len() - NOTHING_LEN]
+    &bytes[..bytes.len() - NONE_LEN]
 }
 
-/// The id of the transaction with this spelling.
+/// The id of the transaction that is spelled by the bytes.
 #[tactic(auto, unfolding(crate::specs::Transaction::id_of))]
 pub fn id_of_spelling(bytes: &[u8]) -> TxId
-    requires { NOTHING_LEN ≤ length bytes.now }
+    requires { NONE_LEN ≤ length bytes.now }
     ensures { (t : Transaction) → bytes.now ≡ spelling t → result ≡ id_of t }
 {
     digest(body_of(bytes))

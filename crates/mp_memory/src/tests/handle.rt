@@ -145,6 +145,7 @@ fn no_memory_reads_as_such(rt: HostRuntime) -> Result<(), Fail> {
     assert_eq!(rt; NoMemory.number(), 1);
     assert_eq!(rt; NoMemory::from(AllocError), NoMemory);
     assert_eq!(rt; format!(in memory; "{NoMemory}")?.as_str(), "no memory");
+    assert_eq!(rt; format!(in memory; "{memory:?}")?.as_str(), "Metered");
     memory.refuse(1);
     let boxed: Result<Box<u8, Memory>, NoMemory> = Box::new(memory, 1u8).map_err(NoMemory::from);
     assert!(rt; boxed.is_err());

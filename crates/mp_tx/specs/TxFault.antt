@@ -16,7 +16,7 @@ HasFault NoMemory t = Unit {0}
 HasFault NotRising t = ¬ RiseBy (λ i. i.from) t.inputs
 HasFault TooLarge t = RiseBy (λ i. i.from) t.inputs × ¬ IsSmall t
 
-abbrev pub fault_number : TxFault → ℕ
-fault_number NoMemory = 1
-fault_number NotRising = 5
-fault_number TooLarge = 10
+abbrev pub number : TxFault → ℕ
+number NoMemory = 1
+number NotRising = 5
+number TooLarge = 10

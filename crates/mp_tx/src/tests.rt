@@ -1,0 +1,4 @@
+mod ledgers;
+mod refusals;
+mod samples;
+mod transactions;
