@@ -1,7 +1,7 @@
 //! A call tried under every refusal of memory: the helper for the tests of each crate.
-ghost use Rattle.std.specs.Prelude.{◌≡◌, ◌<◌, true, false, IfOk, IsErrOf};
+ghost use Rattle.std.specs.Prelude.{◌≡◌, ◌≢◌, ℕ, ◌<◌, true, false, IfOk, IsErrOf};
 ghost use Rattle.std.specs.Fn.{FnOnceReturnsAtMut, FnReturnsAt};
-ghost use Rattle.mp_memory.specs.Trial.{MayAnswer};
+ghost use Rattle.mp_memory.specs.Trial.{MayAnswer, MayChange};
 
 use crate::metered::Metered;
 use std::alloc::Allocator;
@@ -79,6 +79,13 @@ fn told<A, N: Fn(&A) -> bool>(is_no_memory: &N, answer: &A) -> bool
     is_no_memory(answer)
 }
 
+fn compared<S, U: Fn(&S) -> bool>(is_unchanged: &U, value: &S) -> bool
+    requires { U.IsAlwaysCallable is_unchanged.now }
+    ensures { FnReturnsAt U.Fn is_unchanged.now value.now result }
+{
+    is_unchanged(value)
+}
+
 // The answer of the call on a new value, where no growth is refused.
 fn answer_of<R, S, A, M, C, N>(
     memory: &R,
@@ -99,6 +106,8 @@ where
     ensures called { IfOk result (MayAnswer M.Fn C.FnOnce make.now call.now) }
     ensures told { IfOk result (λ answer. FnReturnsAt N.Fn is_no_memory.now answer false) }
     ensures not_made { IsErrOf result TrialFault.NotMade → M.post make.now None }
+    ensures unswallowed { (nth : ℕ) → result ≢ Err (TrialFault.Swallowed nth) }
+    ensures unchanged { (nth : ℕ) → result ≢ Err (TrialFault.Changed nth) }
     ensures unasked { IsErrOf result TrialFault.Unasked → (answer : A) × MayAnswer M.Fn C.FnOnce make.now call.now answer × FnReturnsAt N.Fn is_no_memory.now answer true }
 {
     memory.refuse(0);
@@ -135,7 +144,9 @@ where
     requires tells { N.IsAlwaysCallable is_no_memory.now }
     requires compares { U.IsAlwaysCallable is_unchanged.now }
     ensures not_made { IsErrOf result TrialFault.NotMade → M.post make.now None }
-    ensures asked { IsErrOf result TrialFault.Unasked → ⊥ }
+    ensures no_more_asked { IsErrOf result TrialFault.Unasked → ⊥ }
+    ensures swallowed { (nth : ℕ) → result ≡ Err (TrialFault.Swallowed nth) → (answer : A) × MayAnswer M.Fn C.FnOnce make.now call.now answer × FnReturnsAt N.Fn is_no_memory.now answer false }
+    ensures changed { (nth : ℕ) → result ≡ Err (TrialFault.Changed nth) → MayChange M.Fn C.FnOnce N.Fn U.Fn make.now call.now is_no_memory.now is_unchanged.now }
 {
     let Some(mut value) = made(make) else {
         return Err(TrialFault::NotMade);
@@ -154,7 +165,7 @@ where
     if !told(is_no_memory, &refused) {
         return Err(TrialFault::Swallowed(nth));
     }
-    if !is_unchanged(&value) {
+    if !compared(is_unchanged, &value) {
         return Err(TrialFault::Changed(nth));
     }
     if answered(call, &mut value) == *answer {
@@ -187,7 +198,9 @@ where
     requires compares { U.IsAlwaysCallable is_unchanged.now }
     ensures counted { IfOk result (λ growths. growths < MOST_GROWTHS) }
     ensures not_made { IsErrOf result TrialFault.NotMade → M.post make.now None }
-    ensures asked { IsErrOf result TrialFault.Unasked → ⊥ }
+    ensures no_more_asked { IsErrOf result TrialFault.Unasked → ⊥ }
+    ensures swallowed { (nth : ℕ) → result ≡ Err (TrialFault.Swallowed nth) → (answer : A) × MayAnswer M.Fn C.FnOnce make.now call.now answer × FnReturnsAt N.Fn is_no_memory.now answer false }
+    ensures changed { (nth : ℕ) → result ≡ Err (TrialFault.Changed nth) → MayChange M.Fn C.FnOnce N.Fn U.Fn make.now call.now is_no_memory.now is_unchanged.now }
 {
     for growths in 0..MOST_GROWTHS {
         if !stands(
@@ -233,6 +246,8 @@ where
     ensures counted { IfOk result (λ done. done.growths < MOST_GROWTHS) }
     ensures not_made { IsErrOf result TrialFault.NotMade → M.post make None }
     ensures unasked { IsErrOf result TrialFault.Unasked → (answer : A) × MayAnswer M.Fn C.FnOnce make call answer × FnReturnsAt N.Fn is_no_memory answer true }
+    ensures swallowed { (nth : ℕ) → result ≡ Err (TrialFault.Swallowed nth) → (answer : A) × MayAnswer M.Fn C.FnOnce make call answer × FnReturnsAt N.Fn is_no_memory answer false }
+    ensures changed { (nth : ℕ) → result ≡ Err (TrialFault.Changed nth) → MayChange M.Fn C.FnOnce N.Fn U.Fn make call is_no_memory is_unchanged }
 {
     let answer = answer_of(memory, &make, &call, &is_no_memory)?;
     let growths = growths_of(memory, &make, &call, &is_no_memory, &is_unchanged, &answer)?;

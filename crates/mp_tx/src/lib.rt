@@ -17,7 +17,7 @@ pub use input::Input;
 pub use ledger::{Ledger, MOST_BLOCK_BYTES};
 pub use output::Output;
 pub use plain::{Data, Script};
-pub use reference::{Address, Hash, Key, OutRef, Sig, TxId};
+pub use reference::{Address, Hash, Key, OutRef, PolicyId, Sig, TxId};
 pub use token_name::TokenName;
 pub use tx::{MOST_BYTES, MOST_PARTS, Tx, TxParts};
 

@@ -1,0 +1,5 @@
+pub mod Apply
+pub mod Validity
+pub mod Order
+pub mod SlowPool
+pub mod Numbers

@@ -1,0 +1,64 @@
+-- The slow pool: a list and a map. It computes everything anew from the ledger at each question.
+-- It follows the Mempool API of ouroboros-consensus.
+use Rattle.std.specs.Prelude.{◌≡◌, ℕ, ◌+◌, ◌*◌, ◌-◌, ◌^◌, ◌==◌, nat_eq, nat_le, nat_lt, List, [], ◌∷◌, ◌++◌, sum_by, Option, None, Some, Result, Ok, Err, MatchOption, is_ok, if◌then◌else◌}
+use Rattle.std.specs.Cmp.Lexicographic.{pointwise}
+use Rattle.std.specs.FinMap.{get}
+use Rattle.mp_tx.specs.Transaction.{Transaction, id_of, size_of}
+use Rattle.mp_tx.specs.Ledger.{LedgerState}
+use Rattle.mp_seqpool.specs.declared.refusal.Refusal.{Refusal}
+use Rattle.mp_seqpool.specs.declared.refusal.Refusal.TheVariants as refusals
+use Rattle.mp_seqpool.specs.declared.command.Reply.{Reply}
+use Rattle.mp_seqpool.specs.declared.command.Reply.TheVariants.{Accepted}
+use Rattle.mp_seqpool.specs.Apply.{Unspent, after}
+use Rattle.mp_seqpool.specs.Validity.{first_fault}
+use Rattle.mp_seqpool.specs.Order.{Order, Submit, Pool, transactions}
+
+-- what may be spent after all transactions of the pool
+abbrev pub unspent : Pool → Unspent
+unspent p = after (get p.ledger.utxo) (transactions p.items)
+
+abbrev pub bytes_held : Pool → ℕ
+bytes_held p = sum_by size_of (transactions p.items)
+
+-- twice the ledger's block bytes, less the bytes held
+abbrev pub free_bytes : Pool → ℕ
+free_bytes p = 2 * p.ledger.block_bytes - bytes_held p
+
+-- the ticket of the transaction with this id
+abbrev pub ticket_of : List ℕ → List (ℕ × Transaction) → Option ℕ
+ticket_of id [] = None
+ticket_of id (i ∷ is) = if pointwise nat_eq id (id_of i.1) then Some i.0 else ticket_of id is
+
+abbrev pub answer_rules : Pool → Transaction → Option Invalid → Result Reply Refusal
+answer_rules p t None = Ok (Accepted (p.last + 1))
+answer_rules p t (Some fault) = Err (refusals.Invalid fault)
+
+abbrev pub answer_new : Pool → Transaction → Option ℕ → Result Reply Refusal
+answer_new p t None =
+    if nat_lt (free_bytes p) (size_of t) then Err (refusals.Full (size_of t) (free_bytes p))
+    else answer_rules p t (first_fault (unspent p) t)
+answer_new p t (Some ticket) = Err (refusals.AlreadyInPool ticket)
+
+-- the reply to a command, or the first refusal that holds
+unfoldable pub answer : Pool → Order → Result Reply Refusal
+answer p (Submit t) =
+    if nat_le p.limit p.changes then Err refusals.HistoryFull
+    else if nat_le (2 ^ 64 - 1) p.last then Err refusals.TicketsSpent
+    else answer_new p t (ticket_of (id_of t) p.items)
+
+-- the transaction last, under the next ticket
+abbrev pub accepted : Pool → Transaction → Pool
+accepted p t = record p { items = p.items ++ (p.last + 1, t) ∷ []; last = p.last + 1; changes = p.changes + 1 }
+
+-- the state after a command: a refusal changes nothing
+unfoldable pub next : Pool → Order → Pool
+next p (Submit t) = if is_ok (answer p (Submit t)) then accepted p t else p
+
+-- the answers to commands in order, and the state after them
+abbrev pub answers : Pool → List Order → List (Result Reply Refusal)
+answers p [] = []
+answers p (o ∷ os) = answer p o ∷ answers (next p o) os
+
+abbrev pub pool_after : Pool → List Order → Pool
+pool_after p [] = p
+pool_after p (o ∷ os) = pool_after (next p o) os

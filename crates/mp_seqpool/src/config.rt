@@ -1,0 +1,14 @@
+//! How a pool is set up.
+
+ghost use Rattle.std.specs.Prelude.{◌^◌, ◌≤◌};
+
+/// How a pool is set up.
+#[derive(Clone, Copy, Debug, PartialEq, Eq)]
+pub struct Config {
+    /// How many changes there may be: 1 to 2^32.
+    pub limit: u64,
+    /// The ticket before the first one that is given.
+    pub last: u64,
+    ghost least: { 1 ≤ limit },
+    ghost greatest: { limit ≤ 2 ^ 32 },
+}
