@@ -2,4 +2,8 @@ pub mod Apply
 pub mod Validity
 pub mod Order
 pub mod SlowPool
+pub mod PoolLaws
+pub mod Items
+pub mod Held
+pub mod Commands
 pub mod Numbers

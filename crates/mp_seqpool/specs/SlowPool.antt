@@ -1,12 +1,13 @@
 -- The slow pool: a list and a map. It computes everything anew from the ledger at each question.
 -- It follows the Mempool API of ouroboros-consensus.
-use Rattle.std.specs.Prelude.{◌≡◌, ℕ, ◌+◌, ◌*◌, ◌-◌, ◌^◌, ◌==◌, nat_eq, nat_le, nat_lt, List, [], ◌∷◌, ◌++◌, sum_by, Option, None, Some, Result, Ok, Err, MatchOption, is_ok, if◌then◌else◌}
+use Rattle.std.specs.Prelude.{◌≡◌, ℕ, ◌+◌, ◌*◌, ◌-◌, ◌^◌, ◌<◌, ◌≤◌, ◌==◌, nat_eq, nat_le, nat_lt, List, [], ◌∷◌, ◌++◌, sum_by, Option, None, Some, Result, Ok, Err, MatchOption, is_ok, if◌then◌else◌}
 use Rattle.std.specs.Cmp.Lexicographic.{pointwise}
 use Rattle.std.specs.FinMap.{get}
 use Rattle.mp_tx.specs.Transaction.{Transaction, id_of, size_of}
 use Rattle.mp_tx.specs.Ledger.{LedgerState}
 use Rattle.mp_seqpool.specs.declared.refusal.Refusal.{Refusal}
 use Rattle.mp_seqpool.specs.declared.refusal.Refusal.TheVariants as refusals
+use Rattle.mp_seqpool.specs.declared.invalid.Invalid.{Invalid}
 use Rattle.mp_seqpool.specs.declared.command.Reply.{Reply}
 use Rattle.mp_seqpool.specs.declared.command.Reply.TheVariants.{Accepted}
 use Rattle.mp_seqpool.specs.Apply.{Unspent, after}
@@ -53,6 +54,21 @@ accepted p t = record p { items = p.items ++ (p.last + 1, t) ∷ []; last = p.la
 -- the state after a command: a refusal changes nothing
 unfoldable pub next : Pool → Order → Pool
 next p (Submit t) = if is_ok (answer p (Submit t)) then accepted p t else p
+
+-- one more ticket, change and transaction can be counted
+pub record HasRoom (p : Pool) (t : Transaction) : Type 0 where
+  pub ticket : p.last < 2 ^ 64 - 1
+  pub change : p.changes < p.limit
+  pub bytes : bytes_held p + size_of t ≤ 2 ^ 40
+
+-- the refusal of an answer
+abbrev pub refused_with : Result Reply Refusal → Option Refusal
+refused_with (Ok reply) = None
+refused_with (Err refusal) = Some refusal
+
+-- a pool with no transaction
+abbrev pub opening : ℕ → ℕ → LedgerState → Pool
+opening limit last ledger = record { ledger = ledger; items = []; last = last; changes = 0; limit = limit; opening = last }
 
 -- the answers to commands in order, and the state after them
 abbrev pub answers : Pool → List Order → List (Result Reply Refusal)

@@ -28,7 +28,8 @@ pub struct Ledger {
 }
 
 impl Model for Ledger {
-    ghost use Rattle.mp_tx.specs.Ledger.{LedgerState, coded_state};
+    ghost use Rattle.mp_tx.specs.Ledger.{LedgerState};
+    ghost use Rattle.mp_tx.specs.Codes.{coded_state};
 
     ghost Value = { LedgerState };
 

@@ -1,0 +1,179 @@
+-- The pool laws hold of every history.
+use Rattle.std.proofs.Common.{◌≡◌, ◌≢◌, ℕ, zero, suc, ◌+◌, ◌-◌, ◌^◌, ◌<◌, ◌≤◌, Bool, true, false, cond, List, [], ◌∷◌, ◌++◌, length, get_or, take, drop, refl, sym, ap, subst, ◌∙◌, arith}
+use Rattle.std.specs.Prelude.{Option, None, Some, Result, Ok, Err, is_ok, map, All, AllPairs, Contains, nat_le, nat_lt, nat_eq}
+use Rattle.std.specs.List.Sorted.{IsStrictlyIncreasing}
+use Rattle.std.specs.Cmp.Lexicographic.{pointwise, bytes_decides}
+use Rattle.std.specs.FinMap.{get}
+use Rattle.std.proofs.lemmas.List.{map-append, get_or_default, take-append-drop}
+use Rattle.std.proofs.lemmas.List.Elements.{All-append, All-from_recursion}
+use Rattle.std.proofs.lemmas.List.Quantifiers.{all_pairs_push}
+use Rattle.std.proofs.lemmas.Grind.{common_steps}
+use Rattle.mp_tx.specs.Transaction.{Transaction, id_of, size_of}
+use Rattle.mp_seqpool.specs.declared.invalid.Invalid.{Invalid}
+use Rattle.mp_seqpool.specs.declared.refusal.Refusal.{Refusal}
+use Rattle.mp_seqpool.specs.declared.refusal.Refusal.TheVariants as refusals
+use Rattle.mp_seqpool.specs.declared.command.Reply.{Reply}
+use Rattle.mp_seqpool.specs.declared.command.Reply.TheVariants.{Accepted}
+use Rattle.mp_seqpool.specs.Apply.{Unspent, apply, after}
+use Rattle.mp_seqpool.specs.Validity.{IsValid, Chain, first_fault}
+use Rattle.mp_seqpool.specs.Order.{Order, Submit, Pool, transactions, tickets}
+use Rattle.mp_tx.specs.Ledger.{LedgerState}
+use Rattle.mp_seqpool.specs.Commands.{IsRefused}
+use Rattle.mp_seqpool.specs.SlowPool.{opening, unspent, free_bytes, ticket_of, answer_rules, answer_new, answer, accepted, next, pool_after}
+use Rattle.mp_seqpool.specs.PoolLaws.{IsLawful, Lasts, GivesNext, ObeysLaws}
+use Rattle.mp_seqpool.proofs.Valid.{valid}
+
+-- What an accepted submit says.
+
+not_refused : {A E : Type 0} (b : Bool) (e : E) (r : Result A E) (x : A) → cond b (Err e) r ≡ Ok x → r ≡ Ok x
+not_refused true e r x h = Prim.cc
+not_refused false e r x h = h
+
+by_rules : (p : Pool) (t : Transaction) (o : Option Invalid) (r : Reply) → answer_rules p t o ≡ Ok r → (o ≡ None) × (r ≡ Accepted (p.last + 1))
+by_rules p t None r h = (refl, Prim.cc)
+by_rules p t (Some f) r h = Prim.cc
+
+new : (p : Pool) (t : Transaction) (o : Option ℕ) (r : Reply) → answer_new p t o ≡ Ok r → (o ≡ None) × (first_fault (unspent p) t ≡ None) × (r ≡ Accepted (p.last + 1))
+new p t None r h = let k = by_rules p t _ r (not_refused _ _ _ r h) in (refl, k.0, k.1)
+new p t (Some k) r h = Prim.cc
+
+taken : (p : Pool) (t : Transaction) (r : Reply) → answer p (Submit t) ≡ Ok r → (ticket_of (id_of t) p.items ≡ None) × (first_fault (unspent p) t ≡ None) × (r ≡ Accepted (p.last + 1))
+unfolding answer
+taken p t r h = new p t _ r (not_refused (nat_le (2 ^ 64 - 1) p.last) refusals.TicketsSpent _ r (not_refused (nat_le p.limit p.changes) refusals.HistoryFull _ r h))
+
+-- Each part of the law after one more transaction.
+
+Chain-append : (u : Unspent) (ts : List Transaction) (t : Transaction) → Chain u ts → IsValid (after u ts) t → Chain u (ts ++ t ∷ [])
+Chain-append u [] t c v = (v, tt)
+Chain-append u (x ∷ ts) t c v = (c.0, Chain-append (apply x u) ts t c.1 v)
+
+rising-append : (ks : List ℕ) (n : ℕ) → IsStrictlyIncreasing ks → All (λ k. k < n) ks → IsStrictlyIncreasing (ks ++ n ∷ [])
+rising-append ks n rise below = λ k lt. Prim.grind (arith, common_steps)
+
+All-push : {A : Type 0} (P : A → Type 0) (xs : List A) (x : A) → All P xs → P x → All P (xs ++ x ∷ [])
+All-push P xs x all one = All-append P xs (x ∷ []) all (All-from_recursion P (x ∷ []) (one, tt))
+
+missed : {A : Type 0} (b : Bool) (x : A) (o : Option A) → cond b (Some x) o ≡ None → (b ≡ false) × (o ≡ None)
+missed true x o e = Prim.cc
+missed false x o e = (refl, e)
+
+-- an id that no item has stands nowhere among the ids
+absent : (id : List ℕ) (items : List (ℕ × Transaction)) → ticket_of id items ≡ None → (k : ℕ) (d : List ℕ) → k < length (map id_of (transactions items)) → get_or (map id_of (transactions items)) k d ≢ id
+absent id [] e k d lt = absurd (omega arith)
+absent id (i ∷ is) e zero d lt = λ same. let h = missed (pointwise nat_eq id (id_of i.1)) i.0 _ e in let k = (bytes_decides id (id_of i.1)).1 (sym same) in let f = h.0 in Prim.cc
+absent id (i ∷ is) e (suc k) d lt = absent id is (missed (pointwise nat_eq id (id_of i.1)) i.0 _ e).1 k d (omega arith)
+
+below_next : (a b : ℕ) → a ≤ b → a < b + 1
+below_next a b le = omega arith
+
+itself : (a : ℕ) → a ≤ a
+itself a = omega arith
+
+higher : (a b : ℕ) → a ≤ b → a ≤ b + 1
+higher a b le = omega arith
+
+lawful-accepted : (p : Pool) (t : Transaction) (r : Reply) → IsLawful p → answer p (Submit t) ≡ Ok r → IsLawful (accepted p t)
+lawful-accepted p t r law h =
+    let is = taken p t r h in
+    let ids : map id_of (transactions (p.items ++ (p.last + 1, t) ∷ [])) ≡ map id_of (transactions p.items) ++ id_of t ∷ [] =
+    ap (map id_of) (map-append (λ (i : ℕ × Transaction). i.1) p.items ((p.last + 1, t) ∷ [])) ∙ map-append id_of (transactions p.items) (t ∷ []) in
+    record {
+      chained = subst (Chain (get p.ledger.utxo)) (sym (map-append (λ (i : ℕ × Transaction). i.1) p.items ((p.last + 1, t) ∷ [])))
+          (Chain-append (get p.ledger.utxo) (transactions p.items) t law.chained (valid (unspent p) t is.1));
+      rising = subst IsStrictlyIncreasing (sym (map-append (λ (i : ℕ × Transaction). i.0) p.items ((p.last + 1, t) ∷ [])))
+          (rising-append (tickets p.items) (p.last + 1) law.rising (λ k d lt. below_next _ p.last (law.given k d lt)));
+      given = subst (All (λ k. k ≤ p.last + 1)) (sym (map-append (λ (i : ℕ × Transaction). i.0) p.items ((p.last + 1, t) ∷ [])))
+          (All-push (λ k. k ≤ p.last + 1) (tickets p.items) (p.last + 1) (λ k d lt. higher _ p.last (law.given k d lt)) (itself (p.last + 1)));
+      distinct = subst (AllPairs (λ a b. a ≢ b)) (sym ids)
+          (all_pairs_push (λ a b. a ≢ b) (map id_of (transactions p.items)) (id_of t) law.distinct (absent (id_of t) p.items is.0));
+    }
+
+-- The laws along a history.
+
+unfold_next : (p : Pool) (t : Transaction) → next p (Submit t) ≡ cond (is_ok (answer p (Submit t))) (accepted p t) p
+unfolding next
+unfold_next p t = refl
+
+next_is : (p : Pool) (t : Transaction) (a : Result Reply Refusal) → answer p (Submit t) ≡ a → next p (Submit t) ≡ cond (is_ok a) (accepted p t) p
+next_is p t a e = unfold_next p t ∙ ap (λ b. cond (is_ok b) (accepted p t) p) e
+
+-- a fact of a state that refusals keep and accepted submits keep
+kept : (P : Pool → Type 0) (p : Pool) (t : Transaction) (a : Result Reply Refusal) → answer p (Submit t) ≡ a → P p → ((r : Reply) → answer p (Submit t) ≡ Ok r → P (accepted p t)) → P (next p (Submit t))
+kept P p t (Ok r) e old new = subst P (sym (next_is p t (Ok r) e)) (new r e)
+kept P p t (Err f) e old new = subst P (sym (next_is p t (Err f) e)) old
+
+pub lawful-next : (p : Pool) (o : Order) → IsLawful p → IsLawful (next p o)
+lawful-next p (Submit t) law = kept IsLawful p t _ refl law (λ r e. lawful-accepted p t r law e)
+
+lawful-after : (p : Pool) (os : List Order) → IsLawful p → IsLawful (pool_after p os)
+lawful-after p [] law = law
+lawful-after p (o ∷ os) law = lawful-after (next p o) os (lawful-next p o law)
+
+too_late : (a b : ℕ) → a ≤ b → b + 1 ≤ a → ⊥
+too_late a b le ge = omega arith
+
+Follows : Pool → Pool → Type 0
+Follows p q = (p.last ≤ q.last) × Lasts p q
+
+follows-next : (p q : Pool) (o : Order) → Follows p q → Follows p (next q o)
+unfolding Follows
+follows-next p q (Submit t) f = kept (Follows p) q t _ refl f (λ r e. (higher p.last q.last f.0, All-push (λ i. i.0 ≤ p.last → Contains p.items i) q.items (q.last + 1, t) f.1 (λ le. absurd (too_late p.last q.last f.0 le))))
+
+follows-after : (p q : Pool) (os : List Order) → Follows p q → Follows p (pool_after q os)
+follows-after p q [] f = f
+follows-after p q (o ∷ os) f = follows-after p (next q o) os (follows-next p q o f)
+
+pool_after-append : (p : Pool) (xs ys : List Order) → pool_after p (xs ++ ys) ≡ pool_after (pool_after p xs) ys
+pool_after-append p [] ys = refl
+pool_after-append p (x ∷ xs) ys = pool_after-append (next p x) xs ys
+
+follows_itself : (p : Pool) → Follows p p
+unfolding Follows
+follows_itself p = (itself p.last, λ k d lt le. (k, lt, get_or_default p.items k _ d lt))
+
+take-within : (m n : ℕ) (os : List Order) → m ≤ n → take m (take n os) ≡ take m os
+take-within zero n os le = refl
+take-within (suc m) zero os le = absurd (omega arith)
+take-within (suc m) (suc n) [] le = refl
+take-within (suc m) (suc n) (o ∷ os) le = ap (λ r. o ∷ r) (take-within m n os (omega arith))
+
+lasting : (p : Pool) (os : List Order) (m n : ℕ) → m ≤ n → Lasts (pool_after p (take m os)) (pool_after p (take n os))
+unfolding Follows
+lasting p os m n le =
+    let q = pool_after p (take m os) in
+    subst (Lasts q) (sym (ap (pool_after p) (sym (take-append-drop m (take n os)) ∙ ap (λ r. r ++ drop m (take n os)) (take-within m n os le)) ∙ pool_after-append p (take m os) (drop m (take n os)))) (follows-after q q (drop m (take n os)) (follows_itself q)).1
+
+abbrev ticket_in : Reply → ℕ
+ticket_in (Accepted k) = k
+
+gives_next : (p : Pool) (o : Order) → GivesNext p o
+gives_next p (Submit t) k e =
+    let is : k ≡ p.last + 1 = ap ticket_in (taken p t (Accepted k) e).2 in
+    (is, ap (λ (q : Pool). q.last) (next_is p t (Ok (Accepted k)) e) ∙ sym is)
+
+pub obeys : (p : Pool) (os : List Order) → IsLawful p → ObeysLaws p os
+obeys p os law = record {
+  lawful = λ n. lawful-after p (take n os) law;
+  lasting = lasting p os;
+  next_ticket = λ n o. gives_next (pool_after p (take n os)) o;
+}
+
+pub lawful-opening : (limit last : ℕ) (ledger : LedgerState) → IsLawful (opening limit last ledger)
+lawful-opening limit last ledger = record { chained = tt; rising = λ k lt. absurd (omega arith); given = λ k d lt. absurd (omega arith); distinct = λ i j d ij lt. absurd (omega arith) }
+
+-- a refusal that doesn't want memory is the slow pool's
+pub told : (p : Pool) (o : Order) (f : Refusal) → IsRefused p o f → f ≢ refusals.NoMemory → answer p o ≡ Err f
+told p o refusals.NoMemory h is = absurd (is refl)
+told p o refusals.HistoryFull h is = h
+told p o refusals.TicketsSpent h is = h
+told p o (refusals.AlreadyInPool k) h is = h
+told p o (refusals.Full n f) h is = h
+told p o (refusals.Invalid f) h is = h
+
+-- a refusal changes nothing
+pub next-refused : (p : Pool) (o : Order) (f : Refusal) → answer p o ≡ Err f → next p o ≡ p
+next-refused p (Submit t) f e = next_is p t (Err f) e
+
+-- every history from an opening with no transaction
+pub obeys-opening : (limit last : ℕ) (ledger : LedgerState) (os : List Order) → ObeysLaws (opening limit last ledger) os
+obeys-opening limit last ledger os = obeys (opening limit last ledger) os (lawful-opening limit last ledger)

@@ -1,0 +1,30 @@
+-- What holds of every state of a pool, and of the states of one history.
+use Rattle.std.specs.Prelude.{◌≡◌, ◌≢◌, ℕ, ◌+◌, ◌≤◌, List, map, take, All, AllPairs, Contains, Ok}
+use Rattle.std.specs.List.Sorted.{IsStrictlyIncreasing}
+use Rattle.std.specs.FinMap.{get}
+use Rattle.mp_tx.specs.Transaction.{id_of}
+use Rattle.mp_seqpool.specs.declared.command.Reply.TheVariants.{Accepted}
+use Rattle.mp_seqpool.specs.Validity.{Chain}
+use Rattle.mp_seqpool.specs.Order.{Order, Pool, transactions, tickets}
+use Rattle.mp_seqpool.specs.SlowPool.{answer, next, pool_after}
+
+-- One state: each transaction is valid on the ledger after all before it; tickets rise, and none is above the last one; ids differ.
+pub record IsLawful (p : Pool) : Type 0 where
+  pub chained : Chain (get p.ledger.utxo) (transactions p.items)
+  pub rising : IsStrictlyIncreasing (tickets p.items)
+  pub given : All (λ k. k ≤ p.last) (tickets p.items)
+  pub distinct : AllPairs (λ a b. a ≢ b) (map id_of (transactions p.items))
+
+-- Two states: what the later one has under a ticket of the earlier one stood there under that ticket.
+abbrev pub Lasts : Pool → Pool → Type 0
+Lasts p q = All (λ i. i.0 ≤ p.last → Contains p.items i) q.items
+
+-- One command: a ticket that is given is one more than the last one, and is the last one then.
+abbrev pub GivesNext : Pool → Order → Type 0
+GivesNext p o = (k : ℕ) → answer p o ≡ Ok (Accepted k) → (k ≡ p.last + 1) × ((next p o).last ≡ k)
+
+-- All states on the way.
+pub record ObeysLaws (p : Pool) (os : List Order) : Type 0 where
+  pub lawful : (n : ℕ) → IsLawful (pool_after p (take n os))
+  pub lasting : (m n : ℕ) → m ≤ n → Lasts (pool_after p (take m os)) (pool_after p (take n os))
+  pub next_ticket : (n : ℕ) (o : Order) → GivesNext (pool_after p (take n os)) o

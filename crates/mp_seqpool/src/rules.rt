@@ -1,0 +1,103 @@
+//! Which rule a transaction breaks upon the pool.
+
+ghost use Rattle.std.specs.Prelude.{◌≡◌, ◌<◌, ◌≤◌, ◌^◌, ◌*◌, length, is_none, is_some, sum_by};
+ghost use Rattle.std.specs.List.{position_from, range_with_len};
+ghost use Rattle.std.specs.FinMap.{get};
+ghost use Rattle.mp_seqpool.specs.Apply.{after};
+ghost use Rattle.mp_seqpool.specs.Validity.{own_ref, coin_of, spent_coin, paid_coin, first_fault};
+ghost use Rattle.mp_seqpool.specs.Items.{items_of};
+ghost use Rattle.mp_seqpool.specs.Order.{transactions};
+
+use crate::invalid::Invalid;
+use crate::item::Item;
+use crate::unspent::find;
+use mp_tx::{Input, Ledger, OutRef, Output, PolicyId, TokenName, Tx};
+
+const COIN: PolicyId = [0; 32];
+
+fn is_there(ledger: &Ledger, items: &[Item], reference: &OutRef) -> bool
+    ensures { result ≡ is_some (after (get ledger.now.utxo) (transactions (items_of items.now)) reference.now) }
+{
+    find(ledger, items, reference).is_some()
+}
+
+// The first place of an input that names no output.
+fn missing_place(ledger: &Ledger, items: &[Item], inputs: &[Input]) -> Option<usize>
+    ensures { result ≡ position_from (λ i. is_none (after (get ledger.now.utxo) (transactions (items_of items.now)) i.from)) 0 inputs.now }
+{
+    for (place, input) in inputs.iter().enumerate() {
+        if !is_there(ledger, items, &input.from) {
+            return Some(place);
+        }
+    }
+    None
+}
+
+// The first output whose reference is taken.
+fn taken_place(ledger: &Ledger, items: &[Item], tx: &Tx) -> Option<usize>
+    ensures { result ≡ position_from (λ k. is_some (after (get ledger.now.utxo) (transactions (items_of items.now)) (own_ref tx.now k))) 0 (range_with_len 0 (length tx.now.outputs)) }
+{
+    let count = tx.outputs().len() as u16;
+    for index in 0..count {
+        let own = OutRef {
+            id: *tx.id(),
+            index,
+        };
+        if is_there(ledger, items, &own) {
+            return Some(index as usize);
+        }
+    }
+    None
+}
+
+fn coin_at(ledger: &Ledger, items: &[Item], reference: &OutRef) -> u64
+    ensures same { result ≡ coin_of (after (get ledger.now.utxo) (transactions (items_of items.now)) reference.now) }
+    ensures small { result < 2 ^ 63 }
+{
+    match find(ledger, items, reference) {
+        Some(output) => output.coin(),
+        None => 0,
+    }
+}
+
+fn spent(ledger: &Ledger, items: &[Item], inputs: &[Input]) -> u128
+    requires { length inputs.now ≤ 256 }
+    ensures { result ≡ sum_by (λ i. coin_of (after (get ledger.now.utxo) (transactions (items_of items.now)) i.from)) inputs.now }
+{
+    let mut total = 0;
+    for input in inputs {
+        total += u128::from(coin_at(ledger, items, &input.from));
+    }
+    total
+}
+
+fn paid(outputs: &[Output]) -> u128
+    requires { length outputs.now ≤ 256 }
+    ensures { result ≡ sum_by (λ o. o.coin) outputs.now }
+{
+    let mut total = 0;
+    for output in outputs {
+        total += u128::from(output.coin());
+    }
+    total
+}
+
+/// The first rule that the transaction breaks upon the ledger after all items.
+#[tactic(auto, unfolding(crate::specs::Validity::first_fault))]
+pub fn broken_rule(ledger: &Ledger, items: &[Item], tx: &Tx) -> Option<Invalid>
+    ensures { result ≡ first_fault (after (get ledger.now.utxo) (transactions (items_of items.now))) tx.now }
+{
+    if tx.inputs().is_empty() {
+        return Some(Invalid::NoInputs);
+    }
+    if let Some(place) = missing_place(ledger, items, tx.inputs()) {
+        return Some(Invalid::InputMissing(place));
+    }
+    if let Some(place) = taken_place(ledger, items, tx) {
+        return Some(Invalid::OutputTaken(place));
+    }
+    if spent(ledger, items, tx.inputs()) != paid(tx.outputs()) {
+        return Some(Invalid::Unbalanced(COIN, TokenName::of(b"")));
+    }
+    None
+}

@@ -1,0 +1,4 @@
+mod histories;
+mod refusals;
+mod samples;
+mod trials;
