@@ -1,0 +1,9 @@
+pub mod Meanings
+pub mod AnswerText
+pub mod References
+pub mod Items
+pub mod Scene
+pub mod Held
+pub mod Numbers
+pub mod Staged
+pub mod Ending

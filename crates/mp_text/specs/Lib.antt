@@ -1,0 +1,5 @@
+pub mod Lines
+pub mod Names
+pub mod Numbers
+pub mod Output
+pub mod Words

@@ -1,0 +1,20 @@
+//! The text of a scenario: its bytes, its lines, its words, and the numbers and names among them.
+#![tactic(auto)]
+
+mod input;
+mod lines;
+mod names;
+mod numbers;
+mod output;
+mod scan;
+mod words;
+
+pub use input::{InputFault, MOST_BYTES, MOST_READS, read_all};
+pub use lines::{MOST_LINE_BYTES, first_line, is_clean};
+pub use names::is_name;
+pub use numbers::{number, quantity};
+pub use output::{WriteFault, write_all};
+pub use words::{first_word, is_comment_or_blank};
+
+#[cfg(test)]
+mod tests;

@@ -1,0 +1,4 @@
+mod inputs;
+mod outputs;
+mod texts;
+mod words;
