@@ -31,9 +31,10 @@ less Greater e = Prim.cc
 rise-Decides : (rs : List OutRef) → Decides (rise rs) (RiseBy (λ i. i.from) (map plain_input rs))
 rise-Decides [] = (λ e k d lt. absurd (omega arith), λ h. refl)
 rise-Decides (r ∷ []) = (λ e k d lt. absurd (omega arith), λ h. refl)
-rise-Decides (r ∷ q ∷ qs) =
-    (λ e. adjacent (less _ (both _ (rise (q ∷ qs)) e).0) ((rise-Decides (q ∷ qs)).0 (both (is_lt (ref_cmp r q)) _ e).1),
-    λ h. join _ _ (ap is_lt (h 0 (plain_input r) (omega arith))) ((rise-Decides (q ∷ qs)).1 (λ k d lt. one_further k d (h (suc k) d (omega arith)))))
+rise-Decides (r ∷ q ∷ qs) = (
+  λ e. adjacent (less _ (both _ (rise (q ∷ qs)) e).0) ((rise-Decides (q ∷ qs)).0 (both (is_lt (ref_cmp r q)) _ e).1),
+  λ h. join _ _ (ap is_lt (h 0 (plain_input r) (omega arith))) ((rise-Decides (q ∷ qs)).1 (λ k d lt. one_further k d (h (suc k) d (omega arith)))),
+)
   where
     adjacent : ref_cmp r q ≡ Less → RiseBy (λ i. i.from) (map plain_input (q ∷ qs)) → RiseBy (λ i. i.from) (map plain_input (r ∷ q ∷ qs))
     adjacent one more zero d lt = one
@@ -41,6 +42,7 @@ rise-Decides (r ∷ q ∷ qs) =
         let e : suc k + 1 ≡ suc (k + 1) = omega arith in
         let P : ℕ → Type 0 = λ n. ref_cmp (get_or (map plain_input (r ∷ q ∷ qs)) (suc k) d).from (get_or (map plain_input (r ∷ q ∷ qs)) n d).from ≡ Less in
         subst P (sym e) (more k d (omega arith))
+
     one_further : (k : ℕ) (d : Input) → ref_cmp (get_or (map plain_input (r ∷ q ∷ qs)) (suc k) d).from (get_or (map plain_input (r ∷ q ∷ qs)) (suc k + 1) d).from ≡ Less
         → ref_cmp (get_or (map plain_input (q ∷ qs)) k d).from (get_or (map plain_input (q ∷ qs)) (k + 1) d).from ≡ Less
     one_further k d h =
@@ -54,18 +56,19 @@ fits-Decides d =
     let B : Bool = nat_le (length d.spent) 256 in
     let C : Bool = nat_le (length d.paid) 256 in
     let D : Bool = nat_le (size_of (transaction_of d)) 16384 in
-    let same : length (map plain_input d.spent) ≡ length d.spent = length-map d.spent plain_input in
-    (λ e. let c = both (A && B && C) D e in let b = both (A && B) C c.0 in let a = both A B b.0 in
-      record {
-        rising = (rise-Decides d.spent).0 a.0;
-        small = record {
-          inputs = subst (λ n. n ≤ 256) (sym same) (leb-true (length d.spent) 256 a.1);
-          outputs = leb-true (length d.paid) 256 b.1;
-          size = leb-true (size_of (transaction_of d)) 16384 c.1;
-        };
-      },
-    λ t. join (A && B && C) D (join (A && B) C (join A B ((rise-Decides d.spent).1 t.rising) (le-leb (length d.spent) 256 (subst (λ n. n ≤ 256) same t.small.inputs)))
-      (le-leb (length d.paid) 256 t.small.outputs)) (le-leb (size_of (transaction_of d)) 16384 t.small.size))
+    let same : length (map plain_input d.spent) ≡ length d.spent = length-map d.spent plain_input in (
+      λ e. let c = both (A && B && C) D e in let b = both (A && B) C c.0 in let a = both A B b.0 in
+          record {
+            rising = (rise-Decides d.spent).0 a.0;
+            small = record {
+              inputs = subst (λ n. n ≤ 256) (sym same) (leb-true (length d.spent) 256 a.1);
+              outputs = leb-true (length d.paid) 256 b.1;
+              size = leb-true (size_of (transaction_of d)) 16384 c.1;
+            };
+          },
+      λ t. join (A && B && C) D (join (A && B) C (join A B ((rise-Decides d.spent).1 t.rising) (le-leb (length d.spent) 256 (subst (λ n. n ≤ 256) same t.small.inputs)))
+          (le-leb (length d.paid) 256 t.small.outputs)) (le-leb (size_of (transaction_of d)) 16384 t.small.size),
+    )
 
 pub not_true : (b : Bool) → (b ≡ true → ⊥) → b ≡ false
 not_true true h = absurd (h refl)

@@ -29,5 +29,5 @@ no_repeat es place n h =
     let j : ℕ = again.0 in
     let j_lt : j < place = subst (λ m. j < m) (length-take-le place rs (weaken place (length rs) h.within)) again.1 in
     same_not_less j place
-      (sym (numbered-at es n j e r (below j place (length es) j_lt lt)) ∙ ap (λ (r : OutRef). r.index) (sym (get_or-take place rs j r j_lt) ∙ again.2) ∙ numbered-at es n place e d lt)
-      j_lt
+    (sym (numbered-at es n j e r (below j place (length es) j_lt lt)) ∙ ap (λ (r : OutRef). r.index) (sym (get_or-take place rs j r j_lt) ∙ again.2) ∙ numbered-at es n place e d lt)
+    j_lt

@@ -59,5 +59,8 @@ is_cut old now new all rest s t n line answer p step (taken, lt, w) =
     let others : List ℕ = (outcome t (n + 1) rest).0 in
     let e : (told_by all).0 ≡ p.text ++ (answer ++ others) = ap (λ o. o.0) (ap told_by p.whole ∙ p.told (line ∷ rest) ∙ ap (λ o. (p.text ++ o.0, o.1)) (good s t n line answer rest step)) in
     let le : taken ≤ length answer = omega arith in
-    subst (AppendsFront old new) (sym e) (length p.text + taken, omega (arith, length-append p.text (answer ++ others), length-append answer others, lt),
-      subst (Appends old new) (sym (take-append-add p.text (answer ++ others) taken ∙ ap (λ z. p.text ++ z) (take-append-le taken answer others le))) (Appends-more old now new p.text (take taken answer) p.wrote w))
+    subst (AppendsFront old new) (sym e) (
+      length p.text + taken,
+      omega (arith, length-append p.text (answer ++ others), length-append answer others, lt),
+      subst (Appends old new) (sym (take-append-add p.text (answer ++ others) taken ∙ ap (λ z. p.text ++ z) (take-append-le taken answer others le))) (Appends-more old now new p.text (take taken answer) p.wrote w),
+    )

@@ -90,7 +90,12 @@ fn put_item(memory: Memory, text: &mut Text, names: &[Name], item: &Item) -> Res
     Ok(())
 }
 
-fn put_items(memory: Memory, text: &mut Text, names: &[Name], items: &[Item]) -> Result<(), NoMemory>
+fn put_items(
+    memory: Memory,
+    text: &mut Text,
+    names: &[Name],
+    items: &[Item],
+) -> Result<(), NoMemory>
     ensures { OnOk result (text.new.items ≡ text.old.items ++ flat_map (item_text (names_of names.now)) (items_of items.now)) }
 {
     for item in items {

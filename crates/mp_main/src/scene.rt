@@ -26,7 +26,9 @@ use std::sync::Arc;
 
 // The opening ledger state and the pool of every scenario.
 const TICK: u64 = 0;
+
 const BLOCK_BYTES: u64 = 500_000;
+
 const CONFIG: Config = Config {
     limit: 1_000_000,
     last: 0,

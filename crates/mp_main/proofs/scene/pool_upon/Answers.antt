@@ -7,4 +7,4 @@ use Rattle.mp_main.proofs.scene.pool_upon.Goals as goal
 pub unreachable-requires : goal.unreachable-requires
 unreachable-requires c =
     no_repeat c.into_entries.result.items c.in-Repeated.field-0 c.into_entries.ensures.numbered
-      (subst (λ f. HasFault f 500000 (refs c.into_entries.result.items)) c.in-Repeated.is c.in-Err.ensures.fault).1
+    (subst (λ f. HasFault f 500000 (refs c.into_entries.result.items)) c.in-Repeated.is c.in-Err.ensures.fault).1

@@ -1,0 +1,5 @@
+mod devices;
+mod limits;
+mod refusals;
+mod rows;
+mod samples;
