@@ -1,0 +1,10 @@
+mod Names
+pub mod Search
+pub mod Tokens
+pub mod Same
+pub mod Faults
+pub mod TotalsLemmas
+pub mod TokenOf
+pub mod SumLemmas
+pub mod Differences
+mod LawsLemmas

@@ -1,0 +1,31 @@
+-- A bundle: how much there is of each token (token bundles of the native-tokens paper of Chakravarty et al.).
+use Rattle.std.specs.Prelude.{◌≢◌, ℕ, ◌^◌, ◌-◌, ◌≤◌, ℤ, pos, neg_ℤ, ◌≤ℤ◌, List, length, IsTrue}
+use Rattle.std.specs.Option.{unwrap_or}
+use Rattle.std.specs.List.{AllByRecursion}
+use Rattle.std.specs.FinMap.{find, is_sorted}
+use Rattle.mp_bundle.specs.declared.token.Token.{Token}
+use Rattle.mp_bundle.specs.Token.{token_cmp}
+
+-- a token and its quantity
+abbrev pub Entry : Type 0
+Entry = Token × ℤ
+
+-- the quantity of a token, which is 0 where there is none
+abbrev pub quantity_of : List Entry → Token → ℤ
+quantity_of entries token = unwrap_or (find token_cmp token entries) (pos 0)
+
+-- from -most to most
+pub record IsWithin (most : ℕ) (n : ℤ) : Type 0 where
+  pub least : neg_ℤ (pos most) ≤ℤ n
+  pub greatest : n ≤ℤ pos most
+
+-- what may stand in a bundle
+pub record IsEntry (e : Entry) : Type 0 where
+  pub short : length e.0.name ≤ 32
+  pub nonzero : e.1 ≢ pos 0
+  pub within : IsWithin (2 ^ 63 - 1) e.1
+
+-- each token is less than the next, so none stands twice
+pub record IsBundle (entries : List Entry) : Type 0 where
+  pub rising : IsTrue (is_sorted token_cmp entries)
+  pub each : AllByRecursion IsEntry entries

@@ -1,0 +1,10 @@
+pub mod TokenName
+pub mod FaultNumber
+pub mod Token
+pub mod Bundle
+pub mod Same
+pub mod Fault
+pub mod Sum
+pub mod Totals
+pub mod Kept
+pub mod Laws

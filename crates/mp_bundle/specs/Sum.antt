@@ -1,0 +1,58 @@
+-- Sums of bundles, token by token.
+use Rattle.std.specs.Prelude.{◌≡◌, ◌≢◌, ℕ, ◌+◌, ℤ, pos, ◌+ℤ◌, List, [], ◌∷◌, length, refl}
+use Rattle.std.specs.Option.{unwrap_or}
+use Rattle.std.specs.FinMap.{FinMap, get}
+use Rattle.std.specs.FinMap as finite
+use Rattle.std.specs.Coded.{Coded, code_by, coded×, coded_ℕ, coded_ℤ, coded_list}
+use Rattle.std.specs.declared.cmp.Ordering.TheVariants.{Less}
+use Rattle.mp_bundle.specs.declared.token.Token.{Token}
+use Rattle.mp_bundle.specs.Token.{token, token_cmp}
+use Rattle.mp_bundle.specs.Bundle.{Entry, quantity_of}
+
+-- how many bundles were added, and the totals that aren't zero
+pub record Summed : Type 0 where
+  pub added : ℕ
+  pub nonzero : FinMap token_cmp ℤ
+
+abbrev pub coded_token : Coded Token
+coded_token = code_by (List ℕ × List ℕ) (coded× (coded_list coded_ℕ) (coded_list coded_ℕ)) (λ t. (t.policy, t.name)) (λ p. token p.0 p.1) (λ _. refl)
+
+abbrev pub coded_sum : Coded Summed
+coded_sum = code_by (ℕ × FinMap token_cmp ℤ) (coded× coded_ℕ (finite.code coded_token coded_ℤ)) (λ s. (s.added, s.nonzero)) (λ p. record { added = p.0; nonzero = p.1 }) (λ _. refl)
+
+-- the sum of no bundle
+abbrev pub nothing : Summed
+nothing = record { added = 0; nonzero = finite.empty }
+
+-- the total of a token, which is 0 where there is none
+abbrev pub total_of : Summed → Token → ℤ
+total_of sum token = unwrap_or (get sum.nonzero token) (pos 0)
+
+-- new is old with one more bundle
+pub record Adds (old : Summed) (bundle : List Entry) (new : Summed) : Type 0 where
+  pub added : new.added ≡ old.added + 1
+  pub totals : (token : Token) → total_of new token ≡ total_of old token +ℤ quantity_of bundle token
+
+-- new is old with bundles added, one after the other
+abbrev pub AddsAll : Summed → List (List Entry) → Summed → Type 0
+AddsAll old [] new = new ≡ old
+AddsAll old (bundle ∷ bundles) new = (next : Summed) × Adds old bundle next × AddsAll next bundles new
+
+-- the sum of a token's quantities
+abbrev pub total_over : List (List Entry) → Token → ℤ
+total_over [] token = pos 0
+total_over (bundle ∷ bundles) token = quantity_of bundle token +ℤ total_over bundles token
+
+-- what the sum of these bundles is
+pub record IsSumOf (bundles : List (List Entry)) (sum : Summed) : Type 0 where
+  pub added : sum.added ≡ length bundles
+  pub totals : (token : Token) → total_of sum token ≡ total_over bundles token
+
+-- two sums have the same total of each token
+abbrev pub AreAlike : Summed → Summed → Type 0
+AreAlike a b = (token : Token) → total_of a token ≡ total_of b token
+
+-- the least token whose totals differ
+pub record IsFirstDifference (a b : Summed) (token : Token) : Type 0 where
+  pub differs : total_of a token ≢ total_of b token
+  pub least : (other : Token) → token_cmp other token ≡ Less → total_of a other ≡ total_of b other

@@ -1,0 +1,18 @@
+-- Tokens, and their order.
+use Rattle.std.specs.Prelude.{ℕ, Bool, ◌&&◌, List, nat_eq}
+use Rattle.std.specs.Ordering.{nat_cmp, ordering_then}
+use Rattle.std.specs.Cmp.Lexicographic.{slice_cmp, pointwise}
+use Rattle.std.specs.declared.cmp.Ordering.{Ordering}
+use Rattle.mp_bundle.specs.declared.token.Token.{Token}
+
+-- the token of a policy and a name
+abbrev pub token : List ℕ → List ℕ → Token
+token policy name = record { policy = policy; name = name }
+
+-- by the policy's bytes, and then by the name's, a proper prefix being less
+abbrev pub token_cmp : Token → Token → Ordering
+token_cmp a b = ordering_then (slice_cmp nat_cmp a.policy b.policy) (slice_cmp nat_cmp a.name b.name)
+
+-- whether two tokens have the same bytes
+abbrev pub same_token : Token → Token → Bool
+same_token a b = pointwise nat_eq a.policy b.policy && pointwise nat_eq a.name b.name

@@ -1,0 +1,96 @@
+//! Sums of bundles.
+
+use crate::bundle::Bundle;
+use crate::token::{PolicyId, Token};
+use crate::totals::{Totals, first_unlike, lesser, make_room, raise_all, total_at};
+use mp_memory::{Memory, NoMemory};
+use std::collections::BTreeMap;
+use std::marker::Model;
+
+/// The sum of bundles: how many were added, and the total of each token. Contracts see the totals that aren't zero.
+///
+/// The totals are a map in the order of their tokens. Adding a bundle of m tokens to totals of n takes about m log n steps,
+/// and no pass over all n, whichever tokens a stranger picks. First each token without a total gets one of zero, which no
+/// reader can tell from none. Only this takes memory, and a refusal half way leaves each total as it was. Then each quantity
+/// is added to a total that is there, which can't fail.
+#[derive(Drop)]
+pub struct Sum {
+    totals: Totals,
+    added: u64,
+}
+
+impl Model for Sum {
+    ghost use Rattle.mp_bundle.specs.Sum.{Summed, coded_sum};
+
+    ghost Value = { Summed };
+
+    ghost coded = { coded_sum };
+
+    ghost use Rattle.mp_bundle.specs.Kept.{summed, IsKept};
+
+    ghost view = { summed };
+
+    ghost invariant = { IsKept };
+}
+
+impl Sum {
+    ghost use Rattle.std.specs.Prelude.{◌≡◌, ◌≤◌, ◌<◌, ◌^◌, OnOk, OnErr, IfSome, IfNone};
+    ghost use Rattle.mp_bundle.specs.Token.{token};
+    ghost use Rattle.mp_bundle.specs.Sum.{nothing, total_of, Adds, AreAlike, IsFirstDifference};
+
+    /// The sum of no bundle. It takes no memory.
+    pub fn new(memory: Memory) -> Sum
+        ensures { result ≡ nothing }
+    {
+        Sum {
+            totals: BTreeMap::new(memory),
+            added: 0,
+        }
+    }
+
+    /// Adds a bundle. At most 2^32 may be added.
+    ///
+    /// # Errors
+    /// `NoMemory`, which leaves the sum as it was.
+    pub fn add(&mut self, bundle: &Bundle) -> Result<(), NoMemory>
+        requires { self.old.added < 2 ^ 32 }
+        ensures ok { OnOk result (Adds self.old bundle.now self.new) }
+        ensures err { OnErr result (self.new ≡ self.old) }
+    {
+        let entries = bundle.entries();
+        make_room(&mut self.totals, entries)?;
+        raise_all(&mut self.totals, entries);
+        self.added += 1;
+        Ok(())
+    }
+
+    /// The total of a token, which is 0 where there is none.
+    pub fn total(&self, policy: &PolicyId, name: &[u8]) -> i128
+        ensures { result ≡ total_of self.now (token policy.now name.now) }
+    {
+        match Token::of(policy, name) {
+            Some(token) => total_at(&self.totals, &token),
+            None => 0,
+        }
+    }
+
+    /// How many bundles were added.
+    pub fn added(&self) -> u64
+        ensures same { result ≡ self.now.added }
+        ensures few { result ≤ 2 ^ 32 }
+    {
+        self.added
+    }
+
+    /// The least token whose totals differ, if there is one.
+    pub fn first_difference<'a>(&'a self, other: &'a Sum) -> Option<(PolicyId, &'a [u8])>
+        ensures none { IfNone result (AreAlike self.now other.now) }
+        ensures first { IfSome result (λ d. IsFirstDifference self.now other.now (token d.0 d.1.now)) }
+    {
+        let missed = first_unlike(&self.totals, &other.totals);
+        match lesser(missed, first_unlike(&other.totals, &self.totals)) {
+            Some(token) => Some((token.policy, token.name.as_slice())),
+            None => None,
+        }
+    }
+}
