@@ -1,3 +1,2 @@
 pub mod References
 pub mod Repeats
-pub mod Names

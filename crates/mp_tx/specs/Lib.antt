@@ -7,6 +7,5 @@ pub mod Codes
 pub mod Held
 pub mod Lookup
 pub mod LedgerFault
-pub mod TokenName
 pub mod Kept
 pub mod TxFault

@@ -9,16 +9,16 @@ mod output;
 mod plain;
 mod reference;
 mod spelling;
-mod token_name;
 mod tx;
+
+pub use mp_bundle::{PolicyId, TokenName};
 
 pub use fault::{LedgerFault, TxFault};
 pub use input::Input;
 pub use ledger::{Ledger, MOST_BLOCK_BYTES};
 pub use output::Output;
 pub use plain::{Data, Script};
-pub use reference::{Address, Hash, Key, OutRef, PolicyId, Sig, TxId};
-pub use token_name::TokenName;
+pub use reference::{Address, Hash, Key, OutRef, Sig, TxId};
 pub use tx::{MOST_BYTES, MOST_PARTS, Tx, TxParts};
 
 #[cfg(test)]

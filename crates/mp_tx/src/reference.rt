@@ -3,9 +3,6 @@
 /// A SHA-256 digest (FIPS 180-4).
 pub type Hash = [u8; 32];
 
-/// The policy of a token: the digest of the script that permits it to be forged. That of coin is 32 zero bytes.
-pub type PolicyId = Hash;
-
 /// The id of a transaction: the digest of its body.
 pub type TxId = Hash;
 

@@ -1,5 +1,5 @@
 use super::samples::{ADDRESS, DATUM_HASH, many_inputs, parts};
-use crate::{TokenName, Tx, TxFault};
+use crate::{Tx, TxFault};
 use mp_memory::{Memory, NoMemory};
 use std::test::Fail;
 
@@ -106,13 +106,4 @@ fn faults_have_their_numbers(rt: HostRuntime) {
     assert_eq!(rt; TxFault::NoMemory.number(), 1);
     assert_eq!(rt; TxFault::NotRising.number(), 5);
     assert_eq!(rt; TxFault::TooLarge.number(), 10);
-}
-
-#[test]
-fn a_name_is_its_bytes(rt: HostRuntime) {
-    assert_eq!(rt; TokenName::of(b"gold").as_slice(), b"gold".as_slice());
-    assert_eq!(rt; TokenName::of(b"").as_slice(), b"".as_slice());
-    assert_eq!(rt; TokenName::of(&[7; 32]).as_slice(), [7; 32].as_slice());
-    assert!(rt; TokenName::of(b"a") == TokenName::of(b"a"));
-    assert!(rt; TokenName::of(b"a") != TokenName::of(&[b'a', 0]));
 }
