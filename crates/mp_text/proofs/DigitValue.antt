@@ -1,5 +1,5 @@
 -- The value of digits.
-use Rattle.std.proofs.Common.{◌≡◌, ℕ, suc, ◌+◌, ◌-◌, ◌*◌, ◌^◌, ◌<◌, ◌≤◌, List, [], ◌∷◌, Option, Some, None, true, length, drop, get_or, arith, ◌∙◌, ap, subst, nat_lt}
+use Rattle.std.proofs.Common.{◌≡◌, ℕ, ◌+◌, ◌-◌, ◌*◌, ◌^◌, ◌<◌, ◌≤◌, List, [], ◌∷◌, Some, None, true, length, drop, get_or, arith, ◌∙◌, ap, subst, nat_lt}
 use Rattle.std.proofs.Math.Nat.{pow-suc, add-mul, mul_assoc, mul_comm, mul-one, le-mul_of_pos_right, one-le-pow}
 use Rattle.std.proofs.lemmas.Option.{cond_some}
 use Rattle.std.proofs.lemmas.List.{drop_more}
@@ -10,6 +10,7 @@ use Rattle.mp_text.specs.Numbers.{value_of_digits, if_below}
 abbrev pub completed : ℕ → List ℕ → ℕ
 completed n digits = n * 10 ^ length digits + value_of_digits digits
 
+-- with t for a power of ten
 regroup : (n x t v : ℕ) → n * (t * 10) + (x * t + v) ≡ (n * 10 + x) * t + v
 regroup n x t v = omega (arith, add-mul (n * 10) x t, mul_assoc n 10 t, mul_comm 10 t)
 

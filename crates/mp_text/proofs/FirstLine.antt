@@ -1,5 +1,5 @@
 -- The first line of a text.
-use Rattle.std.proofs.Common.{◌≡◌, ℕ, suc, ◌+◌, ◌==◌, ◌<◌, cond, not, Bool, true, false, List, [], ◌∷◌, length, take, drop, refl, sym, ap, subst, ◌∙◌, arith}
+use Rattle.std.proofs.Common.{◌≡◌, ℕ, suc, ◌+◌, ◌==◌, ◌<◌, cond, not, true, false, List, [], ◌∷◌, length, take, drop, refl, sym, ap, ◌∙◌, arith}
 use Rattle.std.specs.List.{position_or_len, onto_first}
 use Rattle.mp_text.specs.Lines.{lines_of}
 
@@ -11,6 +11,7 @@ end_of text = position_or_len (λ b. b == 10) text
 abbrev cut_at : ℕ → List ℕ → List (List ℕ)
 cut_at end text = take end text ∷ lines_of (drop (end + 1) text)
 
+-- one more byte before the first line
 longer : (b : ℕ) (text : List ℕ) (end : ℕ) → lines_of text ≡ cut_at end text → onto_first b (lines_of text) ≡ cut_at (1 + end) (b ∷ text)
 longer b text end is =
     let counted : suc end ≡ 1 + end = omega arith in

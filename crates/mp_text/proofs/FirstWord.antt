@@ -33,7 +33,7 @@ pub words_of-trimmed : (line : List ℕ) → words_of (drop (start_of line) line
 words_of-trimmed [] = refl
 words_of-trimmed (b ∷ line) = trim_more b line (b == 32) refl (words_of-trimmed line)
 
--- the first part, and words in the others
+-- the first part, and the words of the others
 record Splits (line : List ℕ) : Type 0 where
   parts : List (List ℕ)
   split : slice_split is_space line ≡ take (end_of line) line ∷ parts

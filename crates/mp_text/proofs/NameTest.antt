@@ -1,5 +1,5 @@
 -- The test of a name.
-use Rattle.std.proofs.Common.{◌≡◌, ℕ, ◌≤◌, ◌⊎◌, Bool, true, List, [], ◌∷◌, length, All, Decides, refl, arith}
+use Rattle.std.proofs.Common.{ℕ, ◌≤◌, ◌⊎◌, List, [], ◌∷◌, length, All, Decides, refl}
 use Rattle.std.specs.List.{list_all}
 use Rattle.std.specs.Char.{IsAsciiLowercase, IsAsciiDigit}
 use Rattle.std.proofs.lemmas.Bool.Decides.{Decides-and, Decides-or, Decides-by_and, Decides-like}
@@ -10,6 +10,7 @@ others-Decides : (others : List ℕ) → Decides (list_all is_letter_or_digit ot
 others-Decides others =
     Decides-by_and is_letter_or_digit (λ b. IsAsciiLowercase b ⊎ IsAsciiDigit b) (list_all is_letter_or_digit) (λ b. Decides-or _ _ (range-Decides 97 122 b) (range-Decides 48 57 b)) refl (λ _ _. refl) others
 
+-- the test says whether a word is a name
 pub name-Decides : (word : List ℕ) → Decides (is_name word) (IsName word)
 name-Decides [] = (λ e. Prim.cc, λ h. absurd h)
 name-Decides (first ∷ others) =

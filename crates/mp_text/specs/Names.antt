@@ -8,7 +8,7 @@ abbrev pub IsName : List ℕ → Type 0
 IsName [] = ⊥
 IsName (first ∷ others) = IsAsciiLowercase first × (length others ≤ 15) × All (λ b. IsAsciiLowercase b ⊎ IsAsciiDigit b) others
 
--- the test of it
+-- the tests of it
 abbrev pub is_letter_or_digit : ℕ → Bool
 is_letter_or_digit b = is_ascii_lowercase b || is_ascii_digit b
 

@@ -7,7 +7,7 @@ use Rattle.std.specs.Char.{is_ascii_digit}
 abbrev pub are_digits : ℕ → List ℕ → Bool
 are_digits most word = nat_lt 0 (length word) && nat_le (length word) most && list_all is_ascii_digit word
 
--- what digits write: each counts ten times as much as the one after it
+-- what digits write: each, less the 48 of `0`, counts ten times as much as the one after it
 abbrev pub value_of_digits : List ℕ → ℕ
 value_of_digits [] = 0
 value_of_digits (digit ∷ digits) = (digit - 48) * 10 ^ length digits + value_of_digits digits

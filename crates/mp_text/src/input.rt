@@ -1,6 +1,6 @@
 //! All the bytes of a reader.
 
-ghost use Rattle.std.specs.Prelude.{◌≡◌, ℕ, ◌<◌, ◌≤◌, ◌++◌, length, take, vec_len, IfSome, IfOk, OnOk};
+ghost use Rattle.std.specs.Prelude.{◌≡◌, ℕ, ◌<◌, ◌≤◌, ◌↔◌, ◌+◌, ◌++◌, length, take, vec_len, IfSome, IfOk, OnOk, IsErrOf};
 ghost use Rattle.std.specs.Io.KnownBytes.{Consumes, IsAtEnd};
 ghost use Rattle.mp_text.specs.declared.input.InputFault.TheVariants as input_faults;
 
@@ -12,7 +12,7 @@ use thiserror::Error;
 /// The most bytes of an input.
 pub const MOST_BYTES: usize = 1 << 24;
 
-/// The most reads that an input may take, the one that finds its end included.
+/// The most reads of an input, the one that finds its end included. Each other read gives a byte at least.
 pub const MOST_READS: u64 = 1 << 25;
 
 const CHUNK_BYTES: usize = 4096;
@@ -49,6 +49,7 @@ fn append(text: &mut Vec<u8, Memory>, bytes: &[u8]) -> Result<(), InputFault>
     requires { vec_len text.old ≤ MOST_BYTES }
     ensures bytes { OnOk result (text.new.items ≡ text.old.items ++ bytes.now) }
     ensures most { OnOk result (vec_len text.new ≤ MOST_BYTES) }
+    ensures over { IsErrOf result InputFault.Read ↔ (MOST_BYTES < vec_len text.old + length bytes.now) }
 {
     if bytes.len() > MOST_BYTES - text.len() {
         return Err(InputFault::Read);

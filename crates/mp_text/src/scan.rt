@@ -24,7 +24,7 @@ pub fn length_before(bytes: &[u8], wanted: u8) -> usize
 }
 
 /// How many `repeated` bytes stand before the first other one: all, where there is none.
-pub fn length_of(bytes: &[u8], repeated: u8) -> usize
+pub fn run_length(bytes: &[u8], repeated: u8) -> usize
     ensures first { result ≡ position_or_len (λ b. not (b == repeated)) bytes.now }
     ensures within { result ≤ length bytes.now }
 {

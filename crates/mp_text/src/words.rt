@@ -3,7 +3,7 @@
 ghost use Rattle.std.specs.Prelude.{◌≡◌, ◌≢◌, ℕ, ◌↔◌, ◌<◌, ◌≤◌, [], ◌∷◌, length, IsNone, IfSome, slice_get, Some};
 ghost use Rattle.mp_text.specs.Words.{words_of, IsWord, is_comment_or_blank};
 
-use crate::scan::{length_before, length_of};
+use crate::scan::{length_before, run_length};
 
 const SPACE: u8 = b' ';
 
@@ -15,7 +15,7 @@ fn trimmed(line: &[u8]) -> &[u8]
     ensures within { length result.now ≤ length line.now }
     ensures begins { slice_get result.now 0 ≢ Some 32 }
 {
-    &line[length_of(line, SPACE)..]
+    &line[run_length(line, SPACE)..]
 }
 
 // The word at the front of a line, and the line after it.

@@ -2,7 +2,7 @@
 use super::samples::{CONFIG, ledger, opening, tx};
 use crate::{Command, Refusal, Reply, SeqPool, play};
 use mp_memory::{Memory, NoMemory, Trialled, under_each_refusal};
-use mp_tx::Tx;
+use mp_tx::{Tx, TxId};
 use std::sync::Arc;
 use std::test::Fail;
 
@@ -56,5 +56,53 @@ fn a_start_stands_each_refusal(rt: HostRuntime) -> Result<(), Fail> {
         |last| *last == 8,
     );
     assert_eq!(rt; done.map(|d| d.answer), Ok(Ok(8)));
+    Ok(())
+}
+
+fn shared_id(command: &Command) -> Result<TxId, NoMemory> {
+    match command.share()? {
+        Command::Submit(tx) => Ok(*tx.id()),
+    }
+}
+
+#[test]
+fn a_shared_command_is_the_same(rt: HostRuntime) -> Result<(), Fail> {
+    let memory = Memory::new(rt.alloc())?;
+    let a = tx(memory, &[opening(0)], &[100])?;
+    let id = *a.id();
+    let done = under_each_refusal(
+        &memory,
+        || Some(Command::Submit(Arc::try_clone(&a).ok()?)),
+        |command| shared_id(command),
+        |answer| *answer == Err(NoMemory),
+        |_| true,
+    );
+    assert_eq!(rt;
+        done,
+        Ok(Trialled {
+            answer: Ok(id),
+            growths: 0
+        })
+    );
+    Ok(())
+}
+
+#[test]
+fn a_copied_reply_is_the_same(rt: HostRuntime) -> Result<(), Fail> {
+    let memory = Memory::new(rt.alloc())?;
+    let done = under_each_refusal(
+        &memory,
+        || Some(Reply::Accepted { ticket: 7 }),
+        |reply| reply.copy(),
+        |answer| *answer == Err(NoMemory),
+        |reply| *reply == Reply::Accepted { ticket: 7 },
+    );
+    assert_eq!(rt;
+        done,
+        Ok(Trialled {
+            answer: Ok(Reply::Accepted { ticket: 7 }),
+            growths: 0
+        })
+    );
     Ok(())
 }

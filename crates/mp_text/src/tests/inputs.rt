@@ -1,4 +1,4 @@
-use crate::{InputFault, MOST_BYTES, read_all};
+use crate::{InputFault, MOST_BYTES, WriteFault, read_all};
 use mp_memory::{Memory, Trialled, under_each_refusal};
 use std::io;
 use std::io::{ErrorKind, Read};
@@ -91,6 +91,19 @@ fn an_input_has_at_most_2_to_the_24_bytes(rt: HostRuntime) -> Result<(), Fail> {
     assert!(rt; text.iter().all(|&byte| byte == b'x'));
     let over = read_all(memory, &mut Repeats { left: 16_777_217 });
     assert_eq!(rt; over.err(), Some(InputFault::Read));
+    Ok(())
+}
+
+#[test]
+fn faults_say_what_they_are(rt: HostRuntime) -> Result<(), Fail> {
+    for (fault, wanted) in [
+        (InputFault::NoMemory, "no memory"),
+        (InputFault::Read, "the input could not be read"),
+    ] {
+        assert_eq!(rt; fault.to_string(rt.alloc())?.as_str(), wanted);
+    }
+    let written = WriteFault.to_string(rt.alloc())?;
+    assert_eq!(rt; written.as_str(), "the output could not be written");
     Ok(())
 }
 

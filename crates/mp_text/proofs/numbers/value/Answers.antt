@@ -1,5 +1,4 @@
-use Rattle.std.proofs.Common.{◌≡◌, ◌≤◌, ◌<◌, ◌^◌, ◌*◌, ◌+◌, ◌-◌, ◌∙◌, sym, ap, subst, None, drop, slice_index_or, arith}
-use Rattle.std.proofs.lemmas.Bool.Decides.{nat_tests}
+use Rattle.std.proofs.Common.{◌≡◌, ◌≤◌, ◌*◌, ◌+◌, ◌-◌, ◌∙◌, sym, subst, None, drop, slice_index_or, arith}
 use Rattle.mp_text.specs.Numbers.{value_of_digits, if_below}
 use Rattle.mp_text.proofs.DigitValue.{completed, completed-drop, completed-ge, if_below-none, if_below-some}
 use Rattle.mp_text.proofs.numbers.value.Goals as goal

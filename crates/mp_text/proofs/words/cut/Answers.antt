@@ -1,5 +1,4 @@
-use Rattle.std.proofs.Common.{◌≡◌, ◌∷◌, ◌<◌, ◌∙◌, ap, sym, subst, take, drop, length, arith, List, ℕ}
-use Rattle.std.proofs.lemmas.List.{take_rest}
+use Rattle.std.proofs.Common.{◌≡◌, ◌∷◌, ◌<◌, ◌∙◌, ap, sym, subst, take, drop, arith, List, ℕ}
 use Rattle.mp_text.specs.Words.{words_of, IsWord}
 use Rattle.mp_text.proofs.FirstWord.{words_of-cut, first_is_word, end_of, end_of-some}
 use Rattle.mp_text.proofs.words.cut.Goals as goal
