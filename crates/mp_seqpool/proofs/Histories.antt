@@ -1,6 +1,6 @@
 -- The pool laws hold of every history.
 use Rattle.std.proofs.Common.{◌≡◌, ◌≢◌, ℕ, zero, suc, ◌+◌, ◌-◌, ◌^◌, ◌<◌, ◌≤◌, Bool, true, false, cond, List, [], ◌∷◌, ◌++◌, length, get_or, take, drop, refl, sym, ap, subst, ◌∙◌, arith}
-use Rattle.std.specs.Prelude.{Option, None, Some, Result, Ok, Err, is_ok, map, All, AllPairs, Contains, nat_le, nat_lt, nat_eq}
+use Rattle.std.specs.Prelude.{Option, None, Some, Result, Ok, Err, is_ok, map, All, AllPairs, Contains, nat_le, nat_eq}
 use Rattle.std.specs.List.Sorted.{IsStrictlyIncreasing}
 use Rattle.std.specs.Cmp.Lexicographic.{pointwise, bytes_decides}
 use Rattle.std.specs.FinMap.{get}
@@ -8,7 +8,7 @@ use Rattle.std.proofs.lemmas.List.{map-append, get_or_default, take-append-drop}
 use Rattle.std.proofs.lemmas.List.Elements.{All-append, All-from_recursion}
 use Rattle.std.proofs.lemmas.List.Quantifiers.{all_pairs_push}
 use Rattle.std.proofs.lemmas.Grind.{common_steps}
-use Rattle.mp_tx.specs.Transaction.{Transaction, id_of, size_of}
+use Rattle.mp_tx.specs.Transaction.{Transaction, id_of}
 use Rattle.mp_seqpool.specs.declared.invalid.Invalid.{Invalid}
 use Rattle.mp_seqpool.specs.declared.refusal.Refusal.{Refusal}
 use Rattle.mp_seqpool.specs.declared.refusal.Refusal.TheVariants as refusals
@@ -19,7 +19,7 @@ use Rattle.mp_seqpool.specs.Validity.{IsValid, Chain, first_fault}
 use Rattle.mp_seqpool.specs.Order.{Order, Submit, Pool, transactions, tickets}
 use Rattle.mp_tx.specs.Ledger.{LedgerState}
 use Rattle.mp_seqpool.specs.Commands.{IsRefused}
-use Rattle.mp_seqpool.specs.SlowPool.{opening, unspent, free_bytes, ticket_of, answer_rules, answer_new, answer, accepted, next, pool_after}
+use Rattle.mp_seqpool.specs.SlowPool.{opening, unspent, ticket_of, answer_rules, answer_new, answer, accepted, next, pool_after}
 use Rattle.mp_seqpool.specs.PoolLaws.{IsLawful, Lasts, GivesNext, ObeysLaws}
 use Rattle.mp_seqpool.proofs.Valid.{valid}
 

@@ -1,5 +1,5 @@
 -- A submit that the slow pool accepts, step by step.
-use Rattle.std.proofs.Common.{◌≡◌, ℕ, ◌+◌, cond, List, [], ◌∷◌, ◌++◌, refl, sym, ap, ◌∙◌}
+use Rattle.std.proofs.Common.{◌≡◌, ℕ, cond, List, [], ◌∷◌, ◌++◌, ap, ◌∙◌}
 use Rattle.std.specs.Prelude.{Ok, is_ok}
 use Rattle.std.specs.Arc.{arc_value}
 use Rattle.std.proofs.lemmas.List.{map-append}
@@ -7,7 +7,7 @@ use Rattle.mp_tx.specs.Transaction.{Transaction}
 use Rattle.mp_seqpool.specs.declared.item.Item.{Item}
 use Rattle.mp_seqpool.specs.declared.command.Reply.{Reply}
 use Rattle.mp_seqpool.specs.Items.{items_of}
-use Rattle.mp_seqpool.specs.Order.{Order, Submit, Pool}
+use Rattle.mp_seqpool.specs.Order.{Submit, Pool}
 use Rattle.mp_seqpool.specs.SlowPool.{answer, accepted, next}
 
 -- where a submit is accepted, the state after it has the transaction last

@@ -1,16 +1,14 @@
 -- A transaction of which no rule fails is valid.
-use Rattle.std.proofs.Common.{◌≡◌, ◌≢◌, ℕ, zero, suc, ◌+◌, ◌<◌, ◌≤◌, Bool, true, false, cond, List, [], ◌∷◌, length, refl, sym, ap, subst, ◌∙◌, arith, eqb-true}
-use Rattle.std.specs.Prelude.{◌==◌, Option, None, Some, IsSome, is_none, is_some, option_map, All}
+use Rattle.std.proofs.Common.{◌≡◌, ◌≢◌, ℕ, zero, suc, ◌+◌, ◌<◌, ◌≤◌, Bool, true, false, cond, List, [], ◌∷◌, length, refl, sym, ap, ◌∙◌, arith, eqb-true}
+use Rattle.std.specs.Prelude.{◌==◌, Option, None, Some, IsSome, is_none, is_some, option_map}
 use Rattle.std.specs.List.{position_from, range_with_len, AllByRecursion}
 use Rattle.std.specs.Option.{option_or}
 use Rattle.std.proofs.lemmas.Bool.{eqb-false}
 use Rattle.std.proofs.lemmas.List.Elements.{All-from_recursion}
-use Rattle.mp_tx.specs.declared.input.Input.{Input}
 use Rattle.mp_tx.specs.Transaction.{Transaction}
-use Rattle.mp_seqpool.specs.declared.invalid.Invalid.{Invalid}
-use Rattle.mp_seqpool.specs.declared.invalid.Invalid.TheVariants.{NoInputs, InputMissing, OutputTaken, Unbalanced}
+use Rattle.mp_seqpool.specs.declared.invalid.Invalid.TheVariants.{NoInputs, InputMissing, OutputTaken}
 use Rattle.mp_seqpool.specs.Apply.{Unspent}
-use Rattle.mp_seqpool.specs.Validity.{IsValid, own_ref, spent_coin, paid_coin, no_inputs, input_missing, output_taken, unbalanced, first_fault}
+use Rattle.mp_seqpool.specs.Validity.{IsValid, own_ref, spent_coin, paid_coin, no_inputs, input_missing, output_taken, first_fault}
 
 neither : {A : Type 0} (a b : Option A) → option_or a b ≡ None → (a ≡ None) × (b ≡ None)
 neither None b e = (refl, e)

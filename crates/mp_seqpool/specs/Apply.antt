@@ -1,5 +1,5 @@
 -- What transactions do to the outputs that may be spent (the EUTXO model of Chakravarty et al.).
-use Rattle.std.specs.Prelude.{ℕ, Bool, nat_eq, List, [], ◌∷◌, Option, None, slice_get, if◌then◌else◌}
+use Rattle.std.specs.Prelude.{Bool, nat_eq, List, [], ◌∷◌, Option, None, slice_get, if◌then◌else◌}
 use Rattle.std.specs.List.{list_any}
 use Rattle.std.specs.Option.{option_or}
 use Rattle.std.specs.Cmp.Lexicographic.{pointwise}

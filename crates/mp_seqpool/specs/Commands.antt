@@ -1,9 +1,8 @@
 -- Commands as plain data, and what a call tells of the slow pool's answer.
-use Rattle.std.specs.Prelude.{◌≡◌, List, map, Result, Ok, Err}
+use Rattle.std.specs.Prelude.{◌≡◌, List, map, Err}
 use Rattle.std.specs.Arc.{arc_value}
 use Rattle.mp_seqpool.specs.declared.command.Command.{Command}
 use Rattle.mp_seqpool.specs.declared.command.Command.TheVariants as commands
-use Rattle.mp_seqpool.specs.declared.command.Reply.{Reply}
 use Rattle.mp_seqpool.specs.declared.refusal.Refusal.{Refusal}
 use Rattle.mp_seqpool.specs.declared.refusal.Refusal.TheVariants.{NoMemory, HistoryFull, TicketsSpent, AlreadyInPool, Full, Invalid}
 use Rattle.mp_seqpool.specs.Order.{Order, Submit, Pool}

@@ -1,6 +1,6 @@
 -- The slow pool: a list and a map. It computes everything anew from the ledger at each question.
 -- It follows the Mempool API of ouroboros-consensus.
-use Rattle.std.specs.Prelude.{◌≡◌, ℕ, ◌+◌, ◌*◌, ◌-◌, ◌^◌, ◌<◌, ◌≤◌, ◌==◌, nat_eq, nat_le, nat_lt, List, [], ◌∷◌, ◌++◌, sum_by, Option, None, Some, Result, Ok, Err, MatchOption, is_ok, if◌then◌else◌}
+use Rattle.std.specs.Prelude.{ℕ, ◌+◌, ◌*◌, ◌-◌, ◌^◌, ◌<◌, ◌≤◌, nat_eq, nat_le, nat_lt, List, [], ◌∷◌, ◌++◌, sum_by, Option, None, Some, Result, Ok, Err, is_ok, if◌then◌else◌}
 use Rattle.std.specs.Cmp.Lexicographic.{pointwise}
 use Rattle.std.specs.FinMap.{get}
 use Rattle.mp_tx.specs.Transaction.{Transaction, id_of, size_of}

@@ -1,9 +1,8 @@
 -- When a transaction may follow upon the outputs that may be spent, and which rule fails first where it may not.
-use Rattle.std.specs.Prelude.{◌≡◌, ◌≢◌, ℕ, ◌<◌, ◌==◌, Bool, List, [], ◌∷◌, length, sum_by, All, replicate, Option, None, Some, IsSome, is_some, is_none, option_map, if◌then◌else◌}
+use Rattle.std.specs.Prelude.{◌≡◌, ◌≢◌, ℕ, ◌<◌, ◌==◌, List, [], ◌∷◌, length, sum_by, All, replicate, Option, None, Some, IsSome, is_some, is_none, option_map, if◌then◌else◌}
 use Rattle.std.specs.List.{position_from, range_with_len}
 use Rattle.std.specs.Option.{option_or, option_map_or}
 use Rattle.mp_tx.specs.declared.reference.OutRef.{OutRef}
-use Rattle.mp_tx.specs.declared.input.Input.{Input}
 use Rattle.mp_tx.specs.Output.{Paid}
 use Rattle.mp_tx.specs.Transaction.{Transaction, id_of}
 use Rattle.mp_seqpool.specs.declared.invalid.Invalid.{Invalid}

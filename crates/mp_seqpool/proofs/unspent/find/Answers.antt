@@ -1,7 +1,6 @@
-use Rattle.std.proofs.Common.{◌≡◌, true, false, refl, sym, ap, ◌∙◌}
+use Rattle.std.proofs.Common.{true, false, refl, sym, ap, ◌∙◌}
 use Rattle.std.specs.Prelude.{option_copied, Some, None}
 use Rattle.std.specs.FinMap.{get}
-use Rattle.mp_tx.specs.Reference.{same_ref}
 use Rattle.mp_seqpool.specs.Apply.{made, spends}
 use Rattle.mp_seqpool.proofs.After.{after-last}
 use Rattle.mp_seqpool.proofs.unspent.find.Goals as goal

@@ -1,7 +1,6 @@
-use Rattle.std.proofs.Common.{◌≡◌, ◌+◌, refl, sym, ap, ◌∙◌}
+use Rattle.std.proofs.Common.{◌+◌, refl, sym, ap, ◌∙◌}
 use Rattle.std.specs.Arc.{arc_value}
 use Rattle.mp_tx.specs.Transaction.{Transaction}
-use Rattle.mp_seqpool.specs.Held.{state}
 use Rattle.mp_seqpool.specs.SlowPool.{answer, accepted}
 use Rattle.mp_seqpool.specs.Order.{Submit}
 use Rattle.mp_seqpool.proofs.Submits.{next-accepted, items_of-push}
