@@ -11,11 +11,10 @@ mod reference;
 mod spelling;
 mod tx;
 
-pub use mp_bundle::{PolicyId, TokenName};
-
 pub use fault::{LedgerFault, TxFault};
 pub use input::Input;
 pub use ledger::{Ledger, MOST_BLOCK_BYTES};
+pub use mp_bundle::{PolicyId, TokenName};
 pub use output::Output;
 pub use plain::{Data, Script};
 pub use reference::{Address, Hash, Key, OutRef, Sig, TxId};
