@@ -1,0 +1,311 @@
+-- What each event of the core keeps.
+use Rattle.std.proofs.Common.{◌≡◌, ℕ, zero, suc, ◌+◌, ◌<◌, ◌≤◌, Bool, true, false, cond, ◌&&◌, List, [], ◌∷◌, ◌++◌, length, refl, sym, ap, subst, ◌∙◌, arith, eqb-true}
+use Rattle.std.specs.Prelude.{◌==◌, Option, None, Some, IfSome, Result, Ok, Err, All, is_none, slice_get, nat_lt}
+use Rattle.std.proofs.Math.Seq.{take-length}
+use Rattle.std.proofs.lemmas.Bool.{ltb-true}
+use Rattle.std.proofs.lemmas.List.{append_assoc, append-nil, take-append-le}
+use Rattle.std.proofs.lemmas.List.Elements.{All-append, All-from_recursion}
+use Rattle.std.proofs.lemmas.Option.{IfSome_then}
+use Rattle.mp_seqpool.specs.declared.command.Reply.{Reply}
+use Rattle.mp_seqpool.specs.declared.refusal.Refusal.{Refusal}
+use Rattle.mp_seqpool.specs.Order.{Order, Pool}
+use Rattle.mp_seqpool.specs.SlowPool.{answer, next}
+use Rattle.mp_history.specs.Done.{Done}
+use Rattle.mp_history.specs.Log.{IsRight, IsLegal, pool_of, last_of}
+use Rattle.mp_history.specs.World.{Version, World, Event, Take, Commit, Answer, Show, ShowRefused, Release, Read, Learn, first_version, opens, present, is_holder, has_lock, put, holding, entered, committed, answered, shown, comes, happens, run, entry_of, enters, commits}
+use Rattle.mp_history.specs.CoreLaw.{IsTrueVersion}
+use Rattle.mp_history.proofs.Logs.{pool_of-append, legal-append, last_of-own, last_of-other}
+
+-- Numbers, truth values and lists.
+
+turn : (n : ℕ) → suc (n + 1) ≡ suc n + 1
+turn n = omega arith
+
+up : (a b : ℕ) → a ≤ b → a ≤ b + 1
+up a b le = omega arith
+
+pub itself : (a : ℕ) → a ≤ a
+itself a = omega arith
+
+pub both : (a b : Bool) → (a && b) ≡ true → (a ≡ true) × (b ≡ true)
+both true true e = (refl, refl)
+both true false e = Prim.cc
+both false b e = Prim.cc
+
+-- a fact of both branches
+pub kept_if : {A : Type 0} (P : A → Type 0) (b : Bool) (x y : A) → (b ≡ true → P x) → P y → P (cond b x y)
+kept_if P true x y so other = so refl
+kept_if P false x y so other = other
+
+push-All : {A : Type 0} (P : A → Type 0) (xs : List A) (x : A) → All P xs → P x → All P (xs ++ x ∷ [])
+push-All P xs x all one = All-append P xs (x ∷ []) all (All-from_recursion P (x ∷ []) (one, tt))
+
+pub push-length : {A : Type 0} (xs : List A) (x : A) → length (xs ++ x ∷ []) ≡ length xs + 1
+push-length [] x = refl
+push-length (y ∷ xs) x = ap suc (push-length xs x) ∙ turn (length xs)
+
+one : {A : Type 0} (P : A → Type 0) (xs : List A) (k : ℕ) → All P xs → IfSome (slice_get xs k) P
+one P [] k all = tt
+one P (x ∷ xs) zero all = all 0 x (omega arith)
+one P (x ∷ xs) (suc k) all = one P xs k (λ j d lt. all (suc j) d (omega arith))
+
+-- Versions and last places, one entry later.
+
+pub later : (p : Pool) (log : List Done) (d : Done) (v : Version) → IsTrueVersion p log v → IsTrueVersion p (log ++ d ∷ []) v
+later p log d v true_one = record {
+  within = subst (λ n. v.number ≤ n) (sym (push-length log d)) (up v.number (length log) true_one.within);
+  same = true_one.same ∙ ap (pool_of p) (sym (take-append-le v.number log (d ∷ []) true_one.within));
+}
+
+last-put : (f : ℕ → Option ℕ) (caller : ℕ) (log : List Done) (d : Done) → f caller ≡ last_of caller log → put f d.caller (Some (length log)) caller ≡ last_of caller (log ++ d ∷ [])
+last-put f caller log d was =
+    elim (caller == d.caller) as (λ b. (caller == d.caller) ≡ b → cond b (Some (length log)) (f caller) ≡ last_of caller (log ++ d ∷ [])) [
+      | true ↦ λ e. sym (last_of-own caller log d e)
+      | false ↦ λ e. was ∙ sym (last_of-other caller log d e)
+    ] refl
+
+-- What is so of every world.
+pub record IsSound (callers : ℕ) (p : Pool) (w : World) : Type 0 where
+  pub locked : w.locked ≡ pool_of p w.log
+  pub legal : IsLegal callers p w.log
+  pub held : (caller : ℕ) → IsTrueVersion p w.log (w.held caller)
+  pub waiting : IfSome w.waiting (IsTrueVersion p w.log)
+  pub board : All (IsTrueVersion p w.log) w.board
+  pub ever : All (IsTrueVersion p w.log) w.ever
+  pub last : (caller : ℕ) → w.last caller ≡ last_of caller w.log
+
+pub sound-opens : (callers : ℕ) (p : Pool) → IsSound callers p (opens p)
+sound-opens callers p =
+    let first : IsTrueVersion p [] (first_version p) = record { within = omega arith; same = refl } in
+    record {
+      locked = refl;
+      legal = tt;
+      held = λ _. first;
+      waiting = tt;
+      board = All-from_recursion (IsTrueVersion p []) (first_version p ∷ []) (first, tt);
+      ever = All-from_recursion (IsTrueVersion p []) (first_version p ∷ []) (first, tt);
+      last = λ _. refl;
+    }
+
+pub sound-present : (callers : ℕ) (p : Pool) (w : World) → IsSound callers p w → IsTrueVersion p w.log (present w)
+sound-present callers p w s = record { within = itself (length w.log); same = s.locked ∙ ap (pool_of p) (sym (take-length w.log)) }
+
+sound-holding : (callers : ℕ) (p : Pool) (w : World) (caller : ℕ) (v : Version) → IsSound callers p w → IsTrueVersion p w.log v → IsSound callers p (holding w caller v)
+sound-holding callers p w caller v s true_one = record {
+  locked = s.locked;
+  legal = s.legal;
+  held = λ c. kept_if (IsTrueVersion p w.log) (c == caller) v (w.held c) (λ _. true_one) (s.held c);
+  waiting = s.waiting;
+  board = s.board;
+  ever = push-All (IsTrueVersion p w.log) w.ever v s.ever true_one;
+  last = s.last;
+}
+
+sound-entered : (callers : ℕ) (p : Pool) (w : World) (d : Done) → IsSound callers p w → IsRight callers (pool_of p w.log) d → IsSound callers p (entered w d)
+sound-entered callers p w d s right = record {
+  locked = ap (λ q. next q d.order) s.locked ∙ sym (pool_of-append p w.log d);
+  legal = legal-append callers p w.log d s.legal right;
+  held = λ c. later p w.log d (w.held c) (s.held c);
+  waiting = IfSome_then w.waiting s.waiting (later p w.log d);
+  board = λ k v lt. later p w.log d _ (s.board k v lt);
+  ever = λ k v lt. later p w.log d _ (s.ever k v lt);
+  last = λ c. last-put w.last c w.log d (s.last c);
+}
+
+sound-waits : (callers : ℕ) (p : Pool) (w : World) (v : Version) → IsSound callers p w → IsTrueVersion p w.log v → IsSound callers p (record w { waiting = Some v })
+sound-waits callers p w v s true_one = record { locked = s.locked; legal = s.legal; held = s.held; waiting = true_one; board = s.board; ever = s.ever; last = s.last }
+
+sound-committed : (callers : ℕ) (p : Pool) (w : World) (caller : ℕ) (order : Order) (a : Result Reply Refusal) → caller < callers → answer w.locked order ≡ a → IsSound callers p w → IsSound callers p (committed w caller order a)
+sound-committed callers p w caller order (Ok reply) known e s =
+    let d : Done = record { caller = caller; order = order; reply = reply } in
+    let v : World = entered w d in
+    let now : IsSound callers p v = sound-entered callers p w d s (record { known = known; true_reply = ap (λ q. answer q order) (sym s.locked) ∙ e }) in
+    let there : IsTrueVersion p v.log (present v) = sound-present callers p v now in
+    sound-waits callers p (holding v caller (present v)) (present v) (sound-holding callers p v caller (present v) now there) there
+sound-committed callers p w caller order (Err refusal) known e s = s
+
+sound-answered : (callers : ℕ) (p : Pool) (w : World) (caller : ℕ) (a : Result Reply Refusal) → IsSound callers p w → IsSound callers p (answered w caller a)
+sound-answered callers p w caller (Ok reply) s = s
+sound-answered callers p w caller (Err refusal) s = sound-holding callers p w caller (present w) s (sound-present callers p w s)
+
+sound-shown : (callers : ℕ) (p : Pool) (w : World) (o : Option Version) → IfSome o (IsTrueVersion p w.log) → IsSound callers p w → IsSound callers p (shown w o)
+sound-shown callers p w None true_one s = s
+sound-shown callers p w (Some v) true_one s = record { locked = s.locked; legal = s.legal; held = s.held; waiting = tt; board = push-All (IsTrueVersion p w.log) w.board v s.board true_one; ever = s.ever; last = s.last }
+
+sound-comes : (callers : ℕ) (p : Pool) (w : World) (caller : ℕ) (o : Option Version) → IfSome o (IsTrueVersion p w.log) → IsSound callers p w → IsSound callers p (comes w caller o)
+sound-comes callers p w caller None true_one s = s
+sound-comes callers p w caller (Some v) true_one s = kept_if (IsSound callers p) (nat_lt (w.held caller).number v.number) (holding w caller v) w (λ _. sound-holding callers p w caller v s true_one) s
+
+sound-holder : (callers : ℕ) (p : Pool) (w : World) (h : Option ℕ) → IsSound callers p w → IsSound callers p (record w { holder = h })
+sound-holder callers p w h s = record { locked = s.locked; legal = s.legal; held = s.held; waiting = s.waiting; board = s.board; ever = s.ever; last = s.last }
+
+pub sound-happens : (callers : ℕ) (p : Pool) (w : World) (e : Event) → IsSound callers p w → IsSound callers p (happens callers w e)
+sound-happens callers p w (Take caller) s = kept_if (IsSound callers p) (nat_lt caller callers && is_none w.holder) (record w { holder = Some caller }) w (λ _. sound-holder callers p w (Some caller) s) s
+sound-happens callers p w (Commit caller order) s =
+    kept_if (IsSound callers p) (has_lock callers w caller) (committed w caller order (answer w.locked order)) w
+    (λ e. sound-committed callers p w caller order (answer w.locked order) (ltb-true caller callers (both (nat_lt caller callers) (is_holder w.holder caller) e).0) refl s) s
+sound-happens callers p w (Answer caller order) s = kept_if (IsSound callers p) (has_lock callers w caller) (answered w caller (answer w.locked order)) w (λ _. sound-answered callers p w caller (answer w.locked order) s) s
+sound-happens callers p w (Show caller) s = kept_if (IsSound callers p) (has_lock callers w caller) (shown w w.waiting) w (λ _. sound-shown callers p w w.waiting s.waiting s) s
+sound-happens callers p w (ShowRefused caller) s = s
+sound-happens callers p w (Release caller) s = kept_if (IsSound callers p) (has_lock callers w caller) (record w { holder = None }) w (λ _. sound-holder callers p w None s) s
+sound-happens callers p w (Read caller which) s = kept_if (IsSound callers p) (nat_lt caller callers) (comes w caller (slice_get w.board which)) w (λ _. sound-comes callers p w caller (slice_get w.board which) (one (IsTrueVersion p w.log) w.board which s.board) s) s
+sound-happens callers p w (Learn caller which) s = kept_if (IsSound callers p) (nat_lt caller callers) (comes w caller (slice_get w.ever which)) w (λ _. sound-comes callers p w caller (slice_get w.ever which) (one (IsTrueVersion p w.log) w.ever which s.ever) s) s
+
+pub sound-run : (callers : ℕ) (p : Pool) (w : World) (es : List Event) → IsSound callers p w → IsSound callers p (run callers w es)
+sound-run callers p w [] s = s
+sound-run callers p w (e ∷ es) s = sound-run callers p (happens callers w e) es (sound-happens callers p w e s)
+
+-- What an event enters goes last into the log.
+
+log-committed : (w : World) (caller : ℕ) (order : Order) (a : Result Reply Refusal) → (committed w caller order a).log ≡ w.log ++ entry_of caller order a
+log-committed w caller order (Ok reply) = refl
+log-committed w caller order (Err refusal) = sym (append-nil w.log)
+
+log-answered : (w : World) (caller : ℕ) (a : Result Reply Refusal) → (answered w caller a).log ≡ w.log
+log-answered w caller (Ok reply) = refl
+log-answered w caller (Err refusal) = refl
+
+log-shown : (w : World) (o : Option Version) → (shown w o).log ≡ w.log
+log-shown w None = refl
+log-shown w (Some v) = refl
+
+log_same : (b : Bool) (v w : World) → v.log ≡ w.log → (cond b v w).log ≡ w.log ++ []
+log_same true v w e = e ∙ sym (append-nil w.log)
+log_same false v w e = sym (append-nil w.log)
+
+log_if : (b : Bool) (v w : World) (ds : List Done) → v.log ≡ w.log ++ ds → (cond b v w).log ≡ w.log ++ cond b ds []
+log_if true v w ds e = e
+log_if false v w ds e = sym (append-nil w.log)
+
+log-comes : (w : World) (caller : ℕ) (o : Option Version) → (comes w caller o).log ≡ w.log
+log-comes w caller None = refl
+log-comes w caller (Some v) = kept_if (λ (u : World). u.log ≡ w.log) (nat_lt (w.held caller).number v.number) (holding w caller v) w (λ _. refl) refl
+
+pub log-happens : (callers : ℕ) (w : World) (e : Event) → (happens callers w e).log ≡ w.log ++ enters callers w e
+log-happens callers w (Take caller) = log_same (nat_lt caller callers && is_none w.holder) (record w { holder = Some caller }) w refl
+log-happens callers w (Commit caller order) = log_if (has_lock callers w caller) (committed w caller order (answer w.locked order)) w (entry_of caller order (answer w.locked order)) (log-committed w caller order (answer w.locked order))
+log-happens callers w (Answer caller order) = log_same (has_lock callers w caller) (answered w caller (answer w.locked order)) w (log-answered w caller (answer w.locked order))
+log-happens callers w (Show caller) = log_same (has_lock callers w caller) (shown w w.waiting) w (log-shown w w.waiting)
+log-happens callers w (ShowRefused caller) = sym (append-nil w.log)
+log-happens callers w (Release caller) = log_same (has_lock callers w caller) (record w { holder = None }) w refl
+log-happens callers w (Read caller which) = log_same (nat_lt caller callers) (comes w caller (slice_get w.board which)) w (log-comes w caller (slice_get w.board which))
+log-happens callers w (Learn caller which) = log_same (nat_lt caller callers) (comes w caller (slice_get w.ever which)) w (log-comes w caller (slice_get w.ever which))
+
+pub log-run : (callers : ℕ) (w : World) (es : List Event) → (run callers w es).log ≡ w.log ++ commits callers w es
+log-run callers w [] = sym (append-nil w.log)
+log-run callers w (e ∷ es) =
+    log-run callers (happens callers w e) es
+    ∙ ap (λ l. l ++ commits callers (happens callers w e) es) (log-happens callers w e)
+    ∙ append_assoc w.log (enters callers w e) (commits callers (happens callers w e) es)
+
+-- The number of a version that is held never shrinks.
+
+abbrev pub IsLater : World → World → Type 0
+IsLater w v = (caller : ℕ) → (w.held caller).number ≤ (v.held caller).number
+
+later-put : (w : World) (caller : ℕ) (v : Version) → (w.held caller).number ≤ v.number → (c : ℕ) → (w.held c).number ≤ (put w.held caller v c).number
+later-put w caller v le c = kept_if (λ (u : Version). (w.held c).number ≤ u.number) (c == caller) v (w.held c) (λ e. subst (λ k. (w.held k).number ≤ v.number) (sym (eqb-true c caller e)) le) (itself (w.held c).number)
+
+later-committed : (callers : ℕ) (p : Pool) (w : World) (caller : ℕ) (order : Order) (a : Result Reply Refusal) → IsSound callers p w → IsLater w (committed w caller order a)
+later-committed callers p w caller order (Ok reply) s =
+    let d : Done = record { caller = caller; order = order; reply = reply } in
+    later-put w caller (present (entered w d)) (subst (λ n. (w.held caller).number ≤ n) (sym (push-length w.log d)) (up (w.held caller).number (length w.log) (s.held caller).within))
+later-committed callers p w caller order (Err refusal) s = λ c. itself (w.held c).number
+
+later-answered : (callers : ℕ) (p : Pool) (w : World) (caller : ℕ) (a : Result Reply Refusal) → IsSound callers p w → IsLater w (answered w caller a)
+later-answered callers p w caller (Ok reply) s = λ c. itself (w.held c).number
+later-answered callers p w caller (Err refusal) s = later-put w caller (present w) (s.held caller).within
+
+later-shown : (w : World) (o : Option Version) → IsLater w (shown w o)
+later-shown w None = λ c. itself (w.held c).number
+later-shown w (Some v) = λ c. itself (w.held c).number
+
+below : (a b : ℕ) → a < b → a ≤ b
+below a b lt = omega arith
+
+later-comes : (w : World) (caller : ℕ) (o : Option Version) → IsLater w (comes w caller o)
+later-comes w caller None = λ c. itself (w.held c).number
+later-comes w caller (Some v) =
+    kept_if (IsLater w) (nat_lt (w.held caller).number v.number) (holding w caller v) w
+    (λ e. later-put w caller v (below (w.held caller).number v.number (ltb-true (w.held caller).number v.number e))) (λ c. itself (w.held c).number)
+
+later-if : (b : Bool) (v w : World) → IsLater w v → IsLater w (cond b v w)
+later-if b v w is = kept_if (IsLater w) b v w (λ _. is) (λ c. itself (w.held c).number)
+
+later-happens : (callers : ℕ) (p : Pool) (w : World) (e : Event) → IsSound callers p w → IsLater w (happens callers w e)
+later-happens callers p w (Take caller) s = later-if (nat_lt caller callers && is_none w.holder) (record w { holder = Some caller }) w (λ c. itself (w.held c).number)
+later-happens callers p w (Commit caller order) s = later-if (has_lock callers w caller) (committed w caller order (answer w.locked order)) w (later-committed callers p w caller order (answer w.locked order) s)
+later-happens callers p w (Answer caller order) s = later-if (has_lock callers w caller) (answered w caller (answer w.locked order)) w (later-answered callers p w caller (answer w.locked order) s)
+later-happens callers p w (Show caller) s = later-if (has_lock callers w caller) (shown w w.waiting) w (later-shown w w.waiting)
+later-happens callers p w (ShowRefused caller) s = λ c. itself (w.held c).number
+later-happens callers p w (Release caller) s = later-if (has_lock callers w caller) (record w { holder = None }) w (λ c. itself (w.held c).number)
+later-happens callers p w (Read caller which) s = later-if (nat_lt caller callers) (comes w caller (slice_get w.board which)) w (later-comes w caller (slice_get w.board which))
+later-happens callers p w (Learn caller which) s = later-if (nat_lt caller callers) (comes w caller (slice_get w.ever which)) w (later-comes w caller (slice_get w.ever which))
+
+chain : (a b c : ℕ) → a ≤ b → b ≤ c → a ≤ c
+chain a b c x y = omega arith
+
+pub later-run : (callers : ℕ) (p : Pool) (w : World) (es : List Event) → IsSound callers p w → IsLater w (run callers w es)
+later-run callers p w [] s c = itself (w.held c).number
+later-run callers p w (e ∷ es) s c =
+    chain (w.held c).number ((happens callers w e).held c).number ((run callers w (e ∷ es)).held c).number
+    (later-happens callers p w e s c) (later-run callers p (happens callers w e) es (sound-happens callers p w e s) c)
+
+-- The version that a caller holds has all of the caller's own entries.
+
+pub record HasOwn (w : World) (caller : ℕ) : Type 0 where
+  pub has : IfSome (w.last caller) (λ place. place < (w.held caller).number)
+
+more_than : (a b c : ℕ) → a < b → b ≤ c → a < c
+more_than a b c x y = omega arith
+
+-- a later version, and no entry of one's own
+own-later : (w v : World) (caller : ℕ) → HasOwn w caller → (w.held caller).number ≤ (v.held caller).number → v.last caller ≡ w.last caller → HasOwn v caller
+own-later w v caller own le same = record {
+  has = subst (λ o. IfSome o (λ place. place < (v.held caller).number)) (sym same) (IfSome_then (w.last caller) own.has (λ place lt. more_than place (w.held caller).number (v.held caller).number lt le));
+}
+
+last-answered : (w : World) (caller : ℕ) (a : Result Reply Refusal) → (answered w caller a).last ≡ w.last
+last-answered w caller (Ok reply) = refl
+last-answered w caller (Err refusal) = refl
+
+last-shown : (w : World) (o : Option Version) → (shown w o).last ≡ w.last
+last-shown w None = refl
+last-shown w (Some v) = refl
+
+last-comes : (w : World) (caller : ℕ) (o : Option Version) → (comes w caller o).last ≡ w.last
+last-comes w caller None = refl
+last-comes w caller (Some v) = kept_if (λ (u : World). u.last ≡ w.last) (nat_lt (w.held caller).number v.number) (holding w caller v) w (λ _. refl) refl
+
+last-if : (b : Bool) (v w : World) → v.last ≡ w.last → (cond b v w).last ≡ w.last
+last-if true v w e = e
+last-if false v w e = refl
+
+longer : (n m : ℕ) → m ≡ n + 1 → n < m
+longer n m e = omega arith
+
+own-committed : (callers : ℕ) (p : Pool) (w : World) (caller : ℕ) (order : Order) (a : Result Reply Refusal) (c : ℕ) → IsSound callers p w → HasOwn w c → HasOwn (committed w caller order a) c
+own-committed callers p w caller order (Ok reply) c s own =
+    let d : Done = record { caller = caller; order = order; reply = reply } in
+    let v : Version = present (entered w d) in
+    record {
+      has = elim (c == caller) as (λ b. (c == caller) ≡ b → IfSome (cond b (Some (length w.log)) (w.last c)) (λ place. place < (cond b v (w.held c)).number)) [
+        | true ↦ λ _. longer (length w.log) v.number (push-length w.log d)
+        | false ↦ λ _. own.has
+      ] refl;
+    }
+own-committed callers p w caller order (Err refusal) c s own = own
+
+own-happens : (callers : ℕ) (p : Pool) (w : World) (e : Event) (c : ℕ) → IsSound callers p w → HasOwn w c → HasOwn (happens callers w e) c
+own-happens callers p w (Take caller) c s own = own-later w (happens callers w (Take caller)) c own (later-happens callers p w (Take caller) s c) (ap (λ (f : ℕ → Option ℕ). f c) (last-if (nat_lt caller callers && is_none w.holder) (record w { holder = Some caller }) w refl))
+own-happens callers p w (Commit caller order) c s own = kept_if (λ u. HasOwn u c) (has_lock callers w caller) (committed w caller order (answer w.locked order)) w (λ _. own-committed callers p w caller order (answer w.locked order) c s own) own
+own-happens callers p w (Answer caller order) c s own = own-later w (happens callers w (Answer caller order)) c own (later-happens callers p w (Answer caller order) s c) (ap (λ (f : ℕ → Option ℕ). f c) (last-if (has_lock callers w caller) (answered w caller (answer w.locked order)) w (last-answered w caller (answer w.locked order))))
+own-happens callers p w (Show caller) c s own = own-later w (happens callers w (Show caller)) c own (later-happens callers p w (Show caller) s c) (ap (λ (f : ℕ → Option ℕ). f c) (last-if (has_lock callers w caller) (shown w w.waiting) w (last-shown w w.waiting)))
+own-happens callers p w (ShowRefused caller) c s own = own
+own-happens callers p w (Release caller) c s own = own-later w (happens callers w (Release caller)) c own (later-happens callers p w (Release caller) s c) (ap (λ (f : ℕ → Option ℕ). f c) (last-if (has_lock callers w caller) (record w { holder = None }) w refl))
+own-happens callers p w (Read caller which) c s own = own-later w (happens callers w (Read caller which)) c own (later-happens callers p w (Read caller which) s c) (ap (λ (f : ℕ → Option ℕ). f c) (last-if (nat_lt caller callers) (comes w caller (slice_get w.board which)) w (last-comes w caller (slice_get w.board which))))
+own-happens callers p w (Learn caller which) c s own = own-later w (happens callers w (Learn caller which)) c own (later-happens callers p w (Learn caller which) s c) (ap (λ (f : ℕ → Option ℕ). f c) (last-if (nat_lt caller callers) (comes w caller (slice_get w.ever which)) w (last-comes w caller (slice_get w.ever which))))
+
+pub own-run : (callers : ℕ) (p : Pool) (w : World) (es : List Event) (c : ℕ) → IsSound callers p w → HasOwn w c → HasOwn (run callers w es) c
+own-run callers p w [] c s own = own
+own-run callers p w (e ∷ es) c s own = own-run callers p (happens callers w e) es c (sound-happens callers p w e s) (own-happens callers p w e c s own)

@@ -1,0 +1,4 @@
+pub mod Logs
+pub mod Core
+pub mod Law
+pub mod FirstFaults

@@ -1,0 +1,132 @@
+-- The core of a pool that many callers share: what may happen, one event at a time.
+-- One caller at a time holds the lock, and it alone changes the state. Each change makes a version, which every caller may come to hold.
+use Rattle.std.specs.Prelude.{ℕ, ◌==◌, nat_lt, Bool, false, ◌&&◌, List, [], ◌∷◌, ◌++◌, length, Option, None, Some, is_none, Result, Ok, Err, slice_get, if◌then◌else◌}
+use Rattle.mp_seqpool.specs.declared.command.Reply.{Reply}
+use Rattle.mp_seqpool.specs.declared.refusal.Refusal.{Refusal}
+use Rattle.mp_seqpool.specs.Order.{Order, Pool}
+use Rattle.mp_seqpool.specs.SlowPool.{answer, next}
+use Rattle.mp_history.specs.Done.{Done}
+
+-- a state, and how many entries led to it
+pub record Version : Type 0 where
+  pub number : ℕ
+  pub state : Pool
+
+-- the log; the locked state; the version that waits to be shown; the lock's holder; the versions that were shown; by caller, the
+-- version that it holds and the place of its last own entry; the versions that were ever held
+pub record World : Type 0 where
+  pub log : List Done
+  pub locked : Pool
+  pub waiting : Option Version
+  pub holder : Option ℕ
+  pub board : List Version
+  pub held : ℕ → Version
+  pub last : ℕ → Option ℕ
+  pub ever : List Version
+
+-- what a caller does. Which version it reads or learns is told by its place on the board, or among those that were ever held.
+pub data Event : Type 0 where
+  Take : (caller : ℕ) → Event
+  Commit : (caller : ℕ) (order : Order) → Event
+  Answer : (caller : ℕ) (order : Order) → Event
+  Show : (caller : ℕ) → Event
+  ShowRefused : (caller : ℕ) → Event
+  Release : (caller : ℕ) → Event
+  Read : (caller : ℕ) (which : ℕ) → Event
+  Learn : (caller : ℕ) (which : ℕ) → Event
+
+abbrev pub first_version : Pool → Version
+first_version p = record { number = 0; state = p }
+
+-- no entry, no holder, and the state that it opens with held by all and on the board
+abbrev pub opens : Pool → World
+opens p = record {
+  log = [];
+  locked = p;
+  waiting = None;
+  holder = None;
+  board = first_version p ∷ [];
+  held = λ _. first_version p;
+  last = λ _. None;
+  ever = first_version p ∷ [];
+}
+
+-- the version of the locked state
+abbrev pub present : World → Version
+present w = record { number = length w.log; state = w.locked }
+
+abbrev pub is_holder : Option ℕ → ℕ → Bool
+is_holder None caller = false
+is_holder (Some h) caller = h == caller
+
+-- the caller is one of them, and holds the lock
+abbrev pub has_lock : ℕ → World → ℕ → Bool
+has_lock callers w caller = nat_lt caller callers && is_holder w.holder caller
+
+-- with another value for one caller
+abbrev pub put : {A : Type 0} → (ℕ → A) → ℕ → A → ℕ → A
+put f caller x c = if c == caller then x else f c
+
+abbrev pub holding : World → ℕ → Version → World
+holding w caller v = record w { held = put w.held caller v; ever = w.ever ++ v ∷ [] }
+
+abbrev pub entered : World → Done → World
+entered w d = record w {
+  log = w.log ++ d ∷ [];
+  locked = next w.locked d.order;
+  last = put w.last d.caller (Some (length w.log));
+}
+
+abbrev pub waits : World → World
+waits w = record w { waiting = Some (present w) }
+
+-- where the state doesn't refuse: the entry goes last into the log, and the caller holds the version after it, which also waits
+abbrev pub committed : World → ℕ → Order → Result Reply Refusal → World
+committed w caller order (Ok reply) =
+    let v = entered w (record { caller = caller; order = order; reply = reply }) in waits (holding v caller (present v))
+committed w caller order (Err refusal) = w
+
+-- where the state refuses: the caller holds the version of the locked state
+abbrev pub answered : World → ℕ → Result Reply Refusal → World
+answered w caller (Ok reply) = w
+answered w caller (Err refusal) = holding w caller (present w)
+
+abbrev pub shown : World → Option Version → World
+shown w None = w
+shown w (Some v) = record w { board = w.board ++ v ∷ []; waiting = None }
+
+-- a version comes to a caller, which holds it where it is later than its own
+abbrev pub comes : World → ℕ → Option Version → World
+comes w caller None = w
+comes w caller (Some v) = if nat_lt (w.held caller).number v.number then holding w caller v else w
+
+-- The world after an event. One that isn't permitted changes nothing.
+abbrev pub happens : ℕ → World → Event → World
+happens callers w (Take caller) = if nat_lt caller callers && is_none w.holder then record w { holder = Some caller } else w
+happens callers w (Commit caller order) = if has_lock callers w caller then committed w caller order (answer w.locked order) else w
+happens callers w (Answer caller order) = if has_lock callers w caller then answered w caller (answer w.locked order) else w
+happens callers w (Show caller) = if has_lock callers w caller then shown w w.waiting else w
+happens callers w (ShowRefused caller) = w
+happens callers w (Release caller) = if has_lock callers w caller then record w { holder = None } else w
+happens callers w (Read caller which) = if nat_lt caller callers then comes w caller (slice_get w.board which) else w
+happens callers w (Learn caller which) = if nat_lt caller callers then comes w caller (slice_get w.ever which) else w
+
+-- after all events, in order
+abbrev pub run : ℕ → World → List Event → World
+run callers w [] = w
+run callers w (e ∷ es) = run callers (happens callers w e) es
+
+-- the entry of a commit
+abbrev pub entry_of : ℕ → Order → Result Reply Refusal → List Done
+entry_of caller order (Ok reply) = record { caller = caller; order = order; reply = reply } ∷ []
+entry_of caller order (Err refusal) = []
+
+-- what an event enters: a commit that is permitted, and nothing else
+abbrev pub enters : ℕ → World → Event → List Done
+enters callers w (Commit caller order) = if has_lock callers w caller then entry_of caller order (answer w.locked order) else []
+enters callers w _ = []
+
+-- the entries of all commits that are permitted, in order
+abbrev pub commits : ℕ → World → List Event → List Done
+commits callers w [] = []
+commits callers w (e ∷ es) = enters callers w e ++ commits callers (happens callers w e) es

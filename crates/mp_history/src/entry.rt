@@ -1,0 +1,24 @@
+//! One line of a history.
+
+use mp_seqpool::{Command, Reply};
+use std::marker::Model;
+
+/// What one caller asked of the pool, and what the pool replied.
+#[derive(Drop)]
+pub struct Entry {
+    pub caller: u32,
+    pub command: Command,
+    pub reply: Reply,
+}
+
+impl Model for Entry {
+    ghost use Rattle.mp_history.specs.Done.{Done, coded_done};
+
+    ghost Value = { Done };
+
+    ghost coded = { coded_done };
+
+    ghost use Rattle.mp_history.specs.Entries.{done_of};
+
+    ghost view = { done_of };
+}

@@ -1,0 +1,42 @@
+//! Why a history is not legal.
+
+ghost use Rattle.std.specs.Prelude.{◌≡◌};
+ghost use Rattle.mp_history.specs.Numbers.{audit_number};
+ghost use Rattle.mp_history.specs.declared.fault.AuditFault.TheVariants as faults;
+
+use mp_memory::NoMemory;
+use thiserror::Error;
+
+/// Why an audit gives no pool: the first bad place of the history, from 0. `NoMemory` may stand in place of any answer.
+#[derive(Clone, Copy, Debug, PartialEq, Eq, Error)]
+pub enum AuditFault {
+    #[error("no memory")]
+    NoMemory,
+    /// The reply isn't the pool's after the entries before it.
+    #[error("the reply of entry {0} is not the pool's")]
+    WrongReply(usize),
+    /// The caller isn't below the number of callers.
+    #[error("the caller of entry {0} is strange")]
+    StrangeCaller(usize),
+}
+
+impl AuditFault {
+    /// The number of the fault: 1 to 3.
+    pub const fn number(&self) -> u64
+        ensures { result ≡ audit_number self.now }
+    {
+        match self {
+            AuditFault::NoMemory => 1,
+            AuditFault::WrongReply(_) => 2,
+            AuditFault::StrangeCaller(_) => 3,
+        }
+    }
+}
+
+impl From<NoMemory> for AuditFault {
+    ghost from_gives = { λ _ e. e ≡ faults.NoMemory };
+
+    fn from(_error: NoMemory) -> AuditFault {
+        AuditFault::NoMemory
+    }
+}

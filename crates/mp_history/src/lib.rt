@@ -1,0 +1,15 @@
+//! Histories: what each caller asked and what the pool replied, and whether a history is legal.
+#![tactic(auto)]
+
+mod entry;
+mod fault;
+mod history;
+mod shared;
+
+pub use entry::Entry;
+pub use fault::AuditFault;
+pub use history::audit;
+pub use shared::interleavings;
+
+#[cfg(test)]
+mod tests;

@@ -1,0 +1,3 @@
+mod audits;
+mod samples;
+mod trials;
