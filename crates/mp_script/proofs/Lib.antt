@@ -1,0 +1,9 @@
+pub mod Bytes
+pub mod Items
+pub mod FieldLaws
+pub mod DataLaws
+pub mod PartLaws
+pub mod OperatorLaws
+pub mod ScriptLaws
+pub mod EvalLaws
+pub mod LawsLemmas

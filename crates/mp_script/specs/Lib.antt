@@ -1,0 +1,16 @@
+pub mod FaultNumbers
+pub mod Fields
+pub mod Reading
+pub mod Datum
+pub mod DataReading
+pub mod Kept
+pub mod Parts
+pub mod Operators
+pub mod Script
+pub mod ScriptReading
+pub mod Operator
+pub mod View
+pub mod Value
+pub mod Meaning
+pub mod Waiting
+pub mod Laws

@@ -1,0 +1,183 @@
+-- What a script comes to in a view: one case for each operator.
+use Rattle.std.specs.Prelude.{ℕ, ◌^◌, ℤ, pos, negsuc, ◌+ℤ◌, ◌-ℤ◌, ◌*ℤ◌, Bool, true, false, not, List, [], ◌∷◌, length, Option, None, Some, if◌then◌else◌, nat_eq, nat_lt, nat_le, int_lt, int_le, slice_get}
+use Rattle.std.specs.Bool.{beq}
+use Rattle.std.specs.Ordering.{int_eq}
+use Rattle.std.specs.Cmp.Lexicographic.{pointwise}
+use Rattle.std.specs.List.{list_any}
+use Rattle.std.specs.Option.{option_map, option_and_then}
+use Rattle.mp_bundle.specs.declared.token.Token.{Token}
+use Rattle.mp_bundle.specs.Token.{token}
+use Rattle.mp_bundle.specs.Bundle.{quantity_of}
+use Rattle.mp_bundle.specs.Sum.{total_of}
+use Rattle.mp_script.specs.declared.operator.Leaf.{Leaf}
+use Rattle.mp_script.specs.declared.operator.Leaf.TheVariants as code
+use Rattle.mp_script.specs.declared.operator.Unary.{Unary}
+use Rattle.mp_script.specs.declared.operator.Unary.TheVariants as one
+use Rattle.mp_script.specs.declared.operator.Binary.{Binary}
+use Rattle.mp_script.specs.declared.operator.Binary.TheVariants as two
+use Rattle.mp_script.specs.declared.operator.Ternary.{Ternary}
+use Rattle.mp_script.specs.declared.operator.Ternary.TheVariants as three
+use Rattle.mp_script.specs.Datum.{Datum, spelling, number_in, octets_in, length_in, item_in}
+use Rattle.mp_script.specs.Script.{Tree, int, bytes, leaf, unary, binary, ternary}
+use Rattle.mp_script.specs.View.{Sight, Payment, Reference}
+use Rattle.mp_script.specs.Value.{Val, nothing, truth, whole, octets, tree}
+
+-- ---- kinds
+
+abbrev pub truth_in : Val → Option Bool
+truth_in (truth b) = Some b
+truth_in _ = None
+
+abbrev pub octets_of : Val → Option (List ℕ)
+octets_of (octets b) = Some b
+octets_of _ = None
+
+abbrev pub datum_in : Val → Option Datum
+datum_in (tree d) = Some d
+datum_in _ = None
+
+-- a place in a list: a number from 0 to 2^64 - 1
+abbrev pub place_in : Val → Option ℕ
+place_in (whole (pos n)) = if nat_lt n (2 ^ 64) then Some n else None
+place_in _ = None
+
+-- what becomes of what there is, and Nothing where there is none
+abbrev pub on : {A : Type 0} → Option A → (A → Val) → Val
+on None f = nothing
+on (Some a) f = f a
+
+-- two whole numbers
+abbrev pub wholes_in : Val → Val → Option (ℤ × ℤ)
+wholes_in (whole a) (whole b) = Some (a, b)
+wholes_in _ _ = None
+
+abbrev pub on_wholes : (ℤ → ℤ → Val) → Val → Val → Val
+on_wholes f a b = on (wholes_in a b) (λ p. f p.0 p.1)
+
+-- ---- truth
+
+abbrev pub negation : Val → Val
+negation a = on (truth_in a) (λ b. truth (not b))
+
+-- Kleene's and: what is no truth value counts as Nothing
+abbrev pub conjunction : Option Bool → Option Bool → Val
+conjunction (Some false) b = truth false
+conjunction (Some true) (Some b) = truth b
+conjunction (Some true) None = nothing
+conjunction None (Some false) = truth false
+conjunction None (Some true) = nothing
+conjunction None None = nothing
+
+-- Kleene's or
+abbrev pub disjunction : Option Bool → Option Bool → Val
+disjunction (Some true) b = truth true
+disjunction (Some false) (Some b) = truth b
+disjunction (Some false) None = nothing
+disjunction None (Some true) = truth true
+disjunction None (Some false) = nothing
+disjunction None None = nothing
+
+abbrev pub choice : Option Bool → Val → Val → Val
+choice (Some true) a b = a
+choice (Some false) a b = b
+choice None a b = nothing
+
+-- two data are the same where their bytes are
+abbrev pub same_datum : Datum → Datum → Bool
+same_datum d e = pointwise nat_eq (spelling d) (spelling e)
+
+-- whether two values of one kind are equal
+abbrev pub equality : Val → Val → Val
+equality (truth a) (truth b) = truth (beq a b)
+equality (whole a) (whole b) = truth (int_eq a b)
+equality (octets a) (octets b) = truth (pointwise nat_eq a b)
+equality (tree a) (tree b) = truth (same_datum a b)
+equality _ _ = nothing
+
+-- ---- numbers
+
+-- a number of up to 128 bits, in two's complement
+abbrev pub fits : ℤ → Bool
+fits (pos n) = nat_lt n (2 ^ 127)
+fits (negsuc n) = nat_lt n (2 ^ 127)
+
+abbrev pub number : ℤ → Val
+number n = if fits n then whole n else nothing
+
+-- ---- tokens
+
+-- 32 bytes: a key, a policy or an address
+abbrev pub hash_in : Val → Option (List ℕ)
+hash_in (octets b) = if nat_eq (length b) 32 then Some b else None
+hash_in _ = None
+
+abbrev pub name_in : Val → Option (List ℕ)
+name_in (octets b) = if nat_le (length b) 32 then Some b else None
+name_in _ = None
+
+abbrev pub token_in : Val → Val → Option Token
+token_in p n = option_and_then (λ policy. option_map (token policy) (name_in n)) (hash_in p)
+
+-- how much of a token there is
+abbrev pub amount : Option Token → (Token → ℤ) → Val
+amount t quantity = on t (λ t. whole (quantity t))
+
+-- how much of a token the outputs with an address hold
+abbrev pub paid_to : List ℕ → Token → List Payment → ℤ
+paid_to address t [] = pos 0
+paid_to address t (o ∷ outputs) = (if pointwise nat_eq o.address address then quantity_of o.bundle t else pos 0) +ℤ paid_to address t outputs
+
+-- ---- references
+
+abbrev pub reference_at : List Reference → Val → Option Reference
+reference_at references n = option_and_then (λ place. slice_get references place) (place_in n)
+
+-- ---- by the operator
+
+abbrev pub of_leaf : Leaf → Sight → Val
+of_leaf code.False s = truth false
+of_leaf code.True s = truth true
+of_leaf code.Datum s = on s.datum tree
+of_leaf code.Redeemer s = on s.redeemer tree
+of_leaf code.OwnHash s = octets s.own_hash
+of_leaf code.From s = whole (pos s.from)
+of_leaf code.To s = whole (pos s.to)
+of_leaf code.OutputCount s = whole (pos (length s.outputs))
+of_leaf code.RefCount s = whole (pos (length s.references))
+
+abbrev pub of_one : Unary → Sight → Val → Val
+of_one one.Not s a = negation a
+of_one one.AsInt s d = on (option_and_then number_in (datum_in d)) whole
+of_one one.AsBytes s d = on (option_and_then octets_in (datum_in d)) octets
+of_one one.Length s d = on (option_and_then length_in (datum_in d)) (λ n. whole (pos n))
+of_one one.SignedBy s k = on (hash_in k) (λ key. truth (list_any (λ k. pointwise nat_eq k key) s.keys))
+of_one one.RefAddress s n = on (reference_at s.references n) (λ r. octets r.address)
+of_one one.RefDatumHash s n = on (reference_at s.references n) (λ r. octets r.datum_hash)
+
+abbrev pub of_two : Binary → Sight → Val → Val → Val
+of_two two.And s a b = conjunction (truth_in a) (truth_in b)
+of_two two.Or s a b = disjunction (truth_in a) (truth_in b)
+of_two two.Eq s a b = equality a b
+of_two two.Less s a b = on_wholes (λ x y. truth (int_lt x y)) a b
+of_two two.AtMost s a b = on_wholes (λ x y. truth (int_le x y)) a b
+of_two two.Add s a b = on_wholes (λ x y. number (x +ℤ y)) a b
+of_two two.Sub s a b = on_wholes (λ x y. number (x -ℤ y)) a b
+of_two two.Mul s a b = on_wholes (λ x y. number (x *ℤ y)) a b
+of_two two.Item s d n = on (option_and_then (λ list. option_and_then (item_in list) (place_in n)) (datum_in d)) tree
+of_two two.OwnQuantity s p n = on s.own_value (λ bundle. amount (token_in p n) (quantity_of bundle))
+of_two two.Spent s p n = amount (token_in p n) (total_of s.spent)
+of_two two.Forged s p n = amount (token_in p n) (quantity_of s.forge)
+
+abbrev pub of_three : Ternary → Sight → Val → Val → Val → Val
+of_three three.If s c a b = choice (truth_in c) a b
+of_three three.Paid s x p n = on (hash_in x) (λ address. amount (token_in p n) (λ t. paid_to address t s.outputs))
+of_three three.RefQuantity s n p name = on (reference_at s.references n) (λ r. amount (token_in p name) (quantity_of r.bundle))
+
+-- the value of a script
+abbrev pub value : Sight → Tree → Val
+value s (int n) = whole n
+value s (bytes b) = octets b
+value s (leaf o) = of_leaf o s
+value s (unary o a) = of_one o s (value s a)
+value s (binary o a b) = of_two o s (value s a) (value s b)
+value s (ternary o a b c) = of_three o s (value s a) (value s b) (value s c)

@@ -1,0 +1,57 @@
+-- What a script sees where it runs.
+use Rattle.std.specs.Prelude.{ℕ, List, map, Option}
+use Rattle.std.specs.Option.{option_map}
+use Rattle.mp_bundle.specs.Bundle.{Entry}
+use Rattle.mp_bundle.specs.Sum.{Summed}
+use Rattle.mp_script.specs.declared.view.PaidTo.{PaidTo}
+use Rattle.mp_script.specs.declared.view.Referred.{Referred}
+use Rattle.mp_script.specs.declared.view.View.{View}
+use Rattle.mp_script.specs.Datum.{Datum}
+use Rattle.mp_script.specs.Parts.{tree_of}
+
+-- an output of the transaction
+pub record Payment : Type 0 where
+  pub address : List ℕ
+  pub bundle : List Entry
+
+-- an output that a reference input names (CIP-31)
+pub record Reference : Type 0 where
+  pub address : List ℕ
+  pub datum_hash : List ℕ
+  pub bundle : List Entry
+
+-- the transaction, and the script's own place in it
+pub record Sight : Type 0 where
+  pub own_hash : List ℕ
+  pub datum : Option Datum
+  pub redeemer : Option Datum
+  pub own_value : Option (List Entry)
+  pub from : ℕ
+  pub to : ℕ
+  pub keys : List (List ℕ)
+  pub spent : Summed
+  pub forge : List Entry
+  pub outputs : List Payment
+  pub references : List Reference
+
+abbrev pub payment_of : PaidTo → Payment
+payment_of o = record { address = o.address.now; bundle = o.value.now }
+
+abbrev pub reference_of : Referred → Reference
+reference_of o = record { address = o.address.now; datum_hash = o.datum_hash.now; bundle = o.value.now }
+
+-- what is seen by a view
+abbrev pub sight_of : View → Sight
+sight_of v = record {
+  own_hash = v.own_hash.now;
+  datum = option_map (λ d. tree_of d.now) v.datum;
+  redeemer = option_map (λ d. tree_of d.now) v.redeemer;
+  own_value = option_map (λ b. b.now) v.own_value;
+  from = v.from;
+  to = v.to;
+  keys = v.keys.now;
+  spent = v.spent.now;
+  forge = v.forge.now;
+  outputs = map payment_of v.outputs.now;
+  references = map reference_of v.references.now;
+}

@@ -1,0 +1,80 @@
+//! Truth values, choice and equality.
+
+ghost use Rattle.std.specs.Prelude.{◌≡◌};
+ghost use Rattle.mp_script.specs.Parts.{tree_of};
+ghost use Rattle.mp_script.specs.Value.{val_of};
+ghost use Rattle.mp_script.specs.Meaning.{truth_in, negation, conjunction, disjunction, choice, same_datum, equality};
+
+use crate::part::Part;
+use crate::value::Value;
+
+fn truth(value: Value) -> Option<bool>
+    ensures { result ≡ truth_in (val_of value.entry) }
+{
+    match value {
+        Value::Truth(truth) => Some(truth),
+        _ => None,
+    }
+}
+
+/// The other truth value.
+pub fn not(a: Value<'_>) -> Value<'_>
+    ensures { val_of result ≡ negation (val_of a.entry) }
+{
+    match a {
+        Value::Truth(truth) => Value::Truth(!truth),
+        _ => Value::Nothing,
+    }
+}
+
+/// Kleene's and: false where either is false, true where both are true.
+pub fn and<'a>(a: Value<'a>, b: Value<'a>) -> Value<'a>
+    ensures { val_of result ≡ conjunction (truth_in (val_of a.entry)) (truth_in (val_of b.entry)) }
+{
+    match (truth(a), truth(b)) {
+        (Some(false), _) | (_, Some(false)) => Value::Truth(false),
+        (Some(true), Some(true)) => Value::Truth(true),
+        _ => Value::Nothing,
+    }
+}
+
+/// Kleene's or: true where either is true, false where both are false.
+pub fn or<'a>(a: Value<'a>, b: Value<'a>) -> Value<'a>
+    ensures { val_of result ≡ disjunction (truth_in (val_of a.entry)) (truth_in (val_of b.entry)) }
+{
+    match (truth(a), truth(b)) {
+        (Some(true), _) | (_, Some(true)) => Value::Truth(true),
+        (Some(false), Some(false)) => Value::Truth(false),
+        _ => Value::Nothing,
+    }
+}
+
+/// The second where the first is true, the third where it is false. The other one may be anything.
+pub fn choice<'a>(condition: Value<'a>, a: Value<'a>, b: Value<'a>) -> Value<'a>
+    ensures { val_of result ≡ choice (truth_in (val_of condition.entry)) (val_of a.entry) (val_of b.entry) }
+{
+    match condition {
+        Value::Truth(true) => a,
+        Value::Truth(false) => b,
+        _ => Value::Nothing,
+    }
+}
+
+fn same(a: &Part, b: &Part) -> bool
+    ensures { result ≡ same_datum (tree_of a.now) (tree_of b.now) }
+{
+    a.bytes() == b.bytes()
+}
+
+/// Whether two values of one kind are equal.
+pub fn equal<'a>(a: Value<'a>, b: Value<'a>) -> Value<'a>
+    ensures { val_of result ≡ equality (val_of a.entry) (val_of b.entry) }
+{
+    match (a, b) {
+        (Value::Truth(a), Value::Truth(b)) => Value::Truth(a == b),
+        (Value::Whole(a), Value::Whole(b)) => Value::Truth(a == b),
+        (Value::Octets(a), Value::Octets(b)) => Value::Truth(a == b),
+        (Value::Tree(a), Value::Tree(b)) => Value::Truth(same(&a, &b)),
+        _ => Value::Nothing,
+    }
+}

@@ -1,0 +1,75 @@
+//! Whole numbers of up to 128 bits.
+
+ghost use Rattle.std.specs.Prelude.{◌≡◌, ◌+ℤ◌, ◌-ℤ◌, ◌*ℤ◌, int_lt, int_le};
+ghost use Rattle.mp_script.specs.Value.{val_of, truth, whole};
+ghost use Rattle.mp_script.specs.Meaning.{on, on_wholes, number, wholes_in};
+
+use crate::value::Value;
+
+fn wholes(a: Value, b: Value) -> Option<(i128, i128)>
+    ensures { result ≡ wholes_in (val_of a.entry) (val_of b.entry) }
+{
+    match (a, b) {
+        (Value::Whole(a), Value::Whole(b)) => Some((a, b)),
+        _ => None,
+    }
+}
+
+fn whole<'a>(number: Option<i128>) -> Value<'a>
+    ensures { val_of result ≡ on number whole }
+{
+    match number {
+        Some(number) => Value::Whole(number),
+        None => Value::Nothing,
+    }
+}
+
+/// Whether a < b.
+pub fn less<'a>(a: Value<'a>, b: Value<'a>) -> Value<'a>
+    ensures { val_of result ≡ on_wholes (λ x y. truth (int_lt x y)) (val_of a.entry) (val_of b.entry) }
+{
+    match wholes(a, b) {
+        Some((a, b)) => Value::Truth(a < b),
+        None => Value::Nothing,
+    }
+}
+
+/// Whether a <= b.
+pub fn at_most<'a>(a: Value<'a>, b: Value<'a>) -> Value<'a>
+    ensures { val_of result ≡ on_wholes (λ x y. truth (int_le x y)) (val_of a.entry) (val_of b.entry) }
+{
+    match wholes(a, b) {
+        Some((a, b)) => Value::Truth(a <= b),
+        None => Value::Nothing,
+    }
+}
+
+/// a + b.
+pub fn sum<'a>(a: Value<'a>, b: Value<'a>) -> Value<'a>
+    ensures { val_of result ≡ on_wholes (λ x y. number (x +ℤ y)) (val_of a.entry) (val_of b.entry) }
+{
+    match wholes(a, b) {
+        Some((a, b)) => whole(a.checked_add(b)),
+        None => Value::Nothing,
+    }
+}
+
+/// a - b.
+pub fn difference<'a>(a: Value<'a>, b: Value<'a>) -> Value<'a>
+    ensures { val_of result ≡ on_wholes (λ x y. number (x -ℤ y)) (val_of a.entry) (val_of b.entry) }
+{
+    match wholes(a, b) {
+        Some((a, b)) => whole(a.checked_sub(b)),
+        None => Value::Nothing,
+    }
+}
+
+/// a * b.
+pub fn product<'a>(a: Value<'a>, b: Value<'a>) -> Value<'a>
+    ensures { val_of result ≡ on_wholes (λ x y. number (x *ℤ y)) (val_of a.entry) (val_of b.entry) }
+{
+    match wholes(a, b) {
+        Some((a, b)) => whole(a.checked_mul(b)),
+        None => Value::Nothing,
+    }
+}

@@ -1,0 +1,71 @@
+//! Quantities of tokens.
+
+ghost use Rattle.std.specs.Prelude.{◌≡◌};
+ghost use Rattle.std.specs.Option.{option_map};
+ghost use Rattle.mp_bundle.specs.Token.{token};
+ghost use Rattle.mp_bundle.specs.Bundle.{quantity_of};
+ghost use Rattle.mp_bundle.specs.Sum.{total_of};
+ghost use Rattle.mp_script.specs.Value.{val_of};
+ghost use Rattle.mp_script.specs.Meaning.{on, hash_in, name_in, token_in, amount};
+
+use crate::hash::Hash;
+use crate::value::Value;
+use mp_bundle::{Bundle, PolicyId, Sum};
+
+const MOST_NAME_BYTES: usize = 32;
+
+/// The 32 bytes that a value is, where it is so many.
+pub fn hash_of(value: Value<'_>) -> Option<&Hash>
+    ensures { option_map (λ b. b.now) result ≡ hash_in (val_of value.entry) }
+{
+    match value {
+        Value::Octets(octets) => octets.as_array::<32>(),
+        _ => None,
+    }
+}
+
+fn name_of(value: Value<'_>) -> Option<&[u8]>
+    ensures { option_map (λ b. b.now) result ≡ name_in (val_of value.entry) }
+{
+    match value {
+        Value::Octets(octets) if octets.len() <= MOST_NAME_BYTES => Some(octets),
+        _ => None,
+    }
+}
+
+/// The policy of 32 bytes and the name of up to 32 that two values are, where they are so many.
+pub fn token_of<'a>(policy: Value<'a>, name: Value<'a>) -> Option<(&'a PolicyId, &'a [u8])>
+    ensures { option_map (λ t. token t.0.now t.1.now) result ≡ token_in (val_of policy.entry) (val_of name.entry) }
+{
+    Some((hash_of(policy)?, name_of(name)?))
+}
+
+/// How much of a token a bundle holds.
+pub fn held<'a>(policy: Value<'a>, name: Value<'a>, bundle: &Bundle) -> Value<'a>
+    ensures { val_of result ≡ amount (token_in (val_of policy.entry) (val_of name.entry)) (quantity_of bundle.now) }
+{
+    match token_of(policy, name) {
+        Some((policy, name)) => Value::Whole(bundle.quantity(policy, name) as i128),
+        None => Value::Nothing,
+    }
+}
+
+/// How much of a token the spent output holds.
+pub fn own<'a>(policy: Value<'a>, name: Value<'a>, own_value: Option<&Bundle>) -> Value<'a>
+    ensures { val_of result ≡ on own_value.entry (λ bundle. amount (token_in (val_of policy.entry) (val_of name.entry)) (quantity_of bundle.now)) }
+{
+    match own_value {
+        Some(bundle) => held(policy, name, bundle),
+        None => Value::Nothing,
+    }
+}
+
+/// How much of a token all spent outputs hold.
+pub fn spent<'a>(policy: Value<'a>, name: Value<'a>, sum: &Sum) -> Value<'a>
+    ensures { val_of result ≡ amount (token_in (val_of policy.entry) (val_of name.entry)) (total_of sum.now) }
+{
+    match token_of(policy, name) {
+        Some((policy, name)) => Value::Whole(sum.total(policy, name)),
+        None => Value::Nothing,
+    }
+}

@@ -1,0 +1,22 @@
+//! SHA-256 (FIPS 180-4), and what is known by its digests.
+
+ghost use Rattle.std.specs.Prelude.{◌≡◌};
+ghost use Rattle.sha2.specs.Sha256.{sha256};
+
+use sha2::{Digest, Sha256};
+
+/// A SHA-256 digest (FIPS 180-4).
+pub type Hash = [u8; 32];
+
+/// Where an output lies: the digest of the script that guards it.
+pub type Address = Hash;
+
+/// The public key of a signer.
+pub type Key = [u8; 32];
+
+/// The digest of a text of bytes.
+pub fn digest(bytes: &[u8]) -> Hash
+    ensures { result ≡ sha256 bytes.now }
+{
+    Sha256::digest(bytes)
+}

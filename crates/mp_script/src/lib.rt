@@ -1,0 +1,32 @@
+//! Data, scripts, and what a script's value is where it runs.
+//!
+//! A datum and a script are kept as their bytes, which were found whole when they were decoded. So decoding makes one growth,
+//! what is read again is a slice of those bytes, and evaluation takes no memory.
+#![tactic(auto)]
+
+mod data;
+mod depths;
+mod evaluation;
+mod fault;
+mod fields;
+mod hash;
+pub mod laws;
+mod operator;
+mod part;
+mod script;
+mod stack;
+mod value;
+mod view;
+mod walk;
+
+pub use data::Data;
+pub use evaluation::eval;
+pub use fault::{DataFault, ScriptFault};
+pub use hash::{Address, Hash, Key, digest};
+pub use part::Part;
+pub use script::Script;
+pub use value::Value;
+pub use view::{PaidTo, Referred, View};
+
+#[cfg(test)]
+mod tests;

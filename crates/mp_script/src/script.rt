@@ -1,0 +1,80 @@
+//! Scripts.
+
+ghost use Rattle.std.specs.Prelude.{◌≡◌, Err, IfErr, OnOk};
+ghost use Rattle.mp_script.specs.Script.{IsScript};
+ghost use Rattle.mp_script.specs.ScriptReading.{script_of};
+
+use crate::depths::check_depths;
+use crate::fault::ScriptFault;
+use crate::hash::{Hash, digest};
+use mp_memory::Memory;
+use std::marker::Model;
+
+/// A script: one expression of up to 1,024 operators, up to a depth of 64. Contracts see its bytes.
+#[derive(Debug, Drop)]
+pub struct Script {
+    bytes: Vec<u8, Memory>,
+    hash: Hash,
+}
+
+impl Model for Script {
+    ghost use Rattle.std.specs.Prelude.{ℕ, List};
+    ghost use Rattle.mp_script.specs.Script.{IsScript};
+    ghost use Rattle.mp_script.specs.Kept.{IsKept};
+
+    ghost Value = { List ℕ };
+
+    ghost view = { λ s. s.bytes.items };
+
+    ghost invariant = { λ s. IsKept IsScript s.bytes.items s.hash };
+}
+
+// Whether the bytes spell a script.
+fn check(bytes: &[u8]) -> Result<(), ScriptFault>
+    ensures ok { OnOk result (IsScript bytes.now) }
+    ensures err { IfErr result (λ e. script_of bytes.now ≡ Err e) }
+{
+    check_depths(bytes)
+}
+
+impl Script {
+    ghost use Rattle.std.specs.Prelude.{◌≡◌, IfOk, IfErr};
+    ghost use Rattle.sha2.specs.Sha256.{sha256};
+    ghost use Rattle.mp_script.specs.declared.fault.ScriptFault.TheVariants.{NoMemory};
+    ghost use Rattle.mp_script.specs.Script.{Tree, Spells, IsScript};
+    ghost use Rattle.mp_script.specs.ScriptReading.{MayFail};
+
+    /// The script that the bytes spell, kept in one growth of just their number.
+    ///
+    /// # Errors
+    /// The first fault from the left. For each operator: `BadOperator` where its byte is none's, `Truncated` where further
+    /// bytes are missing, `TooLong` where it is the 1,025th, `Underflow` where fewer expressions wait than it has operands,
+    /// and `TooDeep` where what it makes is deeper than 64. At the end `NotOneExpression` where anything but one expression
+    /// waits. `NoMemory` may stand in place of a script.
+    pub fn decode(memory: Memory, bytes: &[u8]) -> Result<Script, ScriptFault>
+        ensures found { IfOk result (λ s. (s ≡ bytes.now) × IsScript bytes.now) }
+        ensures only { (t : Tree) → Spells bytes.now t → IfErr result (λ e. e ≡ NoMemory) }
+        ensures exact { IfErr result (λ e. MayFail e bytes.now) }
+    {
+        check(bytes)?;
+        Ok(Script {
+            bytes: bytes.to_vec(memory)?,
+            hash: digest(bytes),
+        })
+    }
+
+    /// Its bytes.
+    pub fn bytes(&self) -> &[u8]
+        ensures same { result.now ≡ self.now }
+        ensures script { IsScript self.now }
+    {
+        &self.bytes
+    }
+
+    /// The SHA-256 (FIPS 180-4) of its bytes.
+    pub fn hash(&self) -> &Hash
+        ensures { result.now ≡ sha256 self.now }
+    {
+        &self.hash
+    }
+}

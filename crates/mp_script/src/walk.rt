@@ -1,0 +1,74 @@
+//! Walks over the bytes of data.
+
+ghost use Rattle.std.specs.Prelude.{◌≡◌, ◌-◌};
+ghost use Rattle.mp_script.specs.Reading.{rest_of, seen};
+ghost use Rattle.mp_script.specs.DataReading.{number_read, octets_read, items_read, list_read, datum_read};
+
+use crate::fault::DataFault;
+use crate::fields::{split_count, split_number, split_sized};
+
+/// The tag of a number.
+pub const NUMBER: u8 = 1;
+
+/// The tag of bytes.
+pub const OCTETS: u8 = 2;
+
+/// The tag of a list.
+pub const LIST: u8 = 3;
+
+/// The greatest depth of a datum.
+pub const MOST_DEPTH: u8 = 16;
+
+#[tactic(auto, unfolding(crate::specs::DataReading::number_read))]
+fn number_end(bytes: &[u8]) -> Result<&[u8], DataFault>
+    ensures { seen (λ rest. rest.now) result ≡ rest_of (number_read bytes.now) }
+{
+    let (_number, rest) = split_number(bytes).ok_or(DataFault::Truncated)?;
+    Ok(rest)
+}
+
+#[tactic(auto, unfolding(crate::specs::DataReading::octets_read))]
+fn octets_end(bytes: &[u8]) -> Result<&[u8], DataFault>
+    ensures { seen (λ rest. rest.now) result ≡ rest_of (octets_read bytes.now) }
+{
+    let (_octets, rest) = split_sized(bytes).ok_or(DataFault::Truncated)?;
+    Ok(rest)
+}
+
+// The bytes after so many data, each of a depth up to `most_depth`.
+#[cycle(walk)]
+fn items_end(bytes: &[u8], count: u16, most_depth: u8) -> Result<&[u8], DataFault>
+    ensures { seen (λ rest. rest.now) result ≡ rest_of (items_read (datum_read most_depth) count bytes.now) }
+{
+    let mut rest = bytes;
+    for _ in 0..count {
+        rest = datum_end(rest, most_depth)?;
+    }
+    Ok(rest)
+}
+
+#[cycle(walk)]
+#[tactic(auto, unfolding(crate::specs::DataReading::list_read))]
+fn list_end(bytes: &[u8], most_depth: u8) -> Result<&[u8], DataFault>
+    ensures { seen (λ rest. rest.now) result ≡ rest_of (list_read (datum_read most_depth) bytes.now) }
+{
+    let (count, rest) = split_count(bytes).ok_or(DataFault::Truncated)?;
+    items_end(rest, count, most_depth)
+}
+
+/// The bytes after the datum at the front, of a depth up to `most_depth`, or the first fault from the left.
+#[cycle(walk)]
+pub fn datum_end(bytes: &[u8], most_depth: u8) -> Result<&[u8], DataFault>
+    ensures { seen (λ rest. rest.now) result ≡ rest_of (datum_read most_depth bytes.now) }
+{
+    let (tag, rest) = bytes.split_first().ok_or(DataFault::Truncated)?;
+    if most_depth == 0 {
+        return Err(DataFault::TooDeep);
+    }
+    match *tag {
+        NUMBER => number_end(rest),
+        OCTETS => octets_end(rest),
+        LIST => list_end(rest, most_depth - 1),
+        _ => Err(DataFault::BadTag),
+    }
+}
