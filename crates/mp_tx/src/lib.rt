@@ -1,7 +1,6 @@
 //! Transactions and ledger states.
 #![tactic(auto)]
 
-mod digest;
 mod fault;
 mod input;
 mod ledger;
@@ -15,9 +14,10 @@ pub use fault::{LedgerFault, TxFault};
 pub use input::Input;
 pub use ledger::{Ledger, MOST_BLOCK_BYTES};
 pub use mp_bundle::{PolicyId, TokenName};
+pub use mp_script::{Address, Hash, Key};
 pub use output::Output;
 pub use plain::{Data, Script};
-pub use reference::{Address, Hash, Key, OutRef, Sig, TxId};
+pub use reference::{OutRef, Sig, TxId};
 pub use tx::{MOST_BYTES, MOST_PARTS, Tx, TxParts};
 
 #[cfg(test)]

@@ -1,8 +1,7 @@
 //! Outputs: what a transaction pays.
 
-use crate::digest::digest;
 use crate::plain::{Data, Script};
-use crate::reference::{Address, Hash};
+use mp_script::{Address, Hash, digest};
 use std::marker::Model;
 
 /// An output of coin, locked by the plain script with the plain datum.

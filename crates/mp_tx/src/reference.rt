@@ -1,16 +1,9 @@
-//! References to outputs, and the hashes and keys that transactions name.
+//! References to outputs, and the ids and signatures that transactions name.
 
-/// A SHA-256 digest (FIPS 180-4).
-pub type Hash = [u8; 32];
+use mp_script::Hash;
 
 /// The id of a transaction: the digest of its body.
 pub type TxId = Hash;
-
-/// Where an output lies: the digest of the script that guards it.
-pub type Address = Hash;
-
-/// The public key of a signer.
-pub type Key = [u8; 32];
 
 /// A signature.
 pub type Sig = [u8; 64];

@@ -4,11 +4,11 @@ ghost use Rattle.std.specs.Prelude.{◌≡◌, ℕ, List, ◌<◌, ◌≤◌, �
 ghost use Rattle.std.specs.Int.{w16, to_be_bytes};
 ghost use Rattle.mp_tx.specs.Transaction.{Transaction, sized, counted, input_bytes, coin_bytes, output_bytes, widest_interval, spelling, id_of};
 
-use crate::digest::digest;
 use crate::input::Input;
 use crate::output::Output;
 use crate::reference::TxId;
 use mp_memory::{Memory, NoMemory};
+use mp_script::digest;
 
 const VERSION: u8 = 1;
 
