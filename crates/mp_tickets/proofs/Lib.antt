@@ -1,0 +1,13 @@
+pub mod Sharing
+pub mod Crosses
+pub mod Places
+pub mod Walks
+pub mod Fresh
+pub mod Boxes
+pub mod Links
+pub mod Taken
+pub mod Pushed
+pub mod Rising
+pub mod Seeks
+pub mod Follows
+pub mod Listed

@@ -1,0 +1,11 @@
+use Rattle.std.proofs.Common.{refl}
+use Rattle.mp_tickets.specs.Chains.{with_prev}
+use Rattle.mp_tickets.proofs.Places.{changed}
+use Rattle.mp_tickets.proofs.chain.Chain.set_prev.Goals as goal
+
+pub returns-in-Some : goal.returns-in-Some
+returns-in-Some g c = rw c.in-Some.is (record {
+  here = (refl, changed c.args.self.now.heap.cells c.in-Some.place.at (with_prev c.args.prev) c.get_mut.result.now c.args.self.now.heap.apart c.get_mut.ensures.value);
+  front = refl;
+  newest = refl;
+})

@@ -1,0 +1,17 @@
+//! A list of items in the rising order of their tickets, which finds an item by its ticket without a walk through the list.
+//! Each item lies in a node of its own, which is made before the list changes, so that a change itself takes no memory.
+#![tactic(auto)]
+
+mod chain;
+mod heap;
+mod iter;
+mod list;
+mod loose;
+mod node;
+
+pub use iter::Iter;
+pub use list::TicketList;
+pub use node::{Node, make_node};
+
+#[cfg(test)]
+mod tests;

@@ -1,0 +1,151 @@
+//! The ticket list.
+use crate::chain::Chain;
+use crate::iter::Iter;
+use crate::node::Node;
+use mp_memory::{Memory, NoMemory};
+use std::marker::Model;
+
+/// Items in the rising order of their tickets, which are above 0. A contract sees the list of tickets with their items.
+///
+/// Each item lies in a node of its own, which links to the one before it, to the one after it, and to the last one before
+/// it in its bucket. There are 1,024 buckets: a ticket is in the one of its number modulo 1,024, and is looked for there
+/// alone. A new list and a new node take memory, and nothing else does. A node may come from another handle than the list.
+pub struct TicketList<T> {
+    chain: Chain<T>,
+    memory: Memory,
+    len: usize,
+}
+
+impl<T> Model for TicketList<T> {
+    ghost use Rattle.std.specs.Prelude.{ℕ, List};
+    ghost use Rattle.mp_tickets.specs.Chains.{pairs};
+
+    ghost Value = { List (ℕ × T) };
+
+    ghost use Rattle.mp_tickets.specs.Held.{IsHeld};
+
+    ghost view = { λ l. pairs l.chain.heap.cells };
+
+    ghost invariant = { IsHeld };
+}
+
+impl<T> TicketList<T> {
+    ghost use Rattle.std.specs.Prelude.{◌≡◌, ◌-◌, ◌<◌, ◌≤◌, ◌==◌, [], ◌∷◌, ◌++◌, length, option_map, option_copied, slice_get, MatchOption, IfOk};
+    ghost use Rattle.std.specs.List.{All};
+    ghost use Rattle.std.specs.Map.Iter.{ShowsInOrder};
+    ghost use Rattle.mp_tickets.specs.Tickets.{IsRising, item_at, without, after, shown};
+
+    /// A list of no item. It takes the memory of its buckets, and never takes more. An `Err` says that there was none.
+    pub fn new(memory: Memory) -> Result<TicketList<T>, NoMemory>
+        ensures { IfOk result (λ list. list ≡ []) }
+    {
+        Ok(TicketList {
+            chain: Chain::new(memory)?,
+            memory,
+            len: 0,
+        })
+    }
+
+    /// Puts the node's item in at the back, under a ticket that is greater than 0 and than each that is there.
+    /// It takes no memory and can't fail.
+    pub fn push_node(&mut self, ticket: u64, node: Node<T>)
+    where
+        T: Drop,
+        requires above_zero { 0 < ticket }
+        requires greater { All (λ e. e.0 < ticket) self.old }
+        ensures { self.new ≡ self.old ++ (ticket, node) ∷ [] }
+    {
+        self.chain.push(ticket, node.link);
+        self.len += 1;
+    }
+
+    /// The item under the ticket, if there is one. It looks at the nodes of one bucket alone.
+    pub fn get(&self, ticket: u64) -> Option<&T>
+        ensures { option_copied result ≡ item_at self.now ticket }
+    {
+        let found = self.chain.find(ticket)?;
+        Some(&self.chain.heap.get(found.place).item)
+    }
+
+    /// Takes the item under the ticket out, and frees its node. Where there is none, the list stays as it was.
+    /// It looks at the nodes of one bucket alone.
+    pub fn unlink(&mut self, ticket: u64) -> Option<T>
+    where
+        T: Drop,
+        ensures item { result ≡ item_at self.old ticket }
+        ensures list { self.new ≡ without self.old ticket }
+    {
+        let found = self.chain.find(ticket)?;
+        let link = self.chain.take(found, self.memory).into_box();
+        self.len -= 1;
+        Some(Box::into_inner(link).into_item())
+    }
+
+    /// The first ticket with its item, if there is one.
+    pub fn front(&self) -> Option<(u64, &T)>
+        ensures first { option_map shown result ≡ slice_get self.now 0 }
+        ensures rising { IsRising self.now }
+    {
+        let link = self.chain.heap.get(self.chain.front?);
+        Some((link.ticket, &link.item))
+    }
+
+    /// The last ticket with its item, if there is one. No ticket in the list is greater.
+    pub fn back(&self) -> Option<(u64, &T)>
+        ensures last { option_map shown result ≡ slice_get self.now (length self.now - 1) }
+        ensures greatest { MatchOption result (self.now ≡ []) (λ e. All (λ x. x.0 ≤ e.0) self.now) }
+        ensures rising { IsRising self.now }
+    {
+        let link = self.chain.heap.get(self.chain.back?);
+        Some((link.ticket, &link.item))
+    }
+
+    /// The tickets with their items, in order.
+    pub fn iter(&self) -> Iter<'_, T>
+        ensures all { result ≡ self.now }
+        ensures runs { ShowsInOrder (shown {T = T}) }
+        ensures rising { IsRising self.now }
+    {
+        Iter {
+            heap: &self.chain.heap,
+            next: self.chain.front,
+        }
+    }
+
+    /// Those with a ticket greater than this one, which need not be in the list, in order. To begin, it goes back to the
+    /// first of them from the last, a step for each.
+    pub fn iter_after(&self, ticket: u64) -> Iter<'_, T>
+        ensures all { result ≡ after self.now ticket }
+        ensures runs { ShowsInOrder (shown {T = T}) }
+    {
+        Iter {
+            heap: &self.chain.heap,
+            next: self.chain.first_after(ticket),
+        }
+    }
+
+    /// How many items there are.
+    pub fn len(&self) -> usize
+        ensures { result ≡ length self.now }
+    {
+        self.len
+    }
+
+    /// Whether there is none.
+    pub fn is_empty(&self) -> bool
+        ensures { result ≡ (length self.now == 0) }
+    {
+        self.len == 0
+    }
+}
+
+impl<T: Drop> Drop for TicketList<T> {
+    fn drop(self) {
+        let TicketList {
+            chain,
+            memory,
+            len: _,
+        } = self;
+        chain.free(memory);
+    }
+}

@@ -1,0 +1,74 @@
+//! The nodes of a list.
+ghost use Rattle.std.specs.Prelude.{◌≡◌, IfOk, IfErr};
+
+use crate::heap::Place;
+use mp_memory::Memory;
+use std::alloc::AllocFailed;
+use std::marker::Model;
+
+/// What lies in a node's block. A node that is in no list has no neighbours, and its ticket means nothing.
+#[derive(Drop)]
+pub(crate) struct Link<T> {
+    pub(crate) ticket: u64,
+    pub(crate) prev: Option<Place>,
+    pub(crate) next: Option<Place>,
+    // The last node before it in its bucket.
+    pub(crate) older: Option<Place>,
+    pub(crate) item: T,
+}
+
+/// A node with its item that is in no list. A contract sees its item.
+#[derive(Drop)]
+pub struct Node<T> {
+    pub(crate) link: Box<Link<T>, Memory>,
+}
+
+impl<T> Model for Node<T> {
+    ghost Value = { T };
+
+    ghost view = { λ n. n.link.value.item };
+}
+
+/// A node for the item, which is one block of memory. An `Err` says that there was none, and hands the item back.
+pub fn make_node<T>(memory: Memory, item: T) -> Result<Node<T>, T>
+    ensures ok { IfOk result (λ node. node ≡ item) }
+    ensures refused { IfErr result (λ back. back ≡ item) }
+{
+    let link = Link {
+        ticket: 0,
+        prev: None,
+        next: None,
+        older: None,
+        item,
+    };
+    match Box::new(memory, link) {
+        Ok(link) => Ok(Node { link }),
+        Err(AllocFailed { value }) => Err(value.into_item()),
+    }
+}
+
+impl<T> Link<T> {
+    /// Its item.
+    pub(crate) fn into_item(self) -> T
+        ensures { result ≡ self.item }
+    {
+        let Link {
+            ticket: _,
+            prev: _,
+            next: _,
+            older: _,
+            item,
+        } = self;
+        item
+    }
+}
+
+impl<T> Node<T> {
+    /// Its item. Its block is freed.
+    pub fn into_inner(self) -> T
+        ensures { result ≡ self }
+    {
+        let Node { link } = self;
+        Box::into_inner(link).into_item()
+    }
+}
