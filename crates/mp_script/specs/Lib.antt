@@ -8,7 +8,6 @@ pub mod Parts
 pub mod Operators
 pub mod Script
 pub mod ScriptReading
-pub mod Operator
 pub mod View
 pub mod Value
 pub mod Meaning

@@ -28,10 +28,6 @@ abbrev pub truth_in : Val → Option Bool
 truth_in (truth b) = Some b
 truth_in _ = None
 
-abbrev pub octets_of : Val → Option (List ℕ)
-octets_of (octets b) = Some b
-octets_of _ = None
-
 abbrev pub datum_in : Val → Option Datum
 datum_in (tree d) = Some d
 datum_in _ = None

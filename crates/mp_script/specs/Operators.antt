@@ -8,6 +8,8 @@ use Rattle.mp_script.specs.declared.operator.Binary.{Binary}
 use Rattle.mp_script.specs.declared.operator.Binary.TheVariants as binary
 use Rattle.mp_script.specs.declared.operator.Ternary.{Ternary}
 use Rattle.mp_script.specs.declared.operator.Ternary.TheVariants as ternary
+use Rattle.mp_script.specs.declared.operator.Operator.{Operator}
+use Rattle.mp_script.specs.declared.operator.Operator.TheVariants as code
 
 abbrev pub leaf_code : Leaf → ℕ
 leaf_code leaf.False = 0x00
@@ -85,3 +87,12 @@ pub data Op : Type 0 where
   on_one : Unary → Op
   on_two : Binary → Op
   on_three : Ternary → Op
+
+-- an operator, as contracts see it
+abbrev pub op_of : Operator → Op
+op_of (code.Int n) = int n
+op_of (code.Bytes b) = bytes b.now
+op_of (code.Leaf o) = nullary o
+op_of (code.Unary o) = on_one o
+op_of (code.Binary o) = on_two o
+op_of (code.Ternary o) = on_three o

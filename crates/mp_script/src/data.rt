@@ -30,7 +30,7 @@ impl Model for Data {
     ghost invariant = { λ d. IsKept IsDatum d.bytes.items d.hash };
 }
 
-// The bytes after the whole datum, of which there may be none.
+// Whether the bytes spell a datum.
 fn check(bytes: &[u8]) -> Result<(), DataFault>
     ensures ok { OnOk result (IsDatum bytes.now) }
     ensures err { IfErr result (λ e. datum_of bytes.now ≡ Err e) }

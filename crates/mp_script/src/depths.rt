@@ -2,7 +2,7 @@
 
 ghost use Rattle.std.specs.Prelude.{◌≡◌, ℕ, ◌+◌, ◌<◌, ◌≤◌, [], ◌∷◌, Ok, Err, length, IfOk, IfErr, OnOk};
 ghost use Rattle.mp_script.specs.declared.fault.ScriptFault.TheVariants.{Underflow};
-ghost use Rattle.mp_script.specs.Operator.{op_of};
+ghost use Rattle.mp_script.specs.Operators.{op_of};
 ghost use Rattle.mp_script.specs.ScriptReading.{deepest, put_depth, reads};
 
 use crate::fault::ScriptFault;

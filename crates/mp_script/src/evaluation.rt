@@ -5,11 +5,12 @@ mod logic;
 mod number;
 mod paid;
 mod reference;
+mod signature;
 mod token;
 mod tree;
 
 ghost use Rattle.std.specs.Prelude.{◌≡◌, ◌<◌, ◌≤◌, ◌∷◌, Some, length, map};
-ghost use Rattle.mp_script.specs.Operator.{op_of};
+ghost use Rattle.mp_script.specs.Operators.{op_of};
 ghost use Rattle.mp_script.specs.Script.{Tree, Spells};
 ghost use Rattle.mp_script.specs.View.{sight_of};
 ghost use Rattle.mp_script.specs.Value.{val_of};
@@ -35,7 +36,7 @@ fn of_one<'a>(operator: Unary, a: Value<'a>, view: &View<'a>) -> Value<'a>
         Unary::AsInt => tree::as_int(a),
         Unary::AsBytes => tree::as_bytes(a),
         Unary::Length => tree::length(a),
-        Unary::SignedBy => reference::signed_by(a, view.keys),
+        Unary::SignedBy => signature::signed_by(a, view.keys),
         Unary::RefAddress => reference::address(a, view.references),
         Unary::RefDatumHash => reference::datum_hash(a, view.references),
     }

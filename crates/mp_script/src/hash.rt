@@ -14,7 +14,7 @@ pub type Address = Hash;
 /// The public key of a signer.
 pub type Key = [u8; 32];
 
-/// The digest of a text of bytes.
+/// The SHA-256 digest (FIPS 180-4) of bytes.
 pub fn digest(bytes: &[u8]) -> Hash
     ensures { result ≡ sha256 bytes.now }
 {

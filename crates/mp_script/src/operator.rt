@@ -2,8 +2,7 @@
 
 ghost use Rattle.std.specs.Prelude.{◌≡◌};
 ghost use Rattle.mp_script.specs.Reading.{seen};
-ghost use Rattle.mp_script.specs.Operators.{leaf_of, unary_of, binary_of, ternary_of};
-ghost use Rattle.mp_script.specs.Operator.{op_of};
+ghost use Rattle.mp_script.specs.Operators.{leaf_of, unary_of, binary_of, ternary_of, op_of};
 ghost use Rattle.mp_script.specs.ScriptReading.{plain_of, int_read, bytes_read, operator_read};
 
 use crate::fault::ScriptFault;

@@ -1,34 +1,16 @@
-//! Signatures, and the outputs that reference inputs name.
+//! The outputs that reference inputs name (CIP-31).
 
-ghost use Rattle.std.specs.Prelude.{◌≡◌, nat_eq, map};
-ghost use Rattle.std.specs.Cmp.Lexicographic.{pointwise};
-ghost use Rattle.std.specs.List.{list_any};
+ghost use Rattle.std.specs.Prelude.{◌≡◌, map};
 ghost use Rattle.std.specs.Option.{option_map};
 ghost use Rattle.mp_bundle.specs.Bundle.{quantity_of};
 ghost use Rattle.mp_script.specs.View.{reference_of};
-ghost use Rattle.mp_script.specs.Value.{val_of, truth, octets};
-ghost use Rattle.mp_script.specs.Meaning.{on, hash_in, token_in, amount, reference_at};
+ghost use Rattle.mp_script.specs.Value.{val_of, octets};
+ghost use Rattle.mp_script.specs.Meaning.{on, token_in, amount, reference_at};
 
-use super::token::{hash_of, held};
-use crate::hash::{Address, Hash, Key};
+use super::token::held;
+use crate::hash::{Address, Hash};
 use crate::value::Value;
 use crate::view::Referred;
-
-fn has_signed(keys: &[Key], wanted: &Key) -> bool
-    ensures { result ≡ list_any (λ k. pointwise nat_eq k wanted.now) keys.now }
-{
-    keys.iter().any(|key| key == wanted)
-}
-
-/// Whether there is a signature of a key.
-pub fn signed_by<'a>(key: Value<'a>, keys: &[Key]) -> Value<'a>
-    ensures { val_of result ≡ on (hash_in (val_of key.entry)) (λ key. truth (list_any (λ k. pointwise nat_eq k key) keys.now)) }
-{
-    match hash_of(key) {
-        Some(key) => Value::Truth(has_signed(keys, key)),
-        None => Value::Nothing,
-    }
-}
 
 fn referred<'s, 'a>(at: Value<'a>, references: &'s [Referred<'a>]) -> Option<&'s Referred<'a>>
     ensures { option_map (λ r. reference_of r.now) result ≡ reference_at (map reference_of references.now) (val_of at.entry) }

@@ -1,7 +1,7 @@
 use Rattle.std.proofs.Common.{arith, List, ℕ, sym, ap, ◌∙◌}
 use Rattle.std.proofs.lemmas.Bool.{eqb-true}
 use Rattle.mp_script.specs.Reading.{seen}
-use Rattle.mp_script.specs.Operator.{op_of}
+use Rattle.mp_script.specs.Operators.{op_of}
 use Rattle.mp_script.specs.ScriptReading.{put_depth, reads}
 use Rattle.mp_script.proofs.OperatorLaws.{operator_shorter}
 use Rattle.mp_script.proofs.ScriptLaws.{reading_ends}

@@ -2,7 +2,7 @@ use Rattle.std.proofs.Common.{arith, List, ℕ, ap, sym, subst, ◌∙◌}
 use Rattle.std.specs.Prelude.{map}
 use Rattle.std.proofs.lemmas.List.{length-map}
 use Rattle.mp_script.specs.Reading.{seen}
-use Rattle.mp_script.specs.Operator.{op_of}
+use Rattle.mp_script.specs.Operators.{op_of}
 use Rattle.mp_script.specs.View.{sight_of}
 use Rattle.mp_script.specs.Value.{val_of, Val}
 use Rattle.mp_script.specs.Waiting.{Stands}
