@@ -52,30 +52,45 @@ fn is_new(numbers: &Numbers) -> bool {
     numbers.as_slice() == [7].as_slice()
 }
 
-// What the trial of a call on new numbers comes to.
-fn try_call<C>(memory: Memory, call: C) -> Result<Trialled<Result<u64, NoMemory>>, TrialFault>
-where
-    C: Fn(&mut Numbers) -> Result<u64, NoMemory>,
-    requires { C.IsAlwaysCallable call }
-{
-    under_each_refusal(&memory, || numbers(memory), call, is_refusal, is_new)
-}
-
 #[test]
 fn each_growth_of_a_call_is_refused_once(rt: HostRuntime) -> Result<(), Fail> {
     let memory = Memory::new(rt.alloc())?;
     for growths in 1..6u64 {
-        let done = try_call(memory, |numbers| add_by(memory, growths, numbers))?;
-        assert_eq!(rt; (done.answer, done.growths), (Ok(2), growths));
+        let done = under_each_refusal(
+            &memory,
+            || numbers(memory),
+            |numbers| add_by(memory, growths, numbers),
+            is_refusal,
+            is_new,
+        );
+        assert_eq!(rt;
+            done,
+            Ok(Trialled {
+                answer: Ok(2),
+                growths
+            })
+        );
         assert!(rt; !memory.waits());
     }
-    let none = try_call(memory, |numbers| Ok(numbers.len() as u64))?;
-    assert_eq!(rt; (none.answer, none.growths), (Ok(1), 0));
+    let none = under_each_refusal(
+        &memory,
+        || numbers(memory),
+        |numbers| Ok(numbers.len() as u64),
+        is_refusal,
+        is_new,
+    );
+    assert_eq!(rt;
+        none,
+        Ok(Trialled {
+            answer: Ok(1),
+            growths: 0
+        })
+    );
     Ok(())
 }
 
 #[test]
-fn what_a_call_does_wrong_is_found(rt: HostRuntime) -> Result<(), Fail> {
+fn a_refusal_that_is_hidden_or_leaves_a_change_is_found(rt: HostRuntime) -> Result<(), Fail> {
     let memory = Memory::new(rt.alloc())?;
     let hidden = under_each_refusal(
         &memory,
@@ -85,7 +100,13 @@ fn what_a_call_does_wrong_is_found(rt: HostRuntime) -> Result<(), Fail> {
         |_| true,
     );
     assert_eq!(rt; hidden, Err(TrialFault::Swallowed(3)));
-    let changed = try_call(memory, |numbers| add_and_grow(memory, numbers));
+    let changed = under_each_refusal(
+        &memory,
+        || numbers(memory),
+        |numbers| add_and_grow(memory, numbers),
+        is_refusal,
+        is_new,
+    );
     assert_eq!(rt; changed, Err(TrialFault::Changed(3)));
     let differs = under_each_refusal(
         &memory,
@@ -95,27 +116,39 @@ fn what_a_call_does_wrong_is_found(rt: HostRuntime) -> Result<(), Fail> {
         |_| true,
     );
     assert_eq!(rt; differs, Err(TrialFault::Differs(3)));
-    let endless = try_call(memory, |_| grow_without_end(memory));
-    assert_eq!(rt; endless, Err(TrialFault::Endless));
-    assert!(rt; !memory.waits());
     Ok(())
 }
 
 #[test]
 fn what_no_refusal_caused_is_found(rt: HostRuntime) -> Result<(), Fail> {
     let memory = Memory::new(rt.alloc())?;
-    let unasked = try_call(memory, |_| Err(NoMemory));
-    assert_eq!(rt; unasked, Err(TrialFault::Unasked));
-    let unmade = under_each_refusal(
+    let unasked = under_each_refusal(
         &memory,
-        || None,
-        |_: &mut Numbers| Ok(0),
+        || numbers(memory),
+        |_| Err(NoMemory),
         is_refusal,
         is_new,
     );
+    assert_eq!(rt; unasked, Err(TrialFault::Unasked));
+    let unmade = under_each_refusal(&memory, || None::<Numbers>, |_| Ok(0), is_refusal, is_new);
     assert_eq!(rt; unmade, Err(TrialFault::NotMade));
+    let endless = under_each_refusal(
+        &memory,
+        || numbers(memory),
+        |_| grow_without_end(memory),
+        is_refusal,
+        is_new,
+    );
+    assert_eq!(rt; endless, Err(TrialFault::Endless));
+    assert!(rt; !memory.waits());
     let calls = AtomicU64::new(0);
-    let unsteady = try_call(memory, |_| Ok(calls.fetch_add(1, Ordering::SeqCst)));
+    let unsteady = under_each_refusal(
+        &memory,
+        || numbers(memory),
+        |_| Ok(calls.fetch_add(1, Ordering::SeqCst)),
+        is_refusal,
+        is_new,
+    );
     assert_eq!(rt; unsteady, Err(TrialFault::Unsteady));
     Ok(())
 }

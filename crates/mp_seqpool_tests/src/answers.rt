@@ -41,58 +41,45 @@ fn outcome(
     Ok((answers, counts))
 }
 
-const fn accepted(ticket: u64) -> Answer {
+fn accepted(ticket: u64) -> Answer {
     Ok(Reply::Accepted { ticket })
 }
 
-const fn full(free: u64) -> Answer {
+fn full(free: u64) -> Answer {
     Err(Refusal::Full { need: 181, free })
 }
 
 #[test]
-fn limits_are_exact(rt: HostRuntime) -> Result<(), Fail> {
+fn capacity_is_exact(rt: HostRuntime) -> Result<(), Fail> {
     let memory = Memory::new(rt.alloc())?;
-    let spent = Err(Refusal::TicketsSpent);
-    let ended = Err(Refusal::HistoryFull);
-    for (block_bytes, limit, last, answers, counts) in [
-        // all three have room
-        (
-            ROOMY,
-            LONG,
-            0,
-            [accepted(1), accepted(2), accepted(3)],
-            [3, 543, 3, 3],
-        ),
-        // twice 181 bytes are room for two
-        (
-            181,
-            LONG,
-            0,
-            [accepted(1), accepted(2), full(0)],
-            [2, 362, 2, 2],
-        ),
-        (
-            180,
-            LONG,
-            0,
-            [accepted(1), full(179), full(179)],
-            [1, 181, 1, 1],
-        ),
-        (90, LONG, 0, [full(180), full(180), full(180)], [0, 0, 0, 0]),
-        // one ticket is left, and one change
-        (
-            ROOMY,
-            LONG,
-            u64::MAX - 1,
-            [accepted(u64::MAX), spent, spent],
-            [1, 181, u64::MAX, 1],
-        ),
-        (ROOMY, 1, 7, [accepted(8), ended, ended], [1, 181, 8, 1]),
-        (ROOMY, 0, 7, [ended, ended, ended], [0, 0, 7, 0]),
-    ] {
-        let found = outcome(memory, block_bytes, Config { limit, last })?;
-        assert_eq!(rt; found, (answers, counts), "{block_bytes} {limit} {last}");
-    }
+    let config = Config {
+        limit: LONG,
+        last: 0,
+    };
+    let (answers, counts) = outcome(memory, ROOMY, config)?;
+    assert_eq!(rt; answers, [accepted(1), accepted(2), accepted(3)]);
+    assert_eq!(rt; counts, [3, 543, 3, 3]);
+    let (answers, counts) = outcome(memory, 181, config)?;
+    assert_eq!(rt; answers, [accepted(1), accepted(2), full(0)]);
+    assert_eq!(rt; counts, [2, 362, 2, 2]);
+    let (answers, counts) = outcome(memory, 180, config)?;
+    assert_eq!(rt; answers, [accepted(1), full(179), full(179)]);
+    assert_eq!(rt; counts, [1, 181, 1, 1]);
+    Ok(())
+}
+
+#[test]
+fn tickets_and_changes_end(rt: HostRuntime) -> Result<(), Fail> {
+    let memory = Memory::new(rt.alloc())?;
+    let last = u64::MAX - 1;
+    let (answers, counts) = outcome(memory, ROOMY, Config { limit: LONG, last })?;
+    assert_eq!(rt; answers[0], accepted(u64::MAX));
+    assert_eq!(rt; answers[1], Err(Refusal::TicketsSpent));
+    assert_eq!(rt; counts, [1, 181, u64::MAX, 1]);
+    let (answers, counts) = outcome(memory, ROOMY, Config { limit: 1, last: 7 })?;
+    assert_eq!(rt; answers[0], accepted(8));
+    assert_eq!(rt; answers[1], Err(Refusal::HistoryFull));
+    assert_eq!(rt; counts, [1, 181, 8, 1]);
     Ok(())
 }
 

@@ -1,9 +1,9 @@
-//! Each call that may want memory, under every refused growth.
+//! Each call that may want memory. A submit takes one growth: refused, it says so and leaves the pool, and with the next growth
+//! refused it answers. Starting, sharing and copying take none.
 use mp_memory::{Memory, NoMemory};
 use mp_seqpool::{Command, Config, Refusal, Reply, SeqPool, play};
-use mp_testing::{Trialled, ledger, opening, transaction, under_each_refusal};
-use mp_tx::{Ledger, TxId};
-use std::sync::Arc;
+use mp_testing::{ledger, opening, transaction};
+use mp_tx::TxId;
 use std::test::Fail;
 
 const CONFIG: Config = Config {
@@ -11,89 +11,55 @@ const CONFIG: Config = Config {
     last: 8,
 };
 
-fn pool(memory: Memory) -> Option<SeqPool> {
-    SeqPool::start(memory, CONFIG, &ledger(memory, 2, 500_000).ok()?).ok()
-}
-
-fn is_new(pool: &SeqPool) -> bool {
-    pool.contents().is_empty()
-        && pool.changes() == 0
-        && pool.last_ticket() == 8
-        && pool.bytes() == 0
+// How many transactions and bytes, which last ticket and how many changes.
+fn counts(pool: &SeqPool) -> [u64; 4] {
+    [
+        pool.contents().len() as u64,
+        pool.bytes(),
+        pool.last_ticket(),
+        pool.changes(),
+    ]
 }
 
 #[test]
 fn a_submit_takes_one_growth(rt: HostRuntime) -> Result<(), Fail> {
     let memory = Memory::new(rt.alloc())?;
+    let ledger = ledger(memory, 1, 500_000)?;
     let tx = transaction(memory, &[opening(0)], &[100])?;
-    let command = Command::Submit(Arc::try_clone(&tx)?);
-    let accepted = Trialled {
-        answer: Ok(Reply::Accepted { ticket: 9 }),
-        growths: 1,
-    };
-    let submitted = under_each_refusal(
-        &memory,
-        || pool(memory),
-        |pool| pool.submit(&tx),
-        |answer| *answer == Err(Refusal::NoMemory),
-        is_new,
-    );
-    assert_eq!(rt; submitted, Ok(accepted));
-    let applied = under_each_refusal(
-        &memory,
-        || pool(memory),
-        |pool| pool.apply(&command),
-        |answer| *answer == Err(Refusal::NoMemory),
-        is_new,
-    );
-    assert_eq!(rt;
-        applied.map(|done| (done.answer, done.growths)),
-        Ok((Ok(Reply::Accepted { ticket: 9 }), 1))
-    );
+    memory.refuse(1);
+    let mut pool = SeqPool::start(memory, CONFIG, &ledger)?;
+    assert!(rt; memory.waits(), "a start takes no growth");
+    assert_eq!(rt; pool.submit(&tx), Err(Refusal::NoMemory));
+    assert!(rt; !memory.waits());
+    assert_eq!(rt; counts(&pool), [0, 0, 8, 0]);
+    memory.refuse(2);
+    assert_eq!(rt; pool.submit(&tx), Ok(Reply::Accepted { ticket: 9 }));
+    assert!(rt; memory.waits());
+    assert_eq!(rt; counts(&pool), [1, 181, 9, 1]);
     Ok(())
 }
 
-// The last ticket of a pool that has done the commands.
-fn played(memory: Memory, ledger: &Ledger, commands: &[Command; 1]) -> Result<u64, NoMemory> {
-    let mut answers = [Err(Refusal::NoMemory)];
-    let pool = play(memory, CONFIG, ledger, commands, &mut answers)?;
-    Ok(pool.last_ticket())
-}
-
-// A start takes no growth, and a list of commands those of its submits.
 #[test]
-fn a_start_and_a_list_of_commands_stand_each_refusal(rt: HostRuntime) -> Result<(), Fail> {
+fn a_command_takes_the_growth_of_its_submit(rt: HostRuntime) -> Result<(), Fail> {
     let memory = Memory::new(rt.alloc())?;
-    let ledger = ledger(memory, 2, 500_000)?;
-    let started = under_each_refusal(
-        &memory,
-        || Some(()),
-        |_nothing| SeqPool::start(memory, CONFIG, &ledger).map(|pool| pool.last_ticket()),
-        |answer| *answer == Err(NoMemory),
-        |_nothing| true,
-    );
-    assert_eq!(rt;
-        started,
-        Ok(Trialled {
-            answer: Ok(8),
-            growths: 0
-        })
-    );
+    let ledger = ledger(memory, 1, 500_000)?;
     let commands = [Command::Submit(transaction(memory, &[opening(0)], &[100])?)];
-    let done = under_each_refusal(
-        &memory,
-        || Some(()),
-        |_nothing| played(memory, &ledger, &commands),
-        |answer| *answer == Err(NoMemory),
-        |_nothing| true,
-    );
-    assert_eq!(rt;
-        done,
-        Ok(Trialled {
-            answer: Ok(9),
-            growths: 1
-        })
-    );
+    let mut pool = SeqPool::start(memory, CONFIG, &ledger)?;
+    memory.refuse(1);
+    assert_eq!(rt; pool.apply(&commands[0]), Err(Refusal::NoMemory));
+    assert_eq!(rt; counts(&pool), [0, 0, 8, 0]);
+    memory.refuse(2);
+    assert_eq!(rt; pool.apply(&commands[0]), Ok(Reply::Accepted { ticket: 9 }));
+    assert!(rt; memory.waits());
+    let mut answers = [Err(Refusal::NoMemory)];
+    memory.refuse(1);
+    let refused = play(memory, CONFIG, &ledger, &commands, &mut answers);
+    assert_eq!(rt; refused.err(), Some(NoMemory));
+    memory.refuse(2);
+    let played = play(memory, CONFIG, &ledger, &commands, &mut answers)?;
+    assert!(rt; memory.waits());
+    assert_eq!(rt; answers[0], Ok(Reply::Accepted { ticket: 9 }));
+    assert_eq!(rt; counts(&played), counts(&pool));
     Ok(())
 }
 
