@@ -22,64 +22,100 @@ fn three_submits(memory: Memory) -> Result<[Command; 3], TxFault> {
     ])
 }
 
-// What is answered to the three, and how many transactions and bytes, which last ticket and how many changes stand then.
-fn outcome(
-    memory: Memory,
-    block_bytes: u64,
-    config: Config,
-) -> Result<([Answer; 3], [u64; 4]), Fail> {
+// An answer that the rows know.
+#[derive(Clone, Copy, Debug, PartialEq, Eq)]
+enum Told {
+    Accepted(u64),
+    HistoryFull,
+    TicketsSpent,
+    // With the bytes that are free for a transaction of 181.
+    Full(u64),
+    Other,
+}
+
+fn read(answer: &Answer) -> Told {
+    match answer {
+        Ok(Reply::Accepted { ticket }) => Told::Accepted(*ticket),
+        Err(Refusal::HistoryFull) => Told::HistoryFull,
+        Err(Refusal::TicketsSpent) => Told::TicketsSpent,
+        Err(Refusal::Full { need: 181, free }) => Told::Full(*free),
+        Err(_) => Told::Other,
+    }
+}
+
+// What is answered to the three submits, and how many bytes stand then.
+fn outcome(memory: Memory, block_bytes: u64, config: Config) -> Result<([Told; 3], u64), Fail> {
     let commands = three_submits(memory)?;
     let mut answers = [Err(Refusal::NoMemory); 3];
     let ledger = ledger(memory, 2, block_bytes)?;
     let pool = play(memory, config, &ledger, &commands, &mut answers)?;
-    let counts = [
-        pool.contents().len() as u64,
-        pool.bytes(),
-        pool.last_ticket(),
-        pool.changes(),
-    ];
-    Ok((answers, counts))
-}
-
-fn accepted(ticket: u64) -> Answer {
-    Ok(Reply::Accepted { ticket })
-}
-
-fn full(free: u64) -> Answer {
-    Err(Refusal::Full { need: 181, free })
+    let found = [read(&answers[0]), read(&answers[1]), read(&answers[2])];
+    Ok((found, pool.bytes()))
 }
 
 #[test]
-fn capacity_is_exact(rt: HostRuntime) -> Result<(), Fail> {
+fn limits_are_exact(rt: HostRuntime) -> Result<(), Fail> {
     let memory = Memory::new(rt.alloc())?;
-    let config = Config {
-        limit: LONG,
-        last: 0,
-    };
-    let (answers, counts) = outcome(memory, ROOMY, config)?;
-    assert_eq!(rt; answers, [accepted(1), accepted(2), accepted(3)]);
-    assert_eq!(rt; counts, [3, 543, 3, 3]);
-    let (answers, counts) = outcome(memory, 181, config)?;
-    assert_eq!(rt; answers, [accepted(1), accepted(2), full(0)]);
-    assert_eq!(rt; counts, [2, 362, 2, 2]);
-    let (answers, counts) = outcome(memory, 180, config)?;
-    assert_eq!(rt; answers, [accepted(1), full(179), full(179)]);
-    assert_eq!(rt; counts, [1, 181, 1, 1]);
-    Ok(())
-}
-
-#[test]
-fn tickets_and_changes_end(rt: HostRuntime) -> Result<(), Fail> {
-    let memory = Memory::new(rt.alloc())?;
-    let last = u64::MAX - 1;
-    let (answers, counts) = outcome(memory, ROOMY, Config { limit: LONG, last })?;
-    assert_eq!(rt; answers[0], accepted(u64::MAX));
-    assert_eq!(rt; answers[1], Err(Refusal::TicketsSpent));
-    assert_eq!(rt; counts, [1, 181, u64::MAX, 1]);
-    let (answers, counts) = outcome(memory, ROOMY, Config { limit: 1, last: 7 })?;
-    assert_eq!(rt; answers[0], accepted(8));
-    assert_eq!(rt; answers[1], Err(Refusal::HistoryFull));
-    assert_eq!(rt; counts, [1, 181, 8, 1]);
+    for (block_bytes, limit, last, answers, bytes) in [
+        (
+            ROOMY,
+            LONG,
+            0,
+            [Told::Accepted(1), Told::Accepted(2), Told::Accepted(3)],
+            543,
+        ),
+        // twice 181 bytes are room for two
+        (
+            181,
+            LONG,
+            0,
+            [Told::Accepted(1), Told::Accepted(2), Told::Full(0)],
+            362,
+        ),
+        (
+            180,
+            LONG,
+            0,
+            [Told::Accepted(1), Told::Full(179), Told::Full(179)],
+            181,
+        ),
+        (
+            90,
+            LONG,
+            0,
+            [Told::Full(180), Told::Full(180), Told::Full(180)],
+            0,
+        ),
+        // one ticket is left, and one change
+        (
+            ROOMY,
+            LONG,
+            u64::MAX - 1,
+            [
+                Told::Accepted(u64::MAX),
+                Told::TicketsSpent,
+                Told::TicketsSpent,
+            ],
+            181,
+        ),
+        (
+            ROOMY,
+            1,
+            7,
+            [Told::Accepted(8), Told::HistoryFull, Told::HistoryFull],
+            181,
+        ),
+        (
+            ROOMY,
+            0,
+            7,
+            [Told::HistoryFull, Told::HistoryFull, Told::HistoryFull],
+            0,
+        ),
+    ] {
+        let found = outcome(memory, block_bytes, Config { limit, last })?;
+        assert!(rt; found == (answers, bytes), "{block_bytes} {limit} {last}");
+    }
     Ok(())
 }
 
