@@ -1,5 +1,5 @@
 -- What the code's names stand for.
-use Rattle.std.specs.Prelude.{ℕ, List, map}
+use Rattle.std.specs.Prelude.{List, map}
 use Rattle.std.specs.Arc.{arc_value}
 use Rattle.mp_driver.specs.declared.names.Name.{Name}
 use Rattle.mp_driver.specs.declared.names.Meaning.{Meaning}

@@ -1,5 +1,5 @@
 -- What a transaction's line says.
-use Rattle.std.specs.Prelude.{ℕ, ◌≤◌, ◌&&◌, Bool, true, nat_eq, nat_le, List, [], ◌∷◌, ◌++◌, length, map, drop, codes, Option, None, Some, option_map, option_and_then, if◌then◌else◌}
+use Rattle.std.specs.Prelude.{ℕ, ◌&&◌, Bool, true, nat_eq, nat_le, List, [], ◌∷◌, ◌++◌, length, map, drop, codes, Option, None, Some, option_map, option_and_then, if◌then◌else◌}
 use Rattle.std.specs.List.{starts_with}
 use Rattle.std.specs.Ordering.{is_lt}
 use Rattle.sha2.specs.Sha256.{sha256}

@@ -1,7 +1,6 @@
-use Rattle.std.proofs.Common.{◌≡◌, ap, ◌∙◌}
+use Rattle.std.proofs.Common.{ap, ◌∙◌}
 use Rattle.std.specs.Prelude.{map}
-use Rattle.mp_tx.specs.Transaction.{Transaction}
-use Rattle.mp_driver.specs.Items.{plain_input, transaction_of}
+use Rattle.mp_driver.specs.Items.{plain_input}
 use Rattle.mp_driver.specs.Held.{drafted}
 use Rattle.mp_driver.proofs.Fits.{refused, accepted}
 use Rattle.mp_driver.proofs.items.transaction_of.Goals as goal

@@ -1,4 +1,4 @@
-use Rattle.std.proofs.Common.{ℕ, ◌+◌, ◌≤◌, ◌^◌, length}
+use Rattle.std.proofs.Common.{◌+◌, ◌≤◌, ◌^◌, length}
 use Rattle.mp_text.specs.Lines.{lines_of}
 use Rattle.mp_driver.specs.Staged.{scene_of}
 use Rattle.mp_driver.proofs.Progress.{Progress}
