@@ -13,7 +13,7 @@ const FILE: &str = "bad_lines.txt";
 fn bad_first_line(alloc: Global) -> Result<Outcome> {
     Ok(Outcome {
         text: String::new(alloc),
-        fault: String::from_str(alloc, "fault: bad line 1\n")?,
+        fault: Some(String::from_str(alloc, "fault: bad line 1\n")?),
     })
 }
 

@@ -40,14 +40,16 @@ pub fn is_listed(files: &[String], name: &str) -> bool {
     files.iter().any(|file| file.as_str() == name)
 }
 
-/// The text of the file, if there is one of this name.
-pub fn read_listed(
+/// The text of the file of this name and ending, if there is one.
+pub fn read_beside(
     rt: &(impl Files + AllocGlobal),
     files: &[String],
     name: &str,
+    ending: &str,
 ) -> Result<Option<String>> {
-    if is_listed(files, name) {
-        let text = fs::read_to_string(rt, name).context(name)?;
+    let file = format!(in rt.alloc(); "{name}.{ending}")?;
+    if is_listed(files, &file) {
+        let text = fs::read_to_string(rt, &file).context(&file)?;
         Ok(Some(text))
     } else {
         Ok(None)

@@ -6,11 +6,11 @@ use mp_memory::Memory;
 use std::alloc::Global;
 use std::fmt;
 
-/// What a run writes, and the line that a fault ends it with, which is empty where there is none.
+/// What a run writes, and the line of the fault that ends it, if one does.
 #[derive(Drop)]
 pub struct Outcome {
     pub text: String,
-    pub fault: String,
+    pub fault: Option<String>,
 }
 
 /// Where one outcome differs from another.
@@ -22,6 +22,7 @@ pub enum Difference<'a> {
         found: &'a str,
         wanted: &'a str,
     },
+    /// The line of the fault, which is empty where there is none.
     Fault {
         found: &'a str,
         wanted: &'a str,
@@ -51,8 +52,8 @@ pub fn outcome_of(alloc: Global, memory: Memory, scenario: &[u8]) -> Result<Outc
     let mut reader = scenario;
     let mut written = Vec::new(alloc);
     let fault = match run(memory, &mut reader, &mut written) {
-        Ok(()) => String::new(alloc),
-        Err(fault) => format!(in alloc; "{fault}\n")?,
+        Ok(()) => None,
+        Err(fault) => Some(format!(in alloc; "{fault}\n")?),
     };
     let text = String::from_utf8_lossy(alloc, &written)?;
     Ok(Outcome { text, fault })
@@ -84,8 +85,8 @@ impl Outcome {
         }
         if self.fault != wanted.fault {
             return Some(Difference::Fault {
-                found: &self.fault,
-                wanted: &wanted.fault,
+                found: self.fault.as_deref().unwrap_or(""),
+                wanted: wanted.fault.as_deref().unwrap_or(""),
             });
         }
         None

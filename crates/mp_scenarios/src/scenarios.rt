@@ -1,6 +1,6 @@
 //! The scenarios, each with the files beside it.
 
-use crate::files::{Kind, is_listed, kind_of, list_files, read_listed};
+use crate::files::{Kind, is_listed, kind_of, list_files, read_beside};
 use crate::outcome::{Outcome, outcome_of};
 use anyhow::{Context, Result};
 use mp_memory::Memory;
@@ -13,16 +13,16 @@ fn wanted_of(
     files: &[String],
     name: &str,
 ) -> Result<Option<Outcome>> {
-    let text_file = format!(in rt.alloc(); "{name}.out")?;
-    let Some(text) = read_listed(rt, files, &text_file)? else {
+    let Some(text) = read_beside(rt, files, name, "out")? else {
         return Ok(None);
     };
-    let fault_file = format!(in rt.alloc(); "{name}.err")?;
-    let fault = match read_listed(rt, files, &fault_file)? {
-        Some(line) => line,
-        None => String::new(rt.alloc()),
-    };
+    let fault = read_beside(rt, files, name, "err")?;
     Ok(Some(Outcome { text, fault }))
+}
+
+fn read_scenario(rt: &(impl Files + AllocGlobal), name: &str) -> Result<Vec<u8>> {
+    let file = format!(in rt.alloc(); "{name}.scn")?;
+    fs::read(rt, &file).context(&file)
 }
 
 // Whether the scenario comes to what the files beside it want. Prints how it differs.
@@ -36,8 +36,7 @@ fn holds(
         println!(rt; "{name}: there is no {name}.out")?;
         return Ok(false);
     };
-    let file = format!(in rt.alloc(); "{name}.scn")?;
-    let scenario = fs::read(rt, &file).context(&file)?;
+    let scenario = read_scenario(rt, name)?;
     let outcome = outcome_of(rt.alloc(), memory, &scenario)?;
     match outcome.difference(&wanted) {
         None => Ok(true),
