@@ -25,7 +25,16 @@ fn read_scenario(rt: &(impl Files + AllocGlobal), name: &str) -> Result<Vec<u8>>
     fs::read(rt, &file).context(&file)
 }
 
-// Whether the scenario comes to what the files beside it want. Prints how it differs.
+// Whether the outcome is as wanted. Prints how it differs.
+fn is_as_wanted(rt: &impl Print, name: &str, outcome: &Outcome, wanted: &Outcome) -> Result<bool> {
+    let Some(difference) = outcome.difference(wanted) else {
+        return Ok(true);
+    };
+    println!(rt; "{name}: {difference}")?;
+    Ok(false)
+}
+
+// Whether the scenario comes to what the files beside it want.
 fn holds(
     rt: &(impl Files + Print + AllocGlobal),
     memory: Memory,
@@ -37,14 +46,8 @@ fn holds(
         return Ok(false);
     };
     let scenario = read_scenario(rt, name)?;
-    let outcome = outcome_of(rt.alloc(), memory, &scenario)?;
-    match outcome.difference(&wanted) {
-        None => Ok(true),
-        Some(difference) => {
-            println!(rt; "{name}: {difference}")?;
-            Ok(false)
-        }
-    }
+    let found = outcome_of(rt.alloc(), memory, &scenario)?;
+    is_as_wanted(rt, name, &found, &wanted)
 }
 
 // Says that an answer's scenario isn't there, if it isn't.
