@@ -43,12 +43,27 @@ fn read(answer: &Answer) -> Told {
     }
 }
 
+fn config_of(limit: u64, last: u64) -> Config {
+    Config { limit, last }
+}
+
 // What is answered to the three submits, and how many bytes stand then.
-fn outcome(memory: Memory, block_bytes: u64, config: Config) -> Result<([Told; 3], u64), Fail> {
+fn outcome(
+    memory: Memory,
+    block_bytes: u64,
+    limit: u64,
+    last: u64,
+) -> Result<([Told; 3], u64), Fail> {
     let commands = three_submits(memory)?;
     let mut answers = [Err(Refusal::NoMemory); 3];
     let ledger = ledger(memory, 2, block_bytes)?;
-    let pool = play(memory, config, &ledger, &commands, &mut answers)?;
+    let pool = play(
+        memory,
+        config_of(limit, last),
+        &ledger,
+        &commands,
+        &mut answers,
+    )?;
     let found = [read(&answers[0]), read(&answers[1]), read(&answers[2])];
     Ok((found, pool.bytes()))
 }
@@ -113,7 +128,7 @@ fn limits_are_exact(rt: HostRuntime) -> Result<(), Fail> {
             0,
         ),
     ] {
-        let found = outcome(memory, block_bytes, Config { limit, last })?;
+        let found = outcome(memory, block_bytes, limit, last)?;
         assert!(rt; found == (answers, bytes), "{block_bytes} {limit} {last}");
     }
     Ok(())
