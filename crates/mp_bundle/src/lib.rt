@@ -17,6 +17,3 @@ pub use fault::BundleFault;
 pub use sum::Sum;
 pub use token::{PolicyId, Token};
 pub use token_name::TokenName;
-
-#[cfg(test)]
-mod tests;

@@ -10,6 +10,3 @@ pub use entry::Entry;
 pub use fault::AuditFault;
 pub use history::audit;
 pub use shared::interleavings;
-
-#[cfg(test)]
-mod tests;

@@ -7,11 +7,6 @@
 mod meter;
 mod metered;
 mod no_memory;
-mod trial;
 
 pub use metered::{Memory, Metered};
 pub use no_memory::NoMemory;
-pub use trial::{MOST_GROWTHS, Refusals, TrialFault, Trialled, under_each_refusal};
-
-#[cfg(test)]
-mod tests;

@@ -19,6 +19,3 @@ pub use item::Item;
 pub use pool::SeqPool;
 pub use refusal::Refusal;
 pub use run::{Answer, play};
-
-#[cfg(test)]
-mod tests;

@@ -15,6 +15,3 @@ pub use names::is_name;
 pub use numbers::{number, quantity};
 pub use output::{WriteFault, write_all};
 pub use words::{first_word, is_comment_or_blank};
-
-#[cfg(test)]
-mod tests;

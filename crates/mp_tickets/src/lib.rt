@@ -12,6 +12,3 @@ mod node;
 pub use iter::Iter;
 pub use list::TicketList;
 pub use node::{Node, make_node};
-
-#[cfg(test)]
-mod tests;

@@ -19,6 +19,3 @@ pub use output::Output;
 pub use plain::{Data, Script};
 pub use reference::{OutRef, Sig, TxId};
 pub use tx::{MOST_BYTES, MOST_PARTS, Tx, TxParts};
-
-#[cfg(test)]
-mod tests;

@@ -1,0 +1,112 @@
+//! Histories of two submits: the first spends an opening output, the second what the first pays.
+use mp_history::{AuditFault, Entry, audit};
+use mp_memory::Memory;
+use mp_seqpool::{Command, Config, Reply};
+use mp_testing::{Trialled, ledger, opening, output_of, transaction, under_each_refusal};
+use mp_tx::{Tx, TxFault};
+use std::sync::Arc;
+use std::test::Fail;
+
+const CONFIG: Config = Config {
+    limit: 1_000_000,
+    last: 0,
+};
+
+fn entry_of(caller: u32, tx: Arc<Tx, Memory>, ticket: u64) -> Entry {
+    Entry {
+        caller,
+        command: Command::Submit(tx),
+        reply: Reply::Accepted { ticket },
+    }
+}
+
+fn two_submits(
+    memory: Memory,
+    callers: [u32; 2],
+    tickets: [u64; 2],
+) -> Result<[Entry; 2], TxFault> {
+    let first = transaction(memory, &[opening(0)], &[100])?;
+    let second = transaction(memory, &[output_of(first.id(), 0)], &[100])?;
+    Ok([
+        entry_of(callers[0], first, tickets[0]),
+        entry_of(callers[1], second, tickets[1]),
+    ])
+}
+
+// The last ticket that the audit comes to, or the fault.
+fn outcome(
+    memory: Memory,
+    config: Config,
+    callers: u32,
+    entries: &[Entry],
+) -> Result<Result<u64, AuditFault>, Fail> {
+    let ledger = ledger(memory, 1, 500_000)?;
+    Ok(audit(memory, config, &ledger, callers, entries).map(|pool| pool.last_ticket()))
+}
+
+#[test]
+fn the_first_bad_place_is_told(rt: HostRuntime) -> Result<(), Fail> {
+    let memory = Memory::new(rt.alloc())?;
+    for (by, tickets, callers, wanted) in [
+        ([0, 0], [1, 2], 1, Ok(2)),
+        ([5, 0], [1, 2], 6, Ok(2)),
+        // a ticket that the pool wouldn't give
+        ([0, 0], [1, 3], 1, Err(AuditFault::WrongReply(1))),
+        ([0, 0], [2, 3], 1, Err(AuditFault::WrongReply(0))),
+        // a caller past the last one, also where the reply is wrong
+        ([5, 0], [1, 2], 1, Err(AuditFault::StrangeCaller(0))),
+        ([5, 0], [1, 2], 5, Err(AuditFault::StrangeCaller(0))),
+        ([0, 1], [1, 3], 1, Err(AuditFault::StrangeCaller(1))),
+        // a wrong reply before a strange caller
+        ([0, 1], [3, 2], 1, Err(AuditFault::WrongReply(0))),
+    ] {
+        let entries = two_submits(memory, by, tickets)?;
+        let found = outcome(memory, CONFIG, callers, &entries)?;
+        assert_eq!(rt; found, wanted, "{by:?} {tickets:?} of {callers}");
+    }
+    Ok(())
+}
+
+#[test]
+fn a_history_may_be_short_or_too_long(rt: HostRuntime) -> Result<(), Fail> {
+    let memory = Memory::new(rt.alloc())?;
+    let legal = two_submits(memory, [0, 0], [1, 2])?;
+    let all: &[Entry] = &legal;
+    assert_eq!(rt; outcome(memory, CONFIG, 0, &[])?, Ok(0));
+    let wrong = Err(AuditFault::WrongReply(0));
+    assert_eq!(rt;
+        outcome(memory, CONFIG, 1, &all[1..])?,
+        wrong,
+        "without the first"
+    );
+    let one_change = Config { limit: 1, last: 0 };
+    let over = Err(AuditFault::WrongReply(1));
+    assert_eq!(rt;
+        outcome(memory, one_change, 1, all)?,
+        over,
+        "past the limit"
+    );
+    Ok(())
+}
+
+#[test]
+fn an_audit_stands_each_refusal(rt: HostRuntime) -> Result<(), Fail> {
+    let memory = Memory::new(rt.alloc())?;
+    let ledger = ledger(memory, 1, 500_000)?;
+    let entries = two_submits(memory, [0, 0], [1, 2])?;
+    let done = under_each_refusal(
+        &memory,
+        || Some(()),
+        |_nothing| audit(memory, CONFIG, &ledger, 1, &entries).map(|pool| pool.last_ticket()),
+        |answer| *answer == Err(AuditFault::NoMemory),
+        |_nothing| true,
+    );
+    assert_eq!(rt;
+        done,
+        Ok(Trialled {
+            answer: Ok(2),
+            growths: 1
+        })
+    );
+    Ok(())
+}

@@ -1,3 +1,0 @@
-mod handle;
-mod threads;
-mod trials;

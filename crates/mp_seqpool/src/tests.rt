@@ -1,4 +1,0 @@
-mod histories;
-mod refusals;
-mod samples;
-mod trials;

@@ -1,0 +1,7 @@
+//! The tests of mp_seqpool: its calls under each refusal of memory, and answers that were worked out by hand.
+#![tactic(auto)]
+
+#[cfg(test)]
+mod answers;
+#[cfg(test)]
+mod out_of_memory;

@@ -1,0 +1,13 @@
+//! What the tests of the other crates share: the trial of a call under each refusal of memory, devices that fail, and sample
+//! transactions. Nothing of the product stands on it.
+#![tactic(auto)]
+
+mod reader;
+mod samples;
+mod trial;
+mod writer;
+
+pub use reader::FailingReader;
+pub use samples::{ledger, opening, output_of, parts, transaction};
+pub use trial::{MOST_GROWTHS, Refusals, TrialFault, Trialled, under_each_refusal};
+pub use writer::FailingWriter;

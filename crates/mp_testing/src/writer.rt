@@ -1,0 +1,45 @@
+//! A writer that fails when it is told to.
+use std::alloc::Global;
+use std::io;
+use std::io::{ErrorKind, Write};
+
+/// A writer that keeps what it takes. No contract says what it takes.
+#[derive(Drop)]
+pub struct FailingWriter {
+    /// What was taken.
+    pub taken: Vec<u8>,
+    /// The most bytes that one write takes.
+    pub at_once: usize,
+    /// Which write fails, from 1. At 0 none does.
+    pub fails_at: u64,
+    /// How many writes there were.
+    pub writes: u64,
+}
+
+impl FailingWriter {
+    /// A writer that has taken nothing, takes up to 4,096 bytes at once, and of which no write fails.
+    pub fn new(alloc: Global) -> FailingWriter {
+        FailingWriter {
+            taken: Vec::new(alloc),
+            at_once: 4096,
+            fails_at: 0,
+            writes: 0,
+        }
+    }
+}
+
+impl Write for FailingWriter {
+    fn write(&mut self, buf: &[u8]) -> io::Result<usize> {
+        self.writes = self.writes.saturating_add(1);
+        if self.writes == self.fails_at {
+            return Err(io::Error::from(ErrorKind::Other));
+        }
+        let count = self.at_once.min(buf.len());
+        self.taken.extend_from_slice(&buf[..count])?;
+        Ok(count)
+    }
+
+    fn flush(&mut self) -> io::Result<()> {
+        Ok(())
+    }
+}

@@ -1,4 +1,0 @@
-mod inputs;
-mod outputs;
-mod texts;
-mod words;

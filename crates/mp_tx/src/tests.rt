@@ -1,4 +1,0 @@
-mod ledgers;
-mod refusals;
-mod samples;
-mod transactions;
