@@ -1,7 +1,7 @@
 //! The faults: their names, numbers and texts.
 
-use crate::line_fault::LineFault;
 use crate::numbered::Numbered;
+use anyhow::{Result, bail};
 use mp_bundle::{BundleFault, TokenName};
 use mp_history::AuditFault;
 use mp_memory::{Memory, NoMemory};
@@ -72,7 +72,7 @@ fn invalids() -> [Invalid; 4] {
 }
 
 // Whether a fault has a name, which stands before the values that come with it.
-fn is_named<F: Debug>(memory: Memory, fault: &F, name: &str) -> Result<bool, LineFault> {
+fn is_named<F: Debug>(memory: Memory, fault: &F, name: &str) -> Result<bool> {
     let told = format!(in memory; "{fault:?}")?;
     match told.as_str().strip_prefix(name) {
         None => Ok(false),
@@ -81,11 +81,7 @@ fn is_named<F: Debug>(memory: Memory, fault: &F, name: &str) -> Result<bool, Lin
 }
 
 // Whether a fault's number is wanted, or its number and text, or only its text where it has no number.
-fn is_told<F: Numbered + Display>(
-    memory: Memory,
-    fault: &F,
-    wanted: &str,
-) -> Result<bool, LineFault> {
+fn is_told<F: Numbered + Display>(memory: Memory, fault: &F, wanted: &str) -> Result<bool> {
     let told = match fault.number_if_any() {
         None => format!(in memory; "{fault}")?,
         Some(number) => {
@@ -104,17 +100,17 @@ fn holds_among<F: Numbered + Debug + Display>(
     faults: &[F],
     name: &str,
     wanted: &str,
-) -> Result<bool, LineFault> {
+) -> Result<bool> {
     for fault in faults {
         if is_named(memory, fault, name)? {
             return is_told(memory, fault, wanted);
         }
     }
-    Err(LineFault::NoSuchWord)
+    bail!("no such word")
 }
 
 /// Whether a fault has the number and the text that are wanted.
-pub fn holds(memory: Memory, given: &str, wanted: &str) -> Result<bool, LineFault> {
+pub fn holds(memory: Memory, given: &str, wanted: &str) -> Result<bool> {
     let (kind, name) = given.split_once("::").unwrap_or((given, given));
     match kind {
         "NoMemory" => holds_among(memory, &[NoMemory], name, wanted),
@@ -128,6 +124,6 @@ pub fn holds(memory: Memory, given: &str, wanted: &str) -> Result<bool, LineFaul
         "AuditFault" => holds_among(memory, &AUDIT_FAULTS, name, wanted),
         "InputFault" => holds_among(memory, &INPUT_FAULTS, name, wanted),
         "WriteFault" => holds_among(memory, &[WriteFault], name, wanted),
-        _ => Err(LineFault::NoSuchWord),
+        _ => bail!("no such word"),
     }
 }

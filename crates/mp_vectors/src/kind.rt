@@ -1,8 +1,10 @@
 //! The kinds of vectors.
 
-use crate::line_fault::LineFault;
-use crate::{bundle, datum, faults, ledger, part, script, sum, text, transaction, value, words};
+use crate::answer::{is_number, is_told};
+use crate::{bundle, datum, faults, ledger, part, script, sum, text, transaction, value};
+use anyhow::Result;
 use mp_memory::Memory;
+use mp_text::{is_name, number, quantity};
 
 /// What the lines of a file are about.
 #[derive(Clone, Copy)]
@@ -60,7 +62,7 @@ impl Kind {
     }
 
     /// Whether what is given comes to what is wanted.
-    pub fn holds(self, memory: Memory, given: &str, wanted: &str) -> Result<bool, LineFault> {
+    pub fn holds(self, memory: Memory, given: &str, wanted: &str) -> Result<bool> {
         match self {
             Kind::Datum => datum::holds(memory, given, wanted),
             Kind::Part => part::holds(memory, given, wanted),
@@ -70,9 +72,9 @@ impl Kind {
             Kind::Sum => sum::holds(memory, given, wanted),
             Kind::Transaction => transaction::holds(memory, given, wanted),
             Kind::Ledger => ledger::holds(memory, given, wanted),
-            Kind::Name => words::is_name_as_wanted(given, wanted),
-            Kind::Number => words::is_number_as_wanted(given, wanted),
-            Kind::Quantity => words::is_quantity_as_wanted(given, wanted),
+            Kind::Name => Ok(is_told(is_name(given.as_bytes()), wanted)),
+            Kind::Number => is_number(number(given.as_bytes()), wanted),
+            Kind::Quantity => is_number(quantity(given.as_bytes()), wanted),
             Kind::Text => text::holds(memory, given, wanted),
             Kind::Fault => faults::holds(memory, given, wanted),
         }

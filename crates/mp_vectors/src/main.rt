@@ -9,7 +9,6 @@ mod faults;
 mod kind;
 mod ledger;
 mod line;
-mod line_fault;
 mod numbered;
 mod part;
 mod pieces;
@@ -22,17 +21,15 @@ mod transaction;
 mod value;
 mod views;
 mod wanted;
-mod words;
 
 use anyhow::{Context, Result};
 use kind::Kind;
-use line_fault::LineFault;
 use mp_memory::Memory;
 use std::fs;
 use std::rt::Files;
 
 // How many cases of a line held, where all did.
-fn cases_held(memory: Memory, kind: Kind, line: &str) -> Result<u64, LineFault> {
+fn cases_held(memory: Memory, kind: Kind, line: &str) -> Result<u64> {
     match line::parted(line)? {
         None => Ok(0),
         Some((given, wanted)) => line::held(memory, kind, given, wanted),

@@ -1,12 +1,12 @@
 //! Parts of data.
 
-use crate::line_fault::LineFault;
 use crate::pieces;
+use anyhow::Result;
 use mp_memory::Memory;
 use mp_script::{Data, Part};
 
 // The part that one place after the other leads to.
-fn part_at<'a>(whole: Part<'a>, places: &str) -> Result<Option<Part<'a>>, LineFault> {
+fn part_at<'a>(whole: Part<'a>, places: &str) -> Result<Option<Part<'a>>> {
     let mut part = whole;
     for place in places.split_whitespace() {
         match part.item(place.parse::<u64>()?) {
@@ -18,7 +18,7 @@ fn part_at<'a>(whole: Part<'a>, places: &str) -> Result<Option<Part<'a>>, LineFa
 }
 
 // Whether a part is a number, octets or a list, and nothing else, or has these bytes.
-fn is_part(memory: Memory, part: &Part, wanted: &str) -> Result<bool, LineFault> {
+fn is_part(memory: Memory, part: &Part, wanted: &str) -> Result<bool> {
     let seen = (part.number(), part.octets(), part.length());
     match wanted.split_once(' ') {
         Some(("number", word)) => Ok(seen == (Some(word.parse::<i64>()?), None, None)),
@@ -33,7 +33,7 @@ fn is_part(memory: Memory, part: &Part, wanted: &str) -> Result<bool, LineFault>
 }
 
 /// Whether the part of a datum at these places is what is wanted, or there is none.
-pub fn holds(memory: Memory, given: &str, wanted: &str) -> Result<bool, LineFault> {
+pub fn holds(memory: Memory, given: &str, wanted: &str) -> Result<bool> {
     let (words, places) = given.split_once('@').unwrap_or((given, ""));
     let bytes = pieces::bytes(memory, words)?;
     let datum = Data::decode(memory, &bytes)?;

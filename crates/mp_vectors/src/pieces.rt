@@ -1,10 +1,10 @@
 //! Bytes, as the lines write them.
 
-use crate::line_fault::LineFault;
+use anyhow::{Result, bail};
 use mp_memory::Memory;
 use mp_script::Hash;
 
-fn repeated(memory: Memory, piece: &[u8], times: u32) -> Result<Vec<u8, Memory>, LineFault> {
+fn repeated(memory: Memory, piece: &[u8], times: u32) -> Result<Vec<u8, Memory>> {
     let mut bytes = Vec::new(memory);
     for _ in 0..times {
         bytes.extend_from_slice(piece)?;
@@ -13,7 +13,7 @@ fn repeated(memory: Memory, piece: &[u8], times: u32) -> Result<Vec<u8, Memory>,
 }
 
 /// The bytes of a piece: hexadecimal digits, a number of times such digits, as `16*030001`, or `-`, which is no byte.
-pub fn piece(memory: Memory, word: &str) -> Result<Vec<u8, Memory>, LineFault> {
+pub fn piece(memory: Memory, word: &str) -> Result<Vec<u8, Memory>> {
     if word == "-" {
         return Ok(Vec::new(memory));
     }
@@ -27,7 +27,7 @@ pub fn piece(memory: Memory, word: &str) -> Result<Vec<u8, Memory>, LineFault> {
 }
 
 /// The bytes of all pieces, one after the other.
-pub fn bytes(memory: Memory, words: &str) -> Result<Vec<u8, Memory>, LineFault> {
+pub fn bytes(memory: Memory, words: &str) -> Result<Vec<u8, Memory>> {
     let mut bytes = Vec::new(memory);
     for word in words.split_whitespace() {
         let piece = piece(memory, word)?;
@@ -37,10 +37,10 @@ pub fn bytes(memory: Memory, words: &str) -> Result<Vec<u8, Memory>, LineFault> 
 }
 
 /// The 32 bytes of a piece.
-pub fn hash(memory: Memory, word: &str) -> Result<Hash, LineFault> {
+pub fn hash(memory: Memory, word: &str) -> Result<Hash> {
     let bytes = piece(memory, word)?;
     match bytes.split_first_chunk::<32>() {
         Some((hash, [])) => Ok(*hash),
-        _ => Err(LineFault::NoHash),
+        _ => bail!("no 32 bytes"),
     }
 }

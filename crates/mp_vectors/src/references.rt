@@ -1,15 +1,15 @@
 //! References to outputs, and coin.
 
-use crate::line_fault::LineFault;
 use crate::pieces;
+use anyhow::{Context, Result, bail};
 use mp_memory::Memory;
 use mp_tx::{OutRef, Output};
 
 const MOST_COIN: u64 = (1 << 63) - 1;
 
 /// The reference of a word such as `32*00:7`: the id, and then the index.
-pub fn reference(memory: Memory, word: &str) -> Result<OutRef, LineFault> {
-    let (id, index) = word.split_once(':').ok_or(LineFault::NoReference)?;
+pub fn reference(memory: Memory, word: &str) -> Result<OutRef> {
+    let (id, index) = word.split_once(':').context("no reference")?;
     Ok(OutRef {
         id: pieces::hash(memory, id)?,
         index: index.parse::<u16>()?,
@@ -17,10 +17,10 @@ pub fn reference(memory: Memory, word: &str) -> Result<OutRef, LineFault> {
 }
 
 /// The output of so much coin.
-pub fn output(word: &str) -> Result<Output, LineFault> {
+pub fn output(word: &str) -> Result<Output> {
     let coin = word.parse::<u64>()?;
     if coin == 0 || coin > MOST_COIN {
-        return Err(LineFault::NoOutput);
+        bail!("no output");
     }
     Ok(Output::of_coin(coin))
 }

@@ -1,8 +1,8 @@
 //! What the views of scripts are made of.
 
 use crate::bundle::bundle;
-use crate::line_fault::LineFault;
 use crate::pieces;
+use anyhow::Result;
 use mp_bundle::{Bundle, Sum};
 use mp_memory::Memory;
 use mp_script::{Address, Data, Hash, Key};
@@ -47,12 +47,12 @@ pub struct Scene {
     pub forge: Bundle,
 }
 
-fn datum(memory: Memory, words: &str) -> Result<Data, LineFault> {
+fn datum(memory: Memory, words: &str) -> Result<Data> {
     Ok(Data::decode(memory, &pieces::bytes(memory, words)?)?)
 }
 
 // The sum of two bundles.
-fn sum(memory: Memory, first: &Bundle, second: &Bundle) -> Result<Sum, LineFault> {
+fn sum(memory: Memory, first: &Bundle, second: &Bundle) -> Result<Sum> {
     let mut sum = Sum::new(memory);
     sum.add(first)?;
     sum.add(second)?;
@@ -60,7 +60,7 @@ fn sum(memory: Memory, first: &Bundle, second: &Bundle) -> Result<Sum, LineFault
 }
 
 /// The parts of the views.
-pub fn set(memory: Memory) -> Result<Scene, LineFault> {
+pub fn set(memory: Memory) -> Result<Scene> {
     let little = bundle(memory, LITTLE)?;
     let much = bundle(memory, MUCH)?;
     let spent = sum(memory, &little, &much)?;

@@ -1,7 +1,8 @@
 //! The lines of a text, and the words of a line.
 
-use crate::line_fault::LineFault;
+use crate::answer::is_told;
 use crate::pieces;
+use anyhow::{Context, Result, bail};
 use mp_memory::Memory;
 use mp_text::{first_line, first_word, is_clean, is_comment_or_blank};
 
@@ -21,7 +22,7 @@ fn first_cut(cut: Cut, text: &[u8]) -> Option<(&[u8], &[u8])> {
 }
 
 // Whether a text is cut into these pieces.
-fn is_cut_into(memory: Memory, cut: Cut, text: &[u8], wanted: &str) -> Result<bool, LineFault> {
+fn is_cut_into(memory: Memory, cut: Cut, text: &[u8], wanted: &str) -> Result<bool> {
     let mut rest = text;
     for word in wanted.split_whitespace() {
         let piece = pieces::piece(memory, word)?;
@@ -33,19 +34,15 @@ fn is_cut_into(memory: Memory, cut: Cut, text: &[u8], wanted: &str) -> Result<bo
     Ok(first_cut(cut, rest).is_none())
 }
 
-fn is_told(is: bool, wanted: &str) -> Result<bool, LineFault> {
-    Ok(wanted == if is { "yes" } else { "no" })
-}
-
 /// Whether bytes have these lines or words, or are clean or a comment.
-pub fn holds(memory: Memory, given: &str, wanted: &str) -> Result<bool, LineFault> {
-    let (asked, words) = given.split_once(':').ok_or(LineFault::NoSuchWord)?;
+pub fn holds(memory: Memory, given: &str, wanted: &str) -> Result<bool> {
+    let (asked, words) = given.split_once(':').context("no such word")?;
     let text = pieces::bytes(memory, words)?;
     match asked {
         "lines" => is_cut_into(memory, Cut::Lines, &text, wanted),
         "words" => is_cut_into(memory, Cut::Words, &text, wanted),
-        "clean" => is_told(is_clean(&text), wanted),
-        "comment" => is_told(is_comment_or_blank(&text), wanted),
-        _ => Err(LineFault::NoSuchWord),
+        "clean" => Ok(is_told(is_clean(&text), wanted)),
+        "comment" => Ok(is_told(is_comment_or_blank(&text), wanted)),
+        _ => bail!("no such word"),
     }
 }

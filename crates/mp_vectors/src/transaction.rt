@@ -1,18 +1,14 @@
 //! Plain transactions.
 
 use crate::answer::is_fault;
-use crate::line_fault::LineFault;
 use crate::pieces;
 use crate::references::{output, reference};
+use anyhow::{Context, Result};
 use mp_memory::Memory;
 use mp_tx::{Input, OutRef, Output, Tx, TxParts};
 
 // Adds the inputs of a word such as `32*00:7`, or `32*00:0-255`, where the index goes from the first to the last.
-fn add_inputs(
-    memory: Memory,
-    inputs: &mut Vec<Input, Memory>,
-    word: &str,
-) -> Result<(), LineFault> {
+fn add_inputs(memory: Memory, inputs: &mut Vec<Input, Memory>, word: &str) -> Result<()> {
     let (least, most) = word.split_once('-').unwrap_or((word, ""));
     let OutRef { id, index: first } = reference(memory, least)?;
     let last = if most.is_empty() {
@@ -27,7 +23,7 @@ fn add_inputs(
 }
 
 // Adds the outputs of a word such as `100`, the coin, or `152*100`, as many times.
-fn add_outputs(outputs: &mut Vec<Output, Memory>, word: &str) -> Result<(), LineFault> {
+fn add_outputs(outputs: &mut Vec<Output, Memory>, word: &str) -> Result<()> {
     let (times, coin) = word.split_once('*').unwrap_or(("1", word));
     for _ in 0..times.parse::<u16>()? {
         outputs.push(output(coin)?)?;
@@ -35,7 +31,7 @@ fn add_outputs(outputs: &mut Vec<Output, Memory>, word: &str) -> Result<(), Line
     Ok(())
 }
 
-fn inputs(memory: Memory, words: &str) -> Result<Vec<Input, Memory>, LineFault> {
+fn inputs(memory: Memory, words: &str) -> Result<Vec<Input, Memory>> {
     let mut inputs = Vec::new(memory);
     for word in words.split_whitespace() {
         add_inputs(memory, &mut inputs, word)?;
@@ -43,7 +39,7 @@ fn inputs(memory: Memory, words: &str) -> Result<Vec<Input, Memory>, LineFault> 
     Ok(inputs)
 }
 
-fn outputs(memory: Memory, words: &str) -> Result<Vec<Output, Memory>, LineFault> {
+fn outputs(memory: Memory, words: &str) -> Result<Vec<Output, Memory>> {
     let mut outputs = Vec::new(memory);
     for word in words.split_whitespace() {
         add_outputs(&mut outputs, word)?;
@@ -51,8 +47,8 @@ fn outputs(memory: Memory, words: &str) -> Result<Vec<Output, Memory>, LineFault
     Ok(outputs)
 }
 
-fn parts(memory: Memory, given: &str) -> Result<TxParts, LineFault> {
-    let (spent, paid) = given.split_once('>').ok_or(LineFault::NoOutput)?;
+fn parts(memory: Memory, given: &str) -> Result<TxParts> {
+    let (spent, paid) = given.split_once('>').context("no output")?;
     Ok(TxParts {
         inputs: inputs(memory, spent)?,
         outputs: outputs(memory, paid)?,
@@ -60,7 +56,7 @@ fn parts(memory: Memory, given: &str) -> Result<TxParts, LineFault> {
 }
 
 // Whether a transaction has this size, this id or these bytes.
-fn is_transaction(memory: Memory, tx: &Tx, wanted: &str) -> Result<bool, LineFault> {
+fn is_transaction(memory: Memory, tx: &Tx, wanted: &str) -> Result<bool> {
     match wanted.split_once(' ') {
         Some(("size", word)) => Ok(tx.size() == word.parse::<u64>()?),
         Some(("id", word)) => Ok(*tx.id() == pieces::hash(memory, word)?),
@@ -70,7 +66,7 @@ fn is_transaction(memory: Memory, tx: &Tx, wanted: &str) -> Result<bool, LineFau
 }
 
 /// Whether parts make a transaction as it is wanted, or have a fault.
-pub fn holds(memory: Memory, given: &str, wanted: &str) -> Result<bool, LineFault> {
+pub fn holds(memory: Memory, given: &str, wanted: &str) -> Result<bool> {
     match Tx::of_parts(memory, parts(memory, given)?) {
         Ok(tx) => is_transaction(memory, &tx, wanted),
         Err(fault) => is_fault(memory, &fault, wanted),

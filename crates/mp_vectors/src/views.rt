@@ -1,9 +1,9 @@
 //! The views in which scripts run.
 
-use crate::line_fault::LineFault;
 use crate::pieces;
 use crate::scene::{AWAY, FIRST_DATUM_HASH, HOME, KEYS, OWN_HASH, SECOND_DATUM_HASH, Scene, set};
 use crate::wanted::Wanted;
+use anyhow::Result;
 use mp_bundle::{Bundle, Sum};
 use mp_memory::Memory;
 use mp_script::{Data, Hash, PaidTo, Referred, Script, View, eval};
@@ -11,7 +11,7 @@ use mp_script::{Data, Hash, PaidTo, Referred, Script, View, eval};
 const ZEROS: Hash = [0; 32];
 
 /// What runs: the script of a spent output, or a policy script.
-#[derive(Clone, Copy, PartialEq, Eq)]
+#[derive(Clone, Copy)]
 pub enum Role {
     Guard,
     Policy,
@@ -58,12 +58,7 @@ fn references_of(scene: &Scene) -> [Referred<'_>; 2] {
 }
 
 /// Whether a script of a role comes to what is wanted in the transaction of the scene.
-pub fn holds_in_scene(
-    memory: Memory,
-    role: Role,
-    bytes: &[u8],
-    wanted: &Wanted,
-) -> Result<bool, LineFault> {
+pub fn holds_in_scene(memory: Memory, role: Role, bytes: &[u8], wanted: &Wanted) -> Result<bool> {
     let script = Script::decode(memory, bytes)?;
     let scene = set(memory)?;
     let outputs = outputs_of(&scene);
@@ -85,7 +80,7 @@ pub fn holds_in_scene(
 }
 
 // The datum that is written, if there is one.
-fn datum_of(memory: Memory, words: &str) -> Result<Option<Data>, LineFault> {
+fn datum_of(memory: Memory, words: &str) -> Result<Option<Data>> {
     if words.is_empty() {
         return Ok(None);
     }
@@ -125,7 +120,7 @@ pub fn holds_in_nothing(
     datum: &str,
     bytes: &[u8],
     wanted: &Wanted,
-) -> Result<bool, LineFault> {
+) -> Result<bool> {
     let alone = Alone {
         script: Script::decode(memory, bytes)?,
         datum: datum_of(memory, datum)?,
@@ -155,7 +150,7 @@ fn most_references(value: &Bundle) -> [Referred<'_>; 256] {
 }
 
 /// Whether a script comes to what is wanted where as many outputs and references as there may be hold much.
-pub fn holds_in_most(memory: Memory, bytes: &[u8], wanted: &Wanted) -> Result<bool, LineFault> {
+pub fn holds_in_most(memory: Memory, bytes: &[u8], wanted: &Wanted) -> Result<bool> {
     let script = Script::decode(memory, bytes)?;
     let scene = set(memory)?;
     let spent = Sum::new(memory);

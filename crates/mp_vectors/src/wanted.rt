@@ -1,12 +1,12 @@
 //! What a script is wanted to come to.
 
-use crate::line_fault::LineFault;
 use crate::pieces;
+use anyhow::{Result, bail};
 use mp_memory::Memory;
 use mp_script::Value;
 
 /// A value, of which octets and data are given by their bytes.
-#[derive(Debug, Drop)]
+#[derive(Drop)]
 pub enum Wanted {
     Nothing,
     Truth(bool),
@@ -17,16 +17,16 @@ pub enum Wanted {
 
 impl Wanted {
     /// The value that words say.
-    pub fn of_words(memory: Memory, words: &str) -> Result<Wanted, LineFault> {
+    pub fn of_words(memory: Memory, words: &str) -> Result<Wanted> {
         match words.split_once(' ') {
             Some(("octets", pieces)) => Ok(Wanted::Octets(pieces::bytes(memory, pieces)?)),
             Some(("datum", pieces)) => Ok(Wanted::Tree(pieces::bytes(memory, pieces)?)),
-            Some(_) => Err(LineFault::NoSuchWord),
+            Some(_) => bail!("no such word"),
             None => Wanted::of_word(words),
         }
     }
 
-    fn of_word(word: &str) -> Result<Wanted, LineFault> {
+    fn of_word(word: &str) -> Result<Wanted> {
         match word {
             "nothing" => Ok(Wanted::Nothing),
             "false" => Ok(Wanted::Truth(false)),
