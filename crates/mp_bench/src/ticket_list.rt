@@ -10,7 +10,7 @@ use std::time::{Duration, Instant};
 const STRIDE: u64 = 7919;
 
 // A list of `size` items, each its own ticket.
-fn filled(memory: Memory, size: u64) -> Result<TicketList<u64>, NoMemory> {
+fn full_list(memory: Memory, size: u64) -> Result<TicketList<u64>, NoMemory> {
     let mut list = TicketList::new(memory)?;
     for before in 0..size {
         let ticket = before + 1;
@@ -39,7 +39,7 @@ fn ticket_of(step: u64, size: u64) -> u64 {
 /// Puts `size` items in at the back.
 pub fn push(clock: &impl Clock, memory: Memory, size: u64) -> Result<Duration> {
     let start = Instant::now(clock)?;
-    let list = filled(memory, size)?;
+    let list = full_list(memory, size)?;
     let time = start.elapsed(clock)?;
     ensure!(list.len() as u64 == size, "{} items are there", list.len());
     Ok(time)
@@ -47,7 +47,7 @@ pub fn push(clock: &impl Clock, memory: Memory, size: u64) -> Result<Duration> {
 
 /// Looks up each of `size` items.
 pub fn get(clock: &impl Clock, memory: Memory, size: u64) -> Result<Duration> {
-    let list = filled(memory, size)?;
+    let list = full_list(memory, size)?;
     let start = Instant::now(clock)?;
     let mut sum = 0u64;
     for step in 0..size {
@@ -60,7 +60,7 @@ pub fn get(clock: &impl Clock, memory: Memory, size: u64) -> Result<Duration> {
 
 /// Takes out each of `size` items.
 pub fn unlink(clock: &impl Clock, memory: Memory, size: u64) -> Result<Duration> {
-    let mut list = filled(memory, size)?;
+    let mut list = full_list(memory, size)?;
     let start = Instant::now(clock)?;
     let mut sum = 0u64;
     for step in 0..size {
@@ -74,7 +74,7 @@ pub fn unlink(clock: &impl Clock, memory: Memory, size: u64) -> Result<Duration>
 
 /// Goes over `size` items.
 pub fn iterate(clock: &impl Clock, memory: Memory, size: u64) -> Result<Duration> {
-    let list = filled(memory, size)?;
+    let list = full_list(memory, size)?;
     let start = Instant::now(clock)?;
     let mut sum = 0u64;
     for (_ticket, item) in list.iter() {

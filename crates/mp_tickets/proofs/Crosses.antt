@@ -1,4 +1,4 @@
--- A heap may cross threads as its values may.
+-- A store may cross threads as its values may.
 use Rattle.std.specs.Prelude.{List, [], ◌∷◌}
 use mir.Raw.{raw}
 use base.Shift.{Keyless}
@@ -9,9 +9,9 @@ use denote.Struct.Owning.{fields, to, shape}
 use denote.Param.Send.{IsSend, IsSync, Common, AllSend, owning_send, struct_send, struct_sync, sendable}
 use Rattle.std.proofs.Crossing.{frees}
 use Rattle.std_alloc.proofs.SendSync.{quiet, lies, seen}
-use Rattle.mp_tickets.specs.Cells.{Cell}
-use Rattle.mp_tickets.specs.Ownership.{the_global, cells_own, cells_lent}
-use Rattle.mp_tickets.specs.contracts.heap.Heap as Heap
+use Rattle.mp_tickets.specs.Inside.Cell.{Cell}
+use Rattle.mp_tickets.specs.Inside.Ownership.{the_global, cells_own, cells_lent}
+use Rattle.mp_tickets.specs.contracts.node_store.NodeStore as NodeStore
 
 module _ (N : RattleType) where
   cells-Keyless : IsSend N → (cs : List (Cell N.Denot)) → Keyless (cells_own N cs)
@@ -22,12 +22,12 @@ module _ (N : RattleType) where
   cells_lent-Common y [] κ = tt
   cells_lent-Common y (c ∷ cs) κ = (seen N y c.at c.value κ, cells_lent-Common y cs κ)
 
-  pub Heap-send : IsSend N → IsSend (Heap.the_row N)
-  Heap-send s =
-      let O = Heap.the_type N in let all : AllSend (fields O) = (search sendable, tt) in
+  pub NodeStore-send : IsSend N → IsSend (NodeStore.the_row N)
+  NodeStore-send s =
+      let O = NodeStore.the_type N in let all : AllSend (fields O) = (search sendable, tt) in
       owning_send O all (λ d. cells-Keyless s d.cells) (λ k. quiet (to O) (exits_of k (fields O)) ((struct_send (shape O) all).leaving k))
 
-  pub Heap-sync : IsSync N → IsSync (Heap.the_row N)
-  Heap-sync y = let O = Heap.the_type N in record {
+  pub NodeStore-sync : IsSync N → IsSync (NodeStore.the_row N)
+  NodeStore-sync y = let O = NodeStore.the_type N in record {
     shared = λ d b o κ. ((struct_sync (shape O) (search sendable, tt)).shared (to O d) b o κ, cells_lent-Common y d.cells κ);
   }

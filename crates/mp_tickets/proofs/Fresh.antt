@@ -1,4 +1,4 @@
--- A value that comes into a heap lies apart from those that are there. Assumes `Logic`.
+-- A value that comes into a store lies apart from those that are there. Assumes `Logic`.
 use mathlib.Core.Path.{◌≡◌, refl, subst}
 use mathlib.Core.Bool.{true, false}
 use Prim.Native.Nat.{◌<◌}
@@ -23,8 +23,8 @@ use Rattle.std_alloc.proofs.RcSteps.{Good}
 use Rattle.lru.specs.Linked.{same_ptr}
 use Rattle.lru.proofs.Apart.{same_ptr_eq}
 use Rattle.lru.proofs.Memory.{knows, value_out}
-use Rattle.mp_tickets.specs.Ownership.{boxed, free_token}
-use Rattle.mp_tickets.proofs.Places.{IsFresh}
+use Rattle.mp_tickets.specs.Inside.Ownership.{boxed, free_token}
+use Rattle.mp_tickets.proofs.Apart.{IsFresh}
 use Rattle.mp_tickets.proofs.Walks.{One, RN, Node, Cells}
 
 module _ (E : One) {M : Type 1} {𝓤 : Ura M} (𝓛 : Logic 𝓤) (𝓜 : Model 𝓤 𝓛.H) (sized : 0 < type_size (RN E)) where

@@ -1,6 +1,6 @@
 pub mod Sharing
 pub mod Crosses
-pub mod Places
+pub mod Apart
 pub mod Walks
 pub mod Fresh
 pub mod Boxes

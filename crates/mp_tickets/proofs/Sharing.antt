@@ -1,4 +1,4 @@
--- A `&` to a heap is made where one to a value is. Assumes `Logic`.
+-- A `&` to a store is made where one to a value is. Assumes `Logic`.
 use mathlib.Core.List.{List, [], ◌∷◌}
 use seplogic.Ra.Ura.{Ura}
 use base.Fraction.{full_share}
@@ -13,8 +13,8 @@ use denote.Sharing.{ShrLaws}
 use denote.SharingLaws.{beside_shr_laws, nothing_shr_laws}
 use denote.Shares.{Shares-less}
 use denote.Struct.Lending.{Lends, lent_at, lent_at_shr_laws, Lends-lies, Lends-first, Lends-both, Lends-nothing}
-use Rattle.mp_tickets.specs.Cells.{Cell}
-use Rattle.mp_tickets.specs.Ownership.{free_token, boxed, cells_own, cells_lent}
+use Rattle.mp_tickets.specs.Inside.Cell.{Cell}
+use Rattle.mp_tickets.specs.Inside.Ownership.{free_token, boxed, cells_own, cells_lent}
 
 pub cells_lent_laws : (N : RattleType) → RowLaws N → (cs : List (Cell N.Denot)) → ShrLaws (cells_lent N cs)
 cells_lent_laws N L [] = nothing_shr_laws

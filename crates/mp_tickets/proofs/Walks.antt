@@ -1,4 +1,4 @@
--- What the walks of the heap share. Assumes `Logic`.
+-- What the walks of the store share. Assumes `Logic`.
 use mathlib.Core.Path.{◌≡◌, refl, subst}
 use mathlib.Core.List.{List, [], ◌∷◌, ◌++◌}
 use seplogic.Ra.Ura.{Ura}
@@ -16,11 +16,11 @@ use denote.Struct.Struct.{Struct}
 use denote.Struct.Owning.{shape}
 use denote.Struct.Lending.{lent_at}
 use Rattle.lru.proofs.Memory.{mark}
-use Rattle.mp_tickets.specs.Cells.{Cell}
-use Rattle.mp_tickets.specs.Ownership.{boxed, cells_own, cells_lent}
-use Rattle.mp_tickets.specs.contracts.heap.Heap as H-type
-use Rattle.mp_tickets.specs.contracts.heap.Place as P-type
-use Rattle.mp_tickets.proofs.Boxes.{Loose, handle, handle_laws, handle_ghosts}
+use Rattle.mp_tickets.specs.Inside.Cell.{Cell}
+use Rattle.mp_tickets.specs.Inside.Ownership.{boxed, cells_own, cells_lent}
+use Rattle.mp_tickets.specs.contracts.node_store.NodeStore as Store-type
+use Rattle.mp_tickets.specs.contracts.node_store.NodePtr as Ptr-type
+use Rattle.mp_tickets.proofs.Boxes.{RawBox, handle, handle_laws, handle_ghosts}
 
 -- the row of the values
 pub record One : Type 2 where
@@ -37,18 +37,18 @@ module _ (E : One) where
   abbrev pub Node : Type 0
   Node = Cell E.row.Denot
 
-  abbrev pub Hp : RattleType
-  Hp = H-type.the_row RN
+  abbrev pub StoreRow : RattleType
+  StoreRow = Store-type.the_row RN
 
-  abbrev pub Pl : RattleType
-  Pl = P-type.the_row
+  abbrev pub PtrRow : RattleType
+  PtrRow = Ptr-type.the_row
 
-  abbrev pub Lo : RattleType
-  Lo = Loose RN handle handle_laws handle_ghosts
+  abbrev pub BoxRow : RattleType
+  BoxRow = RawBox RN handle handle_laws handle_ghosts
 
-  -- the heap's own field, which takes no bytes
+  -- the store's own field, which takes no bytes
   abbrev pub Mark : RattleType
-  Mark = Struct (shape (H-type.the_type RN))
+  Mark = Struct (shape (Store-type.the_type RN))
 
   abbrev pub Block : Node → Fml
   Block c = boxed RN c.at c.value

@@ -1,6 +1,2 @@
-pub mod Cells
-pub mod Chains
-pub mod Held
-pub mod Lends
-pub mod Ownership
+pub mod Inside
 pub mod Tickets

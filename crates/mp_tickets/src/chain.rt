@@ -1,30 +1,34 @@
 //! The chains through the nodes: one forward and one back over all of them, and one back through each bucket.
 ghost use Rattle.std.specs.Prelude.{◌≡◌, ℕ, ◌<◌, ◌%◌, ◌++◌, ◌∷◌, [], length, IfOk, MatchOption};
-ghost use Rattle.mp_tickets.specs.Cells.{AtCell};
+ghost use Rattle.mp_tickets.specs.Inside.Cell.{AtCell};
 ghost use Rattle.mp_tickets.specs.Tickets.{IsRising};
-ghost use Rattle.mp_tickets.specs.Chains.{IsChained, IsFound, IsFirstAfter, HasNone, MayBeAt, SetsNext, SetsPrev, SetsOlder, buckets, pairs};
+ghost use Rattle.mp_tickets.specs.Inside.Chain.{IsChained};
+ghost use Rattle.mp_tickets.specs.Inside.Found.{IsFound, IsFirstAfter, HasNone};
+ghost use Rattle.mp_tickets.specs.Inside.Relinks.{MayBeAt, SetsNext, SetsPrev, SetsBucketPrev};
+ghost use Rattle.mp_tickets.specs.Inside.Links.{buckets, pairs};
 
-use crate::heap::{Heap, Place};
-use crate::loose::Loose;
 use crate::node::Link;
+use crate::node_store::{NodePtr, NodeStore};
+use crate::raw_box::RawBox;
 use mp_memory::{Memory, NoMemory};
 
 const BUCKETS: u64 = 1024;
 
-/// The nodes in the order of their tickets, and where each chain begins.
+/// The nodes in the order of their tickets, and the ends of each chain.
 pub(crate) struct Chain<T> {
-    pub(crate) heap: Heap<Link<T>>,
-    pub(crate) front: Option<Place>,
-    pub(crate) back: Option<Place>,
-    // Of each bucket the last node.
-    pub(crate) newest: Vec<Option<Place>, Memory>,
+    pub(crate) nodes: NodeStore<Link<T>>,
+    pub(crate) front: Option<NodePtr>,
+    pub(crate) back: Option<NodePtr>,
+    // The last node of each bucket.
+    pub(crate) bucket_backs: Vec<Option<NodePtr>, Memory>,
 }
 
-/// Where a node lies, and where the next one of its bucket does.
+/// A node that was found.
 #[derive(Clone, Copy)]
 pub(crate) struct Found {
-    pub(crate) place: Place,
-    pub(crate) newer: Option<Place>,
+    pub(crate) ptr: NodePtr,
+    // The next node after it in its bucket.
+    pub(crate) bucket_next: Option<NodePtr>,
 }
 
 fn bucket_of(ticket: u64) -> usize
@@ -37,48 +41,48 @@ impl<T> Chain<T> {
     /// A chain of no node, with its buckets.
     pub(crate) fn new(memory: Memory) -> Result<Chain<T>, NoMemory>
         ensures chained { IfOk result (λ c. IsChained c) }
-        ensures empty { IfOk result (λ c. c.heap.cells ≡ []) }
+        ensures empty { IfOk result (λ c. c.nodes.cells ≡ []) }
     {
-        let newest = Vec::from_elem(memory, None, BUCKETS as usize)?;
+        let bucket_backs = Vec::from_elem(memory, None, BUCKETS as usize)?;
         Ok(Chain {
-            heap: Heap::new(),
+            nodes: NodeStore::new(),
             front: None,
             back: None,
-            newest,
+            bucket_backs,
         })
     }
 
-    // Makes `next` the one after the node at the place, and where there is no place, the first one.
-    fn set_next(&mut self, at: Option<Place>, next: Option<Place>)
-        requires { MayBeAt self.old.heap.cells at }
+    // Makes `next` the one after the node at `at`, and where there is none, the first one.
+    fn set_next(&mut self, at: Option<NodePtr>, next: Option<NodePtr>)
+        requires { MayBeAt self.old.nodes.cells at }
         ensures { SetsNext self.old self.new at next }
     {
         match at {
-            Some(place) => self.heap.get_mut(place).next = next,
+            Some(ptr) => self.nodes.get_mut(ptr).next = next,
             None => self.front = next,
         }
     }
 
-    // Makes `prev` the one before the node at the place, and where there is no place, the last one.
-    fn set_prev(&mut self, at: Option<Place>, prev: Option<Place>)
-        requires { MayBeAt self.old.heap.cells at }
+    // Makes `prev` the one before the node at `at`, and where there is none, the last one.
+    fn set_prev(&mut self, at: Option<NodePtr>, prev: Option<NodePtr>)
+        requires { MayBeAt self.old.nodes.cells at }
         ensures { SetsPrev self.old self.new at prev }
     {
         match at {
-            Some(place) => self.heap.get_mut(place).prev = prev,
+            Some(ptr) => self.nodes.get_mut(ptr).prev = prev,
             None => self.back = prev,
         }
     }
 
-    // The same within a bucket: where there is no place, `older` becomes the last one of the bucket.
-    fn set_older(&mut self, bucket: usize, at: Option<Place>, older: Option<Place>)
-        requires at { MayBeAt self.old.heap.cells at }
-        requires within { (bucket < buckets) × (length self.old.newest.items ≡ buckets) }
-        ensures { SetsOlder self.old self.new bucket at older }
+    // The same within a bucket: where there is no node, `bucket_prev` becomes the last one of the bucket.
+    fn set_bucket_prev(&mut self, bucket: usize, at: Option<NodePtr>, bucket_prev: Option<NodePtr>)
+        requires at { MayBeAt self.old.nodes.cells at }
+        requires within { (bucket < buckets) × (length self.old.bucket_backs.items ≡ buckets) }
+        ensures { SetsBucketPrev self.old self.new bucket at bucket_prev }
     {
         match at {
-            Some(place) => self.heap.get_mut(place).older = older,
-            None => self.newest[bucket] = older,
+            Some(ptr) => self.nodes.get_mut(ptr).bucket_prev = bucket_prev,
+            None => self.bucket_backs[bucket] = bucket_prev,
         }
     }
 
@@ -88,68 +92,72 @@ impl<T> Chain<T> {
         T: Drop,
         requires { IsChained self.old }
         ensures chained { IsChained self.new }
-        ensures pairs { pairs self.new.heap.cells ≡ pairs self.old.heap.cells ++ (ticket, link.value.item) ∷ [] }
+        ensures pairs { pairs self.new.nodes.cells
+            ≡ pairs self.old.nodes.cells ++ (ticket, link.value.item) ∷ [] }
     {
         let bucket = bucket_of(ticket);
         let back = self.back;
         link.ticket = ticket;
         link.prev = back;
         link.next = None;
-        link.older = self.newest[bucket];
-        let place = self.heap.insert(Loose::of(link));
-        self.set_next(back, Some(place));
-        self.set_prev(None, Some(place));
-        self.set_older(bucket, None, Some(place));
+        link.bucket_prev = self.bucket_backs[bucket];
+        let ptr = self.nodes.insert(RawBox::from_box(link));
+        self.set_next(back, Some(ptr));
+        self.set_prev(None, Some(ptr));
+        self.set_bucket_prev(bucket, None, Some(ptr));
     }
 
     /// The node of the ticket. It looks in one bucket alone.
     pub(crate) fn find(&self, ticket: u64) -> Option<Found>
         requires { IsChained self.now }
-        ensures { MatchOption result (HasNone ticket self.now.heap.cells) (IsFound ticket self.now.heap.cells) }
+        ensures { MatchOption result
+            (HasNone ticket self.now.nodes.cells)
+            (IsFound ticket self.now.nodes.cells) }
     {
-        let mut newer = None;
-        let mut at = self.newest[bucket_of(ticket)];
-        while let Some(place) = at {
-            let link = self.heap.get(place);
+        let mut bucket_next = None;
+        let mut at = self.bucket_backs[bucket_of(ticket)];
+        while let Some(ptr) = at {
+            let link = self.nodes.get(ptr);
             if link.ticket == ticket {
-                return Some(Found { place, newer });
+                return Some(Found { ptr, bucket_next });
             }
-            newer = at;
-            at = link.older;
+            bucket_next = at;
+            at = link.bucket_prev;
         }
         None
     }
 
-    /// Takes the node out of each chain, and out of the heap.
-    pub(crate) fn take(&mut self, found: Found, memory: Memory) -> Loose<Link<T>, Memory>
+    /// Takes the node out of each chain, and out of the store.
+    pub(crate) fn take(&mut self, found: Found, memory: Memory) -> RawBox<Link<T>, Memory>
         requires chained { IsChained self.old }
-        requires found { (ticket : ℕ) × IsFound ticket self.old.heap.cells found }
+        requires found { (ticket : ℕ) × IsFound ticket self.old.nodes.cells found }
         ensures chained { IsChained self.new }
-        ensures taken { AtCell self.old.heap.cells found.place.at (λ xs c ys. (pairs self.new.heap.cells ≡ pairs xs ++ pairs ys) × (result.value ≡ c.value)) }
+        ensures taken { AtCell self.old.nodes.cells found.ptr.at (λ xs c ys.
+            (pairs self.new.nodes.cells ≡ pairs xs ++ pairs ys) × (result.value ≡ c.value)) }
     {
         let &Link {
             ticket,
             prev,
             next,
-            older,
+            bucket_prev,
             ..
-        } = self.heap.get(found.place);
+        } = self.nodes.get(found.ptr);
         self.set_next(prev, next);
         self.set_prev(next, prev);
-        self.set_older(bucket_of(ticket), found.newer, older);
-        self.heap.remove(found.place, memory)
+        self.set_bucket_prev(bucket_of(ticket), found.bucket_next, bucket_prev);
+        self.nodes.remove(found.ptr, memory)
     }
 
     /// The first node with a greater ticket. It goes from the back.
-    pub(crate) fn first_after(&self, ticket: u64) -> Option<Place>
+    pub(crate) fn first_after(&self, ticket: u64) -> Option<NodePtr>
         requires chained { IsChained self.now }
-        requires rising { IsRising (pairs self.now.heap.cells) }
-        ensures { IsFirstAfter ticket self.now.heap.cells result }
+        requires rising { IsRising (pairs self.now.nodes.cells) }
+        ensures { IsFirstAfter ticket self.now.nodes.cells result }
     {
         let mut after = None;
         let mut at = self.back;
-        while let Some(place) = at {
-            let link = self.heap.get(place);
+        while let Some(ptr) = at {
+            let link = self.nodes.get(ptr);
             if link.ticket <= ticket {
                 return after;
             }
@@ -166,18 +174,18 @@ impl<T> Chain<T> {
         requires { IsChained self }
     {
         let Chain {
-            mut heap,
+            mut nodes,
             front,
             back: _,
-            newest,
+            bucket_backs,
         } = self;
-        drop(newest);
+        drop(bucket_backs);
         let mut at = front;
-        while let Some(place) = at {
-            let link = heap.remove(place, memory).into_box();
+        while let Some(ptr) = at {
+            let link = nodes.remove(ptr, memory).into_box();
             at = link.next;
             drop(link);
         }
-        heap.end();
+        nodes.end();
     }
 }

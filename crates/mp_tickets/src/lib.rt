@@ -3,11 +3,11 @@
 #![tactic(auto)]
 
 mod chain;
-mod heap;
 mod iter;
 mod list;
-mod loose;
 mod node;
+mod node_store;
+mod raw_box;
 
 pub use iter::Iter;
 pub use list::TicketList;

@@ -18,13 +18,13 @@ pub struct TicketList<T> {
 
 impl<T> Model for TicketList<T> {
     ghost use Rattle.std.specs.Prelude.{ℕ, List};
-    ghost use Rattle.mp_tickets.specs.Chains.{pairs};
+    ghost use Rattle.mp_tickets.specs.Inside.Links.{pairs};
 
     ghost Value = { List (ℕ × T) };
 
-    ghost use Rattle.mp_tickets.specs.Held.{IsHeld};
+    ghost use Rattle.mp_tickets.specs.Inside.TicketList.{IsHeld};
 
-    ghost view = { λ l. pairs l.chain.heap.cells };
+    ghost view = { λ l. pairs l.chain.nodes.cells };
 
     ghost invariant = { IsHeld };
 }
@@ -64,7 +64,7 @@ impl<T> TicketList<T> {
         ensures { option_copied result ≡ item_at self.now ticket }
     {
         let found = self.chain.find(ticket)?;
-        Some(&self.chain.heap.get(found.place).item)
+        Some(&self.chain.nodes.get(found.ptr).item)
     }
 
     /// Takes the item under the ticket out, and frees its node. Where there is none, the list stays as it was.
@@ -86,7 +86,7 @@ impl<T> TicketList<T> {
         ensures first { option_map shown result ≡ slice_get self.now 0 }
         ensures rising { IsRising self.now }
     {
-        let link = self.chain.heap.get(self.chain.front?);
+        let link = self.chain.nodes.get(self.chain.front?);
         Some((link.ticket, &link.item))
     }
 
@@ -96,7 +96,7 @@ impl<T> TicketList<T> {
         ensures greatest { MatchOption result (self.now ≡ []) (λ e. All (λ x. x.0 ≤ e.0) self.now) }
         ensures rising { IsRising self.now }
     {
-        let link = self.chain.heap.get(self.chain.back?);
+        let link = self.chain.nodes.get(self.chain.back?);
         Some((link.ticket, &link.item))
     }
 
@@ -107,7 +107,7 @@ impl<T> TicketList<T> {
         ensures rising { IsRising self.now }
     {
         Iter {
-            heap: &self.chain.heap,
+            nodes: &self.chain.nodes,
             next: self.chain.front,
         }
     }
@@ -119,7 +119,7 @@ impl<T> TicketList<T> {
         ensures runs { ShowsInOrder (shown {T = T}) }
     {
         Iter {
-            heap: &self.chain.heap,
+            nodes: &self.chain.nodes,
             next: self.chain.first_after(ticket),
         }
     }

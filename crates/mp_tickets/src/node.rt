@@ -1,7 +1,7 @@
 //! The nodes of a list.
 ghost use Rattle.std.specs.Prelude.{◌≡◌, IfOk, IfErr};
 
-use crate::heap::Place;
+use crate::node_store::NodePtr;
 use mp_memory::Memory;
 use std::alloc::AllocFailed;
 use std::marker::Model;
@@ -10,10 +10,10 @@ use std::marker::Model;
 #[derive(Drop)]
 pub(crate) struct Link<T> {
     pub(crate) ticket: u64,
-    pub(crate) prev: Option<Place>,
-    pub(crate) next: Option<Place>,
+    pub(crate) prev: Option<NodePtr>,
+    pub(crate) next: Option<NodePtr>,
     // The last node before it in its bucket.
-    pub(crate) older: Option<Place>,
+    pub(crate) bucket_prev: Option<NodePtr>,
     pub(crate) item: T,
 }
 
@@ -38,7 +38,7 @@ pub fn make_node<T>(memory: Memory, item: T) -> Result<Node<T>, T>
         ticket: 0,
         prev: None,
         next: None,
-        older: None,
+        bucket_prev: None,
         item,
     };
     match Box::new(memory, link) {
@@ -56,7 +56,7 @@ impl<T> Link<T> {
             ticket: _,
             prev: _,
             next: _,
-            older: _,
+            bucket_prev: _,
             item,
         } = self;
         item

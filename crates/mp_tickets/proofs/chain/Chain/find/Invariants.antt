@@ -3,7 +3,7 @@ use Rattle.mp_tickets.proofs.Seeks.{Looks, up_to}
 use Rattle.mp_tickets.proofs.chain.Chain.find.Given as goal
 
 abbrev pub invariant-loop-at : goal.invariant-loop-at
-invariant-loop-at g l = Looks l.ticket l.self.heap.cells l.newer l.at
+invariant-loop-at g l = Looks l.ticket l.self.nodes.cells l.bucket_next l.at
 
 abbrev pub decreases-loop-at : goal.decreases-loop-at
-decreases-loop-at g l = length (up_to l.at l.self.heap.cells)
+decreases-loop-at g l = length (up_to l.at l.self.nodes.cells)

@@ -4,7 +4,7 @@ use Rattle.mp_tickets.proofs.Follows.{Follows}
 use Rattle.mp_tickets.proofs.chain.Chain.first_after.Given as goal
 
 abbrev pub invariant-loop-at : goal.invariant-loop-at
-invariant-loop-at g l = Follows l.ticket l.self.heap.cells l.after l.at
+invariant-loop-at g l = Follows l.ticket l.self.nodes.cells l.after l.at
 
 abbrev pub decreases-loop-at : goal.decreases-loop-at
-decreases-loop-at g l = length (up_to l.at l.self.heap.cells)
+decreases-loop-at g l = length (up_to l.at l.self.nodes.cells)

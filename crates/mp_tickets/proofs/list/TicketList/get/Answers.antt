@@ -6,9 +6,9 @@ use Rattle.mp_tickets.proofs.list.TicketList.get.Goals as goal
 
 pub returns-in_err-found : goal.returns-in_err-found
 returns-in_err-found g c =
-    ap option_copied c.from_residual.ensures ∙ sym (no_item c.args.ticket c.self.inside.chain.heap.cells c.in_err-found.ensures).0 ∙ ap (λ l. item_at l c.args.ticket) c.self.view_is
+    ap option_copied c.from_residual.ensures ∙ sym (no_item c.args.ticket c.self.inside.chain.nodes.cells c.in_err-found.ensures).0 ∙ ap (λ l. item_at l c.args.ticket) c.self.view_is
 
 pub returns : goal.returns
 returns g c =
-    found_item c.self.inside.chain.heap.cells c.self.invariant.rising c.args.ticket c.in_ok-found.found c.in_ok-found.ensures c.get.result.now c.get.ensures
+    found_item c.self.inside.chain.nodes.cells c.self.invariant.rising c.args.ticket c.in_ok-found.found c.in_ok-found.ensures c.get.result.now c.get.ensures
     ∙ ap (λ l. item_at l c.args.ticket) c.self.view_is
