@@ -176,6 +176,7 @@ impl Scene {
     fn output_line(&mut self, memory: Memory, words: &[u8]) -> Result<(), LineFault>
         ensures ok { OnOk result (output_line (scene_of self.old) (words_of words.now) ≡ Some (scene_of self.new, [])) }
         ensures bad { IsErrOf result LineFault.Bad → output_line (scene_of self.old) (words_of words.now) ≡ None }
+        ensures stays { IsErrOf result LineFault.Bad → scene_of self.new ≡ scene_of self.old }
     {
         let Some((name, word)) = two_words(words) else {
             return Err(LineFault::Bad);
@@ -204,6 +205,7 @@ impl Scene {
     fn transaction_line(&mut self, memory: Memory, words: &[u8]) -> Result<(), LineFault>
         ensures ok { OnOk result (transaction_line (scene_of self.old) (words_of words.now) ≡ Some (scene_of self.new, [])) }
         ensures bad { IsErrOf result LineFault.Bad → transaction_line (scene_of self.old) (words_of words.now) ≡ None }
+        ensures stays { IsErrOf result LineFault.Bad → scene_of self.new ≡ scene_of self.old }
     {
         let Some((name, items)) = first_word(words) else {
             return Err(LineFault::Bad);
@@ -225,6 +227,7 @@ impl Scene {
     fn submit_line(&mut self, memory: Memory, words: &[u8]) -> Result<Text, LineFault>
         ensures ok { IfOk result (λ text. submit_line (scene_of self.old) (words_of words.now) ≡ Some (scene_of self.new, text.items)) }
         ensures bad { IsErrOf result LineFault.Bad → submit_line (scene_of self.old) (words_of words.now) ≡ None }
+        ensures stays { IsErrOf result LineFault.Bad → scene_of self.new ≡ scene_of self.old }
     {
         let Some(name) = one_word(words) else {
             return Err(LineFault::Bad);
@@ -239,6 +242,7 @@ impl Scene {
     fn snapshot_line(&mut self, memory: Memory, words: &[u8]) -> Result<Text, LineFault>
         ensures ok { IfOk result (λ text. snapshot_line (scene_of self.old) (words_of words.now) ≡ Some (scene_of self.new, text.items)) }
         ensures bad { IsErrOf result LineFault.Bad → snapshot_line (scene_of self.old) (words_of words.now) ≡ None }
+        ensures stays { IsErrOf result LineFault.Bad → scene_of self.new ≡ scene_of self.old }
     {
         if first_word(words).is_some() {
             return Err(LineFault::Bad);
@@ -254,6 +258,7 @@ impl Scene {
     fn command_line(&mut self, memory: Memory, word: &[u8], words: &[u8]) -> Result<Text, LineFault>
         ensures ok { IfOk result (λ text. command_line (scene_of self.old) word.now (words_of words.now) ≡ Some (scene_of self.new, text.items)) }
         ensures bad { IsErrOf result LineFault.Bad → command_line (scene_of self.old) word.now (words_of words.now) ≡ None }
+        ensures stays { IsErrOf result LineFault.Bad → scene_of self.new ≡ scene_of self.old }
     {
         if word == b"out".as_slice() {
             self.output_line(memory, words)?;
@@ -275,6 +280,7 @@ impl Scene {
     pub fn read_line(&mut self, memory: Memory, line: &[u8]) -> Result<Text, LineFault>
         ensures ok { IfOk result (λ text. line_step (scene_of self.old) line.now ≡ Some (scene_of self.new, text.items)) }
         ensures bad { IsErrOf result LineFault.Bad → line_step (scene_of self.old) line.now ≡ None }
+        ensures stays { IsErrOf result LineFault.Bad → scene_of self.new ≡ scene_of self.old }
     {
         if !is_clean(line) {
             return Err(LineFault::Bad);

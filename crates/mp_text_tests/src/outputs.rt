@@ -1,6 +1,7 @@
 //! Writing all of an output.
 use mp_testing::FailingWriter;
 use mp_text::{WriteFault, write_all};
+use std::test::Fail;
 
 const BYTES: [u8; 7] = *b"one\ntwo";
 
@@ -53,4 +54,15 @@ fn a_failing_write_leaves_what_was_taken_before(rt: HostRuntime) {
     assert!(rt; fails && writes == 1);
     let (fails, _taken, writes) = outcome(&rt, 0, 0, b"");
     assert!(rt; !fails && writes == 0);
+}
+
+#[test]
+fn a_writer_may_take_one_byte_at_once(rt: HostRuntime) -> Result<(), Fail> {
+    let mut bytes = Vec::new(rt.alloc());
+    bytes.resize(200_000, b'x')?;
+    let (fails, taken, writes) = outcome(&rt, 1, 0, &bytes);
+    assert!(rt; !fails);
+    assert!(rt; taken == bytes);
+    assert_eq!(rt; writes, 200_000);
+    Ok(())
 }

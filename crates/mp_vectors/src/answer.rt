@@ -1,0 +1,34 @@
+//! Answers of which there are several kinds of lines.
+
+use crate::pieces;
+use anyhow::Result;
+use mp_memory::Memory;
+use mp_script::Hash;
+use std::fmt::Debug;
+
+/// Whether a fault has the name that is wanted, and the values that come with it.
+pub fn is_fault<F: Debug>(memory: Memory, fault: &F, wanted: &str) -> Result<bool> {
+    let name = format!(in memory; "{fault:?}")?;
+    Ok(name.as_str() == wanted)
+}
+
+/// Whether `yes` is wanted where it is so, and `no` where not.
+pub fn is_told(is: bool, wanted: &str) -> bool {
+    wanted == if is { "yes" } else { "no" }
+}
+
+/// Whether the number that is wanted was found, or none.
+pub fn is_number(found: Option<u64>, wanted: &str) -> Result<bool> {
+    match found {
+        None => Ok(wanted == "none"),
+        Some(number) => Ok(number == wanted.parse::<u64>()?),
+    }
+}
+
+/// Whether `ok` is wanted, alone or with this hash.
+pub fn is_hashed(memory: Memory, hash: &Hash, wanted: &str) -> Result<bool> {
+    match wanted.split_once(' ') {
+        None => Ok(wanted == "ok"),
+        Some((word, digits)) => Ok(word == "ok" && pieces::hash(memory, digits)? == *hash),
+    }
+}

@@ -1,0 +1,15 @@
+//! What spells a datum.
+
+use crate::{answer, pieces};
+use anyhow::Result;
+use mp_memory::Memory;
+use mp_script::Data;
+
+/// Whether bytes spell a datum of a hash, or have a fault.
+pub fn holds(memory: Memory, given: &str, wanted: &str) -> Result<bool> {
+    let bytes = pieces::bytes(memory, given)?;
+    match Data::decode(memory, &bytes) {
+        Ok(datum) => answer::is_hashed(memory, datum.hash(), wanted),
+        Err(fault) => answer::is_fault(memory, &fault, wanted),
+    }
+}

@@ -1,0 +1,82 @@
+//! The kinds of vectors.
+
+use crate::answer::{is_number, is_told};
+use crate::{bundle, datum, faults, ledger, part, script, sum, text, transaction, value};
+use anyhow::Result;
+use mp_memory::Memory;
+use mp_text::{is_name, number, quantity};
+
+/// What the lines of a file are about.
+#[derive(Clone, Copy)]
+pub enum Kind {
+    Datum,
+    Part,
+    Script,
+    Value,
+    Bundle,
+    Sum,
+    Transaction,
+    Ledger,
+    Name,
+    Number,
+    Quantity,
+    Text,
+    Fault,
+}
+
+impl Kind {
+    /// Each of them, in the order in which they are checked.
+    pub const ALL: [Kind; 13] = [
+        Kind::Datum,
+        Kind::Part,
+        Kind::Script,
+        Kind::Value,
+        Kind::Bundle,
+        Kind::Sum,
+        Kind::Transaction,
+        Kind::Ledger,
+        Kind::Name,
+        Kind::Number,
+        Kind::Quantity,
+        Kind::Text,
+        Kind::Fault,
+    ];
+
+    /// The name of its file.
+    pub fn file_name(self) -> &'static str {
+        match self {
+            Kind::Datum => "datum.txt",
+            Kind::Part => "part.txt",
+            Kind::Script => "script.txt",
+            Kind::Value => "value.txt",
+            Kind::Bundle => "bundle.txt",
+            Kind::Sum => "sum.txt",
+            Kind::Transaction => "transaction.txt",
+            Kind::Ledger => "ledger.txt",
+            Kind::Name => "name.txt",
+            Kind::Number => "number.txt",
+            Kind::Quantity => "quantity.txt",
+            Kind::Text => "text.txt",
+            Kind::Fault => "fault.txt",
+        }
+    }
+
+    /// Whether what is given comes to what is wanted.
+    pub fn holds(self, memory: Memory, given: &str, wanted: &str) -> Result<bool> {
+        match self {
+            Kind::Datum => datum::holds(memory, given, wanted),
+            Kind::Part => part::holds(memory, given, wanted),
+            Kind::Script => script::holds(memory, given, wanted),
+            Kind::Value => value::holds(memory, given, wanted),
+            Kind::Bundle => bundle::holds(memory, given, wanted),
+            Kind::Sum => sum::holds(memory, given, wanted),
+            Kind::Transaction => transaction::holds(memory, given, wanted),
+            Kind::Ledger => ledger::holds(memory, given, wanted),
+            Kind::Name => Ok(is_told(is_name(given.as_bytes()), wanted)),
+            Kind::Number => is_number(number(given.as_bytes()), wanted),
+            Kind::Quantity => is_number(quantity(given.as_bytes()), wanted),
+            Kind::Text => text::holds(memory, given, wanted),
+            Kind::Fault => faults::holds(memory, given, wanted),
+        }
+    }
+}

@@ -1,0 +1,68 @@
+//! Checks the test vectors: text files with a case in each line, for everybody who writes a client. It prints each line that
+//! doesn't hold, and for each file how many of its cases held.
+#![tactic(auto)]
+
+mod answer;
+mod bundle;
+mod datum;
+mod faults;
+mod kind;
+mod ledger;
+mod line;
+mod numbered;
+mod part;
+mod pieces;
+mod references;
+mod scene;
+mod script;
+mod sum;
+mod text;
+mod transaction;
+mod value;
+mod views;
+mod wanted;
+
+use anyhow::{Context, Result};
+use kind::Kind;
+use mp_memory::Memory;
+use std::fs;
+use std::rt::Files;
+
+// How many cases of a line held, where all did.
+fn cases_held(memory: Memory, kind: Kind, line: &str) -> Result<u64> {
+    match line::parted(line)? {
+        None => Ok(0),
+        Some((given, wanted)) => line::held(memory, kind, given, wanted),
+    }
+}
+
+// Prints each line that doesn't hold, and gives how many cases held.
+fn check_lines(rt: &impl Print, memory: Memory, kind: Kind, text: &str) -> Result<u64> {
+    let name = kind.file_name();
+    let mut held = 0u64;
+    let mut number = 0u64;
+    for line in text.lines() {
+        number = number.wrapping_add(1);
+        match cases_held(memory, kind, line) {
+            Ok(cases) => held = held.wrapping_add(cases),
+            Err(fault) => println!(rt; "{name}:{number}: {fault}: {line}")?,
+        }
+    }
+    Ok(held)
+}
+
+fn check_file(rt: &(impl Files + Print + AllocGlobal), memory: Memory, kind: Kind) -> Result<()> {
+    let name = kind.file_name();
+    let text = fs::read_to_string(rt, name).context(format_args!("reading {name}"))?;
+    let held = check_lines(rt, memory, kind, text.as_str())?;
+    println!(rt; "{name} {held}")?;
+    Ok(())
+}
+
+fn main(rt: HostRuntime) -> Result<()> {
+    let memory = Memory::new(rt.alloc())?;
+    for kind in Kind::ALL {
+        check_file(&rt, memory, kind)?;
+    }
+    Ok(())
+}

@@ -1,0 +1,65 @@
+//! Sums of bundles.
+
+use crate::bundle::{bundle, token};
+use anyhow::{Context, Result};
+use mp_bundle::{Bundle, Sum};
+use mp_memory::Memory;
+
+const MOST_ADDED: u64 = 1 << 32;
+
+fn add(sum: &mut Sum, bundle: &Bundle) -> Result<()> {
+    if sum.added() < MOST_ADDED {
+        sum.add(bundle)?;
+    }
+    Ok(())
+}
+
+// The sum of the bundles between plus signs. Where nothing is written, it is that of no bundle.
+fn sum(memory: Memory, words: &str) -> Result<Sum> {
+    let mut sum = Sum::new(memory);
+    if words.trim().is_empty() {
+        return Ok(sum);
+    }
+    for entries in words.split('+') {
+        add(&mut sum, &bundle(memory, entries)?)?;
+    }
+    Ok(sum)
+}
+
+fn has_total(memory: Memory, sum: &Sum, word: &str) -> Result<bool> {
+    let (named, total) = word.rsplit_once('/').context("no token")?;
+    let (policy, name) = token(memory, named)?;
+    Ok(sum.total(&policy, &name) == total.parse::<i128>()?)
+}
+
+// Whether so many bundles were added, and come to these totals.
+fn has_totals(memory: Memory, sum: &Sum, wanted: &str) -> Result<bool> {
+    let (added, words) = wanted.split_once(' ').unwrap_or((wanted, ""));
+    for word in words.split_whitespace() {
+        if !has_total(memory, sum, word)? {
+            return Ok(false);
+        }
+    }
+    Ok(sum.added() == added.parse::<u64>()?)
+}
+
+// Whether the least token with two totals is the one that is wanted.
+fn differ_at(memory: Memory, first: &Sum, second: &Sum, wanted: &str) -> Result<bool> {
+    match first.first_difference(second) {
+        None => Ok(wanted == "none"),
+        Some(found) => {
+            let (policy, name) = token(memory, wanted)?;
+            Ok(found == (policy, name.as_slice()))
+        }
+    }
+}
+
+/// Whether a sum has these totals, or two sums differ at this token first.
+pub fn holds(memory: Memory, given: &str, wanted: &str) -> Result<bool> {
+    match given.split_once('|') {
+        None => has_totals(memory, &sum(memory, given)?, wanted),
+        Some((first, second)) => {
+            differ_at(memory, &sum(memory, first)?, &sum(memory, second)?, wanted)
+        }
+    }
+}
