@@ -27,6 +27,3 @@ pub use part::Part;
 pub use script::Script;
 pub use value::Value;
 pub use view::{PaidTo, Referred, View};
-
-#[cfg(test)]
-mod tests;
