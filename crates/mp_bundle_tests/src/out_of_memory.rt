@@ -1,18 +1,22 @@
 //! Each call that takes memory, under every refused growth.
-use mp_bundle::{Bundle, BundleFault, PolicyId, Sum};
+use mp_bundle::{Bundle, BundleFault, Given, PolicyId, Sum};
 use mp_memory::{Memory, NoMemory};
 use mp_testing::under_each_refusal;
 use std::test::Fail;
 
 const POLICY: PolicyId = [3; 32];
 
-// A bundle of as many tokens under one policy: of the token named by the byte n there are n + 1.
-fn bundle_of_tokens(memory: Memory, tokens: u8) -> Result<Bundle, BundleFault> {
+// Entries of as many tokens under one policy: of the token named by the byte n there are n + 1.
+fn entries_of(memory: Memory, tokens: u8) -> Result<Vec<Given, Memory>, NoMemory> {
     let mut given = Vec::new(memory);
     for token in 0..tokens {
         given.push((POLICY, [token].to_vec(memory)?, i64::from(token) + 1))?;
     }
-    Bundle::of_entries(memory, given)
+    Ok(given)
+}
+
+fn bundle_of_tokens(memory: Memory, tokens: u8) -> Result<Bundle, BundleFault> {
+    Bundle::of_entries(memory, entries_of(memory, tokens)?)
 }
 
 fn sum_of_two_tokens(memory: Memory) -> Option<Sum> {
@@ -37,18 +41,20 @@ fn add(sum: &mut Sum, bundle: &Bundle) -> Result<(), NoMemory> {
     }
 }
 
+// Refused, it says so, and with the next growth refused it answers.
 #[test]
-fn a_bundle_stands_each_refusal(rt: HostRuntime) -> Result<(), Fail> {
+fn a_bundle_takes_one_growth(rt: HostRuntime) -> Result<(), Fail> {
     let memory = Memory::new(rt.alloc())?;
-    let done = under_each_refusal(
-        &memory,
-        || Some(()),
-        |_nothing| bundle_of_tokens(memory, 9),
-        |answer| *answer == Err(BundleFault::NoMemory),
-        |_nothing| true,
-    )?;
-    assert!(rt; done.growths > 9);
-    assert_eq!(rt; done.answer.map(|bundle| bundle.entries().len()), Ok(9));
+    let (refused, whole) = (entries_of(memory, 9)?, entries_of(memory, 9)?);
+    memory.refuse(1);
+    let fault = Bundle::of_entries(memory, refused).err();
+    assert_eq!(rt; fault, Some(BundleFault::NoMemory));
+    assert!(rt; !memory.waits());
+    memory.refuse(2);
+    let bundle = Bundle::of_entries(memory, whole)?;
+    assert!(rt; memory.waits());
+    assert_eq!(rt; bundle.entries().len(), 9);
+    assert_eq!(rt; bundle.quantity(&POLICY, b"\x08"), 9);
     Ok(())
 }
 

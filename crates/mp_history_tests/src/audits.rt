@@ -2,7 +2,7 @@
 use mp_history::{AuditFault, Entry, audit};
 use mp_memory::Memory;
 use mp_seqpool::{Command, Config, Reply};
-use mp_testing::{Trialled, ledger, opening, output_of, transaction, under_each_refusal};
+use mp_testing::{ledger, opening, output_of, transaction};
 use mp_tx::{Tx, TxFault};
 use std::sync::Arc;
 use std::test::Fail;
@@ -90,23 +90,17 @@ fn a_history_may_be_short_or_too_long(rt: HostRuntime) -> Result<(), Fail> {
 }
 
 #[test]
-fn an_audit_stands_each_refusal(rt: HostRuntime) -> Result<(), Fail> {
+fn an_audit_takes_the_growth_of_its_submits(rt: HostRuntime) -> Result<(), Fail> {
     let memory = Memory::new(rt.alloc())?;
     let ledger = ledger(memory, 1, 500_000)?;
     let entries = two_submits(memory, [0, 0], [1, 2])?;
-    let done = under_each_refusal(
-        &memory,
-        || Some(()),
-        |_nothing| audit(memory, CONFIG, &ledger, 1, &entries).map(|pool| pool.last_ticket()),
-        |answer| *answer == Err(AuditFault::NoMemory),
-        |_nothing| true,
-    );
-    assert_eq!(rt;
-        done,
-        Ok(Trialled {
-            answer: Ok(2),
-            growths: 1
-        })
-    );
+    memory.refuse(1);
+    let refused = audit(memory, CONFIG, &ledger, 1, &entries);
+    assert_eq!(rt; refused.err(), Some(AuditFault::NoMemory));
+    assert!(rt; !memory.waits());
+    memory.refuse(2);
+    let pool = audit(memory, CONFIG, &ledger, 1, &entries)?;
+    assert!(rt; memory.waits());
+    assert_eq!(rt; (pool.contents().len(), pool.last_ticket()), (2, 2));
     Ok(())
 }

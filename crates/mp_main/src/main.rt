@@ -1,18 +1,8 @@
 //! The program: it reads a scenario from standard input and writes its answers to standard output.
 #![tactic(auto)]
 
-mod answers;
-mod fault;
-mod items;
-mod names;
-mod openings;
-mod references;
-mod run;
-mod scene;
-
-use fault::Fault;
+use mp_driver::{Fault, run};
 use mp_memory::Memory;
-use run::run;
 use std::process::ExitCode;
 
 fn main(rt: HostRuntime) -> ExitCode {
@@ -28,6 +18,3 @@ fn main(rt: HostRuntime) -> ExitCode {
         }
     }
 }
-
-#[cfg(test)]
-mod tests;

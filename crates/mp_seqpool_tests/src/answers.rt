@@ -7,7 +7,7 @@ use std::test::Fail;
 
 const ROOMY: u64 = 500_000;
 
-const LONG: u64 = 1_000_000;
+const LONG: u32 = 1_000_000;
 
 // The first spends an opening output of 100 coin, the second what the first pays, the third another opening output. Each
 // has 181 bytes.
@@ -22,76 +22,111 @@ fn three_submits(memory: Memory) -> Result<[Command; 3], TxFault> {
     ])
 }
 
-// What is answered to the three, and how many transactions and bytes, which last ticket and how many changes stand then.
+// An answer that the rows know.
+#[derive(Clone, Copy, Debug, PartialEq, Eq)]
+enum Told {
+    Accepted(u64),
+    HistoryFull,
+    TicketsSpent,
+    // With the bytes that are free for a transaction of 181.
+    Full(u64),
+    Other,
+}
+
+fn read(answer: &Answer) -> Told {
+    match answer {
+        Ok(Reply::Accepted { ticket }) => Told::Accepted(*ticket),
+        Err(Refusal::HistoryFull) => Told::HistoryFull,
+        Err(Refusal::TicketsSpent) => Told::TicketsSpent,
+        Err(Refusal::Full { need: 181, free }) => Told::Full(*free),
+        Err(_) => Told::Other,
+    }
+}
+
+// A pool of at least one change.
+fn config_of(limit: u32, last: u64) -> Config {
+    Config {
+        limit: u64::from(limit).max(1),
+        last,
+    }
+}
+
+// What is answered to the three submits, and how many bytes stand then.
 fn outcome(
     memory: Memory,
     block_bytes: u64,
-    config: Config,
-) -> Result<([Answer; 3], [u64; 4]), Fail> {
+    limit: u32,
+    last: u64,
+) -> Result<([Told; 3], u64), Fail> {
     let commands = three_submits(memory)?;
     let mut answers = [Err(Refusal::NoMemory); 3];
     let ledger = ledger(memory, 2, block_bytes)?;
-    let pool = play(memory, config, &ledger, &commands, &mut answers)?;
-    let counts = [
-        pool.contents().len() as u64,
-        pool.bytes(),
-        pool.last_ticket(),
-        pool.changes(),
-    ];
-    Ok((answers, counts))
-}
-
-const fn accepted(ticket: u64) -> Answer {
-    Ok(Reply::Accepted { ticket })
-}
-
-const fn full(free: u64) -> Answer {
-    Err(Refusal::Full { need: 181, free })
+    let pool = play(
+        memory,
+        config_of(limit, last),
+        &ledger,
+        &commands,
+        &mut answers,
+    )?;
+    let found = [read(&answers[0]), read(&answers[1]), read(&answers[2])];
+    Ok((found, pool.bytes()))
 }
 
 #[test]
 fn limits_are_exact(rt: HostRuntime) -> Result<(), Fail> {
     let memory = Memory::new(rt.alloc())?;
-    let spent = Err(Refusal::TicketsSpent);
-    let ended = Err(Refusal::HistoryFull);
-    for (block_bytes, limit, last, answers, counts) in [
-        // all three have room
+    for (block_bytes, limit, last, answers, bytes) in [
         (
             ROOMY,
             LONG,
             0,
-            [accepted(1), accepted(2), accepted(3)],
-            [3, 543, 3, 3],
+            [Told::Accepted(1), Told::Accepted(2), Told::Accepted(3)],
+            543,
         ),
         // twice 181 bytes are room for two
         (
             181,
             LONG,
             0,
-            [accepted(1), accepted(2), full(0)],
-            [2, 362, 2, 2],
+            [Told::Accepted(1), Told::Accepted(2), Told::Full(0)],
+            362,
         ),
         (
             180,
             LONG,
             0,
-            [accepted(1), full(179), full(179)],
-            [1, 181, 1, 1],
+            [Told::Accepted(1), Told::Full(179), Told::Full(179)],
+            181,
         ),
-        (90, LONG, 0, [full(180), full(180), full(180)], [0, 0, 0, 0]),
+        (
+            90,
+            LONG,
+            0,
+            [Told::Full(180), Told::Full(180), Told::Full(180)],
+            0,
+        ),
         // one ticket is left, and one change
         (
             ROOMY,
             LONG,
             u64::MAX - 1,
-            [accepted(u64::MAX), spent, spent],
-            [1, 181, u64::MAX, 1],
+            [
+                Told::Accepted(u64::MAX),
+                Told::TicketsSpent,
+                Told::TicketsSpent,
+            ],
+            181,
         ),
-        (ROOMY, 1, 7, [accepted(8), ended, ended], [1, 181, 8, 1]),
-        (ROOMY, 0, 7, [ended, ended, ended], [0, 0, 7, 0]),
+        (
+            ROOMY,
+            1,
+            7,
+            [Told::Accepted(8), Told::HistoryFull, Told::HistoryFull],
+            181,
+        ),
     ] {
-        let found = outcome(memory, block_bytes, Config { limit, last })?;
-        assert_eq!(rt; found, (answers, counts), "{block_bytes} {limit} {last}");
+        let found = outcome(memory, block_bytes, limit, last)?;
+        assert!(rt; found == (answers, bytes), "{block_bytes} {limit} {last}");
     }
     Ok(())
 }
@@ -105,11 +140,7 @@ fn an_own_output_is_taken(rt: HostRuntime) -> Result<(), Fail> {
     outputs.push((opening(0), Output::of_coin(100)))?;
     outputs.push((output_of(maker.id(), 1), Output::of_coin(7)))?;
     let ledger = Ledger::of_outputs(memory, 0, ROOMY, outputs)?;
-    let config = Config {
-        limit: LONG,
-        last: 0,
-    };
-    let mut pool = SeqPool::start(memory, config, &ledger)?;
+    let mut pool = SeqPool::start(memory, config_of(LONG, 0), &ledger)?;
     let taken = Err(Refusal::Invalid(Invalid::OutputTaken(1)));
     assert_eq!(rt; pool.submit(&maker), taken);
     Ok(())

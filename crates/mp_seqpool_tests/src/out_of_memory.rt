@@ -1,8 +1,9 @@
-//! Each call that may want memory, under every refused growth.
+//! Each call that may want memory. A submit takes one growth: refused, it says so and leaves the pool, and with the next growth
+//! refused it answers. Starting, sharing and copying take none.
 use mp_memory::{Memory, NoMemory};
-use mp_seqpool::{Command, Config, Refusal, Reply, SeqPool, play};
-use mp_testing::{Trialled, ledger, opening, transaction, under_each_refusal};
-use mp_tx::{Ledger, TxId};
+use mp_seqpool::{Answer, Command, Config, Refusal, Reply, SeqPool, play};
+use mp_testing::{ledger, opening, transaction};
+use mp_tx::{Ledger, Tx, TxId};
 use std::sync::Arc;
 use std::test::Fail;
 
@@ -11,89 +12,101 @@ const CONFIG: Config = Config {
     last: 8,
 };
 
-fn pool(memory: Memory) -> Option<SeqPool> {
-    SeqPool::start(memory, CONFIG, &ledger(memory, 2, 500_000).ok()?).ok()
+// How many transactions and bytes, which last ticket and how many changes.
+type Counts = [u64; 4];
+
+const NEW: Counts = [0, 0, 8, 0];
+
+const OF_ONE: Counts = [1, 181, 9, 1];
+
+fn counts(pool: &SeqPool) -> Counts {
+    [
+        pool.contents().len() as u64,
+        pool.bytes(),
+        pool.last_ticket(),
+        pool.changes(),
+    ]
 }
 
-fn is_new(pool: &SeqPool) -> bool {
-    pool.contents().is_empty()
-        && pool.changes() == 0
-        && pool.last_ticket() == 8
-        && pool.bytes() == 0
+// The ticket that is given, 0 for want of memory, and nothing at another refusal.
+fn ticket_of(answer: Answer) -> Option<u64> {
+    match answer {
+        Ok(Reply::Accepted { ticket }) => Some(ticket),
+        Err(Refusal::NoMemory) => Some(0),
+        Err(_) => None,
+    }
+}
+
+// Submits under the refusal of a growth. Gives the ticket, whether that growth didn't come, and what stands then.
+fn submit_under(
+    memory: Memory,
+    nth: u64,
+    pool: &mut SeqPool,
+    tx: &Arc<Tx, Memory>,
+) -> (Option<u64>, bool, Counts) {
+    memory.refuse(nth);
+    let ticket = ticket_of(pool.submit(tx));
+    (ticket, memory.waits(), counts(pool))
+}
+
+// Does the same by a command.
+fn apply_under(
+    memory: Memory,
+    nth: u64,
+    pool: &mut SeqPool,
+    command: &Command,
+) -> (Option<u64>, bool, Counts) {
+    memory.refuse(nth);
+    let ticket = ticket_of(pool.apply(command));
+    (ticket, memory.waits(), counts(pool))
+}
+
+// Plays the command on a new pool under the refusal of a growth.
+fn play_under(
+    memory: Memory,
+    nth: u64,
+    ledger: &Ledger,
+    commands: &[Command; 1],
+) -> (Option<Counts>, bool) {
+    let mut answers = [Err(Refusal::NoMemory)];
+    memory.refuse(nth);
+    let pool = play(memory, CONFIG, ledger, commands, &mut answers);
+    (pool.ok().map(|pool| counts(&pool)), memory.waits())
+}
+
+fn start_under(memory: Memory, nth: u64, ledger: &Ledger) -> Result<(SeqPool, bool), NoMemory> {
+    memory.refuse(nth);
+    let pool = SeqPool::start(memory, CONFIG, ledger)?;
+    Ok((pool, memory.waits()))
 }
 
 #[test]
 fn a_submit_takes_one_growth(rt: HostRuntime) -> Result<(), Fail> {
     let memory = Memory::new(rt.alloc())?;
     let tx = transaction(memory, &[opening(0)], &[100])?;
-    let command = Command::Submit(Arc::try_clone(&tx)?);
-    let accepted = Trialled {
-        answer: Ok(Reply::Accepted { ticket: 9 }),
-        growths: 1,
-    };
-    let submitted = under_each_refusal(
-        &memory,
-        || pool(memory),
-        |pool| pool.submit(&tx),
-        |answer| *answer == Err(Refusal::NoMemory),
-        is_new,
-    );
-    assert_eq!(rt; submitted, Ok(accepted));
-    let applied = under_each_refusal(
-        &memory,
-        || pool(memory),
-        |pool| pool.apply(&command),
-        |answer| *answer == Err(Refusal::NoMemory),
-        is_new,
-    );
-    assert_eq!(rt;
-        applied.map(|done| (done.answer, done.growths)),
-        Ok((Ok(Reply::Accepted { ticket: 9 }), 1))
-    );
+    let (mut pool, starts_freely) = start_under(memory, 1, &ledger(memory, 1, 500_000)?)?;
+    let refused = submit_under(memory, 1, &mut pool, &tx);
+    let submitted = submit_under(memory, 2, &mut pool, &tx);
+    assert!(rt; starts_freely);
+    assert_eq!(rt; refused, (Some(0), false, NEW));
+    assert_eq!(rt; submitted, (Some(9), true, OF_ONE));
     Ok(())
 }
 
-// The last ticket of a pool that has done the commands.
-fn played(memory: Memory, ledger: &Ledger, commands: &[Command; 1]) -> Result<u64, NoMemory> {
-    let mut answers = [Err(Refusal::NoMemory)];
-    let pool = play(memory, CONFIG, ledger, commands, &mut answers)?;
-    Ok(pool.last_ticket())
-}
-
-// A start takes no growth, and a list of commands those of its submits.
 #[test]
-fn a_start_and_a_list_of_commands_stand_each_refusal(rt: HostRuntime) -> Result<(), Fail> {
+fn a_command_takes_the_growth_of_its_submit(rt: HostRuntime) -> Result<(), Fail> {
     let memory = Memory::new(rt.alloc())?;
-    let ledger = ledger(memory, 2, 500_000)?;
-    let started = under_each_refusal(
-        &memory,
-        || Some(()),
-        |_nothing| SeqPool::start(memory, CONFIG, &ledger).map(|pool| pool.last_ticket()),
-        |answer| *answer == Err(NoMemory),
-        |_nothing| true,
-    );
-    assert_eq!(rt;
-        started,
-        Ok(Trialled {
-            answer: Ok(8),
-            growths: 0
-        })
-    );
+    let ledger = ledger(memory, 1, 500_000)?;
     let commands = [Command::Submit(transaction(memory, &[opening(0)], &[100])?)];
-    let done = under_each_refusal(
-        &memory,
-        || Some(()),
-        |_nothing| played(memory, &ledger, &commands),
-        |answer| *answer == Err(NoMemory),
-        |_nothing| true,
-    );
-    assert_eq!(rt;
-        done,
-        Ok(Trialled {
-            answer: Ok(9),
-            growths: 1
-        })
-    );
+    let mut pool = SeqPool::start(memory, CONFIG, &ledger)?;
+    let refused = apply_under(memory, 1, &mut pool, &commands[0]);
+    let applied = apply_under(memory, 2, &mut pool, &commands[0]);
+    let unplayed = play_under(memory, 1, &ledger, &commands);
+    let played = play_under(memory, 2, &ledger, &commands);
+    assert_eq!(rt; refused, (Some(0), false, NEW));
+    assert_eq!(rt; applied, (Some(9), true, OF_ONE));
+    assert_eq!(rt; unplayed, (None, false));
+    assert_eq!(rt; played, (Some(OF_ONE), true));
     Ok(())
 }
 
@@ -111,8 +124,8 @@ fn a_share_and_a_copy_take_no_growth(rt: HostRuntime) -> Result<(), Fail> {
     let command = Command::Submit(tx);
     let reply = Reply::Accepted { ticket: 7 };
     memory.refuse(1);
-    assert_eq!(rt; shared_id(&command), Ok(id));
-    assert_eq!(rt; reply.copy(), Ok(reply));
+    assert!(rt; shared_id(&command) == Ok(id));
+    assert!(rt; reply.copy() == Ok(reply));
     assert!(rt; memory.waits());
     Ok(())
 }

@@ -9,7 +9,7 @@ pub struct FailingReader {
     pub bytes: &'static [u8],
     /// How many `x` come after the bytes.
     pub filler: usize,
-    /// The most of the bytes that one read gives.
+    /// The most bytes that one read gives.
     pub at_once: usize,
     /// Which read fails, from 1. At 0 none does.
     pub fails_at: u64,
@@ -37,7 +37,7 @@ impl Read for FailingReader {
             return Err(io::Error::from(ErrorKind::Other));
         }
         if self.bytes.is_empty() {
-            let count = self.filler.min(buf.len());
+            let count = self.at_once.min(self.filler).min(buf.len());
             buf[..count].fill(b'x');
             self.filler -= count;
             return Ok(count);

@@ -12,38 +12,57 @@ fn writer_of(rt: &HostRuntime, at_once: usize, fails_at: u64) -> FailingWriter {
     writer
 }
 
+// What a writer comes to that takes so many bytes at once: whether it failed, what it took and how many writes there were.
+fn outcome(rt: &HostRuntime, at_once: usize, fails_at: u64, bytes: &[u8]) -> (bool, Vec<u8>, u64) {
+    let mut writer = writer_of(rt, at_once, fails_at);
+    let fails = write_all(&mut writer, bytes) == Err(WriteFault);
+    let FailingWriter { taken, writes, .. } = writer;
+    (fails, taken, writes)
+}
+
+// Whether a write fails after the first `before` of the bytes were taken, two at once.
+fn fails_after(rt: &HostRuntime, fails_at: u64, before: usize) -> bool {
+    let (fails, taken, writes) = outcome(rt, 2, fails_at, &BYTES);
+    fails && taken.len() == before && BYTES.starts_with(&taken) && writes == fails_at
+}
+
+// Whether all bytes are taken in so many writes.
+fn is_whole(rt: &HostRuntime, at_once: usize, wanted: u64) -> bool {
+    let (fails, taken, writes) = outcome(rt, at_once, 0, &BYTES);
+    !fails && taken.as_slice() == BYTES.as_slice() && writes == wanted
+}
+
 // Four writes take the bytes, two at once.
 #[test]
-fn a_failing_write_leaves_what_was_taken_before(rt: HostRuntime) -> Result<(), Fail> {
+fn a_failing_write_leaves_what_was_taken_before(rt: HostRuntime) {
     for (fails_at, before) in [(1u64, 0usize), (2, 2), (3, 4), (4, 6)] {
-        let mut writer = writer_of(&rt, 2, fails_at);
-        let result = write_all(&mut writer, &BYTES);
-        assert_eq!(rt; result, Err(WriteFault), "at {fails_at}");
-        assert!(rt; before <= BYTES.len());
-        assert_eq!(rt; writer.taken.as_slice(), &BYTES[..before], "at {fails_at}");
-        assert_eq!(rt; writer.writes, fails_at);
+        assert!(rt; fails_after(&rt, fails_at, before), "at {fails_at}");
     }
-    let mut after = writer_of(&rt, 2, 5);
-    assert_eq!(rt; write_all(&mut after, &BYTES), Ok(()));
-    assert_eq!(rt; after.writes, 4);
-    for at_once in 1..9usize {
-        let mut writer = writer_of(&rt, at_once, 0);
-        write_all(&mut writer, &BYTES)?;
-        assert_eq!(rt;
-            writer.taken.as_slice(),
-            BYTES.as_slice(),
-            "{at_once} at once"
-        );
+    for (at_once, writes) in [
+        (1usize, 7u64),
+        (2, 4),
+        (3, 3),
+        (4, 2),
+        (6, 2),
+        (7, 1),
+        (8, 1),
+    ] {
+        assert!(rt; is_whole(&rt, at_once, writes), "{at_once} at once");
     }
-    Ok(())
+    // A writer that takes nothing is a fault, but where there is nothing to take.
+    let (fails, _taken, writes) = outcome(&rt, 0, 0, &BYTES);
+    assert!(rt; fails && writes == 1);
+    let (fails, _taken, writes) = outcome(&rt, 0, 0, b"");
+    assert!(rt; !fails && writes == 0);
 }
 
 #[test]
-fn a_writer_that_takes_nothing_is_a_fault(rt: HostRuntime) {
-    let mut writer = writer_of(&rt, 0, 0);
-    assert_eq!(rt; write_all(&mut writer, b""), Ok(()));
-    assert_eq!(rt; writer.writes, 0);
-    assert_eq!(rt; write_all(&mut writer, &BYTES), Err(WriteFault));
-    assert_eq!(rt; writer.writes, 1);
-    assert!(rt; writer.taken.is_empty());
+fn a_writer_may_take_one_byte_at_once(rt: HostRuntime) -> Result<(), Fail> {
+    let mut bytes = Vec::new(rt.alloc());
+    bytes.resize(200_000, b'x')?;
+    let (fails, taken, writes) = outcome(&rt, 1, 0, &bytes);
+    assert!(rt; !fails);
+    assert!(rt; taken == bytes);
+    assert_eq!(rt; writes, 200_000);
+    Ok(())
 }

@@ -1,42 +1,27 @@
-//! Growths that are refused, and calls that make none.
+//! A new list and a node take one growth: refused, they say so, and with the next growth refused they answer. No other call takes
+//! any.
 use crate::samples::{node_of, one_bucket, push};
-use mp_memory::{Memory, NoMemory};
-use mp_testing::{Trialled, under_each_refusal};
-use mp_tickets::{Node, TicketList, make_node};
+use mp_memory::Memory;
+use mp_tickets::{TicketList, make_node};
 use std::test::Fail;
 
+// A refused node hands its item back.
 #[test]
 fn a_list_and_a_node_take_one_growth(rt: HostRuntime) -> Result<(), Fail> {
     let memory = Memory::new(rt.alloc())?;
-    let list = under_each_refusal(
-        &memory,
-        || Some(()),
-        |_nothing| TicketList::<u64>::new(memory).map(|list| list.len()),
-        |answer| *answer == Err(NoMemory),
-        |_nothing| true,
-    );
-    assert_eq!(rt;
-        list,
-        Ok(Trialled {
-            answer: Ok(0),
-            growths: 1
-        })
-    );
-    // A refused node hands its item back.
-    let node = under_each_refusal(
-        &memory,
-        || Some(7u64),
-        |item| make_node(memory, *item).map(Node::into_inner),
-        |answer| *answer == Err(7),
-        |item| *item == 7,
-    );
-    assert_eq!(rt;
-        node,
-        Ok(Trialled {
-            answer: Ok(7),
-            growths: 1
-        })
-    );
+    memory.refuse(1);
+    assert!(rt; TicketList::<u64>::new(memory).is_err());
+    assert!(rt; !memory.waits());
+    memory.refuse(2);
+    let list = TicketList::<u64>::new(memory)?;
+    assert!(rt; memory.waits());
+    assert!(rt; list.is_empty());
+    memory.refuse(1);
+    assert_eq!(rt; make_node(memory, 7u64).err(), Some(7));
+    assert!(rt; !memory.waits());
+    memory.refuse(2);
+    assert_eq!(rt; node_of(memory, 7u64)?.into_inner(), 7);
+    assert!(rt; memory.waits());
     Ok(())
 }
 

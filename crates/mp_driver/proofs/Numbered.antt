@@ -1,0 +1,33 @@
+-- Numbered outputs have no reference twice.
+use Rattle.std.proofs.Common.{◌≡◌, ℕ, ◌<◌, ◌≤◌, List, [], length, get_or, sym, ap, subst, ◌∙◌, arith, length-take-le}
+use Rattle.std.proofs.lemmas.List.{get_or-map, get_or-take, length-map}
+use Rattle.mp_tx.specs.declared.reference.OutRef.{OutRef}
+use Rattle.mp_tx.specs.Output.{Paid}
+use Rattle.mp_tx.specs.Ledger.{refs, IsFirstRepeat}
+use Rattle.mp_driver.specs.References.{opening_ref, AreNumbered}
+
+numbered-at : (es : List (OutRef × Paid)) → AreNumbered es → (k : ℕ) (e : OutRef × Paid) (d : OutRef) → k < length es → (get_or (refs es) k d).index ≡ k
+numbered-at es n k e d lt = ap (λ (r : OutRef). r.index) (get_or-map (λ (e : OutRef × Paid). e.0) es k e d lt ∙ n k e lt)
+
+below : (a b c : ℕ) → a < b → b < c → a < c
+below a b c p q = omega arith
+
+weaken : (a b : ℕ) → a < b → a ≤ b
+weaken a b lt = omega arith
+
+same_not_less : (a b : ℕ) → a ≡ b → a < b → ⊥
+same_not_less a b e lt = omega arith
+
+pub no_repeat : (es : List (OutRef × Paid)) (place : ℕ) → AreNumbered es → IsFirstRepeat (refs es) place → ⊥
+no_repeat es place n h =
+    let d : OutRef = opening_ref 0 in
+    let e : OutRef × Paid = (d, record { address = []; datum_hash = []; coin = 0 }) in
+    let rs : List OutRef = refs es in
+    let r : OutRef = get_or rs place d in
+    let lt : place < length es = subst (λ m. place < m) (length-map es (λ (e : OutRef × Paid). e.0)) h.within in
+    let again = h.again d in
+    let j : ℕ = again.0 in
+    let j_lt : j < place = subst (λ m. j < m) (length-take-le place rs (weaken place (length rs) h.within)) again.1 in
+    same_not_less j place
+    (sym (numbered-at es n j e r (below j place (length es) j_lt lt)) ∙ ap (λ (r : OutRef). r.index) (sym (get_or-take place rs j r j_lt) ∙ again.2) ∙ numbered-at es n place e d lt)
+    j_lt

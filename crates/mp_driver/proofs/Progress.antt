@@ -1,0 +1,65 @@
+-- How far a run has come.
+use Rattle.std.proofs.Common.{◌≡◌, ℕ, ◌+◌, ◌≤◌, List, [], ◌∷◌, ◌++◌, length, take, refl, sym, ap, subst, ◌∙◌, arith, append_assoc, append-nil, length-append}
+use Rattle.std.specs.Prelude.{Option, None, Some}
+use Rattle.std.specs.Io.KnownBytes.{Appends}
+use Rattle.std.proofs.Math.Seq.{take-append_seam, take-append-add}
+use Rattle.std.proofs.lemmas.List.{take-append-le}
+use Rattle.mp_text.specs.Output.{AppendsFront}
+use Rattle.mp_driver.specs.Scene.{Scene, empty_scene, line_step, follow, outcome}
+use Rattle.mp_driver.specs.Ending.{told_by}
+
+-- The lines that are done wrote a text, which is what the writer got, and what is told of all starts with it.
+pub record Progress (old now : Option (List ℕ)) (all rest : List (List ℕ)) (s : Scene) (n : ℕ) : Type 0 where
+  pub lines : List (List ℕ)
+  pub text : List ℕ
+  pub whole : all ≡ lines ++ rest
+  pub told : (more : List (List ℕ)) → told_by (lines ++ more) ≡ (text ++ (outcome s n more).0, (outcome s n more).1)
+  pub wrote : Appends old now text
+
+pub Appends-nothing : (o : Option (List ℕ)) → Appends o o []
+Appends-nothing None = tt
+Appends-nothing (Some xs) = sym (append-nil xs)
+
+Appends-more : (a b c : Option (List ℕ)) (xs ys : List ℕ) → Appends a b xs → Appends b c ys → Appends a c (xs ++ ys)
+Appends-more None b c xs ys p q = tt
+Appends-more (Some a) None c xs ys p q = absurd p
+Appends-more (Some a) (Some b) None xs ys p q = absurd q
+Appends-more (Some a) (Some b) (Some c) xs ys p q = q ∙ ap (λ z. z ++ ys) p ∙ append_assoc a xs ys
+
+pub begins : (o : Option (List ℕ)) (all : List (List ℕ)) → Progress o o all all empty_scene 1
+begins o all = record { lines = []; text = []; whole = refl; told = λ more. refl; wrote = Appends-nothing o }
+
+-- what a line that is good makes of what is told
+good : (s t : Scene) (n : ℕ) (line answer : List ℕ) (more : List (List ℕ)) → line_step s line ≡ Some (t, answer) → outcome s n (line ∷ more) ≡ (answer ++ (outcome t (n + 1) more).0, (outcome t (n + 1) more).1)
+good s t n line answer more e = ap (follow n (λ u. outcome u (n + 1) more)) e
+
+pub goes_on : (old now new : Option (List ℕ)) (all rest : List (List ℕ)) (s t : Scene) (n : ℕ) (line answer : List ℕ) → Progress old now all (line ∷ rest) s n → line_step s line ≡ Some (t, answer) → Appends now new answer
+    → Progress old new all rest t (n + 1)
+goes_on old now new all rest s t n line answer p step more_written = record {
+  lines = p.lines ++ line ∷ [];
+  text = p.text ++ answer;
+  whole = p.whole ∙ sym (append_assoc p.lines (line ∷ []) rest);
+  told = λ more. ap told_by (append_assoc p.lines (line ∷ []) more) ∙ p.told (line ∷ more) ∙ ap (λ o. (p.text ++ o.0, o.1)) (good s t n line answer more step)
+      ∙ ap (λ x. (x, (outcome t (n + 1) more).1)) (sym (append_assoc p.text answer (outcome t (n + 1) more).0));
+  wrote = Appends-more old now new p.text answer p.wrote more_written;
+}
+
+-- the lines that are done
+pub stops : (old now : Option (List ℕ)) (all rest : List (List ℕ)) (s : Scene) (n : ℕ) → Progress old now all rest s n → (k : ℕ) × Appends old now (told_by (take k all)).0 × ((told_by (take k all)).1 ≡ None)
+stops old now all rest s n p =
+    let front : take (length p.lines) all ≡ p.lines = ap (take (length p.lines)) p.whole ∙ take-append_seam p.lines rest in
+    let e : told_by (take (length p.lines) all) ≡ (p.text ++ [], None) = ap told_by (front ∙ sym (append-nil p.lines)) ∙ p.told [] in
+    (length p.lines, subst (Appends old now) (sym (ap (λ o. o.0) e ∙ append-nil p.text)) p.wrote, ap (λ o. o.1) e)
+
+-- a front of an answer
+pub is_cut : (old now new : Option (List ℕ)) (all rest : List (List ℕ)) (s t : Scene) (n : ℕ) (line answer : List ℕ) → Progress old now all (line ∷ rest) s n → line_step s line ≡ Some (t, answer) → AppendsFront now new answer
+    → AppendsFront old new (told_by all).0
+is_cut old now new all rest s t n line answer p step (taken, lt, w) =
+    let others : List ℕ = (outcome t (n + 1) rest).0 in
+    let e : (told_by all).0 ≡ p.text ++ (answer ++ others) = ap (λ o. o.0) (ap told_by p.whole ∙ p.told (line ∷ rest) ∙ ap (λ o. (p.text ++ o.0, o.1)) (good s t n line answer rest step)) in
+    let le : taken ≤ length answer = omega arith in
+    subst (AppendsFront old new) (sym e) (
+      length p.text + taken,
+      omega (arith, length-append p.text (answer ++ others), length-append answer others, lt),
+      subst (Appends old new) (sym (take-append-add p.text (answer ++ others) taken ∙ ap (λ z. p.text ++ z) (take-append-le taken answer others le))) (Appends-more old now new p.text (take taken answer) p.wrote w),
+    )

@@ -1,0 +1,62 @@
+//! Why a line or a run comes to no good end.
+
+ghost use Rattle.std.specs.Prelude.{◌≡◌};
+ghost use Rattle.mp_driver.specs.declared.fault.LineFault.TheVariants as line_faults;
+ghost use Rattle.mp_driver.specs.declared.fault.Fault.TheVariants as faults;
+ghost use Rattle.mp_driver.specs.Numbers.{fault_number};
+
+use mp_memory::NoMemory;
+use std::alloc::AllocFailed;
+use thiserror::Error;
+
+/// Why a line does nothing.
+#[derive(Clone, Copy, Debug, PartialEq, Eq)]
+pub enum LineFault {
+    NoMemory,
+    /// The line is none of the language.
+    Bad,
+}
+
+impl From<NoMemory> for LineFault {
+    ghost from_gives = { λ _ e. e ≡ line_faults.NoMemory };
+
+    fn from(_error: NoMemory) -> LineFault {
+        LineFault::NoMemory
+    }
+}
+
+impl<T: Drop> From<AllocFailed<T>> for LineFault {
+    ghost from_gives = { λ _ e. e ≡ line_faults.NoMemory };
+
+    fn from(_refused: AllocFailed<T>) -> LineFault {
+        LineFault::NoMemory
+    }
+}
+
+/// Why a run ended before its input did. Its text is the line that the program prints.
+#[derive(Clone, Copy, Debug, PartialEq, Eq, Error)]
+pub enum Fault {
+    #[error("fault: no memory")]
+    NoMemory,
+    /// The number of the line, from 1.
+    #[error("fault: bad line {0}")]
+    BadLine(u64),
+    #[error("fault: read")]
+    ReadFault,
+    #[error("fault: write")]
+    WriteFault,
+}
+
+impl Fault {
+    /// The number of the fault: 1 to 4.
+    pub const fn number(&self) -> u64
+        ensures { result ≡ fault_number self.now }
+    {
+        match self {
+            Fault::NoMemory => 1,
+            Fault::BadLine(_) => 2,
+            Fault::ReadFault => 3,
+            Fault::WriteFault => 4,
+        }
+    }
+}

@@ -1,0 +1,126 @@
+//! What a transaction's line says.
+
+ghost use Rattle.std.specs.Prelude.{◌≡◌, true, false, Some, None, map, option_map, IfOk, OnOk, IsErrOf};
+ghost use Rattle.mp_text.specs.Words.{words_of};
+ghost use Rattle.mp_text.specs.Numbers.{quantity_of};
+ghost use Rattle.mp_driver.specs.Items.{Spends, Pays, item_of, plain_output, plain_input, with_item, empty_draft, draft_of, transaction_of, is_transaction};
+ghost use Rattle.mp_driver.specs.References.{ref_of};
+ghost use Rattle.mp_driver.specs.Held.{names_of, read_item, drafted};
+
+use crate::fault::LineFault;
+use crate::names::Name;
+use crate::references::{insert_ref, ref_of};
+use mp_memory::{Memory, NoMemory};
+use mp_text::{first_word, quantity};
+use mp_tx::{Input, OutRef, Output, Tx, TxFault, TxParts};
+
+/// An input, by its reference, or an output.
+#[derive(Debug, Drop)]
+pub enum Item {
+    Spends(OutRef),
+    Pays(Output),
+}
+
+/// Items put together: what is spent, rising, and what is paid.
+#[derive(Debug, Drop)]
+pub struct Draft {
+    pub spent: Vec<OutRef, Memory>,
+    pub paid: Vec<Output, Memory>,
+}
+
+/// The output of a quantity of coin.
+pub fn output_of(word: &[u8]) -> Option<Output>
+    ensures { result ≡ option_map plain_output (quantity_of word.now) }
+{
+    let coin = quantity(word)?;
+    Some(Output::of_coin(coin))
+}
+
+fn spends(names: &[Name], word: &[u8]) -> Option<Item>
+    ensures { option_map read_item result ≡ option_map Spends (ref_of (names_of names.now) word.now) }
+{
+    let reference = ref_of(names, word)?;
+    Some(Item::Spends(reference))
+}
+
+fn pays(word: &[u8]) -> Option<Item>
+    ensures { option_map read_item result ≡ option_map (λ coin. Pays (plain_output coin)) (quantity_of word.now) }
+{
+    let output = output_of(word)?;
+    Some(Item::Pays(output))
+}
+
+// in=REF or out=Q.
+fn item_of(names: &[Name], word: &[u8]) -> Option<Item>
+    ensures { option_map read_item result ≡ item_of (names_of names.now) word.now }
+{
+    if word.starts_with(b"in=") {
+        spends(names, &word[3..])
+    } else if word.starts_with(b"out=") {
+        pays(&word[4..])
+    } else {
+        None
+    }
+}
+
+fn add(draft: &mut Draft, item: Item) -> Result<(), NoMemory>
+    ensures { OnOk result (drafted draft.new ≡ with_item (drafted draft.old) (read_item item)) }
+{
+    match item {
+        Item::Spends(reference) => insert_ref(&mut draft.spent, reference)?,
+        Item::Pays(output) => draft.paid.push(output)?,
+    }
+    Ok(())
+}
+
+/// The items that the words are, put together.
+pub fn draft_of(memory: Memory, names: &[Name], words: &[u8]) -> Result<Draft, LineFault>
+    ensures ok { IfOk result (λ d. draft_of (names_of names.now) empty_draft (words_of words.now) ≡ Some (drafted d)) }
+    ensures bad { IsErrOf result LineFault.Bad → draft_of (names_of names.now) empty_draft (words_of words.now) ≡ None }
+{
+    let mut draft = Draft {
+        spent: Vec::new(memory),
+        paid: Vec::new(memory),
+    };
+    let mut rest = words;
+    while let Some((word, after)) = first_word(rest) {
+        let Some(item) = item_of(names, word) else {
+            return Err(LineFault::Bad);
+        };
+        add(&mut draft, item)?;
+        rest = after;
+    }
+    Ok(draft)
+}
+
+fn inputs_of(memory: Memory, spent: &[OutRef]) -> Result<Vec<Input, Memory>, NoMemory>
+    ensures { IfOk result (λ v. v.items ≡ map plain_input spent.now) }
+{
+    let mut inputs = Vec::new(memory);
+    for reference in spent {
+        inputs.push(Input::plain(*reference))?;
+    }
+    Ok(inputs)
+}
+
+/// The transaction of the draft.
+pub fn transaction_of(memory: Memory, draft: Draft) -> Result<Tx, LineFault>
+    ensures ok { IfOk result (λ t. t ≡ transaction_of (drafted draft)) }
+    ensures fits { OnOk result (is_transaction (drafted draft) ≡ true) }
+    ensures bad { IsErrOf result LineFault.Bad → is_transaction (drafted draft) ≡ false }
+{
+    let inputs = inputs_of(memory, &draft.spent)?;
+    let Draft { spent: _, paid } = draft;
+    let parts = TxParts {
+        inputs,
+        outputs: paid,
+    };
+    match Tx::of_parts(memory, parts) {
+        Ok(tx) => Ok(tx),
+        Err(fault) => match fault {
+            TxFault::NoMemory => Err(LineFault::NoMemory),
+            TxFault::NotRising => Err(LineFault::Bad),
+            TxFault::TooLarge => Err(LineFault::Bad),
+        },
+    }
+}

@@ -1,0 +1,14 @@
+//! Runs a scenario: from its text, by a reader, to its answers, by a writer.
+#![tactic(auto)]
+
+mod answers;
+mod fault;
+mod items;
+mod names;
+mod openings;
+mod play;
+mod references;
+mod scene;
+
+pub use fault::Fault;
+pub use play::run;

@@ -1,0 +1,71 @@
+//! The names of outputs and transactions.
+
+ghost use Rattle.std.specs.Prelude.{◌≡◌, option_copied, option_map};
+ghost use Rattle.std.specs.Arc.{arc_value};
+ghost use Rattle.mp_driver.specs.Meanings.{meaning_of, made_of, opening_of, name_of};
+ghost use Rattle.mp_driver.specs.Held.{meant, names_of};
+
+use mp_memory::Memory;
+use mp_tx::{OutRef, Tx, TxId};
+use std::sync::Arc;
+
+/// What a name stands for.
+#[derive(Debug, Drop)]
+pub enum Meaning {
+    /// An output of the opening ledger state.
+    Opening(OutRef),
+    Made(Arc<Tx, Memory>),
+}
+
+/// A name and what it stands for.
+#[derive(Debug, Drop)]
+pub struct Name {
+    pub word: Vec<u8, Memory>,
+    pub meaning: Meaning,
+}
+
+/// What the word stands for, if it was declared.
+pub fn meaning_of<'a>(names: &'a [Name], word: &[u8]) -> Option<&'a Meaning>
+    ensures { option_map meant (option_copied result) ≡ meaning_of word.now (names_of names.now) }
+{
+    for name in names {
+        if word == name.word.as_slice() {
+            return Some(&name.meaning);
+        }
+    }
+    None
+}
+
+/// The transaction that the word stands for.
+pub fn transaction_named<'a>(names: &'a [Name], word: &[u8]) -> Option<&'a Arc<Tx, Memory>>
+    ensures { option_map arc_value (option_copied result) ≡ made_of (meaning_of word.now (names_of names.now)) }
+{
+    match meaning_of(names, word) {
+        Some(Meaning::Made(tx)) => Some(tx),
+        _ => None,
+    }
+}
+
+/// The reference of the opening output that the word stands for.
+pub fn opening_named(names: &[Name], word: &[u8]) -> Option<OutRef>
+    ensures { result ≡ opening_of (meaning_of word.now (names_of names.now)) }
+{
+    match meaning_of(names, word) {
+        Some(Meaning::Opening(reference)) => Some(*reference),
+        _ => None,
+    }
+}
+
+/// The name that the first transaction with this id was declared with; empty where none was.
+pub fn name_of<'a>(names: &'a [Name], id: &TxId) -> &'a [u8]
+    ensures { result.now ≡ name_of id.now (names_of names.now) }
+{
+    for name in names {
+        if let Meaning::Made(tx) = &name.meaning {
+            if *id == *tx.id() {
+                return &name.word;
+            }
+        }
+    }
+    &[]
+}

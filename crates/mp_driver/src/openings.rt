@@ -1,0 +1,85 @@
+//! The outputs of the opening ledger state.
+
+ghost use Rattle.std.specs.Prelude.{◌≡◌, ◌<◌, ◌^◌, [], ◌∷◌, ◌++◌, length, OnOk};
+ghost use Rattle.mp_driver.specs.References.{opening_ref};
+
+use mp_memory::{Memory, NoMemory};
+use mp_tx::{OutRef, Output};
+use std::marker::Model;
+
+/// An output under its reference.
+pub type Entry = (OutRef, Output);
+
+/// The opening outputs so far, numbered from 0 under the id of zeros.
+#[derive(Drop)]
+pub struct Openings {
+    entries: Vec<Entry, Memory>,
+}
+
+impl Model for Openings {
+    ghost use Rattle.std.specs.Prelude.{List};
+    ghost use Rattle.std.specs.Coded.{coded_list, coded×};
+    ghost use Rattle.mp_tx.specs.declared.reference.OutRef.{OutRef};
+    ghost use Rattle.mp_tx.specs.Output.{Paid};
+    ghost use Rattle.mp_tx.specs.Codes.{coded_ref, coded_paid};
+    ghost use Rattle.mp_driver.specs.References.{AreNumbered};
+
+    ghost Value = { List (OutRef × Paid) };
+
+    ghost coded = { coded_list (coded× coded_ref coded_paid) };
+
+    ghost view = { λ o. o.entries.items };
+
+    ghost invariant = { λ o. AreNumbered o.entries.items };
+}
+
+impl Openings {
+    ghost use Rattle.std.specs.Prelude.{◌≡◌, ◌<◌, ◌^◌, [], ◌∷◌, ◌++◌, length, OnOk};
+    ghost use Rattle.mp_driver.specs.References.{opening_ref, AreNumbered};
+
+    /// No output.
+    pub fn new(memory: Memory) -> Openings
+        ensures { result ≡ [] }
+    {
+        Openings {
+            entries: Vec::new(memory),
+        }
+    }
+
+    /// How many there are.
+    pub fn len(&self) -> usize
+        ensures { result ≡ length self.now }
+    {
+        self.entries.len()
+    }
+
+    /// The reference that the next output gets.
+    pub fn next(&self) -> OutRef
+        requires { length self.now < 2 ^ 16 }
+        ensures { result ≡ opening_ref (length self.now) }
+    {
+        OutRef {
+            id: [0; 32],
+            index: self.entries.len() as u16,
+        }
+    }
+
+    /// Puts the output last, under the next reference.
+    pub fn push(&mut self, output: Output) -> Result<(), NoMemory>
+        requires { length self.old < 2 ^ 16 }
+        ensures { OnOk result (self.new ≡ self.old ++ (opening_ref (length self.old), output) ∷ []) }
+    {
+        let reference = self.next();
+        self.entries.push((reference, output))?;
+        Ok(())
+    }
+
+    /// The outputs under their references.
+    pub fn into_entries(self) -> Vec<Entry, Memory>
+        ensures entries { result.items ≡ self }
+        ensures numbered { AreNumbered result.items }
+    {
+        let Openings { entries } = self;
+        entries
+    }
+}

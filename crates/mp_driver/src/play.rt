@@ -1,0 +1,51 @@
+//! A scenario's text, from a reader to a writer.
+
+ghost use Rattle.std.specs.Prelude.{◌≤◌, length, IfSome};
+ghost use Rattle.mp_driver.specs.Ending.{Ended};
+
+use crate::fault::{Fault, LineFault};
+use crate::scene::Scene;
+use mp_memory::Memory;
+use mp_text::{InputFault, MOST_BYTES, first_line, read_all, write_all};
+use std::io::{Read, Write};
+
+// Does the lines of a text in order, writing each line's answer.
+fn answer_lines<W: Write>(memory: Memory, text: &[u8], writer: &mut W) -> Result<(), Fault>
+    requires { length text.now ≤ MOST_BYTES }
+    ensures { Ended text.now (W.contents writer.old) (W.contents writer.new) result }
+{
+    let mut scene = Scene::new(memory);
+    let mut rest = text;
+    let mut number = 1u64;
+    while let Some((line, after)) = first_line(rest) {
+        match scene.read_line(memory, line) {
+            Ok(answer) => match write_all(writer, &answer) {
+                Ok(()) => {}
+                Err(_) => return Err(Fault::WriteFault),
+            },
+            Err(LineFault::NoMemory) => return Err(Fault::NoMemory),
+            Err(LineFault::Bad) => return Err(Fault::BadLine(number)),
+        }
+        rest = after;
+        number += 1;
+    }
+    Ok(())
+}
+
+/// Reads all of the input, and then does its lines in order, writing each line's answer.
+///
+/// # Errors
+/// `ReadFault` before anything is written, where a read fails, there are over 2^24 bytes or the end isn't found in 2^25 reads;
+/// `BadLine` at the first line that is none of the language, after the answers of those before it; `WriteFault` with a front
+/// of the answers written; `NoMemory` after the answers of the lines before.
+pub fn run<R: Read, W: Write>(memory: Memory, reader: &mut R, writer: &mut W) -> Result<(), Fault>
+    ensures { IfSome (R.remaining reader.old) (λ bytes. Ended bytes (W.contents writer.old) (W.contents writer.new) result) }
+{
+    match read_all(memory, reader) {
+        Ok(text) => answer_lines(memory, &text, writer),
+        Err(fault) => match fault {
+            InputFault::NoMemory => Err(Fault::NoMemory),
+            InputFault::Read => Err(Fault::ReadFault),
+        },
+    }
+}

@@ -1,5 +1,0 @@
-mod devices;
-mod limits;
-mod refusals;
-mod rows;
-mod samples;
