@@ -6,10 +6,14 @@ use mp_memory::Memory;
 use mp_script::Hash;
 use std::fmt::Debug;
 
+/// The name of a fault, and the values that come with it.
+pub fn name_of<F: Debug>(memory: Memory, fault: &F) -> Result<String<Memory>> {
+    Ok(format!(in memory; "{fault:?}")?)
+}
+
 /// Whether a fault has the name that is wanted, and the values that come with it.
 pub fn is_fault<F: Debug>(memory: Memory, fault: &F, wanted: &str) -> Result<bool> {
-    let name = format!(in memory; "{fault:?}")?;
-    Ok(name.as_str() == wanted)
+    Ok(name_of(memory, fault)?.as_str() == wanted)
 }
 
 /// Whether `yes` is wanted where it is so, and `no` where not.

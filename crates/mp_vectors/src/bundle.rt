@@ -12,7 +12,7 @@ pub type Named = (PolicyId, Vec<u8, Memory>);
 /// The token of a word such as `32*03/61`: the policy, and then the name.
 pub fn token(memory: Memory, word: &str) -> Result<Named> {
     let (policy, name) = word.split_once('/').context("no token")?;
-    Ok((pieces::hash(memory, policy)?, pieces::piece(memory, name)?))
+    Ok((pieces::hash(memory, policy)?, pieces::bytes(memory, name)?))
 }
 
 // The entry of a word such as `32*03/61/5`: the token, and then the quantity.

@@ -1,5 +1,6 @@
 //! The faults: their names, numbers and texts.
 
+use crate::answer::name_of;
 use crate::numbered::Numbered;
 use anyhow::{Result, bail};
 use mp_bundle::{BundleFault, TokenName};
@@ -73,7 +74,7 @@ fn invalids() -> [Invalid; 4] {
 
 // Whether a fault has a name, which stands before the values that come with it.
 fn is_named<F: Debug>(memory: Memory, fault: &F, name: &str) -> Result<bool> {
-    let told = format!(in memory; "{fault:?}")?;
+    let told = name_of(memory, fault)?;
     match told.as_str().strip_prefix(name) {
         None => Ok(false),
         Some(rest) => Ok(rest.is_empty() || rest.starts_with('(') || rest.starts_with(' ')),

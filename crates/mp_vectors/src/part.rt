@@ -3,7 +3,7 @@
 use crate::pieces;
 use anyhow::Result;
 use mp_memory::Memory;
-use mp_script::{Data, Part};
+use mp_script::Part;
 
 // The part that one place after the other leads to.
 fn part_at<'a>(whole: Part<'a>, places: &str) -> Result<Option<Part<'a>>> {
@@ -19,15 +19,12 @@ fn part_at<'a>(whole: Part<'a>, places: &str) -> Result<Option<Part<'a>>> {
 
 // Whether a part is a number, octets or a list, and nothing else, or has these bytes.
 fn is_part(memory: Memory, part: &Part, wanted: &str) -> Result<bool> {
-    let seen = (part.number(), part.octets(), part.length());
-    match wanted.split_once(' ') {
-        Some(("number", word)) => Ok(seen == (Some(word.parse::<i64>()?), None, None)),
-        Some(("octets", words)) => {
-            let octets = pieces::bytes(memory, words)?;
-            Ok(seen == (None, Some(octets.as_slice()), None))
-        }
-        Some(("list", word)) => Ok(seen == (None, None, Some(word.parse::<u16>()?))),
-        Some(("datum", words)) => Ok(*part.bytes() == *pieces::bytes(memory, words)?),
+    let (kind, words) = wanted.split_once(' ').unwrap_or((wanted, ""));
+    match (kind, part.number(), part.octets(), part.length()) {
+        ("number", Some(number), None, None) => Ok(number == words.parse::<i64>()?),
+        ("octets", None, Some(octets), None) => Ok(*octets == *pieces::bytes(memory, words)?),
+        ("list", None, None, Some(length)) => Ok(u64::from(length) == words.parse::<u64>()?),
+        ("datum", _, _, _) => Ok(*part.bytes() == *pieces::bytes(memory, words)?),
         _ => Ok(false),
     }
 }
@@ -35,8 +32,7 @@ fn is_part(memory: Memory, part: &Part, wanted: &str) -> Result<bool> {
 /// Whether the part of a datum at these places is what is wanted, or there is none.
 pub fn holds(memory: Memory, given: &str, wanted: &str) -> Result<bool> {
     let (words, places) = given.split_once('@').unwrap_or((given, ""));
-    let bytes = pieces::bytes(memory, words)?;
-    let datum = Data::decode(memory, &bytes)?;
+    let datum = pieces::datum(memory, words)?;
     match part_at(datum.whole(), places)? {
         Some(part) => is_part(memory, &part, wanted),
         None => Ok(wanted == "none"),

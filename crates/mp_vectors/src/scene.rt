@@ -1,11 +1,6 @@
 //! What the views of scripts are made of.
 
-use crate::bundle::bundle;
-use crate::pieces;
-use anyhow::Result;
-use mp_bundle::{Bundle, Sum};
-use mp_memory::Memory;
-use mp_script::{Address, Data, Hash, Key};
+use mp_script::{Address, Hash, Key};
 
 /// The hash of the script that runs.
 pub const OWN_HASH: Hash = [6; 32];
@@ -25,51 +20,21 @@ pub const FIRST_DATUM_HASH: Hash = [12; 32];
 /// The datum hash of the second reference.
 pub const SECOND_DATUM_HASH: Hash = [13; 32];
 
-const DATUM: &str =
+/// The datum of the spent output: -5, the octets of xy, a list of 1 and an empty list, an empty list, and 8.
+pub const DATUM: &str =
     "030005 01fffffffffffffffb 0200027879 030002 010000000000000001 030000 030000 010000000000000008";
 
-const REDEEMER: &str = "010000000000000009";
+/// The number 9.
+pub const REDEEMER: &str = "010000000000000009";
 
-const LITTLE: &str = "32*03/61/7 32*04/-/2 32*04/32*6e/5";
+/// What the spent output, the second and the third output, and the second reference hold.
+pub const LITTLE: &str = "32*03/61/7 32*04/-/2 32*04/32*6e/5";
 
-const MUCH: &str = "32*03/61/9223372036854775807";
+/// What the first output and the first reference hold.
+pub const MUCH: &str = "32*03/61/9223372036854775807";
 
-const FORGE: &str = "32*03/61/-4 32*04/-/11";
+/// What is spent: both of these.
+pub const SPENT: &str = "32*03/61/7 32*04/-/2 32*04/32*6e/5 + 32*03/61/9223372036854775807";
 
-/// What a transaction shows to its scripts, and what two outputs of it hold.
-#[derive(Drop)]
-pub struct Scene {
-    pub datum: Data,
-    pub redeemer: Data,
-    pub little: Bundle,
-    pub much: Bundle,
-    pub spent: Sum,
-    pub forge: Bundle,
-}
-
-fn datum(memory: Memory, words: &str) -> Result<Data> {
-    Ok(Data::decode(memory, &pieces::bytes(memory, words)?)?)
-}
-
-// The sum of two bundles.
-fn sum(memory: Memory, first: &Bundle, second: &Bundle) -> Result<Sum> {
-    let mut sum = Sum::new(memory);
-    sum.add(first)?;
-    sum.add(second)?;
-    Ok(sum)
-}
-
-/// The parts of the views.
-pub fn set(memory: Memory) -> Result<Scene> {
-    let little = bundle(memory, LITTLE)?;
-    let much = bundle(memory, MUCH)?;
-    let spent = sum(memory, &little, &much)?;
-    Ok(Scene {
-        datum: datum(memory, DATUM)?,
-        redeemer: datum(memory, REDEEMER)?,
-        little,
-        much,
-        spent,
-        forge: bundle(memory, FORGE)?,
-    })
-}
+/// What is forged.
+pub const FORGE: &str = "32*03/61/-4 32*04/-/11";

@@ -14,8 +14,8 @@ fn add(sum: &mut Sum, bundle: &Bundle) -> Result<()> {
     Ok(())
 }
 
-// The sum of the bundles between plus signs. Where nothing is written, it is that of no bundle.
-fn sum(memory: Memory, words: &str) -> Result<Sum> {
+/// The sum of the bundles between plus signs. Where nothing is written, it is that of no bundle.
+pub fn sum(memory: Memory, words: &str) -> Result<Sum> {
     let mut sum = Sum::new(memory);
     if words.trim().is_empty() {
         return Ok(sum);

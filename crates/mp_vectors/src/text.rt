@@ -25,7 +25,7 @@ fn first_cut(cut: Cut, text: &[u8]) -> Option<(&[u8], &[u8])> {
 fn is_cut_into(memory: Memory, cut: Cut, text: &[u8], wanted: &str) -> Result<bool> {
     let mut rest = text;
     for word in wanted.split_whitespace() {
-        let piece = pieces::piece(memory, word)?;
+        let piece = pieces::bytes(memory, word)?;
         match first_cut(cut, rest) {
             Some((first, after)) if *first == *piece => rest = after,
             _ => return Ok(false),

@@ -1,7 +1,14 @@
 //! The views in which scripts run.
 
+ghost use Rattle.std.specs.Prelude.{◌≤◌, length};
+
+use crate::bundle::bundle;
 use crate::pieces;
-use crate::scene::{AWAY, FIRST_DATUM_HASH, HOME, KEYS, OWN_HASH, SECOND_DATUM_HASH, Scene, set};
+use crate::scene::{
+    AWAY, DATUM, FIRST_DATUM_HASH, FORGE, HOME, KEYS, LITTLE, MUCH, OWN_HASH, REDEEMER,
+    SECOND_DATUM_HASH, SPENT,
+};
+use crate::sum::sum;
 use crate::wanted::Wanted;
 use anyhow::Result;
 use mp_bundle::{Bundle, Sum};
@@ -24,35 +31,46 @@ fn of_guard<T>(role: Role, part: &T) -> Option<&T> {
     }
 }
 
+// Whether a script comes to what is wanted, and takes no memory on the way.
+fn comes_to<'a>(memory: Memory, script: &'a Script, view: &View<'a>, wanted: &Wanted) -> bool
+    requires { length view.now.outputs.now ≤ 256 }
+{
+    memory.refuse(1);
+    let is_wanted = wanted.is(&eval(script, view));
+    let takes_none = memory.waits();
+    memory.refuse(0);
+    is_wanted && takes_none
+}
+
 // Two outputs with one address, and between them one with another.
-fn outputs_of(scene: &Scene) -> [PaidTo<'_>; 3] {
+fn outputs_of<'a>(much: &'a Bundle, little: &'a Bundle) -> [PaidTo<'a>; 3] {
     [
         PaidTo {
             address: &HOME,
-            value: &scene.much,
+            value: much,
         },
         PaidTo {
             address: &AWAY,
-            value: &scene.little,
+            value: little,
         },
         PaidTo {
             address: &HOME,
-            value: &scene.little,
+            value: little,
         },
     ]
 }
 
-fn references_of(scene: &Scene) -> [Referred<'_>; 2] {
+fn references_of<'a>(much: &'a Bundle, little: &'a Bundle) -> [Referred<'a>; 2] {
     [
         Referred {
             address: &AWAY,
             datum_hash: &FIRST_DATUM_HASH,
-            value: &scene.much,
+            value: much,
         },
         Referred {
             address: &HOME,
             datum_hash: &SECOND_DATUM_HASH,
-            value: &scene.little,
+            value: little,
         },
     ]
 }
@@ -60,23 +78,28 @@ fn references_of(scene: &Scene) -> [Referred<'_>; 2] {
 /// Whether a script of a role comes to what is wanted in the transaction of the scene.
 pub fn holds_in_scene(memory: Memory, role: Role, bytes: &[u8], wanted: &Wanted) -> Result<bool> {
     let script = Script::decode(memory, bytes)?;
-    let scene = set(memory)?;
-    let outputs = outputs_of(&scene);
-    let references = references_of(&scene);
+    let datum = pieces::datum(memory, DATUM)?;
+    let redeemer = pieces::datum(memory, REDEEMER)?;
+    let much = bundle(memory, MUCH)?;
+    let little = bundle(memory, LITTLE)?;
+    let spent = sum(memory, SPENT)?;
+    let forge = bundle(memory, FORGE)?;
+    let outputs = outputs_of(&much, &little);
+    let references = references_of(&much, &little);
     let view = View {
         own_hash: &OWN_HASH,
-        datum: of_guard(role, &scene.datum),
-        redeemer: of_guard(role, &scene.redeemer),
-        own_value: of_guard(role, &scene.little),
+        datum: of_guard(role, &datum),
+        redeemer: of_guard(role, &redeemer),
+        own_value: of_guard(role, &little),
         from: 4,
         to: u64::MAX,
         keys: &KEYS,
-        spent: &scene.spent,
-        forge: &scene.forge,
+        spent: &spent,
+        forge: &forge,
         outputs: &outputs,
         references: &references,
     };
-    Ok(wanted.is(&eval(&script, &view)))
+    Ok(comes_to(memory, &script, &view, wanted))
 }
 
 // The datum that is written, if there is one.
@@ -84,8 +107,7 @@ fn datum_of(memory: Memory, words: &str) -> Result<Option<Data>> {
     if words.is_empty() {
         return Ok(None);
     }
-    let bytes = pieces::bytes(memory, words)?;
-    Ok(Some(Data::decode(memory, &bytes)?))
+    Ok(Some(pieces::datum(memory, words)?))
 }
 
 // A script, its datum, if it has one, and nothing.
@@ -97,7 +119,7 @@ struct Alone {
     forge: Bundle,
 }
 
-fn comes_alone_to(alone: &Alone, wanted: &Wanted) -> bool {
+fn comes_alone_to(memory: Memory, alone: &Alone, wanted: &Wanted) -> bool {
     let view = View {
         own_hash: alone.script.hash(),
         datum: alone.datum.as_ref(),
@@ -111,7 +133,7 @@ fn comes_alone_to(alone: &Alone, wanted: &Wanted) -> bool {
         outputs: &[],
         references: &[],
     };
-    wanted.is(&eval(&alone.script, &view))
+    comes_to(memory, &alone.script, &view, wanted)
 }
 
 /// Whether a script comes to what is wanted with the datum that is written, or none, in a transaction of nothing.
@@ -127,7 +149,7 @@ pub fn holds_in_nothing(
         spent: Sum::new(memory),
         forge: Bundle::empty(memory),
     };
-    Ok(comes_alone_to(&alone, wanted))
+    Ok(comes_alone_to(memory, &alone, wanted))
 }
 
 // As many as there may be.
@@ -152,10 +174,10 @@ fn most_references(value: &Bundle) -> [Referred<'_>; 256] {
 /// Whether a script comes to what is wanted where as many outputs and references as there may be hold much.
 pub fn holds_in_most(memory: Memory, bytes: &[u8], wanted: &Wanted) -> Result<bool> {
     let script = Script::decode(memory, bytes)?;
-    let scene = set(memory)?;
+    let much = bundle(memory, MUCH)?;
     let spent = Sum::new(memory);
-    let outputs = most_outputs(&scene.much);
-    let references = most_references(&scene.much);
+    let outputs = most_outputs(&much);
+    let references = most_references(&much);
     let view = View {
         own_hash: &ZEROS,
         datum: None,
@@ -165,9 +187,9 @@ pub fn holds_in_most(memory: Memory, bytes: &[u8], wanted: &Wanted) -> Result<bo
         to: 0,
         keys: &[],
         spent: &spent,
-        forge: &scene.much,
+        forge: &much,
         outputs: &outputs,
         references: &references,
     };
-    Ok(wanted.is(&eval(&script, &view)))
+    Ok(comes_to(memory, &script, &view, wanted))
 }
