@@ -72,61 +72,76 @@ fn outcome(
     Ok((found, pool.bytes()))
 }
 
+// What the outcome is with these block bytes, this limit and this last ticket: the three answers, and the bytes that stand.
+type Limits = (u64, u32, u64, [Told; 3], u64);
+
+const ROOM_FOR_THREE: Limits = (
+    ROOMY,
+    LONG,
+    0,
+    [Told::Accepted(1), Told::Accepted(2), Told::Accepted(3)],
+    543,
+);
+
+// Twice 181 bytes.
+const ROOM_FOR_TWO: Limits = (
+    181,
+    LONG,
+    0,
+    [Told::Accepted(1), Told::Accepted(2), Told::Full(0)],
+    362,
+);
+
+const ROOM_FOR_ONE: Limits = (
+    180,
+    LONG,
+    0,
+    [Told::Accepted(1), Told::Full(179), Told::Full(179)],
+    181,
+);
+
+const ROOM_FOR_NONE: Limits = (
+    90,
+    LONG,
+    0,
+    [Told::Full(180), Told::Full(180), Told::Full(180)],
+    0,
+);
+
+const ONE_TICKET_LEFT: Limits = (
+    ROOMY,
+    LONG,
+    u64::MAX - 1,
+    [
+        Told::Accepted(u64::MAX),
+        Told::TicketsSpent,
+        Told::TicketsSpent,
+    ],
+    181,
+);
+
+const ONE_CHANGE_LEFT: Limits = (
+    ROOMY,
+    1,
+    7,
+    [Told::Accepted(8), Told::HistoryFull, Told::HistoryFull],
+    181,
+);
+
 #[test]
 fn limits_are_exact(rt: HostRuntime) -> Result<(), Fail> {
     let memory = Memory::new(rt.alloc())?;
-    for (block_bytes, limit, last, answers, bytes) in [
-        (
-            ROOMY,
-            LONG,
-            0,
-            [Told::Accepted(1), Told::Accepted(2), Told::Accepted(3)],
-            543,
-        ),
-        // twice 181 bytes are room for two
-        (
-            181,
-            LONG,
-            0,
-            [Told::Accepted(1), Told::Accepted(2), Told::Full(0)],
-            362,
-        ),
-        (
-            180,
-            LONG,
-            0,
-            [Told::Accepted(1), Told::Full(179), Told::Full(179)],
-            181,
-        ),
-        (
-            90,
-            LONG,
-            0,
-            [Told::Full(180), Told::Full(180), Told::Full(180)],
-            0,
-        ),
-        // one ticket is left, and one change
-        (
-            ROOMY,
-            LONG,
-            u64::MAX - 1,
-            [
-                Told::Accepted(u64::MAX),
-                Told::TicketsSpent,
-                Told::TicketsSpent,
-            ],
-            181,
-        ),
-        (
-            ROOMY,
-            1,
-            7,
-            [Told::Accepted(8), Told::HistoryFull, Told::HistoryFull],
-            181,
-        ),
+    for limits in [
+        ROOM_FOR_THREE,
+        ROOM_FOR_TWO,
+        ROOM_FOR_ONE,
+        ROOM_FOR_NONE,
+        ONE_TICKET_LEFT,
+        ONE_CHANGE_LEFT,
     ] {
+        let (block_bytes, limit, last, answers, bytes) = limits;
         let found = outcome(memory, block_bytes, limit, last)?;
-        assert!(rt; found == (answers, bytes), "{block_bytes} {limit} {last}");
+        assert!(rt; found == (answers, bytes), "at {limits:?}");
     }
     Ok(())
 }
