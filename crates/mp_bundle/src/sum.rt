@@ -34,7 +34,7 @@ impl Model for Sum {
 }
 
 impl Sum {
-    ghost use Rattle.std.specs.Prelude.{◌≡◌, ◌≤◌, ◌<◌, ◌^◌, OnOk, OnErr, IfSome, IfNone};
+    ghost use Rattle.std.specs.Prelude.{◌≡◌, ◌≤◌, ◌<◌, ◌^◌, OnOk, OnErr, IfSome, IfNone, length};
     ghost use Rattle.mp_bundle.specs.Token.{token};
     ghost use Rattle.mp_bundle.specs.Sum.{nothing, total_of, Adds, AreAlike, IsFirstDifference};
 
@@ -82,10 +82,11 @@ impl Sum {
         self.added
     }
 
-    /// The least token whose totals differ, if there is one.
+    /// The least token whose totals differ, if there is one. Its name has at most 32 bytes.
     pub fn first_difference<'a>(&'a self, other: &'a Sum) -> Option<(PolicyId, &'a [u8])>
         ensures none { IfNone result (AreAlike self.now other.now) }
         ensures first { IfSome result (λ d. IsFirstDifference self.now other.now (token d.0 d.1.now)) }
+        ensures short { IfSome result (λ d. length d.1.now ≤ 32) }
     {
         let missed = first_unlike(&self.totals, &other.totals);
         match lesser(missed, first_unlike(&other.totals, &self.totals)) {
