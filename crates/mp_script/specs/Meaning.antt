@@ -8,7 +8,6 @@ use Rattle.std.specs.Option.{option_map, option_and_then}
 use Rattle.mp_bundle.specs.declared.token.Token.{Token}
 use Rattle.mp_bundle.specs.Token.{token}
 use Rattle.mp_bundle.specs.Bundle.{quantity_of}
-use Rattle.mp_bundle.specs.Sum.{total_of}
 use Rattle.mp_script.specs.declared.operator.Leaf.{Leaf}
 use Rattle.mp_script.specs.declared.operator.Leaf.TheVariants as code
 use Rattle.mp_script.specs.declared.operator.Unary.{Unary}
@@ -161,7 +160,7 @@ of_two two.Sub s a b = on_wholes (λ x y. number (x -ℤ y)) a b
 of_two two.Mul s a b = on_wholes (λ x y. number (x *ℤ y)) a b
 of_two two.Item s d n = on (option_and_then (λ list. option_and_then (item_in list) (place_in n)) (datum_in d)) tree
 of_two two.OwnQuantity s p n = on s.own_value (λ bundle. amount (token_in p n) (quantity_of bundle))
-of_two two.Spent s p n = amount (token_in p n) (total_of s.spent)
+of_two two.Spent s p n = amount (token_in p n) s.spent
 of_two two.Forged s p n = amount (token_in p n) (quantity_of s.forge)
 
 abbrev pub of_three : Ternary → Sight → Val → Val → Val → Val

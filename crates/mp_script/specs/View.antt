@@ -1,8 +1,9 @@
 -- What a script sees where it runs.
-use Rattle.std.specs.Prelude.{ℕ, List, map, Option}
+use Rattle.std.specs.Prelude.{ℕ, ℤ, List, map, Option}
 use Rattle.std.specs.Option.{option_map}
+use Rattle.mp_bundle.specs.declared.token.Token.{Token}
 use Rattle.mp_bundle.specs.Bundle.{Entry}
-use Rattle.mp_bundle.specs.Sum.{Summed}
+use Rattle.mp_bundle.specs.Sum.{total_of}
 use Rattle.mp_script.specs.declared.view.PaidTo.{PaidTo}
 use Rattle.mp_script.specs.declared.view.Referred.{Referred}
 use Rattle.mp_script.specs.declared.view.View.{View}
@@ -22,14 +23,19 @@ pub record Reference : Type 0 where
 
 -- the transaction, and the script's own place in it
 pub record Sight : Type 0 where
+  -- the hash of the script that runs
   pub own_hash : List ℕ
+  -- of the output that the script guards; a policy script has none of these three
   pub datum : Option Datum
   pub redeemer : Option Datum
   pub own_value : Option (List Entry)
+  -- the first and the last tick of the interval
   pub from : ℕ
   pub to : ℕ
+  -- the keys that signed
   pub keys : List (List ℕ)
-  pub spent : Summed
+  -- the total of each token over all outputs that are spent
+  pub spent : Token → ℤ
   pub forge : List Entry
   pub outputs : List Payment
   pub references : List Reference
@@ -50,7 +56,7 @@ sight_of v = record {
   from = v.from;
   to = v.to;
   keys = v.keys.now;
-  spent = v.spent.now;
+  spent = total_of v.spent.now;
   forge = v.forge.now;
   outputs = map payment_of v.outputs.now;
   references = map reference_of v.references.now;
