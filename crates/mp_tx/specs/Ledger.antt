@@ -1,6 +1,6 @@
 -- A ledger state: the tick, how many bytes a block may have, and the outputs that are there to be spent
 -- (the UTxO map of the EUTXO model of Chakravarty et al.).
-use Rattle.std.specs.Prelude.{◌≡◌, ℕ, ◌<◌, ◌≤◌, ◌^◌, List, map, length, take, Contains, HoldsAt, AllPairs, ◌≢◌}
+use Rattle.std.specs.Prelude.{ℕ, ◌<◌, ◌≤◌, ◌^◌, List, map, length, take, Contains, HoldsAt, AllPairs, ◌≢◌}
 use Rattle.std.specs.FinMap.{FinMap}
 use Rattle.std.specs.FinMap as finite
 use Rattle.mp_tx.specs.declared.reference.OutRef.{OutRef}
