@@ -3,8 +3,10 @@ use Rattle.std.specs.Prelude.{ℕ}
 use Rattle.mp_seqpool.specs.declared.command.Reply.{Reply}
 use Rattle.mp_seqpool.specs.Order.{Order}
 
--- who asked, what was asked and what was replied
 pub record Done : Type 0 where
+  -- who asked
   pub caller : ℕ
+  -- what was asked
   pub order : Order
+  -- what was replied
   pub reply : Reply

@@ -7,14 +7,19 @@ use Rattle.mp_tx.specs.Ledger.{LedgerState}
 pub data Order : Type 0 where
   Submit : Transaction → Order
 
--- the adopted ledger state, the transactions with their tickets, the last ticket given, the changes made, how many there may be,
--- and the last ticket at the opening
+-- the state of a pool
 pub record Pool : Type 0 where
+  -- the adopted ledger state
   pub ledger : LedgerState
+  -- the transactions with their tickets, oldest first
   pub items : List (ℕ × Transaction)
+  -- the last ticket that was given
   pub last : ℕ
+  -- how many changes were made
   pub changes : ℕ
+  -- how many changes there may be
   pub limit : ℕ
+  -- the last ticket at the opening
   pub opening : ℕ
 
 abbrev pub transactions : List (ℕ × Transaction) → List Transaction

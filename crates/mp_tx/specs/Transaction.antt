@@ -7,9 +7,10 @@ use Rattle.mp_tx.specs.Reference.{RiseBy}
 use Rattle.mp_tx.specs.Plain.{script_bytes, data_bytes}
 use Rattle.mp_tx.specs.Output.{Paid}
 
--- what it spends, in rising order, and what it pays
 pub record Transaction : Type 0 where
+  -- what it spends, in rising order
   pub inputs : List Input
+  -- what it pays
   pub outputs : List Paid
 
 -- Format 1. Numbers are big-endian.
