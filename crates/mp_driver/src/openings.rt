@@ -18,15 +18,11 @@ pub struct Openings {
 
 impl Model for Openings {
     ghost use Rattle.std.specs.Prelude.{List};
-    ghost use Rattle.std.specs.Coded.{coded_list, coded×};
     ghost use Rattle.mp_tx.specs.declared.reference.OutRef.{OutRef};
     ghost use Rattle.mp_tx.specs.Output.{Paid};
-    ghost use Rattle.mp_tx.specs.Codes.{coded_ref, coded_paid};
     ghost use Rattle.mp_driver.specs.References.{AreNumbered};
 
     ghost Value = { List (OutRef × Paid) };
-
-    ghost coded = { coded_list (coded× coded_ref coded_paid) };
 
     ghost view = { λ o. o.entries.items };
 

@@ -19,37 +19,55 @@ pub record HasLock (callers : ℕ) (w : World) (caller : ℕ) : Type 0 where
   pub known : caller < callers
   pub holds : w.holder ≡ Some caller
 
--- A commit that is permitted: its entry stands last, the caller holds the version with it, and its reply is the slow pool's upon that
--- version's log without its last entry.
+-- a commit that is permitted, from one world to the next
 pub record IsCommit (p : Pool) (w v : World) (caller : ℕ) (order : Order) (reply : Reply) : Type 0 where
+  -- its entry comes last
   pub entry : v.log ≡ w.log ++ record { caller = caller; order = order; reply = reply } ∷ []
+  -- the caller holds the version with it
   pub number : (v.held caller).number ≡ length v.log
+  -- its reply is the slow pool's upon that version's log without its last entry
   pub before : answer (pool_of p (take ((v.held caller).number - 1) v.log)) order ≡ Ok reply
 
--- An answer that is permitted: nothing is entered, and the slow pool refuses alike at the version that the caller then holds.
+-- an answer that is permitted, from one world to the next
 pub record IsAnswer (p : Pool) (w v : World) (caller : ℕ) (order : Order) (refusal : Refusal) : Type 0 where
+  -- nothing is entered
   pub entry : v.log ≡ w.log
+  -- the caller holds the version of all entries
   pub number : (v.held caller).number ≡ length v.log
+  -- that version's state refuses alike
   pub same : answer (v.held caller).state order ≡ Err refusal
+  -- the state after that version's entries does too
   pub after : answer (pool_of p (take (v.held caller).number v.log)) order ≡ Err refusal
 
--- The world after any events, from the state that a pool opens with.
--- The log is legal, and every state on the way obeys the pool laws. The locked state, and each version that is held, waits, is on the
--- board or was ever held, is the state after as many entries as its number says. The log has the entries of the commits, each once and
--- in order. By caller: its last own place, which the version that it holds has. Whatever happens further, no number that is held
--- shrinks, and entries only come after those that are there. At last, what a commit and an answer do that come next.
+-- the world after any events, from the state that a pool opens with
 pub record CoreLaw (callers : ℕ) (p : Pool) (es : List Event) (w : World) : Type 0 where
+  -- the log is legal
   pub legal : IsLegal callers p w.log
+  -- every state on the way obeys the pool laws
   pub lawful : ObeysLaws p (orders w.log)
+  -- the locked state is that after all entries
   pub locked : w.locked ≡ pool_of p w.log
+  -- each caller holds a true version
   pub held : (caller : ℕ) → IsTrueVersion p w.log (w.held caller)
+  -- the version that waits is true
   pub waiting : IfSome w.waiting (IsTrueVersion p w.log)
+  -- the versions on the board are true
   pub board : All (IsTrueVersion p w.log) w.board
+  -- the versions that were ever held are true
   pub ever : All (IsTrueVersion p w.log) w.ever
+  -- the log has the entries of the commits, each once and in order
   pub entries : w.log ≡ commits callers (opens p) es
+  -- what is kept as a caller's last place is that of its last entry
   pub last : (caller : ℕ) → w.last caller ≡ last_of caller w.log
+  -- the version that a caller holds has its last own entry
   pub own : (caller : ℕ) → IfSome (w.last caller) (λ place. place < (w.held caller).number)
+  -- whatever happens further, no number that is held shrinks
   pub growing : (further : List Event) (caller : ℕ) → (w.held caller).number ≤ ((run callers w further).held caller).number
+  -- whatever happens further, entries only come after those that are there
   pub later : (further : List Event) → (run callers w further).log ≡ w.log ++ commits callers w further
-  pub commit : (caller : ℕ) (order : Order) (reply : Reply) → HasLock callers w caller → answer w.locked order ≡ Ok reply → IsCommit p w (happens callers w (Commit caller order)) caller order reply
-  pub answer_told : (caller : ℕ) (order : Order) (refusal : Refusal) → HasLock callers w caller → answer w.locked order ≡ Err refusal → IsAnswer p w (happens callers w (Answer caller order)) caller order refusal
+  -- what a commit does that comes next
+  pub commit : (caller : ℕ) (order : Order) (reply : Reply) → HasLock callers w caller → answer w.locked order ≡ Ok reply →
+      IsCommit p w (happens callers w (Commit caller order)) caller order reply
+  -- what an answer does that comes next
+  pub answer_told : (caller : ℕ) (order : Order) (refusal : Refusal) → HasLock callers w caller → answer w.locked order ≡ Err refusal →
+      IsAnswer p w (happens callers w (Answer caller order)) caller order refusal

@@ -7,9 +7,11 @@ use Rattle.mp_history.specs.declared.fault.AuditFault.TheVariants.{NoMemory, Wro
 use Rattle.mp_history.specs.Done.{Done}
 use Rattle.mp_history.specs.Log.{IsLegal, pool_of}
 
--- the caller is known and the reply isn't the slow pool's
+-- an entry whose reply alone is at fault
 pub record IsWrongReply (callers : ℕ) (p : Pool) (d : Done) : Type 0 where
+  -- its caller is one of them
   pub known : d.caller < callers
+  -- its reply isn't the slow pool's
   pub wrong : answer p d.order ≢ Ok d.reply
 
 -- The fault tells of this place, whose entry comes upon this state. Memory may be wanting at any entry.
@@ -18,10 +20,13 @@ IsFaultAt callers p place d NoMemory = Unit {0}
 IsFaultAt callers p place d (WrongReply k) = (k ≡ place) × IsWrongReply callers p d
 IsFaultAt callers p place d (StrangeCaller k) = (k ≡ place) × (callers ≤ d.caller)
 
--- The entries before the place are legal, and this is so of the entry at the place upon the state after them.
+-- the first entry that is bad stands at this place
 pub record IsFirstAt (callers : ℕ) (p : Pool) (log : List Done) (place : ℕ) (Bad : Pool → Done → Type 0) : Type 0 where
+  -- an entry stands there
   pub there : place < length log
+  -- the entries before it are legal
   pub before : IsLegal callers p (take place log)
+  -- it is bad upon the state after them
   pub bad : IfSome (slice_get log place) (Bad (pool_of p (take place log)))
 
 abbrev pub IsFirstFault : ℕ → Pool → List Done → AuditFault → Type 0

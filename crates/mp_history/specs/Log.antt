@@ -5,9 +5,11 @@ use Rattle.mp_seqpool.specs.Order.{Order, Pool}
 use Rattle.mp_seqpool.specs.SlowPool.{answer, next, pool_after}
 use Rattle.mp_history.specs.Done.{Done}
 
--- The entry's caller is below the number of callers, and its reply is the slow pool's upon the state before it.
+-- an entry that may come upon a state
 pub record IsRight (callers : ℕ) (p : Pool) (d : Done) : Type 0 where
+  -- its caller is one of them
   pub known : d.caller < callers
+  -- its reply is the slow pool's
   pub true_reply : answer p d.order ≡ Ok d.reply
 
 -- each entry is right upon the state after all before it

@@ -7,32 +7,49 @@ use Rattle.mp_seqpool.specs.Order.{Order, Pool}
 use Rattle.mp_seqpool.specs.SlowPool.{answer, next}
 use Rattle.mp_history.specs.Done.{Done}
 
--- a state, and how many entries led to it
+-- a state of the pool that callers may hold
 pub record Version : Type 0 where
+  -- how many entries led to it
   pub number : ℕ
+  -- the state after them
   pub state : Pool
 
--- the log; the locked state; the version that waits to be shown; the lock's holder; the versions that were shown; by caller, the
--- version that it holds and the place of its last own entry; the versions that were ever held
+-- what all callers share, and what each of them holds
 pub record World : Type 0 where
+  -- the entries, in the order in which they were made
   pub log : List Done
+  -- the state that only the lock's holder changes
   pub locked : Pool
+  -- the version that waits to be shown
   pub waiting : Option Version
+  -- the caller that holds the lock
   pub holder : Option ℕ
+  -- the versions that were shown, in order
   pub board : List Version
+  -- by caller, the version that it holds
   pub held : ℕ → Version
+  -- by caller, the place of its last own entry
   pub last : ℕ → Option ℕ
+  -- the versions that were ever held
   pub ever : List Version
 
--- what a caller does. Which version it reads or learns is told by its place on the board, or among those that were ever held.
+-- what a caller does
 pub data Event : Type 0 where
+  -- it takes the lock
   Take : (caller : ℕ) → Event
+  -- it asks, and what it asks is done and entered
   Commit : (caller : ℕ) (order : Order) → Event
+  -- it asks, and is refused
   Answer : (caller : ℕ) (order : Order) → Event
+  -- it puts the version that waits on the board
   Show : (caller : ℕ) → Event
+  -- it would show a version, and can't
   ShowRefused : (caller : ℕ) → Event
+  -- it gives the lock back
   Release : (caller : ℕ) → Event
+  -- it comes upon the version at a place on the board
   Read : (caller : ℕ) (which : ℕ) → Event
+  -- it comes upon one of those that were ever held, by its place among them
   Learn : (caller : ℕ) (which : ℕ) → Event
 
 abbrev pub first_version : Pool → Version

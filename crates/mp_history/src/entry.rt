@@ -12,11 +12,9 @@ pub struct Entry {
 }
 
 impl Model for Entry {
-    ghost use Rattle.mp_history.specs.Done.{Done, coded_done};
+    ghost use Rattle.mp_history.specs.Done.{Done};
 
     ghost Value = { Done };
-
-    ghost coded = { coded_done };
 
     ghost use Rattle.mp_history.specs.Entries.{done_of};
 

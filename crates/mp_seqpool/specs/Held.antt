@@ -15,8 +15,11 @@ state p = record {
   opening = p.config.last;
 }
 
--- The bytes held are counted as transactions come, and no more came than a pool can hold.
+-- What is counted along the way is right.
 pub record IsCounted (p : Inside) : Type 0 where
+  -- the bytes are those of all its transactions together
   pub bytes : p.bytes ≡ sum_by size_of (transactions (items_of p.items.items))
+  -- no pool can hold more
   pub most : p.bytes ≤ 2 ^ 40
+  -- no more changes were made than there may be
   pub changes : p.changes ≤ p.config.limit

@@ -8,11 +8,15 @@ use Rattle.mp_seqpool.specs.Validity.{Chain}
 use Rattle.mp_seqpool.specs.Order.{Order, Pool, transactions, tickets}
 use Rattle.mp_seqpool.specs.SlowPool.{answer, next, pool_after}
 
--- One state: each transaction is valid on the ledger after all before it; tickets rise, and none is above the last one; ids differ.
+-- One state.
 pub record IsLawful (p : Pool) : Type 0 where
+  -- each transaction is valid on the ledger after all before it
   pub chained : Chain (get p.ledger.utxo) (transactions p.items)
+  -- tickets rise
   pub rising : IsStrictlyIncreasing (tickets p.items)
+  -- no ticket is above the last one
   pub given : All (λ k. k ≤ p.last) (tickets p.items)
+  -- ids differ
   pub distinct : AllPairs (λ a b. a ≢ b) (map id_of (transactions p.items))
 
 -- Two states: what the later one has under a ticket of the earlier one stood there under that ticket.
@@ -23,8 +27,11 @@ Lasts p q = All (λ i. i.0 ≤ p.last → Contains p.items i) q.items
 abbrev pub GivesNext : Pool → Order → Type 0
 GivesNext p o = (k : ℕ) → answer p o ≡ Ok (Accepted k) → (k ≡ p.last + 1) × ((next p o).last ≡ k)
 
--- All states on the way.
+-- All states on the way through a list of commands.
 pub record ObeysLaws (p : Pool) (os : List Order) : Type 0 where
+  -- each of them is lawful
   pub lawful : (n : ℕ) → IsLawful (pool_after p (take n os))
+  -- of each two of them, the later one has under the earlier one's tickets only what stood there
   pub lasting : (m n : ℕ) → m ≤ n → Lasts (pool_after p (take m os)) (pool_after p (take n os))
+  -- whatever is asked there, a ticket that is given is the next one
   pub next_ticket : (n : ℕ) (o : Order) → GivesNext (pool_after p (take n os)) o

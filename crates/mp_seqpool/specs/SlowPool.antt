@@ -55,10 +55,13 @@ accepted p t = record p { items = p.items ++ (p.last + 1, t) ∷ []; last = p.la
 unfoldable pub next : Pool → Order → Pool
 next p (Submit t) = if is_ok (answer p (Submit t)) then accepted p t else p
 
--- one more ticket, change and transaction can be counted
+-- the pool can count one more transaction
 pub record HasRoom (p : Pool) (t : Transaction) : Type 0 where
+  -- there is a next ticket
   pub ticket : p.last < 2 ^ 64 - 1
+  -- one more change may be made
   pub change : p.changes < p.limit
+  -- the bytes with it are no more than a pool can hold
   pub bytes : bytes_held p + size_of t ≤ 2 ^ 40
 
 -- the refusal of an answer

@@ -25,9 +25,13 @@ paid_coin t = sum_by (λ o. o.coin) t.outputs
 
 -- all rules hold
 pub record IsValid (u : Unspent) (t : Transaction) : Type 0 where
+  -- there is an input
   pub spends_something : t.inputs ≢ []
+  -- each input leads to an output that may be spent
   pub inputs_there : All (λ i. IsSome (u i.from)) t.inputs
+  -- none of its own outputs is there yet
   pub outputs_fresh : (k : ℕ) → k < length t.outputs → u (own_ref t k) ≡ None
+  -- it pays what it spends
   pub balanced : spent_coin u t ≡ paid_coin t
 
 -- each transaction is valid after all before it

@@ -27,11 +27,13 @@ pub struct SeqPool {
 }
 
 impl Model for SeqPool {
-    ghost use Rattle.mp_seqpool.specs.Order.{Pool, coded_pool};
+    ghost use Rattle.std.specs.Coded.{codes};
+    ghost use Rattle.std.specs.FinMap as finite;
+    ghost use Rattle.mp_seqpool.specs.Order.{Pool};
 
     ghost Value = { Pool };
 
-    ghost coded = { coded_pool };
+    ghost coded = { Prim.hlevel (codes, finite.code) };
 
     ghost use Rattle.mp_seqpool.specs.Held.{state, IsCounted};
 

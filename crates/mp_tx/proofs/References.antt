@@ -1,5 +1,5 @@
 -- The order of references, and their equality.
-use Rattle.std.proofs.Common.{◌≡◌, ℕ, List, Bool, true, ◌&&◌, ◌==◌, nat_eq, refl, sym, ap, ◌∙◌}
+use Rattle.std.proofs.Common.{◌≡◌, ℕ, List, true, ◌&&◌, ◌==◌, nat_eq, refl, sym, ap, ◌∙◌}
 use Rattle.std.specs.Ordering.{eq_by_cmp, is_eq, nat_cmp, ordering_then}
 use Rattle.std.specs.Cmp.{IsTotalOrder, tied_itself, unsigned_ties, then_total, on_total, nat_cmp_total}
 use Rattle.std.specs.FinMap.{get, from_entries, get-from_entries}

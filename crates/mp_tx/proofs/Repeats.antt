@@ -1,7 +1,7 @@
 -- References that stand twice.
-use Rattle.std.proofs.Common.{◌≡◌, ◌≢◌, ℕ, suc, ◌+◌, ◌<◌, ◌≤◌, List, [], ◌∷◌, ◌++◌, length, get_or, take, sym, ap, subst, ◌∙◌, arith, add-one, refl}
+use Rattle.std.proofs.Common.{◌≡◌, ◌≢◌, ℕ, ◌+◌, ◌<◌, ◌≤◌, List, [], ◌∷◌, ◌++◌, length, get_or, take, sym, ap, subst, ◌∙◌, add-one, refl}
 use Rattle.std.proofs.Common.{Bor}
-use Rattle.std.specs.Prelude.{Contains, Option, Bool, is_some, option_copied, Some, None}
+use Rattle.std.specs.Prelude.{Contains, Option, is_some, option_copied, Some, None}
 use Rattle.std.specs.List.{take-map}
 use Rattle.std.proofs.lemmas.List.{get_or-map, get_or_default, length-map, take_all}
 use Rattle.std.proofs.lemmas.List.Quantifiers.{all_pairs_push}

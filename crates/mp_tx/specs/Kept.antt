@@ -1,5 +1,5 @@
 -- What a transaction keeps beside its parts.
-use Rattle.std.specs.Prelude.{◌≡◌, ℕ, List}
+use Rattle.std.specs.Prelude.{◌≡◌}
 use Rattle.mp_tx.specs.declared.tx.Tx.TheInside.{Inside}
 use Rattle.mp_tx.specs.Transaction.{Transaction, IsTransaction, id_of, size_of}
 

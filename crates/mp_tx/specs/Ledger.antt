@@ -1,6 +1,5 @@
--- A ledger state: the tick, how many bytes a block may have, and the outputs that are there to be spent
--- (the UTxO map of the EUTXO model of Chakravarty et al.).
-use Rattle.std.specs.Prelude.{◌≡◌, ℕ, ◌<◌, ◌≤◌, ◌^◌, List, map, length, take, Contains, HoldsAt, AllPairs, ◌≢◌}
+-- Ledger states.
+use Rattle.std.specs.Prelude.{ℕ, ◌<◌, ◌≤◌, ◌^◌, List, map, length, take, Contains, HoldsAt, AllPairs, ◌≢◌}
 use Rattle.std.specs.FinMap.{FinMap}
 use Rattle.std.specs.FinMap as finite
 use Rattle.mp_tx.specs.declared.reference.OutRef.{OutRef}
@@ -12,8 +11,11 @@ abbrev pub Utxo : Type 0
 Utxo = FinMap ref_cmp Paid
 
 pub record LedgerState : Type 0 where
+  -- the time, in ticks
   pub tick : ℕ
+  -- how many bytes a block may have
   pub block_bytes : ℕ
+  -- the outputs that are there to be spent (the UTxO map of the EUTXO model of Chakravarty et al.)
   pub utxo : Utxo
 
 -- from 1 to 2^39
@@ -30,8 +32,11 @@ AreDistinct rs = AllPairs (λ a b. a ≢ b) rs
 
 -- the first place whose reference stood before
 pub record IsFirstRepeat (rs : List OutRef) (place : ℕ) : Type 0 where
+  -- a reference stands at the place
   pub within : place < length rs
+  -- it stood before
   pub again : HoldsAt (Contains (take place rs)) rs place
+  -- no earlier one did
   pub before : AreDistinct (take place rs)
 
 abbrev pub ledger_of : ℕ → ℕ → List (OutRef × Paid) → LedgerState

@@ -3,7 +3,6 @@ pub mod Plain
 pub mod Output
 pub mod Transaction
 pub mod Ledger
-pub mod Codes
 pub mod Held
 pub mod Lookup
 pub mod LedgerFault

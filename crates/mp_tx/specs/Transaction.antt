@@ -1,5 +1,5 @@
 -- A transaction, its bytes, its id and its size, and which parts may stand in one.
-use Rattle.std.specs.Prelude.{◌≡◌, ℕ, ◌-◌, ◌^◌, ◌≤◌, List, [], ◌∷◌, ◌++◌, length, replicate, flat_map}
+use Rattle.std.specs.Prelude.{ℕ, ◌-◌, ◌^◌, ◌≤◌, List, [], ◌∷◌, ◌++◌, length, replicate, flat_map}
 use Rattle.std.specs.Int.{w16, w64, to_be_bytes}
 use Rattle.sha2.specs.Sha256.{sha256}
 use Rattle.mp_tx.specs.declared.input.Input.{Input}
@@ -7,9 +7,10 @@ use Rattle.mp_tx.specs.Reference.{RiseBy}
 use Rattle.mp_tx.specs.Plain.{script_bytes, data_bytes}
 use Rattle.mp_tx.specs.Output.{Paid}
 
--- what it spends, in rising order, and what it pays
 pub record Transaction : Type 0 where
+  -- what it spends, in rising order
   pub inputs : List Input
+  -- what it pays
   pub outputs : List Paid
 
 -- Format 1. Numbers are big-endian.

@@ -1,5 +1,5 @@
 -- Which fault parts have.
-use Rattle.std.specs.Prelude.{◌≡◌, ℕ}
+use Rattle.std.specs.Prelude.{ℕ}
 use Rattle.mp_tx.specs.declared.fault.TxFault.{TxFault}
 use Rattle.mp_tx.specs.declared.fault.TxFault.TheVariants.{NoMemory, NotRising, TooLarge}
 use Rattle.mp_tx.specs.declared.tx.TxParts.{TxParts}

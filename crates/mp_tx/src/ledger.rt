@@ -28,12 +28,13 @@ pub struct Ledger {
 }
 
 impl Model for Ledger {
+    ghost use Rattle.std.specs.Coded.{codes};
+    ghost use Rattle.std.specs.FinMap as finite;
     ghost use Rattle.mp_tx.specs.Ledger.{LedgerState};
-    ghost use Rattle.mp_tx.specs.Codes.{coded_state};
 
     ghost Value = { LedgerState };
 
-    ghost coded = { coded_state };
+    ghost coded = { Prim.hlevel (codes, finite.code) };
 
     ghost use Rattle.mp_tx.specs.Ledger.{HasBlockBytes};
     ghost use Rattle.mp_tx.specs.Held.{state};

@@ -1,4 +1,3 @@
-use Rattle.std.proofs.Common.{sym, ◌∙◌}
 use Rattle.mp_tx.proofs.Repeats.{repeats, one_more, all_seen}
 use Rattle.mp_tx.proofs.ledger.first_repeat.Goals as goal
 
