@@ -69,6 +69,9 @@ below_next a b le = omega arith
 itself : (a : ℕ) → a ≤ a
 itself a = omega arith
 
+over_zero : (a : ℕ) → 0 < a + 1
+over_zero a = omega arith
+
 higher : (a b : ℕ) → a ≤ b → a ≤ b + 1
 higher a b le = omega arith
 
@@ -82,6 +85,8 @@ lawful-accepted p t r law h =
           (Chain-append (get p.ledger.utxo) (transactions p.items) t law.chained (valid (unspent p) t is.1));
       rising = subst IsStrictlyIncreasing (sym (map-append (λ (i : ℕ × Transaction). i.0) p.items ((p.last + 1, t) ∷ [])))
           (rising-append (tickets p.items) (p.last + 1) law.rising (λ k d lt. below_next _ p.last (law.given k d lt)));
+      above_zero = subst (All (λ k. 0 < k)) (sym (map-append (λ (i : ℕ × Transaction). i.0) p.items ((p.last + 1, t) ∷ [])))
+          (All-push (λ k. 0 < k) (tickets p.items) (p.last + 1) law.above_zero (over_zero p.last));
       given = subst (All (λ k. k ≤ p.last + 1)) (sym (map-append (λ (i : ℕ × Transaction). i.0) p.items ((p.last + 1, t) ∷ [])))
           (All-push (λ k. k ≤ p.last + 1) (tickets p.items) (p.last + 1) (λ k d lt. higher _ p.last (law.given k d lt)) (itself (p.last + 1)));
       distinct = subst (AllPairs (λ a b. a ≢ b)) (sym ids)
@@ -159,7 +164,7 @@ obeys p os law = record {
 }
 
 pub lawful-opening : (limit last : ℕ) (ledger : LedgerState) → IsLawful (opening limit last ledger)
-lawful-opening limit last ledger = record { chained = tt; rising = λ k lt. absurd (omega arith); given = λ k d lt. absurd (omega arith); distinct = λ i j d ij lt. absurd (omega arith) }
+lawful-opening limit last ledger = record { chained = tt; rising = λ k lt. absurd (omega arith); above_zero = λ k d lt. absurd (omega arith); given = λ k d lt. absurd (omega arith); distinct = λ i j d ij lt. absurd (omega arith) }
 
 -- a refusal that doesn't want memory is the slow pool's
 pub told : (p : Pool) (o : Order) (f : Refusal) → IsRefused p o f → f ≢ refusals.NoMemory → answer p o ≡ Err f

@@ -1,5 +1,5 @@
 -- What holds of every state of a pool, and of the states of one history.
-use Rattle.std.specs.Prelude.{◌≡◌, ◌≢◌, ℕ, ◌+◌, ◌≤◌, List, map, take, All, AllPairs, Contains, Ok}
+use Rattle.std.specs.Prelude.{◌≡◌, ◌≢◌, ℕ, ◌+◌, ◌<◌, ◌≤◌, List, map, take, All, AllPairs, Contains, Ok}
 use Rattle.std.specs.List.Sorted.{IsStrictlyIncreasing}
 use Rattle.std.specs.FinMap.{get}
 use Rattle.mp_tx.specs.Transaction.{id_of}
@@ -14,6 +14,8 @@ pub record IsLawful (p : Pool) : Type 0 where
   pub chained : Chain (get p.ledger.utxo) (transactions p.items)
   -- tickets rise
   pub rising : IsStrictlyIncreasing (tickets p.items)
+  -- no ticket is 0
+  pub above_zero : All (λ k. 0 < k) (tickets p.items)
   -- no ticket is above the last one
   pub given : All (λ k. k ≤ p.last) (tickets p.items)
   -- ids differ
