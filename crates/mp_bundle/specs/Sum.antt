@@ -1,9 +1,8 @@
 -- Sums of bundles, token by token.
-use Rattle.std.specs.Prelude.{◌≡◌, ◌≢◌, ℕ, ◌+◌, ℤ, pos, ◌+ℤ◌, List, [], ◌∷◌, length, refl}
+use Rattle.std.specs.Prelude.{◌≡◌, ◌≢◌, ℕ, ◌+◌, ℤ, pos, ◌+ℤ◌, List, [], ◌∷◌, length}
 use Rattle.std.specs.Option.{unwrap_or}
 use Rattle.std.specs.FinMap.{FinMap, get}
 use Rattle.std.specs.FinMap as finite
-use Rattle.std.specs.Coded.{Coded, code_by, coded×, coded_ℕ, coded_ℤ, coded_list}
 use Rattle.std.specs.declared.cmp.Ordering.TheVariants.{Less}
 use Rattle.mp_bundle.specs.declared.token.Token.{Token}
 use Rattle.mp_bundle.specs.Token.{token, token_cmp}
@@ -13,12 +12,6 @@ use Rattle.mp_bundle.specs.Bundle.{Entry, quantity_of}
 pub record Summed : Type 0 where
   pub added : ℕ
   pub nonzero : FinMap token_cmp ℤ
-
-abbrev pub coded_token : Coded Token
-coded_token = code_by (List ℕ × List ℕ) (coded× (coded_list coded_ℕ) (coded_list coded_ℕ)) (λ t. (t.policy, t.name)) (λ p. token p.0 p.1) (λ _. refl)
-
-abbrev pub coded_sum : Coded Summed
-coded_sum = code_by (ℕ × FinMap token_cmp ℤ) (coded× coded_ℕ (finite.code coded_token coded_ℤ)) (λ s. (s.added, s.nonzero)) (λ p. record { added = p.0; nonzero = p.1 }) (λ _. refl)
 
 -- the sum of no bundle
 abbrev pub nothing : Summed

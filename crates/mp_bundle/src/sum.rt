@@ -20,11 +20,13 @@ pub struct Sum {
 }
 
 impl Model for Sum {
-    ghost use Rattle.mp_bundle.specs.Sum.{Summed, coded_sum};
+    ghost use Rattle.std.specs.Coded.{codes};
+    ghost use Rattle.std.specs.FinMap as finite;
+    ghost use Rattle.mp_bundle.specs.Sum.{Summed};
 
     ghost Value = { Summed };
 
-    ghost coded = { coded_sum };
+    ghost coded = { Prim.hlevel (codes, finite.code) };
 
     ghost use Rattle.mp_bundle.specs.Kept.{summed, IsKept};
 
