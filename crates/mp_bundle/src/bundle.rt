@@ -1,6 +1,6 @@
 //! Bundles.
 
-use crate::entry::{Entry, Given, first_fault, kept, quantity_at};
+use crate::entry::{Entry, Given, first_fault, quantity_at, to_entries};
 use crate::fault::BundleFault;
 use crate::token::{PolicyId, Token};
 use mp_memory::Memory;
@@ -54,7 +54,7 @@ impl Bundle {
             return Err(fault);
         }
         Ok(Bundle {
-            entries: kept(memory, &entries)?,
+            entries: to_entries(memory, &entries)?,
         })
     }
 

@@ -10,7 +10,7 @@ ghost use Rattle.mp_bundle.specs.Fault.{token_of, entry_of, entries_of, follows,
 
 use crate::fault::BundleFault;
 use crate::token::{PolicyId, Token};
-use crate::token_name::{MOST_NAME_BYTES, TokenName};
+use crate::token_name::{MAX_NAME_BYTES, TokenName};
 use mp_memory::{Memory, NoMemory};
 
 /// A token and its quantity.
@@ -52,7 +52,7 @@ fn fault_at(before: Option<&Given>, entry: &Given) -> Option<BundleFault>
     if entry.2 == 0 {
         return Some(BundleFault::ZeroQuantity);
     }
-    if entry.1.len() > MOST_NAME_BYTES {
+    if entry.1.len() > MAX_NAME_BYTES {
         return Some(BundleFault::NameTooLong);
     }
     if is_least(entry.2) {
@@ -77,7 +77,7 @@ pub fn first_fault(given: &[Given]) -> Option<BundleFault>
 }
 
 /// The entries, in one growth of just their number.
-pub fn kept(memory: Memory, given: &[Given]) -> Result<Vec<Entry, Memory>, NoMemory>
+pub fn to_entries(memory: Memory, given: &[Given]) -> Result<Vec<Entry, Memory>, NoMemory>
     requires { All (λ g. length g.1.items ≤ 32) given.now }
     ensures { IfOk result (λ entries. entries.items ≡ entries_of given.now) }
 {

@@ -2,7 +2,7 @@
 
 ghost use Rattle.std.specs.Prelude.{◌≡◌, nat_le, length, if◌then◌else◌};
 
-use crate::token_name::{MOST_NAME_BYTES, TokenName};
+use crate::token_name::{MAX_NAME_BYTES, TokenName};
 
 /// The id of the policy under which a token is forged.
 pub type PolicyId = [u8; 32];
@@ -21,7 +21,7 @@ impl Token {
     pub fn of(policy: &PolicyId, name: &[u8]) -> Option<Token>
         ensures { result ≡ (if nat_le (length name.now) 32 then Some (token policy.now name.now) else None) }
     {
-        if name.len() > MOST_NAME_BYTES {
+        if name.len() > MAX_NAME_BYTES {
             return None;
         }
         Some(Token {

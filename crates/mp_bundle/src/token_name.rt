@@ -10,7 +10,7 @@ use std::cmp::Ordering;
 use std::marker::Model;
 
 /// The most bytes that a name may have.
-pub const MOST_NAME_BYTES: usize = 32;
+pub const MAX_NAME_BYTES: usize = 32;
 
 /// The name of a token under its policy: 0 to 32 bytes. Names are ordered by their bytes, a proper prefix first.
 #[derive(Clone, Copy, Debug)]

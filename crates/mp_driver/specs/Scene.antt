@@ -6,7 +6,7 @@ use Rattle.mp_tx.specs.Output.{Paid}
 use Rattle.mp_tx.specs.Transaction.{Transaction}
 use Rattle.mp_tx.specs.Ledger.{ledger_of}
 use Rattle.mp_seqpool.specs.Order.{Submit, Pool}
-use Rattle.mp_seqpool.specs.SlowPool.{opening, answer, next}
+use Rattle.mp_seqpool.specs.SlowPool.{empty_pool, answer, next}
 use Rattle.mp_text.specs.Numbers.{quantity_of}
 use Rattle.mp_text.specs.Names.{is_name}
 use Rattle.mp_text.specs.Words.{words_of, are_none_or_comment}
@@ -30,7 +30,7 @@ empty_scene = record { names = []; stage = Before [] }
 
 -- The pool opens with the first command: tick 0, 500,000 block bytes, 1,000,000 changes, last ticket 0.
 abbrev pub pool_at : Stage → Pool
-pool_at (Before outputs) = opening 1000000 0 (ledger_of 0 500000 outputs)
+pool_at (Before outputs) = empty_pool 1000000 0 (ledger_of 0 500000 outputs)
 pool_at (Open p) = p
 
 abbrev pub opened : Scene → Scene

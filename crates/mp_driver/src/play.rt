@@ -6,12 +6,12 @@ ghost use Rattle.mp_driver.specs.Ending.{Ended};
 use crate::fault::{Fault, LineFault};
 use crate::scene::Scene;
 use mp_memory::Memory;
-use mp_text::{InputFault, MOST_BYTES, first_line, read_all, write_all};
+use mp_text::{InputFault, MAX_BYTES, first_line, read_all, write_all};
 use std::io::{Read, Write};
 
 // Does the lines of a text in order, writing each line's answer.
 fn answer_lines<W: Write>(memory: Memory, text: &[u8], writer: &mut W) -> Result<(), Fault>
-    requires { length text.now ≤ MOST_BYTES }
+    requires { length text.now ≤ MAX_BYTES }
     ensures { Ended text.now (W.contents writer.old) (W.contents writer.new) result }
 {
     let mut scene = Scene::new(memory);

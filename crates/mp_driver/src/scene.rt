@@ -34,7 +34,7 @@ const CONFIG: Config = Config {
     last: 0,
 };
 
-const MOST_OUTPUTS: usize = 1 << 16;
+const MAX_OUTPUTS: usize = 1 << 16;
 
 /// What a line writes: nothing, or one line of text.
 pub type Text = Vec<u8, Memory>;
@@ -187,7 +187,7 @@ impl Scene {
         match &mut self.stage {
             Stage::Open(_) => Err(LineFault::Bad),
             Stage::Before(openings) => {
-                if openings.len() >= MOST_OUTPUTS {
+                if openings.len() >= MAX_OUTPUTS {
                     return Err(LineFault::Bad);
                 }
                 let Some(output) = output_of(word) else {

@@ -12,7 +12,7 @@ use Rattle.mp_seqpool.specs.Order.{Order, Pool}
 use Rattle.mp_seqpool.specs.SlowPool.{answer, next}
 use Rattle.mp_history.specs.Done.{Done}
 use Rattle.mp_history.specs.Log.{IsRight, IsLegal, pool_of, last_of}
-use Rattle.mp_history.specs.World.{Version, World, Event, Take, Commit, Answer, Show, ShowRefused, Release, Read, Learn, first_version, opens, present, is_holder, has_lock, put, holding, entered, committed, answered, shown, comes, happens, run, entry_of, enters, commits}
+use Rattle.mp_history.specs.World.{Version, World, Event, Take, Commit, Answer, Show, ShowRefused, Release, Read, Learn, first_version, opens, present, is_holder, has_lock, put, holding, entered, committed, answered, shown, adopt, step, run, entry_of, enters, commits}
 use Rattle.mp_history.specs.CoreLaw.{IsTrueVersion}
 use Rattle.mp_history.proofs.Logs.{pool_of-append, legal-append, last_of-own, last_of-other}
 
@@ -132,28 +132,28 @@ sound-shown : (callers : ℕ) (p : Pool) (w : World) (o : Option Version) → If
 sound-shown callers p w None true_one s = s
 sound-shown callers p w (Some v) true_one s = record { locked = s.locked; legal = s.legal; held = s.held; waiting = tt; board = push-All (IsTrueVersion p w.log) w.board v s.board true_one; ever = s.ever; last = s.last }
 
-sound-comes : (callers : ℕ) (p : Pool) (w : World) (caller : ℕ) (o : Option Version) → IfSome o (IsTrueVersion p w.log) → IsSound callers p w → IsSound callers p (comes w caller o)
-sound-comes callers p w caller None true_one s = s
-sound-comes callers p w caller (Some v) true_one s = kept_if (IsSound callers p) (nat_lt (w.held caller).number v.number) (holding w caller v) w (λ _. sound-holding callers p w caller v s true_one) s
+sound-adopt : (callers : ℕ) (p : Pool) (w : World) (caller : ℕ) (o : Option Version) → IfSome o (IsTrueVersion p w.log) → IsSound callers p w → IsSound callers p (adopt w caller o)
+sound-adopt callers p w caller None true_one s = s
+sound-adopt callers p w caller (Some v) true_one s = kept_if (IsSound callers p) (nat_lt (w.held caller).number v.number) (holding w caller v) w (λ _. sound-holding callers p w caller v s true_one) s
 
 sound-holder : (callers : ℕ) (p : Pool) (w : World) (h : Option ℕ) → IsSound callers p w → IsSound callers p (record w { holder = h })
 sound-holder callers p w h s = record { locked = s.locked; legal = s.legal; held = s.held; waiting = s.waiting; board = s.board; ever = s.ever; last = s.last }
 
-pub sound-happens : (callers : ℕ) (p : Pool) (w : World) (e : Event) → IsSound callers p w → IsSound callers p (happens callers w e)
-sound-happens callers p w (Take caller) s = kept_if (IsSound callers p) (nat_lt caller callers && is_none w.holder) (record w { holder = Some caller }) w (λ _. sound-holder callers p w (Some caller) s) s
-sound-happens callers p w (Commit caller order) s =
+pub sound-step : (callers : ℕ) (p : Pool) (w : World) (e : Event) → IsSound callers p w → IsSound callers p (step callers w e)
+sound-step callers p w (Take caller) s = kept_if (IsSound callers p) (nat_lt caller callers && is_none w.holder) (record w { holder = Some caller }) w (λ _. sound-holder callers p w (Some caller) s) s
+sound-step callers p w (Commit caller order) s =
     kept_if (IsSound callers p) (has_lock callers w caller) (committed w caller order (answer w.locked order)) w
     (λ e. sound-committed callers p w caller order (answer w.locked order) (ltb-true caller callers (both (nat_lt caller callers) (is_holder w.holder caller) e).0) refl s) s
-sound-happens callers p w (Answer caller order) s = kept_if (IsSound callers p) (has_lock callers w caller) (answered w caller (answer w.locked order)) w (λ _. sound-answered callers p w caller (answer w.locked order) s) s
-sound-happens callers p w (Show caller) s = kept_if (IsSound callers p) (has_lock callers w caller) (shown w w.waiting) w (λ _. sound-shown callers p w w.waiting s.waiting s) s
-sound-happens callers p w (ShowRefused caller) s = s
-sound-happens callers p w (Release caller) s = kept_if (IsSound callers p) (has_lock callers w caller) (record w { holder = None }) w (λ _. sound-holder callers p w None s) s
-sound-happens callers p w (Read caller which) s = kept_if (IsSound callers p) (nat_lt caller callers) (comes w caller (slice_get w.board which)) w (λ _. sound-comes callers p w caller (slice_get w.board which) (one (IsTrueVersion p w.log) w.board which s.board) s) s
-sound-happens callers p w (Learn caller which) s = kept_if (IsSound callers p) (nat_lt caller callers) (comes w caller (slice_get w.ever which)) w (λ _. sound-comes callers p w caller (slice_get w.ever which) (one (IsTrueVersion p w.log) w.ever which s.ever) s) s
+sound-step callers p w (Answer caller order) s = kept_if (IsSound callers p) (has_lock callers w caller) (answered w caller (answer w.locked order)) w (λ _. sound-answered callers p w caller (answer w.locked order) s) s
+sound-step callers p w (Show caller) s = kept_if (IsSound callers p) (has_lock callers w caller) (shown w w.waiting) w (λ _. sound-shown callers p w w.waiting s.waiting s) s
+sound-step callers p w (ShowRefused caller) s = s
+sound-step callers p w (Release caller) s = kept_if (IsSound callers p) (has_lock callers w caller) (record w { holder = None }) w (λ _. sound-holder callers p w None s) s
+sound-step callers p w (Read caller which) s = kept_if (IsSound callers p) (nat_lt caller callers) (adopt w caller (slice_get w.board which)) w (λ _. sound-adopt callers p w caller (slice_get w.board which) (one (IsTrueVersion p w.log) w.board which s.board) s) s
+sound-step callers p w (Learn caller which) s = kept_if (IsSound callers p) (nat_lt caller callers) (adopt w caller (slice_get w.ever which)) w (λ _. sound-adopt callers p w caller (slice_get w.ever which) (one (IsTrueVersion p w.log) w.ever which s.ever) s) s
 
 pub sound-run : (callers : ℕ) (p : Pool) (w : World) (es : List Event) → IsSound callers p w → IsSound callers p (run callers w es)
 sound-run callers p w [] s = s
-sound-run callers p w (e ∷ es) s = sound-run callers p (happens callers w e) es (sound-happens callers p w e s)
+sound-run callers p w (e ∷ es) s = sound-run callers p (step callers w e) es (sound-step callers p w e s)
 
 -- What an event enters goes last into the log.
 
@@ -177,26 +177,26 @@ log_if : (b : Bool) (v w : World) (ds : List Done) → v.log ≡ w.log ++ ds →
 log_if true v w ds e = e
 log_if false v w ds e = sym (append-nil w.log)
 
-log-comes : (w : World) (caller : ℕ) (o : Option Version) → (comes w caller o).log ≡ w.log
-log-comes w caller None = refl
-log-comes w caller (Some v) = kept_if (λ (u : World). u.log ≡ w.log) (nat_lt (w.held caller).number v.number) (holding w caller v) w (λ _. refl) refl
+log-adopt : (w : World) (caller : ℕ) (o : Option Version) → (adopt w caller o).log ≡ w.log
+log-adopt w caller None = refl
+log-adopt w caller (Some v) = kept_if (λ (u : World). u.log ≡ w.log) (nat_lt (w.held caller).number v.number) (holding w caller v) w (λ _. refl) refl
 
-pub log-happens : (callers : ℕ) (w : World) (e : Event) → (happens callers w e).log ≡ w.log ++ enters callers w e
-log-happens callers w (Take caller) = log_same (nat_lt caller callers && is_none w.holder) (record w { holder = Some caller }) w refl
-log-happens callers w (Commit caller order) = log_if (has_lock callers w caller) (committed w caller order (answer w.locked order)) w (entry_of caller order (answer w.locked order)) (log-committed w caller order (answer w.locked order))
-log-happens callers w (Answer caller order) = log_same (has_lock callers w caller) (answered w caller (answer w.locked order)) w (log-answered w caller (answer w.locked order))
-log-happens callers w (Show caller) = log_same (has_lock callers w caller) (shown w w.waiting) w (log-shown w w.waiting)
-log-happens callers w (ShowRefused caller) = sym (append-nil w.log)
-log-happens callers w (Release caller) = log_same (has_lock callers w caller) (record w { holder = None }) w refl
-log-happens callers w (Read caller which) = log_same (nat_lt caller callers) (comes w caller (slice_get w.board which)) w (log-comes w caller (slice_get w.board which))
-log-happens callers w (Learn caller which) = log_same (nat_lt caller callers) (comes w caller (slice_get w.ever which)) w (log-comes w caller (slice_get w.ever which))
+pub log-step : (callers : ℕ) (w : World) (e : Event) → (step callers w e).log ≡ w.log ++ enters callers w e
+log-step callers w (Take caller) = log_same (nat_lt caller callers && is_none w.holder) (record w { holder = Some caller }) w refl
+log-step callers w (Commit caller order) = log_if (has_lock callers w caller) (committed w caller order (answer w.locked order)) w (entry_of caller order (answer w.locked order)) (log-committed w caller order (answer w.locked order))
+log-step callers w (Answer caller order) = log_same (has_lock callers w caller) (answered w caller (answer w.locked order)) w (log-answered w caller (answer w.locked order))
+log-step callers w (Show caller) = log_same (has_lock callers w caller) (shown w w.waiting) w (log-shown w w.waiting)
+log-step callers w (ShowRefused caller) = sym (append-nil w.log)
+log-step callers w (Release caller) = log_same (has_lock callers w caller) (record w { holder = None }) w refl
+log-step callers w (Read caller which) = log_same (nat_lt caller callers) (adopt w caller (slice_get w.board which)) w (log-adopt w caller (slice_get w.board which))
+log-step callers w (Learn caller which) = log_same (nat_lt caller callers) (adopt w caller (slice_get w.ever which)) w (log-adopt w caller (slice_get w.ever which))
 
 pub log-run : (callers : ℕ) (w : World) (es : List Event) → (run callers w es).log ≡ w.log ++ commits callers w es
 log-run callers w [] = sym (append-nil w.log)
 log-run callers w (e ∷ es) =
-    log-run callers (happens callers w e) es
-    ∙ ap (λ l. l ++ commits callers (happens callers w e) es) (log-happens callers w e)
-    ∙ append_assoc w.log (enters callers w e) (commits callers (happens callers w e) es)
+    log-run callers (step callers w e) es
+    ∙ ap (λ l. l ++ commits callers (step callers w e) es) (log-step callers w e)
+    ∙ append_assoc w.log (enters callers w e) (commits callers (step callers w e) es)
 
 -- The number of a version that is held never shrinks.
 
@@ -223,24 +223,24 @@ later-shown w (Some v) = λ c. itself (w.held c).number
 below : (a b : ℕ) → a < b → a ≤ b
 below a b lt = omega arith
 
-later-comes : (w : World) (caller : ℕ) (o : Option Version) → IsLater w (comes w caller o)
-later-comes w caller None = λ c. itself (w.held c).number
-later-comes w caller (Some v) =
+later-adopt : (w : World) (caller : ℕ) (o : Option Version) → IsLater w (adopt w caller o)
+later-adopt w caller None = λ c. itself (w.held c).number
+later-adopt w caller (Some v) =
     kept_if (IsLater w) (nat_lt (w.held caller).number v.number) (holding w caller v) w
     (λ e. later-put w caller v (below (w.held caller).number v.number (ltb-true (w.held caller).number v.number e))) (λ c. itself (w.held c).number)
 
 later-if : (b : Bool) (v w : World) → IsLater w v → IsLater w (cond b v w)
 later-if b v w is = kept_if (IsLater w) b v w (λ _. is) (λ c. itself (w.held c).number)
 
-later-happens : (callers : ℕ) (p : Pool) (w : World) (e : Event) → IsSound callers p w → IsLater w (happens callers w e)
-later-happens callers p w (Take caller) s = later-if (nat_lt caller callers && is_none w.holder) (record w { holder = Some caller }) w (λ c. itself (w.held c).number)
-later-happens callers p w (Commit caller order) s = later-if (has_lock callers w caller) (committed w caller order (answer w.locked order)) w (later-committed callers p w caller order (answer w.locked order) s)
-later-happens callers p w (Answer caller order) s = later-if (has_lock callers w caller) (answered w caller (answer w.locked order)) w (later-answered callers p w caller (answer w.locked order) s)
-later-happens callers p w (Show caller) s = later-if (has_lock callers w caller) (shown w w.waiting) w (later-shown w w.waiting)
-later-happens callers p w (ShowRefused caller) s = λ c. itself (w.held c).number
-later-happens callers p w (Release caller) s = later-if (has_lock callers w caller) (record w { holder = None }) w (λ c. itself (w.held c).number)
-later-happens callers p w (Read caller which) s = later-if (nat_lt caller callers) (comes w caller (slice_get w.board which)) w (later-comes w caller (slice_get w.board which))
-later-happens callers p w (Learn caller which) s = later-if (nat_lt caller callers) (comes w caller (slice_get w.ever which)) w (later-comes w caller (slice_get w.ever which))
+later-step : (callers : ℕ) (p : Pool) (w : World) (e : Event) → IsSound callers p w → IsLater w (step callers w e)
+later-step callers p w (Take caller) s = later-if (nat_lt caller callers && is_none w.holder) (record w { holder = Some caller }) w (λ c. itself (w.held c).number)
+later-step callers p w (Commit caller order) s = later-if (has_lock callers w caller) (committed w caller order (answer w.locked order)) w (later-committed callers p w caller order (answer w.locked order) s)
+later-step callers p w (Answer caller order) s = later-if (has_lock callers w caller) (answered w caller (answer w.locked order)) w (later-answered callers p w caller (answer w.locked order) s)
+later-step callers p w (Show caller) s = later-if (has_lock callers w caller) (shown w w.waiting) w (later-shown w w.waiting)
+later-step callers p w (ShowRefused caller) s = λ c. itself (w.held c).number
+later-step callers p w (Release caller) s = later-if (has_lock callers w caller) (record w { holder = None }) w (λ c. itself (w.held c).number)
+later-step callers p w (Read caller which) s = later-if (nat_lt caller callers) (adopt w caller (slice_get w.board which)) w (later-adopt w caller (slice_get w.board which))
+later-step callers p w (Learn caller which) s = later-if (nat_lt caller callers) (adopt w caller (slice_get w.ever which)) w (later-adopt w caller (slice_get w.ever which))
 
 chain : (a b c : ℕ) → a ≤ b → b ≤ c → a ≤ c
 chain a b c x y = omega arith
@@ -248,8 +248,8 @@ chain a b c x y = omega arith
 pub later-run : (callers : ℕ) (p : Pool) (w : World) (es : List Event) → IsSound callers p w → IsLater w (run callers w es)
 later-run callers p w [] s c = itself (w.held c).number
 later-run callers p w (e ∷ es) s c =
-    chain (w.held c).number ((happens callers w e).held c).number ((run callers w (e ∷ es)).held c).number
-    (later-happens callers p w e s c) (later-run callers p (happens callers w e) es (sound-happens callers p w e s) c)
+    chain (w.held c).number ((step callers w e).held c).number ((run callers w (e ∷ es)).held c).number
+    (later-step callers p w e s c) (later-run callers p (step callers w e) es (sound-step callers p w e s) c)
 
 -- The version that a caller holds has all of the caller's own entries.
 
@@ -273,9 +273,9 @@ last-shown : (w : World) (o : Option Version) → (shown w o).last ≡ w.last
 last-shown w None = refl
 last-shown w (Some v) = refl
 
-last-comes : (w : World) (caller : ℕ) (o : Option Version) → (comes w caller o).last ≡ w.last
-last-comes w caller None = refl
-last-comes w caller (Some v) = kept_if (λ (u : World). u.last ≡ w.last) (nat_lt (w.held caller).number v.number) (holding w caller v) w (λ _. refl) refl
+last-adopt : (w : World) (caller : ℕ) (o : Option Version) → (adopt w caller o).last ≡ w.last
+last-adopt w caller None = refl
+last-adopt w caller (Some v) = kept_if (λ (u : World). u.last ≡ w.last) (nat_lt (w.held caller).number v.number) (holding w caller v) w (λ _. refl) refl
 
 last-if : (b : Bool) (v w : World) → v.last ≡ w.last → (cond b v w).last ≡ w.last
 last-if true v w e = e
@@ -296,16 +296,16 @@ own-committed callers p w caller order (Ok reply) c s own =
     }
 own-committed callers p w caller order (Err refusal) c s own = own
 
-own-happens : (callers : ℕ) (p : Pool) (w : World) (e : Event) (c : ℕ) → IsSound callers p w → HasOwn w c → HasOwn (happens callers w e) c
-own-happens callers p w (Take caller) c s own = own-later w (happens callers w (Take caller)) c own (later-happens callers p w (Take caller) s c) (ap (λ (f : ℕ → Option ℕ). f c) (last-if (nat_lt caller callers && is_none w.holder) (record w { holder = Some caller }) w refl))
-own-happens callers p w (Commit caller order) c s own = kept_if (λ u. HasOwn u c) (has_lock callers w caller) (committed w caller order (answer w.locked order)) w (λ _. own-committed callers p w caller order (answer w.locked order) c s own) own
-own-happens callers p w (Answer caller order) c s own = own-later w (happens callers w (Answer caller order)) c own (later-happens callers p w (Answer caller order) s c) (ap (λ (f : ℕ → Option ℕ). f c) (last-if (has_lock callers w caller) (answered w caller (answer w.locked order)) w (last-answered w caller (answer w.locked order))))
-own-happens callers p w (Show caller) c s own = own-later w (happens callers w (Show caller)) c own (later-happens callers p w (Show caller) s c) (ap (λ (f : ℕ → Option ℕ). f c) (last-if (has_lock callers w caller) (shown w w.waiting) w (last-shown w w.waiting)))
-own-happens callers p w (ShowRefused caller) c s own = own
-own-happens callers p w (Release caller) c s own = own-later w (happens callers w (Release caller)) c own (later-happens callers p w (Release caller) s c) (ap (λ (f : ℕ → Option ℕ). f c) (last-if (has_lock callers w caller) (record w { holder = None }) w refl))
-own-happens callers p w (Read caller which) c s own = own-later w (happens callers w (Read caller which)) c own (later-happens callers p w (Read caller which) s c) (ap (λ (f : ℕ → Option ℕ). f c) (last-if (nat_lt caller callers) (comes w caller (slice_get w.board which)) w (last-comes w caller (slice_get w.board which))))
-own-happens callers p w (Learn caller which) c s own = own-later w (happens callers w (Learn caller which)) c own (later-happens callers p w (Learn caller which) s c) (ap (λ (f : ℕ → Option ℕ). f c) (last-if (nat_lt caller callers) (comes w caller (slice_get w.ever which)) w (last-comes w caller (slice_get w.ever which))))
+own-step : (callers : ℕ) (p : Pool) (w : World) (e : Event) (c : ℕ) → IsSound callers p w → HasOwn w c → HasOwn (step callers w e) c
+own-step callers p w (Take caller) c s own = own-later w (step callers w (Take caller)) c own (later-step callers p w (Take caller) s c) (ap (λ (f : ℕ → Option ℕ). f c) (last-if (nat_lt caller callers && is_none w.holder) (record w { holder = Some caller }) w refl))
+own-step callers p w (Commit caller order) c s own = kept_if (λ u. HasOwn u c) (has_lock callers w caller) (committed w caller order (answer w.locked order)) w (λ _. own-committed callers p w caller order (answer w.locked order) c s own) own
+own-step callers p w (Answer caller order) c s own = own-later w (step callers w (Answer caller order)) c own (later-step callers p w (Answer caller order) s c) (ap (λ (f : ℕ → Option ℕ). f c) (last-if (has_lock callers w caller) (answered w caller (answer w.locked order)) w (last-answered w caller (answer w.locked order))))
+own-step callers p w (Show caller) c s own = own-later w (step callers w (Show caller)) c own (later-step callers p w (Show caller) s c) (ap (λ (f : ℕ → Option ℕ). f c) (last-if (has_lock callers w caller) (shown w w.waiting) w (last-shown w w.waiting)))
+own-step callers p w (ShowRefused caller) c s own = own
+own-step callers p w (Release caller) c s own = own-later w (step callers w (Release caller)) c own (later-step callers p w (Release caller) s c) (ap (λ (f : ℕ → Option ℕ). f c) (last-if (has_lock callers w caller) (record w { holder = None }) w refl))
+own-step callers p w (Read caller which) c s own = own-later w (step callers w (Read caller which)) c own (later-step callers p w (Read caller which) s c) (ap (λ (f : ℕ → Option ℕ). f c) (last-if (nat_lt caller callers) (adopt w caller (slice_get w.board which)) w (last-adopt w caller (slice_get w.board which))))
+own-step callers p w (Learn caller which) c s own = own-later w (step callers w (Learn caller which)) c own (later-step callers p w (Learn caller which) s c) (ap (λ (f : ℕ → Option ℕ). f c) (last-if (nat_lt caller callers) (adopt w caller (slice_get w.ever which)) w (last-adopt w caller (slice_get w.ever which))))
 
 pub own-run : (callers : ℕ) (p : Pool) (w : World) (es : List Event) (c : ℕ) → IsSound callers p w → HasOwn w c → HasOwn (run callers w es) c
 own-run callers p w [] c s own = own
-own-run callers p w (e ∷ es) c s own = own-run callers p (happens callers w e) es c (sound-happens callers p w e s) (own-happens callers p w e c s own)
+own-run callers p w (e ∷ es) c s own = own-run callers p (step callers w e) es c (sound-step callers p w e s) (own-step callers p w e c s own)

@@ -7,7 +7,7 @@ use Rattle.mp_seqpool.specs.SlowPool.{answer}
 use Rattle.mp_seqpool.specs.PoolLaws.{ObeysLaws}
 use Rattle.mp_history.specs.Done.{Done}
 use Rattle.mp_history.specs.Log.{IsLegal, orders, pool_of, last_of}
-use Rattle.mp_history.specs.World.{Version, World, Event, Commit, Answer, opens, happens, run, commits}
+use Rattle.mp_history.specs.World.{Version, World, Event, Commit, Answer, opens, step, run, commits}
 
 -- the version numbered n is the state after the first n entries
 pub record IsTrueVersion (p : Pool) (log : List Done) (v : Version) : Type 0 where
@@ -67,7 +67,7 @@ pub record CoreLaw (callers : ℕ) (p : Pool) (es : List Event) (w : World) : Ty
   pub later : (further : List Event) → (run callers w further).log ≡ w.log ++ commits callers w further
   -- what a commit does that comes next
   pub commit : (caller : ℕ) (order : Order) (reply : Reply) → HasLock callers w caller → answer w.locked order ≡ Ok reply →
-      IsCommit p w (happens callers w (Commit caller order)) caller order reply
+      IsCommit p w (step callers w (Commit caller order)) caller order reply
   -- what an answer does that comes next
   pub answer_told : (caller : ℕ) (order : Order) (refusal : Refusal) → HasLock callers w caller → answer w.locked order ≡ Err refusal →
-      IsAnswer p w (happens callers w (Answer caller order)) caller order refusal
+      IsAnswer p w (step callers w (Answer caller order)) caller order refusal

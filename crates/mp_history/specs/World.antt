@@ -113,25 +113,25 @@ shown w None = w
 shown w (Some v) = record w { board = w.board ++ v ∷ []; waiting = None }
 
 -- a version comes to a caller, which holds it where it is later than its own
-abbrev pub comes : World → ℕ → Option Version → World
-comes w caller None = w
-comes w caller (Some v) = if nat_lt (w.held caller).number v.number then holding w caller v else w
+abbrev pub adopt : World → ℕ → Option Version → World
+adopt w caller None = w
+adopt w caller (Some v) = if nat_lt (w.held caller).number v.number then holding w caller v else w
 
 -- The world after an event. One that isn't permitted changes nothing.
-abbrev pub happens : ℕ → World → Event → World
-happens callers w (Take caller) = if nat_lt caller callers && is_none w.holder then record w { holder = Some caller } else w
-happens callers w (Commit caller order) = if has_lock callers w caller then committed w caller order (answer w.locked order) else w
-happens callers w (Answer caller order) = if has_lock callers w caller then answered w caller (answer w.locked order) else w
-happens callers w (Show caller) = if has_lock callers w caller then shown w w.waiting else w
-happens callers w (ShowRefused caller) = w
-happens callers w (Release caller) = if has_lock callers w caller then record w { holder = None } else w
-happens callers w (Read caller which) = if nat_lt caller callers then comes w caller (slice_get w.board which) else w
-happens callers w (Learn caller which) = if nat_lt caller callers then comes w caller (slice_get w.ever which) else w
+abbrev pub step : ℕ → World → Event → World
+step callers w (Take caller) = if nat_lt caller callers && is_none w.holder then record w { holder = Some caller } else w
+step callers w (Commit caller order) = if has_lock callers w caller then committed w caller order (answer w.locked order) else w
+step callers w (Answer caller order) = if has_lock callers w caller then answered w caller (answer w.locked order) else w
+step callers w (Show caller) = if has_lock callers w caller then shown w w.waiting else w
+step callers w (ShowRefused caller) = w
+step callers w (Release caller) = if has_lock callers w caller then record w { holder = None } else w
+step callers w (Read caller which) = if nat_lt caller callers then adopt w caller (slice_get w.board which) else w
+step callers w (Learn caller which) = if nat_lt caller callers then adopt w caller (slice_get w.ever which) else w
 
 -- after all events, in order
 abbrev pub run : ℕ → World → List Event → World
 run callers w [] = w
-run callers w (e ∷ es) = run callers (happens callers w e) es
+run callers w (e ∷ es) = run callers (step callers w e) es
 
 -- the entry of a commit
 abbrev pub entry_of : ℕ → Order → Result Reply Refusal → List Done
@@ -146,4 +146,4 @@ enters callers w _ = []
 -- the entries of all commits that are permitted, in order
 abbrev pub commits : ℕ → World → List Event → List Done
 commits callers w [] = []
-commits callers w (e ∷ es) = enters callers w e ++ commits callers (happens callers w e) es
+commits callers w (e ∷ es) = enters callers w e ++ commits callers (step callers w e) es

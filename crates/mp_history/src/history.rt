@@ -1,7 +1,8 @@
 //! Whether a history is legal.
 
 ghost use Rattle.std.specs.Prelude.{◌≡◌, ◌≢◌, IfOk, OnOk, IfErr};
-ghost use Rattle.mp_seqpool.specs.SlowPool.{opening, next};
+ghost use Rattle.mp_seqpool.specs.Config.{fresh_pool};
+ghost use Rattle.mp_seqpool.specs.SlowPool.{next};
 ghost use Rattle.mp_history.specs.Log.{IsRight, IsLegal, pool_of};
 ghost use Rattle.mp_history.specs.Faults.{IsFaultAt, IsFirstFault, IsIllegal};
 ghost use Rattle.mp_history.specs.declared.fault.AuditFault.TheVariants as faults;
@@ -21,7 +22,7 @@ fn replay(pool: &mut SeqPool, callers: u32, place: usize, entry: &Entry) -> Resu
     if entry.caller >= callers {
         return Err(AuditFault::StrangeCaller(place));
     }
-    match pool.apply(&entry.command) {
+    match pool.execute(&entry.command) {
         Ok(reply) => {
             if reply == entry.reply {
                 Ok(())
@@ -46,10 +47,11 @@ pub fn audit(
     callers: u32,
     entries: &[Entry],
 ) -> Result<SeqPool, AuditFault>
-    ensures legal { OnOk result (IsLegal callers (opening config.limit config.last ledger.now) entries.now) }
-    ensures pool { IfOk result (λ pool. pool ≡ pool_of (opening config.limit config.last ledger.now) entries.now) }
-    ensures fault { IfErr result (IsFirstFault callers (opening config.limit config.last ledger.now) entries.now) }
-    ensures illegal { IfErr result (λ fault. fault ≢ faults.NoMemory → IsIllegal callers (opening config.limit config.last ledger.now) entries.now) }
+    ensures legal { OnOk result (IsLegal callers (fresh_pool config ledger.now) entries.now) }
+    ensures pool { IfOk result (λ pool. pool ≡ pool_of (fresh_pool config ledger.now) entries.now) }
+    ensures fault { IfErr result (IsFirstFault callers (fresh_pool config ledger.now) entries.now) }
+    ensures illegal { IfErr result (λ fault. fault ≢ faults.NoMemory
+        → IsIllegal callers (fresh_pool config ledger.now) entries.now) }
 {
     let mut pool = SeqPool::start(memory, config, ledger)?;
     for (place, entry) in entries.iter().enumerate() {

@@ -4,9 +4,9 @@
 mod entry;
 mod fault;
 mod history;
-mod shared;
+mod laws;
 
 pub use entry::Entry;
 pub use fault::AuditFault;
 pub use history::audit;
-pub use shared::interleavings;
+pub use laws::interleavings;

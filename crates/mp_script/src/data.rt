@@ -7,7 +7,7 @@ ghost use Rattle.mp_script.specs.DataReading.{datum_of};
 use crate::fault::DataFault;
 use crate::hash::{Hash, digest};
 use crate::part::Part;
-use crate::walk::{MOST_DEPTH, datum_end};
+use crate::walk::{MAX_DEPTH, datum_end};
 use mp_memory::Memory;
 use std::marker::Model;
 
@@ -35,7 +35,7 @@ fn check(bytes: &[u8]) -> Result<(), DataFault>
     ensures ok { OnOk result (IsDatum bytes.now) }
     ensures err { IfErr result (λ e. datum_of bytes.now ≡ Err e) }
 {
-    if datum_end(bytes, MOST_DEPTH)?.is_empty() {
+    if datum_end(bytes, MAX_DEPTH)?.is_empty() {
         Ok(())
     } else {
         Err(DataFault::Trailing)

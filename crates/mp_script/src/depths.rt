@@ -10,12 +10,12 @@ use crate::operator::{Operator, operator_at};
 use crate::stack::Stack;
 
 /// The most operators of a script.
-pub const MOST_OPERATORS: usize = 1024;
+pub const MAX_OPERATORS: usize = 1024;
 
 /// The greatest depth of a script.
-pub const MOST_DEPTH: u8 = 64;
+pub const MAX_DEPTH: u8 = 64;
 
-type Depths = Stack<u8, MOST_OPERATORS>;
+type Depths = Stack<u8, MAX_OPERATORS>;
 
 fn operand(depths: &mut Depths) -> Result<u8, ScriptFault>
     ensures ok { IfOk result (λ d. depths.old ≡ d ∷ depths.new) }
@@ -54,7 +54,7 @@ fn build(depths: &mut Depths, operator: &Operator) -> Result<(), ScriptFault>
     ensures few { OnOk result (length depths.new ≤ length depths.old + 1) }
 {
     let deepest = deepest_operand(depths, operator)?;
-    if deepest >= MOST_DEPTH {
+    if deepest >= MAX_DEPTH {
         return Err(ScriptFault::TooDeep);
     }
     depths.push(deepest + 1);
@@ -67,7 +67,7 @@ pub fn check_depths(bytes: &[u8]) -> Result<(), ScriptFault>
     ensures err { IfErr result (λ e. reads put_depth 1024 [] bytes.now ≡ Err e) }
 {
     let mut depths = Stack::new();
-    let mut room = MOST_OPERATORS;
+    let mut room = MAX_OPERATORS;
     let mut rest = bytes;
     while !rest.is_empty() {
         let (operator, after) = operator_at(rest)?;

@@ -24,9 +24,9 @@ use crate::value::Value;
 use crate::view::View;
 
 // No script has more operands waiting: at each of 64 depths two stand before a third.
-const MOST_WAITING: usize = 128;
+const MAX_WAITING: usize = 128;
 
-type Values<'a> = Stack<Value<'a>, MOST_WAITING>;
+type Values<'a> = Stack<Value<'a>, MAX_WAITING>;
 
 fn of_one<'a>(operator: Unary, a: Value<'a>, view: &View<'a>) -> Value<'a>
     ensures { val_of result ≡ of_one operator (sight_of view.now) (val_of a.entry) }
@@ -57,7 +57,7 @@ fn of_two<'a>(operator: Binary, a: Value<'a>, b: Value<'a>, view: &View<'a>) -> 
         Binary::Item => tree::item(a, b),
         Binary::OwnQuantity => token::own(a, b, view.own_value),
         Binary::Spent => token::spent(a, b, view.spent),
-        Binary::Forged => token::held(a, b, view.forge),
+        Binary::Forged => token::bundle_quantity(a, b, view.forge),
     }
 }
 

@@ -17,7 +17,7 @@ pub const OCTETS: u8 = 2;
 pub const LIST: u8 = 3;
 
 /// The greatest depth of a datum.
-pub const MOST_DEPTH: u8 = 16;
+pub const MAX_DEPTH: u8 = 16;
 
 #[tactic(auto, unfolding(crate::specs::DataReading::number_read))]
 fn number_end(bytes: &[u8]) -> Result<&[u8], DataFault>

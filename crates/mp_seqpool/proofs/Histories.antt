@@ -19,7 +19,7 @@ use Rattle.mp_seqpool.specs.Validity.{IsValid, Chain, first_fault}
 use Rattle.mp_seqpool.specs.Order.{Order, Submit, Pool, transactions, tickets}
 use Rattle.mp_tx.specs.Ledger.{LedgerState}
 use Rattle.mp_seqpool.specs.Commands.{IsRefused}
-use Rattle.mp_seqpool.specs.SlowPool.{opening, unspent, ticket_of, answer_rules, answer_new, answer, accepted, next, pool_after}
+use Rattle.mp_seqpool.specs.SlowPool.{empty_pool, unspent, ticket_of, answer_rules, answer_new, answer, pool_with, next, pool_after}
 use Rattle.mp_seqpool.specs.PoolLaws.{IsLawful, Lasts, GivesNext, ObeysLaws}
 use Rattle.mp_seqpool.proofs.Valid.{valid}
 
@@ -75,7 +75,7 @@ over_zero a = omega arith
 higher : (a b : ℕ) → a ≤ b → a ≤ b + 1
 higher a b le = omega arith
 
-lawful-accepted : (p : Pool) (t : Transaction) (r : Reply) → IsLawful p → answer p (Submit t) ≡ Ok r → IsLawful (accepted p t)
+lawful-accepted : (p : Pool) (t : Transaction) (r : Reply) → IsLawful p → answer p (Submit t) ≡ Ok r → IsLawful (pool_with p t)
 lawful-accepted p t r law h =
     let is = taken p t r h in
     let ids : map id_of (transactions (p.items ++ (p.last + 1, t) ∷ [])) ≡ map id_of (transactions p.items) ++ id_of t ∷ [] =
@@ -95,15 +95,15 @@ lawful-accepted p t r law h =
 
 -- The laws along a history.
 
-unfold_next : (p : Pool) (t : Transaction) → next p (Submit t) ≡ cond (is_ok (answer p (Submit t))) (accepted p t) p
+unfold_next : (p : Pool) (t : Transaction) → next p (Submit t) ≡ cond (is_ok (answer p (Submit t))) (pool_with p t) p
 unfolding next
 unfold_next p t = refl
 
-next_is : (p : Pool) (t : Transaction) (a : Result Reply Refusal) → answer p (Submit t) ≡ a → next p (Submit t) ≡ cond (is_ok a) (accepted p t) p
-next_is p t a e = unfold_next p t ∙ ap (λ b. cond (is_ok b) (accepted p t) p) e
+next_is : (p : Pool) (t : Transaction) (a : Result Reply Refusal) → answer p (Submit t) ≡ a → next p (Submit t) ≡ cond (is_ok a) (pool_with p t) p
+next_is p t a e = unfold_next p t ∙ ap (λ b. cond (is_ok b) (pool_with p t) p) e
 
 -- a fact of a state that refusals keep and accepted submits keep
-kept : (P : Pool → Type 0) (p : Pool) (t : Transaction) (a : Result Reply Refusal) → answer p (Submit t) ≡ a → P p → ((r : Reply) → answer p (Submit t) ≡ Ok r → P (accepted p t)) → P (next p (Submit t))
+kept : (P : Pool → Type 0) (p : Pool) (t : Transaction) (a : Result Reply Refusal) → answer p (Submit t) ≡ a → P p → ((r : Reply) → answer p (Submit t) ≡ Ok r → P (pool_with p t)) → P (next p (Submit t))
 kept P p t (Ok r) e old new = subst P (sym (next_is p t (Ok r) e)) (new r e)
 kept P p t (Err f) e old new = subst P (sym (next_is p t (Err f) e)) old
 
@@ -163,8 +163,8 @@ obeys p os law = record {
   next_ticket = λ n o. gives_next (pool_after p (take n os)) o;
 }
 
-pub lawful-opening : (limit last : ℕ) (ledger : LedgerState) → IsLawful (opening limit last ledger)
-lawful-opening limit last ledger = record { chained = tt; rising = λ k lt. absurd (omega arith); above_zero = λ k d lt. absurd (omega arith); given = λ k d lt. absurd (omega arith); distinct = λ i j d ij lt. absurd (omega arith) }
+pub lawful-empty : (limit last : ℕ) (ledger : LedgerState) → IsLawful (empty_pool limit last ledger)
+lawful-empty limit last ledger = record { chained = tt; rising = λ k lt. absurd (omega arith); above_zero = λ k d lt. absurd (omega arith); given = λ k d lt. absurd (omega arith); distinct = λ i j d ij lt. absurd (omega arith) }
 
 -- a refusal that doesn't want memory is the slow pool's
 pub told : (p : Pool) (o : Order) (f : Refusal) → IsRefused p o f → f ≢ refusals.NoMemory → answer p o ≡ Err f
@@ -180,5 +180,5 @@ pub next-refused : (p : Pool) (o : Order) (f : Refusal) → answer p o ≡ Err f
 next-refused p (Submit t) f e = next_is p t (Err f) e
 
 -- every history from an opening with no transaction
-pub obeys-opening : (limit last : ℕ) (ledger : LedgerState) (os : List Order) → ObeysLaws (opening limit last ledger) os
-obeys-opening limit last ledger os = obeys (opening limit last ledger) os (lawful-opening limit last ledger)
+pub obeys-empty : (limit last : ℕ) (ledger : LedgerState) (os : List Order) → ObeysLaws (empty_pool limit last ledger) os
+obeys-empty limit last ledger os = obeys (empty_pool limit last ledger) os (lawful-empty limit last ledger)

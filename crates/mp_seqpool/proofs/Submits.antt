@@ -8,12 +8,12 @@ use Rattle.mp_seqpool.specs.declared.item.Item.{Item}
 use Rattle.mp_seqpool.specs.declared.command.Reply.{Reply}
 use Rattle.mp_seqpool.specs.Items.{items_of}
 use Rattle.mp_seqpool.specs.Order.{Submit, Pool}
-use Rattle.mp_seqpool.specs.SlowPool.{answer, accepted, next}
+use Rattle.mp_seqpool.specs.SlowPool.{answer, pool_with, next}
 
 -- where a submit is accepted, the state after it has the transaction last
-pub next-accepted : (p : Pool) (t : Transaction) (r : Reply) → answer p (Submit t) ≡ Ok r → next p (Submit t) ≡ accepted p t
+pub next-accepted : (p : Pool) (t : Transaction) (r : Reply) → answer p (Submit t) ≡ Ok r → next p (Submit t) ≡ pool_with p t
 unfolding next
-next-accepted p t r e = ap (λ a. cond (is_ok a) (accepted p t) p) e
+next-accepted p t r e = ap (λ a. cond (is_ok a) (pool_with p t) p) e
 
 -- one more item is one more transaction under its ticket
 pub items_of-push : (items pushed : List Item) (ticket : ℕ) (t : Transaction) (item : Item) → pushed ≡ items ++ item ∷ [] → item.ticket ≡ ticket → arc_value item.tx ≡ t → items_of pushed ≡ items_of items ++ (ticket, t) ∷ []

@@ -12,7 +12,7 @@ state p = record {
   last = p.last;
   changes = p.changes;
   limit = p.config.limit;
-  opening = p.config.last;
+  opening_ticket = p.config.last;
 }
 
 -- What is counted along the way is right, and tickets are what a ticket may be.

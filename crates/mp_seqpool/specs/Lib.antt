@@ -7,3 +7,4 @@ pub mod Items
 pub mod Held
 pub mod Commands
 pub mod Numbers
+pub mod Config

@@ -20,7 +20,7 @@ pub record Pool : Type 0 where
   -- how many changes there may be
   pub limit : ℕ
   -- the last ticket at the opening
-  pub opening : ℕ
+  pub opening_ticket : ℕ
 
 abbrev pub transactions : List (ℕ × Transaction) → List Transaction
 transactions items = map (λ i. i.1) items

@@ -48,12 +48,12 @@ answer p (Submit t) =
     else answer_new p t (ticket_of (id_of t) p.items)
 
 -- the transaction last, under the next ticket
-abbrev pub accepted : Pool → Transaction → Pool
-accepted p t = record p { items = p.items ++ (p.last + 1, t) ∷ []; last = p.last + 1; changes = p.changes + 1 }
+abbrev pub pool_with : Pool → Transaction → Pool
+pool_with p t = record p { items = p.items ++ (p.last + 1, t) ∷ []; last = p.last + 1; changes = p.changes + 1 }
 
 -- the state after a command: a refusal changes nothing
 unfoldable pub next : Pool → Order → Pool
-next p (Submit t) = if is_ok (answer p (Submit t)) then accepted p t else p
+next p (Submit t) = if is_ok (answer p (Submit t)) then pool_with p t else p
 
 -- the pool can count one more transaction
 pub record HasRoom (p : Pool) (t : Transaction) : Type 0 where
@@ -70,8 +70,8 @@ refused_with (Ok reply) = None
 refused_with (Err refusal) = Some refusal
 
 -- a pool with no transaction
-abbrev pub opening : ℕ → ℕ → LedgerState → Pool
-opening limit last ledger = record { ledger = ledger; items = []; last = last; changes = 0; limit = limit; opening = last }
+abbrev pub empty_pool : ℕ → ℕ → LedgerState → Pool
+empty_pool limit last ledger = record { ledger = ledger; items = []; last = last; changes = 0; limit = limit; opening_ticket = last }
 
 -- the answers to commands in order, and the state after them
 abbrev pub answers : Pool → List Order → List (Result Reply Refusal)

@@ -59,13 +59,14 @@ impl SeqPool {
     ghost use Rattle.std.specs.Arc.{arc_value};
     ghost use Rattle.mp_seqpool.specs.Items.{items_of};
     ghost use Rattle.mp_seqpool.specs.Order.{Submit};
-    ghost use Rattle.mp_seqpool.specs.SlowPool.{opening, answer, next, refused_with, bytes_held, HasRoom};
+    ghost use Rattle.mp_seqpool.specs.Config.{fresh_pool};
+    ghost use Rattle.mp_seqpool.specs.SlowPool.{answer, next, refused_with, bytes_held, HasRoom};
     ghost use Rattle.mp_seqpool.specs.Commands.{order_of, IsRefused};
     ghost use Rattle.mp_seqpool.specs.declared.command.Reply.TheVariants.{Accepted};
 
     /// A pool with no transaction upon the ledger state.
     pub fn start(memory: Memory, config: Config, ledger: &Ledger) -> Result<SeqPool, NoMemory>
-        ensures { IfOk result (λ pool. pool ≡ opening config.limit config.last ledger.now) }
+        ensures { IfOk result (λ pool. pool ≡ fresh_pool config ledger.now) }
     {
         Ok(SeqPool {
             config,
@@ -124,7 +125,7 @@ impl SeqPool {
     }
 
     /// Does what the command asks, as the call of its kind does.
-    pub fn apply(&mut self, command: &Command) -> Result<Reply, Refusal>
+    pub fn execute(&mut self, command: &Command) -> Result<Reply, Refusal>
         ensures ok { IfOk result (λ reply. answer self.old (order_of command.now) ≡ Ok reply) }
         ensures next { OnOk result (self.new ≡ next self.old (order_of command.now)) }
         ensures refused { IfErr result (IsRefused self.old (order_of command.now)) }
@@ -175,7 +176,7 @@ impl SeqPool {
     /// How the pool was set up.
     pub fn config(&self) -> Config
         ensures limit { result.limit ≡ self.now.limit }
-        ensures last { result.last ≡ self.now.opening }
+        ensures last { result.last ≡ self.now.opening_ticket }
     {
         self.config
     }

@@ -1,7 +1,8 @@
 //! A pool over a whole list of commands.
 
 ghost use Rattle.std.specs.Prelude.{◌≡◌, IfOk, OnOk, length};
-ghost use Rattle.mp_seqpool.specs.SlowPool.{opening, answer, next, answers, pool_after};
+ghost use Rattle.mp_seqpool.specs.Config.{fresh_pool};
+ghost use Rattle.mp_seqpool.specs.SlowPool.{answer, next, answers, pool_after};
 ghost use Rattle.mp_seqpool.specs.Commands.{order_of, orders_of};
 ghost use Rattle.mp_seqpool.specs.PoolLaws.{ObeysLaws};
 
@@ -20,7 +21,7 @@ fn step(pool: &mut SeqPool, command: &Command) -> Result<Answer, NoMemory>
     ensures answer { IfOk result (λ a. a ≡ answer pool.old (order_of command.now)) }
     ensures next { OnOk result (pool.new ≡ next pool.old (order_of command.now)) }
 {
-    match pool.apply(command) {
+    match pool.execute(command) {
         Ok(reply) => Ok(Ok(reply)),
         Err(refusal) => match refusal {
             Refusal::NoMemory => Err(NoMemory),
@@ -40,9 +41,11 @@ pub fn play(
     told: &mut [Answer],
 ) -> Result<SeqPool, NoMemory>
     requires { length told.old ≡ length commands.now }
-    ensures answers { OnOk result (told.new ≡ answers (opening config.limit config.last ledger.now) (orders_of commands.now)) }
-    ensures pool { IfOk result (λ pool. pool ≡ pool_after (opening config.limit config.last ledger.now) (orders_of commands.now)) }
-    ensures laws { ObeysLaws (opening config.limit config.last ledger.now) (orders_of commands.now) }
+    ensures answers { OnOk result
+        (told.new ≡ answers (fresh_pool config ledger.now) (orders_of commands.now)) }
+    ensures pool { IfOk result
+        (λ pool. pool ≡ pool_after (fresh_pool config ledger.now) (orders_of commands.now)) }
+    ensures laws { ObeysLaws (fresh_pool config ledger.now) (orders_of commands.now) }
 {
     let mut pool = SeqPool::start(memory, config, ledger)?;
     for place in 0..commands.len() {

@@ -50,14 +50,14 @@ fn submit_under(
 }
 
 // Does the same by a command.
-fn apply_under(
+fn execute_under(
     memory: Memory,
     nth: u64,
     pool: &mut SeqPool,
     command: &Command,
 ) -> (Option<u64>, bool, Counts) {
     memory.refuse(nth);
-    let ticket = ticket_of(pool.apply(command));
+    let ticket = ticket_of(pool.execute(command));
     (ticket, memory.waits(), counts(pool))
 }
 
@@ -99,8 +99,8 @@ fn a_command_takes_the_growth_of_its_submit(rt: HostRuntime) -> Result<(), Fail>
     let ledger = ledger(memory, 1, 500_000)?;
     let commands = [Command::Submit(transaction(memory, &[opening(0)], &[100])?)];
     let mut pool = SeqPool::start(memory, CONFIG, &ledger)?;
-    let refused = apply_under(memory, 1, &mut pool, &commands[0]);
-    let applied = apply_under(memory, 2, &mut pool, &commands[0]);
+    let refused = execute_under(memory, 1, &mut pool, &commands[0]);
+    let applied = execute_under(memory, 2, &mut pool, &commands[0]);
     let unplayed = play_under(memory, 1, &ledger, &commands);
     let played = play_under(memory, 2, &ledger, &commands);
     assert_eq!(rt; refused, (Some(0), false, NEW));

@@ -9,5 +9,5 @@ mod writer;
 
 pub use reader::FailingReader;
 pub use samples::{ledger, opening, output_of, parts, transaction};
-pub use trial::{MOST_GROWTHS, Refusals, TrialFault, Trialled, under_each_refusal};
+pub use trial::{MAX_GROWTHS, Refusals, TrialFault, Trialled, under_each_refusal};
 pub use writer::FailingWriter;

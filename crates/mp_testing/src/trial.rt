@@ -28,7 +28,7 @@ impl<B: Allocator> Refusals for Metered<B> {
 }
 
 /// A trial gives up on a call that makes as many growths, since it makes more than half their square.
-pub const MOST_GROWTHS: u64 = 10_000;
+pub const MAX_GROWTHS: u64 = 10_000;
 
 /// What a trial came to where the call stood each refusal.
 #[derive(Debug, PartialEq, Eq, Drop)]
@@ -54,7 +54,7 @@ pub enum TrialFault {
     Differs(u64),
     #[error("the call answers otherwise on another new value")]
     Unsteady,
-    #[error("the call makes {MOST_GROWTHS} growths or more")]
+    #[error("the call makes {MAX_GROWTHS} growths or more")]
     Endless,
 }
 
@@ -196,13 +196,13 @@ where
     requires calls { C.IsAlwaysCallable call.now }
     requires tells { N.IsAlwaysCallable is_no_memory.now }
     requires compares { U.IsAlwaysCallable is_unchanged.now }
-    ensures counted { IfOk result (λ growths. growths < MOST_GROWTHS) }
+    ensures counted { IfOk result (λ growths. growths < MAX_GROWTHS) }
     ensures not_made { IsErrOf result TrialFault.NotMade → M.post make.now None }
     ensures no_more_asked { IsErrOf result TrialFault.Unasked → ⊥ }
     ensures swallowed { (nth : ℕ) → result ≡ Err (TrialFault.Swallowed nth) → (answer : A) × MayAnswer M.Fn C.FnOnce make.now call.now answer × FnReturnsAt N.Fn is_no_memory.now answer false }
     ensures changed { (nth : ℕ) → result ≡ Err (TrialFault.Changed nth) → MayChange M.Fn C.FnOnce N.Fn U.Fn make.now call.now is_no_memory.now is_unchanged.now }
 {
-    for growths in 0..MOST_GROWTHS {
+    for growths in 0..MAX_GROWTHS {
         if !stands(
             memory,
             growths + 1,
@@ -243,7 +243,7 @@ where
     requires compares { U.IsAlwaysCallable is_unchanged }
     ensures called { IfOk result (λ done. MayAnswer M.Fn C.FnOnce make call done.answer) }
     ensures told { IfOk result (λ done. FnReturnsAt N.Fn is_no_memory done.answer false) }
-    ensures counted { IfOk result (λ done. done.growths < MOST_GROWTHS) }
+    ensures counted { IfOk result (λ done. done.growths < MAX_GROWTHS) }
     ensures not_made { IsErrOf result TrialFault.NotMade → M.post make None }
     ensures unasked { IsErrOf result TrialFault.Unasked → (answer : A) × MayAnswer M.Fn C.FnOnce make call answer × FnReturnsAt N.Fn is_no_memory answer true }
     ensures swallowed { (nth : ℕ) → result ≡ Err (TrialFault.Swallowed nth) → (answer : A) × MayAnswer M.Fn C.FnOnce make call answer × FnReturnsAt N.Fn is_no_memory answer false }

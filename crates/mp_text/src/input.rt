@@ -10,10 +10,10 @@ use std::io::Read;
 use thiserror::Error;
 
 /// The most bytes of an input.
-pub const MOST_BYTES: usize = 1 << 24;
+pub const MAX_BYTES: usize = 1 << 24;
 
 /// The most reads of an input, the one that finds its end included. Each other read gives a byte at least.
-pub const MOST_READS: u64 = 1 << 25;
+pub const MAX_READS: u64 = 1 << 25;
 
 const CHUNK_BYTES: usize = 4096;
 
@@ -46,12 +46,12 @@ fn read_once<R: Read>(reader: &mut R, chunk: &mut [u8]) -> Result<usize, InputFa
 }
 
 fn append(text: &mut Vec<u8, Memory>, bytes: &[u8]) -> Result<(), InputFault>
-    requires { vec_len text.old ≤ MOST_BYTES }
+    requires { vec_len text.old ≤ MAX_BYTES }
     ensures bytes { OnOk result (text.new.items ≡ text.old.items ++ bytes.now) }
-    ensures most { OnOk result (vec_len text.new ≤ MOST_BYTES) }
-    ensures over { IsErrOf result InputFault.Read ↔ (MOST_BYTES < vec_len text.old + length bytes.now) }
+    ensures most { OnOk result (vec_len text.new ≤ MAX_BYTES) }
+    ensures over { IsErrOf result InputFault.Read ↔ (MAX_BYTES < vec_len text.old + length bytes.now) }
 {
-    if bytes.len() > MOST_BYTES - text.len() {
+    if bytes.len() > MAX_BYTES - text.len() {
         return Err(InputFault::Read);
     }
     text.extend_from_slice(bytes)?;
@@ -65,12 +65,12 @@ fn append(text: &mut Vec<u8, Memory>, bytes: &[u8]) -> Result<(), InputFault>
 /// place of each answer. After an `Err` nothing is said of the reader.
 pub fn read_all<R: Read>(memory: Memory, reader: &mut R) -> Result<Vec<u8, Memory>, InputFault>
     ensures bytes { IfOk result (λ text. IfSome (R.remaining reader.old) (λ bytes. text.items ≡ bytes)) }
-    ensures most { IfOk result (λ text. vec_len text ≤ MOST_BYTES) }
+    ensures most { IfOk result (λ text. vec_len text ≤ MAX_BYTES) }
     ensures end { OnOk result (IsAtEnd (R.remaining reader.new)) }
 {
     let mut text = Vec::new(memory);
     let mut chunk = [0; CHUNK_BYTES];
-    for _ in 0..MOST_READS {
+    for _ in 0..MAX_READS {
         let count = read_once(reader, &mut chunk)?;
         if count == 0 {
             return Ok(text);

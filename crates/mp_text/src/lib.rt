@@ -9,8 +9,8 @@ mod output;
 mod scan;
 mod words;
 
-pub use input::{InputFault, MOST_BYTES, MOST_READS, read_all};
-pub use lines::{MOST_LINE_BYTES, first_line, is_clean};
+pub use input::{InputFault, MAX_BYTES, MAX_READS, read_all};
+pub use lines::{MAX_LINE_BYTES, first_line, is_clean};
 pub use names::is_name;
 pub use numbers::{number, quantity};
 pub use output::{WriteFault, write_all};

@@ -9,7 +9,7 @@ use crate::scan::length_before;
 const LINE_FEED: u8 = b'\n';
 
 /// The most bytes that a clean line has. A line feed is no byte of its line.
-pub const MOST_LINE_BYTES: usize = 4096;
+pub const MAX_LINE_BYTES: usize = 4096;
 
 /// The first line of a text, and the text after it. A line feed ends its line and belongs to none; the last line may lack
 /// it. Nothing else ends a line. `None` says that there is no line.
@@ -40,5 +40,5 @@ pub fn is_clean(line: &[u8]) -> bool
     ensures clean { IsTrue result ↔ IsClean line.now }
     ensures test { result ≡ is_clean line.now }
 {
-    line.len() <= MOST_LINE_BYTES && are_printable(line)
+    line.len() <= MAX_LINE_BYTES && are_printable(line)
 }

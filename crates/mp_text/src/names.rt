@@ -4,7 +4,7 @@ ghost use Rattle.std.specs.Prelude.{◌≡◌, ◌↔◌, IsTrue};
 ghost use Rattle.std.specs.List.{list_all};
 ghost use Rattle.mp_text.specs.Names.{IsName, is_name, is_letter_or_digit};
 
-const MOST_NAME_BYTES: usize = 16;
+const MAX_NAME_BYTES: usize = 16;
 
 fn is_letter_or_digit(byte: u8) -> bool
     ensures { result ≡ is_letter_or_digit byte }
@@ -26,7 +26,7 @@ pub fn is_name(word: &[u8]) -> bool
     match word {
         [first, others @ ..] => {
             first.is_ascii_lowercase()
-                && word.len() <= MOST_NAME_BYTES
+                && word.len() <= MAX_NAME_BYTES
                 && are_letters_or_digits(others)
         }
         [] => false,

@@ -6,11 +6,11 @@ ghost use Rattle.std.specs.List.{list_all};
 ghost use Rattle.mp_text.specs.Numbers.{are_digits, value_of_digits, if_below, number_of, quantity_of};
 
 // The most digits of a number and of a quantity. Leading zeros count.
-const MOST_DIGITS: usize = 20;
+const MAX_DIGITS: usize = 20;
 
-const MOST_QUANTITY_DIGITS: usize = 19;
+const MAX_QUANTITY_DIGITS: usize = 19;
 
-const MOST_QUANTITY: u64 = (1 << 63) - 1;
+const MAX_QUANTITY: u64 = (1 << 63) - 1;
 
 fn are_all_digits(word: &[u8]) -> bool
     ensures { result ≡ list_all is_ascii_digit word.now }
@@ -48,7 +48,7 @@ fn value(digits: &[u8]) -> Option<u64>
 pub fn number(word: &[u8]) -> Option<u64>
     ensures { result ≡ number_of word.now }
 {
-    if !are_digits(word, MOST_DIGITS) {
+    if !are_digits(word, MAX_DIGITS) {
         return None;
     }
     value(word)
@@ -58,11 +58,11 @@ pub fn number(word: &[u8]) -> Option<u64>
 pub fn quantity(word: &[u8]) -> Option<u64>
     ensures { result ≡ quantity_of word.now }
 {
-    if !are_digits(word, MOST_QUANTITY_DIGITS) {
+    if !are_digits(word, MAX_QUANTITY_DIGITS) {
         return None;
     }
     let quantity = value(word)?;
-    if 0 < quantity && quantity <= MOST_QUANTITY {
+    if 0 < quantity && quantity <= MAX_QUANTITY {
         Some(quantity)
     } else {
         None

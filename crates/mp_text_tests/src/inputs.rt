@@ -1,7 +1,7 @@
 //! Reading all of an input.
 use mp_memory::Memory;
 use mp_testing::{FailingReader, Trialled, under_each_refusal};
-use mp_text::{InputFault, MOST_BYTES, read_all};
+use mp_text::{InputFault, MAX_BYTES, read_all};
 use std::test::Fail;
 
 // A reader of seven bytes.
@@ -70,7 +70,7 @@ fn is_read(memory: Memory, filler: usize, at_once: usize) -> Result<bool, InputF
 #[test]
 fn an_input_has_at_most_2_to_the_24_bytes(rt: HostRuntime) -> Result<(), Fail> {
     let memory = Memory::new(rt.alloc())?;
-    assert_eq!(rt; MOST_BYTES, 16_777_216);
+    assert_eq!(rt; MAX_BYTES, 16_777_216);
     assert!(rt; is_read(memory, 16_777_216, 4096) == Ok(true));
     assert!(rt; is_read(memory, 200_000, 1) == Ok(true), "one at once");
     assert!(rt; is_read(memory, 16_777_217, 4096) == Err(InputFault::Read));

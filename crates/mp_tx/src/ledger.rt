@@ -14,7 +14,7 @@ use std::marker::Model;
 use std::sync::Arc;
 
 /// The most bytes that a block may have: 2^39.
-pub const MOST_BLOCK_BYTES: u64 = 1 << 39;
+pub const MAX_BLOCK_BYTES: u64 = 1 << 39;
 
 /// An output with its reference.
 type Entry = (OutRef, Output);
@@ -102,7 +102,7 @@ impl Ledger {
         ensures distinct { OnOk result (AreDistinct (refs outputs.items)) }
         ensures fault { IfErr result (λ e. HasFault e block_bytes (refs outputs.items)) }
     {
-        if block_bytes == 0 || block_bytes > MOST_BLOCK_BYTES {
+        if block_bytes == 0 || block_bytes > MAX_BLOCK_BYTES {
             return Err(LedgerFault::BadBlockBytes);
         }
         if let Some(place) = first_repeat(&outputs) {

@@ -12,10 +12,10 @@ mod tx;
 
 pub use fault::{LedgerFault, TxFault};
 pub use input::Input;
-pub use ledger::{Ledger, MOST_BLOCK_BYTES};
+pub use ledger::{Ledger, MAX_BLOCK_BYTES};
 pub use mp_bundle::{PolicyId, TokenName};
 pub use mp_script::{Address, Hash, Key};
 pub use output::Output;
 pub use plain::{Data, Script};
 pub use reference::{OutRef, Sig, TxId};
-pub use tx::{MOST_BYTES, MOST_PARTS, Tx, TxParts};
+pub use tx::{MAX_BYTES, MAX_PARTS, Tx, TxParts};

@@ -13,10 +13,10 @@ use mp_memory::{Memory, NoMemory};
 use std::marker::Model;
 
 /// The most inputs that a transaction has, and the most outputs.
-pub const MOST_PARTS: usize = 256;
+pub const MAX_PARTS: usize = 256;
 
 /// The most bytes that a transaction has.
-pub const MOST_BYTES: usize = 16_384;
+pub const MAX_BYTES: usize = 16_384;
 
 /// What a transaction is made of. The inputs are to rise by their references; the outputs keep their order.
 #[derive(Debug, Drop)]
@@ -81,11 +81,11 @@ impl Tx {
         if !is_rising(&parts.inputs) {
             return Err(TxFault::NotRising);
         }
-        if parts.inputs.len() > MOST_PARTS || parts.outputs.len() > MOST_PARTS {
+        if parts.inputs.len() > MAX_PARTS || parts.outputs.len() > MAX_PARTS {
             return Err(TxFault::TooLarge);
         }
         let bytes = spelling::spell(memory, &parts.inputs, &parts.outputs)?;
-        if bytes.len() > MOST_BYTES {
+        if bytes.len() > MAX_BYTES {
             return Err(TxFault::TooLarge);
         }
         let id = spelling::id_of_spelling(&bytes);

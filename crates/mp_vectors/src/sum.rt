@@ -5,10 +5,10 @@ use anyhow::{Context, Result};
 use mp_bundle::{Bundle, Sum};
 use mp_memory::Memory;
 
-const MOST_ADDED: u64 = 1 << 32;
+const MAX_ADDED: u64 = 1 << 32;
 
 fn add(sum: &mut Sum, bundle: &Bundle) -> Result<()> {
-    if sum.added() < MOST_ADDED {
+    if sum.added() < MAX_ADDED {
         sum.add(bundle)?;
     }
     Ok(())

@@ -7,7 +7,7 @@ ghost use Rattle.mp_script.specs.View.{reference_of};
 ghost use Rattle.mp_script.specs.Value.{val_of, octets};
 ghost use Rattle.mp_script.specs.Meaning.{on, token_in, amount, reference_at};
 
-use super::token::held;
+use super::token::bundle_quantity;
 use crate::hash::{Address, Hash};
 use crate::value::Value;
 use crate::view::Referred;
@@ -57,7 +57,7 @@ pub fn quantity<'a>(
     ensures { val_of result ≡ on (reference_at (map reference_of references.now) (val_of at.entry)) (λ r. amount (token_in (val_of policy.entry) (val_of name.entry)) (quantity_of r.bundle)) }
 {
     match referred(at, references) {
-        Some(output) => held(policy, name, output.value),
+        Some(output) => bundle_quantity(policy, name, output.value),
         None => Value::Nothing,
     }
 }

@@ -12,7 +12,7 @@ use crate::hash::Hash;
 use crate::value::Value;
 use mp_bundle::{Bundle, PolicyId, Sum};
 
-const MOST_NAME_BYTES: usize = 32;
+const MAX_NAME_BYTES: usize = 32;
 
 /// The 32 bytes that a value is, where it is so many.
 pub fn hash_of(value: Value<'_>) -> Option<&Hash>
@@ -28,7 +28,7 @@ fn name_of(value: Value<'_>) -> Option<&[u8]>
     ensures { option_map (λ b. b.now) result ≡ name_in (val_of value.entry) }
 {
     match value {
-        Value::Octets(octets) if octets.len() <= MOST_NAME_BYTES => Some(octets),
+        Value::Octets(octets) if octets.len() <= MAX_NAME_BYTES => Some(octets),
         _ => None,
     }
 }
@@ -41,7 +41,7 @@ pub fn token_of<'a>(policy: Value<'a>, name: Value<'a>) -> Option<(&'a PolicyId,
 }
 
 /// How much of a token a bundle holds.
-pub fn held<'a>(policy: Value<'a>, name: Value<'a>, bundle: &Bundle) -> Value<'a>
+pub fn bundle_quantity<'a>(policy: Value<'a>, name: Value<'a>, bundle: &Bundle) -> Value<'a>
     ensures { val_of result ≡ amount (token_in (val_of policy.entry) (val_of name.entry)) (quantity_of bundle.now) }
 {
     match token_of(policy, name) {
@@ -55,7 +55,7 @@ pub fn own<'a>(policy: Value<'a>, name: Value<'a>, own_value: Option<&Bundle>) -
     ensures { val_of result ≡ on own_value.entry (λ bundle. amount (token_in (val_of policy.entry) (val_of name.entry)) (quantity_of bundle.now)) }
 {
     match own_value {
-        Some(bundle) => held(policy, name, bundle),
+        Some(bundle) => bundle_quantity(policy, name, bundle),
         None => Value::Nothing,
     }
 }

@@ -1,8 +1,8 @@
-use Rattle.mp_seqpool.proofs.Histories.{obeys, lawful-opening}
+use Rattle.mp_seqpool.proofs.Histories.{obeys, lawful-empty}
 use Rattle.mp_seqpool.proofs.laws.pool_laws.Goals as goal
 
 pub returns-clause-histories : goal.returns-clause-histories
 returns-clause-histories c p os law = obeys p os law
 
 pub returns-clause-openings : goal.returns-clause-openings
-returns-clause-openings c limit last ledger = lawful-opening limit last ledger
+returns-clause-openings c limit last ledger = lawful-empty limit last ledger

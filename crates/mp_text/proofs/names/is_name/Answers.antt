@@ -5,7 +5,7 @@ use Rattle.mp_text.specs.Names.{is_name}
 use Rattle.mp_text.proofs.NameTest.{name-Decides}
 use Rattle.mp_text.proofs.names.is_name.Goals as goal
 
-pub returns-then-word-le-MOST_NAME_BYTES-clause-name : goal.returns-then-word-le-MOST_NAME_BYTES-clause-name
-returns-then-word-le-MOST_NAME_BYTES-clause-name c =
+pub returns-then-word-le-MAX_NAME_BYTES-clause-name : goal.returns-then-word-le-MAX_NAME_BYTES-clause-name
+returns-then-word-le-MAX_NAME_BYTES-clause-name c =
     let test : c.are_letters_or_digits.result ≡ is_name c.args.word.now = grind (arith, common_steps) in
     Decides-at _ _ test (name-Decides c.args.word.now)

@@ -1,5 +1,5 @@
 use Rattle.mp_history.proofs.Law.{core_law}
-use Rattle.mp_history.proofs.shared.interleavings.Goals as goal
+use Rattle.mp_history.proofs.laws.interleavings.Goals as goal
 
 pub returns : goal.returns
 returns c = core_law

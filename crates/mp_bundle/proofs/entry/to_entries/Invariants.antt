@@ -1,6 +1,6 @@
 use Rattle.std.proofs.Common.{◌≡◌, take}
 use Rattle.mp_bundle.specs.Fault.{entries_of}
-use Rattle.mp_bundle.proofs.entry.kept.Given as goal
+use Rattle.mp_bundle.proofs.entry.to_entries.Given as goal
 
 abbrev pub invariant-loop-policy : goal.invariant-loop-policy
 invariant-loop-policy l = l.entries.items ≡ entries_of (take l.policy-index l.given)

@@ -1,5 +1,5 @@
 use Rattle.std.proofs.Common.{arith}
-use Rattle.mp_bundle.proofs.entry.kept.Goals as goal
+use Rattle.mp_bundle.proofs.entry.to_entries.Goals as goal
 
 pub of-requires : goal.of-requires
 of-requires c =

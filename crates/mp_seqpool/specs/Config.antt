@@ -1,0 +1,9 @@
+-- The pool that a configuration sets up.
+use Rattle.mp_tx.specs.Ledger.{LedgerState}
+use Rattle.mp_seqpool.specs.declared.config.Config.{Config}
+use Rattle.mp_seqpool.specs.Order.{Pool}
+use Rattle.mp_seqpool.specs.SlowPool.{empty_pool}
+
+-- the empty pool with the limit and the last ticket of the configuration
+abbrev pub fresh_pool : Config → LedgerState → Pool
+fresh_pool config ledger = empty_pool config.limit config.last ledger
