@@ -3,6 +3,7 @@ use mp_memory::Memory;
 use mp_tickets::{Node, TicketList, make_node};
 use std::test::Fail;
 
+/// A node that holds the item. An `Err` says that there was no memory for it.
 pub fn node_of<T: Drop>(memory: Memory, item: T) -> Result<Node<T>, Fail> {
     match make_node(memory, item) {
         Ok(node) => Ok(node),
