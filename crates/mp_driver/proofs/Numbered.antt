@@ -2,12 +2,12 @@
 use Rattle.std.proofs.Common.{◌≡◌, ℕ, ◌<◌, ◌≤◌, List, [], length, get_or, sym, ap, subst, ◌∙◌, arith, length-take-le}
 use Rattle.std.proofs.lemmas.List.{get_or-map, get_or-take, length-map}
 use Rattle.mp_tx.specs.declared.reference.OutRef.{OutRef}
-use Rattle.mp_tx.specs.Output.{Paid}
+use Rattle.mp_tx.specs.Output.{Output}
 use Rattle.mp_tx.specs.Ledger.{refs, IsFirstRepeat}
 use Rattle.mp_driver.specs.References.{opening_ref, AreNumbered}
 
-numbered-at : (es : List (OutRef × Paid)) → AreNumbered es → (k : ℕ) (e : OutRef × Paid) (d : OutRef) → k < length es → (get_or (refs es) k d).index ≡ k
-numbered-at es n k e d lt = ap (λ (r : OutRef). r.index) (get_or-map (λ (e : OutRef × Paid). e.0) es k e d lt ∙ n k e lt)
+numbered-at : (es : List (OutRef × Output)) → AreNumbered es → (k : ℕ) (e : OutRef × Output) (d : OutRef) → k < length es → (get_or (refs es) k d).index ≡ k
+numbered-at es n k e d lt = ap (λ (r : OutRef). r.index) (get_or-map (λ (e : OutRef × Output). e.0) es k e d lt ∙ n k e lt)
 
 below : (a b c : ℕ) → a < b → b < c → a < c
 below a b c p q = omega arith
@@ -18,13 +18,13 @@ weaken a b lt = omega arith
 same_not_less : (a b : ℕ) → a ≡ b → a < b → ⊥
 same_not_less a b e lt = omega arith
 
-pub no_repeat : (es : List (OutRef × Paid)) (place : ℕ) → AreNumbered es → IsFirstRepeat (refs es) place → ⊥
+pub no_repeat : (es : List (OutRef × Output)) (place : ℕ) → AreNumbered es → IsFirstRepeat (refs es) place → ⊥
 no_repeat es place n h =
     let d : OutRef = opening_ref 0 in
-    let e : OutRef × Paid = (d, record { address = []; datum_hash = []; coin = 0 }) in
+    let e : OutRef × Output = (d, record { address = []; datum_hash = []; coin = 0 }) in
     let rs : List OutRef = refs es in
     let r : OutRef = get_or rs place d in
-    let lt : place < length es = subst (λ m. place < m) (length-map es (λ (e : OutRef × Paid). e.0)) h.within in
+    let lt : place < length es = subst (λ m. place < m) (length-map es (λ (e : OutRef × Output). e.0)) h.within in
     let again = h.again d in
     let j : ℕ = again.0 in
     let j_lt : j < place = subst (λ m. j < m) (length-take-le place rs (weaken place (length rs) h.within)) again.1 in

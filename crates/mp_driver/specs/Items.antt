@@ -6,7 +6,7 @@ use Rattle.sha2.specs.Sha256.{sha256}
 use Rattle.mp_tx.specs.declared.reference.OutRef.{OutRef}
 use Rattle.mp_tx.specs.declared.input.Input.{Input}
 use Rattle.mp_tx.specs.Reference.{ref_cmp}
-use Rattle.mp_tx.specs.Output.{Paid}
+use Rattle.mp_tx.specs.Output.{Output}
 use Rattle.mp_tx.specs.Transaction.{Transaction, size_of}
 use Rattle.mp_text.specs.Numbers.{quantity_of}
 use Rattle.mp_driver.specs.Meanings.{Names}
@@ -15,10 +15,10 @@ use Rattle.mp_driver.specs.References.{ref_of, insert_ref}
 -- an input by its reference, or an output by its coin
 pub data Item : Type 0 where
   Spends : OutRef → Item
-  Pays : Paid → Item
+  Pays : Output → Item
 
 -- an output of coin with the plain script and datum
-abbrev pub plain_output : ℕ → Paid
+abbrev pub plain_output : ℕ → Output
 plain_output coin = record { address = sha256 (1 ∷ []); datum_hash = sha256 (3 ∷ 0 ∷ 0 ∷ []); coin = coin }
 
 -- in=REF or out=Q
@@ -34,7 +34,7 @@ plain_input r = record { from = r; validator = record {}; datum = record {}; red
 -- inputs are put in rising order, and outputs keep theirs
 pub record Draft : Type 0 where
   pub spent : List OutRef
-  pub paid : List Paid
+  pub paid : List Output
 
 abbrev pub with_item : Draft → Item → Draft
 with_item d (Spends r) = record d { spent = insert_ref r d.spent }

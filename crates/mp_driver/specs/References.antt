@@ -3,7 +3,7 @@ use Rattle.std.specs.Prelude.{◌≡◌, ℕ, ◌+◌, ◌^◌, ◌<◌, ◌==�
 use Rattle.std.specs.Ordering.{is_lt}
 use Rattle.mp_tx.specs.declared.reference.OutRef.{OutRef}
 use Rattle.mp_tx.specs.Reference.{ref_cmp}
-use Rattle.mp_tx.specs.Output.{Paid}
+use Rattle.mp_tx.specs.Output.{Output}
 use Rattle.mp_tx.specs.Transaction.{Transaction, id_of}
 use Rattle.mp_text.specs.Numbers.{number_of}
 use Rattle.mp_driver.specs.Meanings.{Names, meaning_of, made_of, opening_of}
@@ -35,5 +35,5 @@ insert_ref r [] = r ∷ []
 insert_ref r (q ∷ qs) = if is_lt (ref_cmp r q) then r ∷ q ∷ qs else q ∷ insert_ref r qs
 
 -- each output stands under the number of its place
-abbrev pub AreNumbered : List (OutRef × Paid) → Type 0
-AreNumbered es = (k : ℕ) (d : OutRef × Paid) → k < length es → (slice_index_or es k d).0 ≡ opening_ref k
+abbrev pub AreNumbered : List (OutRef × Output) → Type 0
+AreNumbered es = (k : ℕ) (d : OutRef × Output) → k < length es → (slice_index_or es k d).0 ≡ opening_ref k

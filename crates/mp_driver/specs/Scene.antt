@@ -2,7 +2,7 @@
 use Rattle.std.specs.Prelude.{ℕ, ◌+◌, ◌^◌, ◌&&◌, Bool, nat_eq, nat_lt, List, [], ◌∷◌, ◌++◌, length, codes, Option, None, Some, is_none, option_map, option_and_then, if◌then◌else◌}
 use Rattle.std.specs.Cmp.Lexicographic.{pointwise}
 use Rattle.mp_tx.specs.declared.reference.OutRef.{OutRef}
-use Rattle.mp_tx.specs.Output.{Paid}
+use Rattle.mp_tx.specs.Output.{Output}
 use Rattle.mp_tx.specs.Transaction.{Transaction}
 use Rattle.mp_tx.specs.Ledger.{ledger_of}
 use Rattle.mp_seqpool.specs.Order.{Submit, Pool}
@@ -18,7 +18,7 @@ use Rattle.mp_driver.specs.AnswerText.{answer_text, snapshot_text}
 
 -- the opening outputs before the first command, and the pool from it on
 pub data Stage : Type 0 where
-  Before : List (OutRef × Paid) → Stage
+  Before : List (OutRef × Output) → Stage
   Open : Pool → Stage
 
 pub record Scene : Type 0 where
@@ -48,7 +48,7 @@ abbrev pub declare : Scene → List ℕ → Meaning → Scene
 declare s name meaning = record s { names = s.names ++ (name, meaning) ∷ [] }
 
 -- out NAME Q, before the first command, at most 65,536 times
-abbrev pub with_output : Scene → List ℕ → List (OutRef × Paid) → ℕ → Scene
+abbrev pub with_output : Scene → List ℕ → List (OutRef × Output) → ℕ → Scene
 with_output s name outputs coin = record {
   names = s.names ++ (name, Opening (opening_ref (length outputs))) ∷ [];
   stage = Before (outputs ++ (opening_ref (length outputs), plain_output coin) ∷ []);

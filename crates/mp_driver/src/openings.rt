@@ -19,10 +19,10 @@ pub struct Openings {
 impl Model for Openings {
     ghost use Rattle.std.specs.Prelude.{List};
     ghost use Rattle.mp_tx.specs.declared.reference.OutRef.{OutRef};
-    ghost use Rattle.mp_tx.specs.Output.{Paid};
+    ghost use Rattle.mp_tx.specs.Output as told;
     ghost use Rattle.mp_driver.specs.References.{AreNumbered};
 
-    ghost Value = { List (OutRef × Paid) };
+    ghost Value = { List (OutRef × told.Output) };
 
     ghost view = { λ o. o.entries.items };
 

@@ -5,19 +5,19 @@ use Rattle.std.specs.Option.{option_or}
 use Rattle.std.specs.Cmp.Lexicographic.{pointwise}
 use Rattle.mp_tx.specs.declared.reference.OutRef.{OutRef}
 use Rattle.mp_tx.specs.Reference.{same_ref}
-use Rattle.mp_tx.specs.Output.{Paid}
+use Rattle.mp_tx.specs.Output.{Output}
 use Rattle.mp_tx.specs.Transaction.{Transaction, id_of}
 
 -- the outputs that may be spent, by their references
 abbrev pub Unspent : Type 0
-Unspent = OutRef → Option Paid
+Unspent = OutRef → Option Output
 
 -- an input of the transaction names the reference
 abbrev pub spends : Transaction → OutRef → Bool
 spends t r = list_any (λ i. same_ref r i.from) t.inputs
 
 -- what the transaction makes under a reference: output k stands under its id and k
-abbrev pub made : Transaction → OutRef → Option Paid
+abbrev pub made : Transaction → OutRef → Option Output
 made t r = if pointwise nat_eq r.id (id_of t) then slice_get t.outputs r.index else None
 
 -- without what the transaction spends, and with what it makes

@@ -3,7 +3,7 @@ use Rattle.std.specs.Prelude.{◌≡◌, ◌≢◌, ℕ, ◌<◌, ◌==◌, List
 use Rattle.std.specs.List.{position_from, range_with_len}
 use Rattle.std.specs.Option.{option_or, option_map_or}
 use Rattle.mp_tx.specs.declared.reference.OutRef.{OutRef}
-use Rattle.mp_tx.specs.Output.{Paid}
+use Rattle.mp_tx.specs.Output.{Output}
 use Rattle.mp_tx.specs.Transaction.{Transaction, id_of}
 use Rattle.mp_seqpool.specs.declared.invalid.Invalid.{Invalid}
 use Rattle.mp_seqpool.specs.declared.invalid.Invalid.TheVariants.{NoInputs, InputMissing, OutputTaken, Unbalanced}
@@ -14,7 +14,7 @@ abbrev pub own_ref : Transaction → ℕ → OutRef
 own_ref t k = record { id = id_of t; index = k }
 
 -- the coin of an output, and none where there is no output
-abbrev pub coin_of : Option Paid → ℕ
+abbrev pub coin_of : Option Output → ℕ
 coin_of o = option_map_or (λ p. p.coin) o 0
 
 abbrev pub spent_coin : Unspent → Transaction → ℕ

@@ -8,7 +8,7 @@ use Rattle.std.specs.declared.cmp.Ordering.{Ordering}
 use Rattle.std.specs.declared.cmp.Ordering.TheVariants.{Less, Equal, Greater}
 use Rattle.mp_tx.specs.declared.reference.OutRef.{OutRef}
 use Rattle.mp_tx.specs.Reference.{ref_cmp}
-use Rattle.mp_tx.specs.Output.{Paid}
+use Rattle.mp_tx.specs.Output.{Output}
 use Rattle.mp_tx.specs.Lookup.{found}
 use Rattle.mp_tx.specs.Ledger.{refs}
 use Rattle.std.specs.Prelude.{Decides, Contains, is_some}
@@ -34,7 +34,7 @@ pub ref_total : IsTotalOrder ref_cmp
 ref_total = then_total (on_total (λ r. r.id) nat_list_cmp_total) (on_total (λ r. r.index) nat_cmp_total)
 
 -- looking through the list answers as its map does
-pub found-get : (outputs : List (OutRef × Paid)) (r : OutRef) → found outputs r ≡ get (from_entries {R = ref_cmp} outputs) r
+pub found-get : (outputs : List (OutRef × Output)) (r : OutRef) → found outputs r ≡ get (from_entries {R = ref_cmp} outputs) r
 found-get outputs r = sym (get-from_entries ref_total outputs r)
 
 -- references that the order ties are one
@@ -50,7 +50,7 @@ tied-Decides : (r q : OutRef) → Decides (eq_by_cmp ref_cmp r q) (q ≡ r)
 tied-Decides r q = (λ e. sym (ref_exact r q (equal _ e)), λ e. ap (λ k. is_eq (ref_cmp r k)) e ∙ ap is_eq (tied_itself ref_total r))
 
 -- a reference is found exactly where it is among those of the outputs
-pub found-Decides : (outputs : List (OutRef × Paid)) (r : OutRef) → Decides (is_some (found outputs r)) (Contains (refs outputs) r)
+pub found-Decides : (outputs : List (OutRef × Output)) (r : OutRef) → Decides (is_some (found outputs r)) (Contains (refs outputs) r)
 found-Decides outputs r =
     let any = Decides-contains (refs outputs) r _ (Decides-by_or (eq_by_cmp ref_cmp r) (λ q. q ≡ r) (list_any (eq_by_cmp ref_cmp r)) (tied-Decides r) refl (λ x xs. refl) (refs outputs)) in
     (λ e. any.0 (sym (is_some-find ref_cmp r outputs) ∙ e), λ h. is_some-find ref_cmp r outputs ∙ any.1 h)

@@ -4,11 +4,11 @@ use Rattle.std.specs.FinMap.{FinMap}
 use Rattle.std.specs.FinMap as finite
 use Rattle.mp_tx.specs.declared.reference.OutRef.{OutRef}
 use Rattle.mp_tx.specs.Reference.{ref_cmp}
-use Rattle.mp_tx.specs.Output.{Paid}
+use Rattle.mp_tx.specs.Output.{Output}
 
 -- a finite map from references to outputs
 abbrev pub Utxo : Type 0
-Utxo = FinMap ref_cmp Paid
+Utxo = FinMap ref_cmp Output
 
 pub record LedgerState : Type 0 where
   -- the time, in ticks
@@ -23,7 +23,7 @@ abbrev pub HasBlockBytes : ℕ → Type 0
 HasBlockBytes n = (1 ≤ n) × (n ≤ 2 ^ 39)
 
 -- the references of outputs
-abbrev pub refs : List (OutRef × Paid) → List OutRef
+abbrev pub refs : List (OutRef × Output) → List OutRef
 refs outputs = map (λ e. e.0) outputs
 
 -- no reference stands twice
@@ -39,5 +39,5 @@ pub record IsFirstRepeat (rs : List OutRef) (place : ℕ) : Type 0 where
   -- no earlier one did
   pub before : AreDistinct (take place rs)
 
-abbrev pub ledger_of : ℕ → ℕ → List (OutRef × Paid) → LedgerState
+abbrev pub ledger_of : ℕ → ℕ → List (OutRef × Output) → LedgerState
 ledger_of tick block_bytes outputs = record { tick = tick; block_bytes = block_bytes; utxo = finite.from_entries outputs }

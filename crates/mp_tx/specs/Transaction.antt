@@ -5,13 +5,13 @@ use Rattle.sha2.specs.Sha256.{sha256}
 use Rattle.mp_tx.specs.declared.input.Input.{Input}
 use Rattle.mp_tx.specs.Reference.{RiseBy}
 use Rattle.mp_tx.specs.Plain.{script_bytes, data_bytes}
-use Rattle.mp_tx.specs.Output.{Paid}
+use Rattle.mp_tx.specs.Output.{Output}
 
 pub record Transaction : Type 0 where
   -- what it spends, in rising order
   pub inputs : List Input
   -- what it pays
-  pub outputs : List Paid
+  pub outputs : List Output
 
 -- Format 1. Numbers are big-endian.
 
@@ -30,7 +30,7 @@ input_bytes i = i.from.id ++ to_be_bytes w16 i.from.index ++ sized (script_bytes
 unfoldable pub coin_bytes : ℕ → List ℕ
 coin_bytes coin = to_be_bytes w16 1 ++ replicate 32 0 ++ 0 ∷ [] ++ to_be_bytes w64 coin
 
-unfoldable pub output_bytes : Paid → List ℕ
+unfoldable pub output_bytes : Output → List ℕ
 output_bytes o = o.address ++ o.datum_hash ++ coin_bytes o.coin
 
 -- from the first tick to the last

@@ -13,9 +13,9 @@ pub struct Output {
 }
 
 impl Model for Output {
-    ghost use Rattle.mp_tx.specs.Output.{Paid};
+    ghost use Rattle.mp_tx.specs.Output as told;
 
-    ghost Value = { Paid };
+    ghost Value = { told.Output };
 
     ghost use Rattle.mp_tx.specs.Plain.{IsPlain, paid};
 
