@@ -58,6 +58,14 @@ impl Bundle {
         })
     }
 
+    /// The bundle of entries that have no fault, as they stand. It takes no memory.
+    pub fn of_faultless(entries: Vec<Entry, Memory>) -> Bundle
+        requires { fault_of entries.items ≡ None }
+        ensures { result ≡ entries.items }
+    {
+        Bundle { entries }
+    }
+
     /// The quantity of a token, which is 0 where there is none.
     pub fn quantity(&self, policy: &PolicyId, name: &[u8]) -> i64
         ensures { result ≡ quantity_of self.now (token policy.now name.now) }

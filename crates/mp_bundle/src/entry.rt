@@ -1,6 +1,6 @@
 //! Entries of bundles, and the check of those that are given.
 
-ghost use Rattle.std.specs.Prelude.{◌≡◌, ◌≤◌, All, IsTrue, IfOk, length};
+ghost use Rattle.std.specs.Prelude.{◌≡◌, ◌≤◌, All, IsTrue, IfOk, length, is_none};
 ghost use Rattle.std.specs.Option.{option_map};
 ghost use Rattle.std.specs.FinMap.{is_sorted};
 ghost use Rattle.std.specs.Ordering.{is_lt};
@@ -59,6 +59,26 @@ fn fault_at(before: Option<&Given>, entry: &Given) -> Option<BundleFault>
         return Some(BundleFault::QuantityRange);
     }
     None
+}
+
+fn token_follows(before: Option<Token>, token: &Token) -> bool
+    ensures { result ≡ follows before token.now }
+{
+    match before {
+        None => true,
+        Some(before) => before.cmp(token).is_lt(),
+    }
+}
+
+/// Whether an entry may stand in a bundle behind one of this token, or first.
+pub fn may_follow(before: Option<Token>, entry: &Entry) -> bool
+    ensures { result ≡ is_none (entry_fault before entry.now) }
+{
+    let (token, quantity) = entry;
+    token_follows(before, token)
+        && *quantity != 0
+        && token.name.as_slice().len() <= MAX_NAME_BYTES
+        && !is_least(*quantity)
 }
 
 /// The fault of the first entry that has one.

@@ -1,2 +1,3 @@
-pub mod References
-pub mod Repeats
+pub mod Wholes
+pub mod Items
+pub mod Entries

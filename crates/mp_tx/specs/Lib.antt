@@ -1,10 +1,8 @@
 pub mod Reference
-pub mod Plain
-pub mod Output
+pub mod Rising
 pub mod Transaction
-pub mod Ledger
-pub mod Held
-pub mod Lookup
-pub mod LedgerFault
-pub mod Kept
+pub mod Spelling
+pub mod Parts
+pub mod Reading
 pub mod TxFault
+pub mod Inside

@@ -1,19 +1,13 @@
 -- References to outputs and their order.
-use Rattle.std.specs.Prelude.{◌≡◌, Bool, ◌&&◌, ◌==◌, nat_eq, List, length}
-use Rattle.std.specs.List.{AllAdjacentBelow}
+use Rattle.std.specs.Prelude.{Bool, ◌&&◌, ◌==◌, nat_eq}
 use Rattle.std.specs.Ordering.{nat_cmp, ordering_then}
 use Rattle.std.specs.Cmp.Lexicographic.{pointwise, slice_cmp}
 use Rattle.std.specs.declared.cmp.Ordering.{Ordering}
-use Rattle.std.specs.declared.cmp.Ordering.TheVariants.{Less}
 use Rattle.mp_tx.specs.declared.reference.OutRef.{OutRef}
 
 -- by transaction id, and then by index
 abbrev pub ref_cmp : OutRef → OutRef → Ordering
 ref_cmp a b = ordering_then (slice_cmp nat_cmp a.id b.id) (nat_cmp a.index b.index)
-
--- the reference of each is less than that of the next
-abbrev pub RiseBy : {X : Type 0} → (X → OutRef) → List X → Type 0
-RiseBy ref xs = AllAdjacentBelow (λ a b. ref_cmp (ref a) (ref b) ≡ Less) xs (length xs)
 
 -- the same transaction, and the same place among its outputs
 abbrev pub same_ref : OutRef → OutRef → Bool

@@ -1,64 +1,49 @@
--- A transaction, its bytes, its id and its size, and which parts may stand in one.
-use Rattle.std.specs.Prelude.{ℕ, ◌-◌, ◌^◌, ◌≤◌, List, [], ◌∷◌, ◌++◌, length, replicate, flat_map}
-use Rattle.std.specs.Int.{w16, w64, to_be_bytes}
-use Rattle.sha2.specs.Sha256.{sha256}
+-- Transactions, and which parts may stand in one (the EUTXO and native-token papers of Chakravarty et al., and CIP-31).
+use Rattle.std.specs.Prelude.{ℕ, Bool, not, List, map}
+use Rattle.std.specs.List.{list_all, list_any}
+use Rattle.std.specs.Ordering.{nat_cmp, ordering_then}
+use Rattle.std.specs.Cmp.Lexicographic.{slice_cmp}
+use Rattle.std.specs.declared.cmp.Ordering.{Ordering}
+use Rattle.mp_bundle.specs.Bundle.{Entry}
+use Rattle.mp_tx.specs.declared.reference.OutRef.{OutRef}
 use Rattle.mp_tx.specs.declared.input.Input.{Input}
-use Rattle.mp_tx.specs.Reference.{RiseBy}
-use Rattle.mp_tx.specs.Plain.{script_bytes, data_bytes}
-use Rattle.mp_tx.specs.Output.{Output}
+use Rattle.mp_tx.specs.declared.output.Output.{Output}
+use Rattle.mp_tx.specs.declared.signature.Signature.{Signature}
+use Rattle.mp_tx.specs.Reference.{same_ref}
 
 pub record Transaction : Type 0 where
   -- what it spends, in rising order
   pub inputs : List Input
+  -- the outputs that it looks at and doesn't spend, in rising order
+  pub references : List OutRef
   -- what it pays
   pub outputs : List Output
+  -- the first and the last tick at which it may be applied
+  pub from : ℕ
+  pub to : ℕ
+  -- what it forges, and burns where a quantity is negative
+  pub forge : List Entry
+  -- the bytes of the policy scripts that it carries, in rising order
+  pub scripts : List (List ℕ)
+  -- who has signed it, in rising order
+  pub signatures : List Signature
 
--- Format 1. Numbers are big-endian.
+-- what inputs spend
+abbrev pub spent_refs : List Input → List OutRef
+spent_refs inputs = map (λ i. i.from) inputs
 
--- a count of two bytes, and then each item
-unfoldable pub counted : {X : Type 0} → (X → List ℕ) → List X → List ℕ
-counted spelled xs = to_be_bytes w16 (length xs) ++ flat_map spelled xs
+-- by the bytes
+abbrev pub script_cmp : List ℕ → List ℕ → Ordering
+script_cmp a b = slice_cmp nat_cmp a b
 
--- a length of two bytes, and then the bytes
-abbrev pub sized : List ℕ → List ℕ
-sized bytes = to_be_bytes w16 (length bytes) ++ bytes
+-- by the key, and then by the signature itself
+abbrev pub signature_cmp : Signature → Signature → Ordering
+signature_cmp a b = ordering_then (slice_cmp nat_cmp a.key b.key) (slice_cmp nat_cmp a.sig b.sig)
 
-unfoldable pub input_bytes : Input → List ℕ
-input_bytes i = i.from.id ++ to_be_bytes w16 i.from.index ++ sized (script_bytes i.validator) ++ sized (data_bytes i.datum) ++ sized (data_bytes i.redeemer)
+-- whether an input spends the output
+abbrev pub spends : List Input → OutRef → Bool
+spends inputs r = list_any (λ i. same_ref r i.from) inputs
 
--- one entry: the policy of 32 zero bytes, no name, and the quantity
-unfoldable pub coin_bytes : ℕ → List ℕ
-coin_bytes coin = to_be_bytes w16 1 ++ replicate 32 0 ++ 0 ∷ [] ++ to_be_bytes w64 coin
-
-unfoldable pub output_bytes : Output → List ℕ
-output_bytes o = o.address ++ o.datum_hash ++ coin_bytes o.coin
-
--- from the first tick to the last
-unfoldable pub widest_interval : List ℕ
-widest_interval = to_be_bytes w64 0 ++ to_be_bytes w64 (2 ^ 64 - 1)
-
--- the version, the inputs, the outputs, the interval, nothing forged and no policy script
-abbrev pub body : Transaction → List ℕ
-body t = 1 ∷ [] ++ counted input_bytes t.inputs ++ counted output_bytes t.outputs ++ widest_interval ++ to_be_bytes w16 0 ++ to_be_bytes w16 0
-
--- the body, and no signature
-abbrev pub spelling : Transaction → List ℕ
-spelling t = body t ++ to_be_bytes w16 0
-
--- signatures don't count
-unfoldable pub id_of : Transaction → List ℕ
-id_of t = sha256 (body t)
-
-abbrev pub size_of : Transaction → ℕ
-size_of t = length (spelling t)
-
--- at most 256 inputs, 256 outputs and 16,384 bytes
-pub record IsSmall (t : Transaction) : Type 0 where
-  pub inputs : length t.inputs ≤ 256
-  pub outputs : length t.outputs ≤ 256
-  pub size : size_of t ≤ 16384
-
--- these parts may stand in a transaction
-pub record IsTransaction (t : Transaction) : Type 0 where
-  pub rising : RiseBy (λ i. i.from) t.inputs
-  pub small : IsSmall t
+-- whether the inputs spend none of these outputs
+abbrev pub spends_none : List Input → List OutRef → Bool
+spends_none inputs refs = list_all (λ r. not (spends inputs r)) refs

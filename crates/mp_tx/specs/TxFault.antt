@@ -1,22 +1,57 @@
--- Which fault parts have.
-use Rattle.std.specs.Prelude.{ℕ}
+-- Which fault parts and bytes have that make no transaction.
+use Rattle.std.specs.Prelude.{◌≡◌, ℕ, ◌&&◌, Bool, not, List, length, Option, None, Some, Result, Ok, Err, if◌then◌else◌, nat_le, nat_lt}
 use Rattle.mp_tx.specs.declared.fault.TxFault.{TxFault}
-use Rattle.mp_tx.specs.declared.fault.TxFault.TheVariants.{NoMemory, NotRising, TooLarge}
+use Rattle.mp_tx.specs.declared.fault.TxFault.TheVariants.{NoMemory, Truncated, Trailing, BadVersion, NotRising, BadBundle, BadScript, BadData, BadInterval, TooLarge, ReferenceSpent, NoReferences}
 use Rattle.mp_tx.specs.declared.tx.TxParts.{TxParts}
-use Rattle.mp_tx.specs.Reference.{RiseBy}
-use Rattle.mp_tx.specs.Transaction.{Transaction, IsSmall}
+use Rattle.mp_tx.specs.Reference.{ref_cmp}
+use Rattle.mp_tx.specs.Rising.{rises}
+use Rattle.mp_tx.specs.Transaction.{Transaction, spent_refs, script_cmp, signature_cmp, spends_none}
+use Rattle.mp_tx.specs.Spelling.{size_of}
+use Rattle.mp_tx.specs.Reading.{transaction_of}
 
 -- the transaction that parts make
-abbrev pub made_of : TxParts → Transaction
-made_of p = record { inputs = p.inputs.items; outputs = p.outputs.items }
+abbrev pub parts_of : TxParts → Transaction
+parts_of p = record {
+  inputs = p.inputs.items; references = p.references.items; outputs = p.outputs.items; from = p.from; to = p.to;
+  forge = p.forge; scripts = p.scripts.items; signatures = p.signatures.items;
+}
 
--- The first fault in the order of their numbers. Memory may be wanting for any parts.
-abbrev pub HasFault : TxFault → Transaction → Type 0
-HasFault NoMemory t = Unit {0}
-HasFault NotRising t = ¬ RiseBy (λ i. i.from) t.inputs
-HasFault TooLarge t = RiseBy (λ i. i.from) t.inputs × ¬ IsSmall t
+abbrev pub all_rise : Transaction → Bool
+all_rise t = rises ref_cmp (spent_refs t.inputs) && rises ref_cmp t.references && rises script_cmp t.scripts && rises signature_cmp t.signatures
+
+-- at most 256 inputs, 256 references, 256 outputs and 16,384 bytes
+abbrev pub is_small : Transaction → Bool
+is_small t = nat_le (length t.inputs) 256 && nat_le (length t.references) 256 && nat_le (length t.outputs) 256 && nat_le (size_of t) 16384
+
+-- the fault of parts, the first in this order
+abbrev pub parts_fault : Transaction → Option TxFault
+parts_fault t =
+    if not (all_rise t) then Some NotRising
+    else if not (spends_none t.inputs t.references) then Some ReferenceSpent
+    else if nat_lt t.to t.from then Some BadInterval
+    else if not (is_small t) then Some TooLarge
+    else None
+
+-- why these parts make no transaction. Memory may be wanting for any
+abbrev pub IsPartsFault : Transaction → TxFault → Type 0
+IsPartsFault t NoMemory = Unit {0}
+IsPartsFault t fault = parts_fault t ≡ Some fault
+
+-- why these bytes spell no transaction. Memory may be wanting for any
+abbrev pub IsBytesFault : List ℕ → TxFault → Type 0
+IsBytesFault bytes NoMemory = Unit {0}
+IsBytesFault bytes fault = transaction_of bytes ≡ Err fault
 
 abbrev pub number : TxFault → ℕ
 number NoMemory = 1
+number Truncated = 2
+number Trailing = 3
+number BadVersion = 4
 number NotRising = 5
+number BadBundle = 6
+number BadScript = 7
+number BadData = 8
+number BadInterval = 9
 number TooLarge = 10
+number ReferenceSpent = 11
+number NoReferences = 12

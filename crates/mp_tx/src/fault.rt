@@ -1,38 +1,70 @@
-//! Why parts make no transaction, and outputs no ledger state.
+//! Why bytes or parts make no transaction, and outputs no ledger state.
 
 ghost use Rattle.std.specs.Prelude.{◌≡◌};
 ghost use Rattle.mp_tx.specs.declared.fault.TxFault.TheVariants as tx_faults;
-ghost use Rattle.mp_tx.specs.declared.fault.LedgerFault.TheVariants as ledger_faults;
 ghost use Rattle.mp_tx.specs.TxFault as tx_fault;
-ghost use Rattle.mp_tx.specs.LedgerFault as ledger_fault;
 
 use mp_memory::NoMemory;
-use std::alloc::AllocFailed;
+use std::alloc::{AllocError, AllocFailed};
 use thiserror::Error;
 
-/// Why parts make no transaction. Where several hold, the one with the least number is told, but `NoMemory` may stand in
-/// place of any.
+/// Why bytes or parts make no transaction. `NoMemory` may stand in place of any.
 #[derive(Clone, Copy, Debug, PartialEq, Eq, Error)]
 pub enum TxFault {
     #[error("no memory")]
     NoMemory,
-    /// An input doesn't come after the one before it.
-    #[error("the inputs don't rise")]
+    /// A field's bytes aren't all there.
+    #[error("the bytes end within the transaction")]
+    Truncated,
+    #[error("bytes follow the transaction")]
+    Trailing,
+    /// The first byte is neither 1 nor 2.
+    #[error("the version is not 1 or 2")]
+    BadVersion,
+    /// An input, a reference, a policy script or a signature isn't greater than the one before it.
+    #[error("a part isn't greater than the one before it")]
     NotRising,
-    /// Over 256 inputs, over 256 outputs or over 16,384 bytes.
+    /// A name has over 32 bytes, a quantity is 0 or -2^63, or an entry isn't greater than the one before it.
+    #[error("a bundle is malformed")]
+    BadBundle,
+    /// A validator or a policy script is no script.
+    #[error("a script is malformed")]
+    BadScript,
+    /// A datum or a redeemer is no datum.
+    #[error("a datum is malformed")]
+    BadData,
+    /// The first tick is greater than the last.
+    #[error("the interval ends before it begins")]
+    BadInterval,
+    /// Over 256 inputs, references or outputs, or over 16,384 bytes.
     #[error("the transaction is too large")]
     TooLarge,
+    /// A reference is spent by an input of the same transaction.
+    #[error("a reference is also an input")]
+    ReferenceSpent,
+    /// Format 2 has no reference.
+    #[error("format 2 has no references")]
+    NoReferences,
 }
 
 impl TxFault {
-    /// The number of the fault: 1, 5 or 10.
+    /// The number of the fault: 1 to 12.
     pub const fn number(self) -> u64
         ensures { result ≡ tx_fault.number self }
     {
         match self {
             TxFault::NoMemory => 1,
+            TxFault::Truncated => 2,
+            TxFault::Trailing => 3,
+            TxFault::BadVersion => 4,
             TxFault::NotRising => 5,
+            TxFault::BadBundle => 6,
+            TxFault::BadScript => 7,
+            TxFault::BadData => 8,
+            TxFault::BadInterval => 9,
             TxFault::TooLarge => 10,
+            TxFault::ReferenceSpent => 11,
+            TxFault::NoReferences => 12,
         }
     }
 }
@@ -45,36 +77,18 @@ impl From<NoMemory> for TxFault {
     }
 }
 
-/// Why outputs make no ledger state. `NoMemory` may stand in place of the others.
-#[derive(Clone, Copy, Debug, PartialEq, Eq, Error)]
-pub enum LedgerFault {
-    #[error("no memory")]
-    NoMemory,
-    /// The first place, from 0, whose reference an earlier output has. It is told where the block bytes are in range.
-    #[error("output {0} has the reference of an earlier one")]
-    Repeated(usize),
-    /// A block may not have 0 bytes, nor more than 2^39.
-    #[error("the block bytes are not 1 to 549755813888")]
-    BadBlockBytes,
-}
+impl From<AllocError> for TxFault {
+    ghost from_gives = { λ _ e. e ≡ tx_faults.NoMemory };
 
-impl LedgerFault {
-    /// The number of the fault: 1 to 3.
-    pub const fn number(self) -> u64
-        ensures { result ≡ ledger_fault.number self }
-    {
-        match self {
-            LedgerFault::NoMemory => 1,
-            LedgerFault::Repeated(_) => 2,
-            LedgerFault::BadBlockBytes => 3,
-        }
+    fn from(_error: AllocError) -> TxFault {
+        TxFault::NoMemory
     }
 }
 
-impl<T: Drop> From<AllocFailed<T>> for LedgerFault {
-    ghost from_gives = { λ _ e. e ≡ ledger_faults.NoMemory };
+impl<T: Drop> From<AllocFailed<T>> for TxFault {
+    ghost from_gives = { λ _ e. e ≡ tx_faults.NoMemory };
 
-    fn from(_refused: AllocFailed<T>) -> LedgerFault {
-        LedgerFault::NoMemory
+    fn from(_refused: AllocFailed<T>) -> TxFault {
+        TxFault::NoMemory
     }
 }

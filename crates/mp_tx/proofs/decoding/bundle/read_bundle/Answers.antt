@@ -1,0 +1,7 @@
+use Rattle.std.proofs.Common.{ap, ◌∙◌}
+use Rattle.std.specs.Prelude.{None}
+use Rattle.mp_tx.proofs.Entries.{no_faults}
+use Rattle.mp_tx.proofs.decoding.bundle.read_bundle.Goals as goal
+
+pub of_faultless-requires : goal.of_faultless-requires
+of_faultless-requires c = no_faults c.in_ok-count.count None c.in_ok-count.rest.now _ c.in_ok-rest.ensures

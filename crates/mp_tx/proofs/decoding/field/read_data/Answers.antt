@@ -1,0 +1,10 @@
+use Rattle.std.proofs.Common.{rules}
+use Rattle.mp_tx.specs.Reading.{data_read}
+use Rattle.mp_tx.proofs.Wholes.{datum_is_ok}
+use Rattle.mp_tx.proofs.decoding.field.read_data.Goals as goal
+
+pub returns-in-Ok : goal.returns-in-Ok
+unfolding data_read
+returns-in-Ok c =
+    let whole = datum_is_ok c.in_ok-text.text.now c.in-Ok.ensures.found.1 in
+    search rules

@@ -1,0 +1,17 @@
+-- What a transaction keeps beside its parts.
+use Rattle.std.specs.Prelude.{◌≡◌}
+use Rattle.mp_tx.specs.declared.tx.Tx.TheInside.{Inside}
+use Rattle.mp_tx.specs.declared.tx.TxParts.{TxParts}
+use Rattle.mp_tx.specs.Transaction.{Transaction}
+use Rattle.mp_tx.specs.Spelling.{id_of, size_of}
+use Rattle.mp_tx.specs.Parts.{IsTransaction}
+use Rattle.mp_tx.specs.TxFault.{parts_of}
+
+abbrev pub transaction : Inside → Transaction
+transaction t = parts_of t.parts
+
+-- the id and the size are those of the parts
+pub record IsTied (t : Inside) : Type 0 where
+  pub fits : IsTransaction (transaction t)
+  pub id : t.id ≡ id_of (transaction t)
+  pub size : t.size ≡ size_of (transaction t)

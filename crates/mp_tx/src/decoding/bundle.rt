@@ -1,0 +1,74 @@
+//! Reading bundles.
+
+ghost use Rattle.std.specs.Prelude.{◌≡◌, [], None};
+ghost use Rattle.mp_bytes.specs.Reading.{seen};
+ghost use Rattle.mp_tx.specs.Reading.{Reads, items_read, entry_read, bundle_read};
+
+use super::field::read_byte;
+use crate::fault::TxFault;
+use mp_bundle::{Bundle, Entry, Token, may_follow};
+use mp_bytes::{split_array, split_count, split_number, split_run};
+use mp_memory::Memory;
+
+const MAX_NAME_BYTES: u8 = 32;
+
+// The bytes that an entry has at the least.
+const LEAST_ENTRY_BYTES: usize = 41;
+
+#[tactic(auto, unfolding(crate::specs::Reading::entry_read))]
+fn read_entry(before: Option<Token>, bytes: &[u8]) -> Result<(Entry, &[u8]), TxFault>
+    ensures { seen (λ x. (x.0, x.1.now)) result ≡ entry_read before bytes.now }
+{
+    let (policy, rest) = split_array::<32>(bytes).ok_or(TxFault::Truncated)?;
+    let (len, rest) = read_byte(rest)?;
+    if len > MAX_NAME_BYTES {
+        return Err(TxFault::BadBundle);
+    }
+    let (name, rest) = split_run(rest, len as usize).ok_or(TxFault::Truncated)?;
+    let (quantity, rest) = split_number(rest).ok_or(TxFault::Truncated)?;
+    let token = Token::of(policy, name).ok_or(TxFault::BadBundle)?;
+    let entry = (token, quantity);
+    if !may_follow(before, &entry) {
+        return Err(TxFault::BadBundle);
+    }
+    Ok((entry, rest))
+}
+
+// Puts so many entries into a vector that is empty, and gives the bytes after them.
+fn put_entries<'a>(
+    entries: &mut Vec<Entry, Memory>,
+    count: u16,
+    bytes: &'a [u8],
+) -> Result<&'a [u8], TxFault>
+    requires { entries.old.items ≡ [] }
+    ensures {
+        Reads (λ rest. (entries.new.items, rest.now)) result
+            (items_read (λ e. e.0) entry_read None count bytes.now)
+    }
+{
+    let mut before = None;
+    let mut rest = bytes;
+    for _ in 0..count {
+        match read_entry(before, rest) {
+            Ok((entry, after)) => {
+                before = Some(entry.0);
+                entries.push(entry)?;
+                rest = after;
+            }
+            Err(fault) => return Err(fault),
+        }
+    }
+    Ok(rest)
+}
+
+/// A bundle, in one growth, or in none where it is empty.
+#[tactic(auto, unfolding(crate::specs::Reading::bundle_read))]
+pub fn read_bundle(memory: Memory, bytes: &[u8]) -> Result<(Bundle, &[u8]), TxFault>
+    ensures { Reads (λ x. (x.0, x.1.now)) result (bundle_read bytes.now) }
+{
+    let (count, rest) = split_count(bytes).ok_or(TxFault::Truncated)?;
+    let most = rest.len() / LEAST_ENTRY_BYTES;
+    let mut entries = Vec::with_capacity(memory, most.min(count as usize))?;
+    let rest = put_entries(&mut entries, count, rest)?;
+    Ok((Bundle::of_faultless(entries), rest))
+}

@@ -1,0 +1,69 @@
+//! Reading outputs.
+
+ghost use Rattle.std.specs.Prelude.{◌≡◌, [], None, Option};
+ghost use Rattle.mp_tx.specs.declared.output.Output as told;
+ghost use Rattle.mp_tx.specs.Reading.{Reads, items_read, few_read, output_read, itself};
+
+use super::bundle::read_bundle;
+use super::field::read_count;
+use crate::fault::TxFault;
+use crate::output::Output;
+use mp_bytes::split_array;
+use mp_memory::Memory;
+
+#[tactic(auto, unfolding(crate::specs::Reading::output_read))]
+fn read_output(memory: Memory, bytes: &[u8]) -> Result<(Output, &[u8]), TxFault>
+    ensures {
+        (before : Option told.Output) →
+            Reads (λ x. (x.0, x.1.now)) result (output_read before bytes.now)
+    }
+{
+    let (address, rest) = split_array::<32>(bytes).ok_or(TxFault::Truncated)?;
+    let (datum_hash, rest) = split_array::<32>(rest).ok_or(TxFault::Truncated)?;
+    let (value, rest) = read_bundle(memory, rest)?;
+    let output = Output {
+        address: *address,
+        datum_hash: *datum_hash,
+        value,
+    };
+    Ok((output, rest))
+}
+
+// Puts so many outputs into a vector that is empty, and gives the bytes after them.
+fn put_outputs<'a>(
+    memory: Memory,
+    outputs: &mut Vec<Output, Memory>,
+    count: u16,
+    bytes: &'a [u8],
+) -> Result<&'a [u8], TxFault>
+    requires { outputs.old.items ≡ [] }
+    ensures {
+        Reads (λ rest. (outputs.new.items, rest.now)) result
+            (items_read itself output_read None count bytes.now)
+    }
+{
+    let mut rest = bytes;
+    for _ in 0..count {
+        match read_output(memory, rest) {
+            Ok((output, after)) => {
+                outputs.push(output)?;
+                rest = after;
+            }
+            Err(fault) => return Err(fault),
+        }
+    }
+    Ok(rest)
+}
+
+/// At most 256 outputs.
+pub fn read_outputs(
+    memory: Memory,
+    bytes: &[u8],
+) -> Result<(Vec<Output, Memory>, &[u8]), TxFault>
+    ensures { Reads (λ x. (x.0.items, x.1.now)) result (few_read itself output_read bytes.now) }
+{
+    let (count, rest) = read_count(bytes)?;
+    let mut outputs = Vec::with_capacity(memory, count as usize)?;
+    let rest = put_outputs(memory, &mut outputs, count, rest)?;
+    Ok((outputs, rest))
+}
