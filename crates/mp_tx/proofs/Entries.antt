@@ -5,7 +5,7 @@ use Rattle.std.specs.Option.{option_or}
 use Rattle.mp_bundle.specs.declared.token.Token.{Token}
 use Rattle.mp_bundle.specs.declared.fault.BundleFault.{BundleFault}
 use Rattle.mp_bundle.specs.Bundle.{Entry}
-use Rattle.mp_bundle.specs.Fault.{entry_fault, fault_after}
+use Rattle.mp_bundle.specs.BundleFault.{entry_fault, fault_after}
 use Rattle.mp_bytes.specs.Fields.{number_at, run_at}
 use Rattle.mp_bytes.specs.Reading.{◌>>=◌}
 use Rattle.mp_bytes.proofs.Bytes.{bind_ok, ok_is}

@@ -4,7 +4,7 @@ use Rattle.mp_bytes.specs.Fields.{number_at, unsigned_at, count_at, run_at, size
 use Rattle.mp_bytes.specs.Reading.{◌>>=◌, or_fault}
 use Rattle.mp_bundle.specs.declared.token.Token.{Token}
 use Rattle.mp_bundle.specs.Bundle.{Entry}
-use Rattle.mp_bundle.specs.Fault.{entry_fault}
+use Rattle.mp_bundle.specs.BundleFault.{entry_fault}
 use Rattle.mp_script.specs.DataReading.{datum_of}
 use Rattle.mp_script.specs.ScriptReading.{script_of}
 use Rattle.mp_tx.specs.declared.fault.TxFault.{TxFault}
