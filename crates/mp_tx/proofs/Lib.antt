@@ -6,3 +6,4 @@ pub mod Fields
 pub mod Bundles
 pub mod PartsRead
 pub mod TxReading
+pub mod PartsFaults

@@ -259,7 +259,7 @@ long_enough n e = grind (arith)
 not_long : (n : ℕ) → n ≤ 16384 → nat_lt 16384 n ≡ false
 not_long n le = grind (arith)
 
-size_is : (bytes : List ℕ) (t : Transaction) → bytes ≡ spelling t → size_of t ≡ length bytes
+pub size_is : (bytes : List ℕ) (t : Transaction) → bytes ≡ spelling t → size_of t ≡ length bytes
 unfolding size_of
 size_is bytes t e = sym (ap length e)
 
@@ -342,3 +342,17 @@ front_is bytes front rest e =
 
 pub same_body : (u : Transaction) (s : List Signature) → body u ≡ body (record u { signatures = s })
 same_body u s = sym (with_signatures u s)
+
+-- ---- what was written
+
+pub record IsWritten (t : Transaction) (front all : List ℕ) : Type 0 where
+  pub front_is : front ≡ body t
+  pub all_is : all ≡ spelling t
+  pub size : length all ≡ size_of t
+
+pub was_written : (t : Transaction) (none front all : List ℕ) (s : List Signature) → none ≡ [] → front ≡ none ++ body t → all ≡ front ++ counted signature_bytes s → s ≡ t.signatures → IsWritten t front all
+unfolding spelling size_of
+was_written t none front all s e f a same =
+    let g : front ≡ body t = f ∙ ap (λ (n : List ℕ). n ++ body t) e in
+    let h : all ≡ body t ++ counted signature_bytes t.signatures = a ∙ ap (λ (n : List ℕ). n ++ counted signature_bytes s) g ∙ ap (λ (u : List Signature). body t ++ counted signature_bytes u) same in
+    record { front_is = g; all_is = h; size = ap length h }
