@@ -4,18 +4,24 @@
 mod decoding;
 mod fault;
 mod input;
+mod ledger;
+mod ledger_fault;
 mod order;
 mod output;
 mod reference;
+mod salt;
 mod signature;
 mod tx;
 
 pub use fault::TxFault;
 pub use input::Input;
+pub use ledger::{Ledger, MAX_BLOCK_BYTES};
+pub use ledger_fault::LedgerFault;
 pub use mp_bundle::{PolicyId, TokenName};
 pub use mp_bytes::Hash;
 pub use mp_script::{Address, Data, Key, Script};
 pub use output::Output;
 pub use reference::{OutRef, TxId};
+pub use salt::Salt;
 pub use signature::{Sig, Signature};
 pub use tx::{MAX_BYTES, MAX_PARTS, Tx, TxParts};
