@@ -1,16 +1,23 @@
 //! Bundles.
 
+ghost use Rattle.std.specs.Prelude.{◌≡◌, IfOk};
+ghost use Rattle.mp_bundle.specs.Inside.Bundle.{entries_in};
+
 use crate::entry::{Entry, Given, first_fault, quantity_at, to_entries};
 use crate::fault::BundleFault;
 use crate::token::{PolicyId, Token};
-use mp_memory::Memory;
+use mp_memory::{Memory, NoMemory};
 use std::marker::Model;
+use std::sync::Arc;
+
+// Entries that several bundles may have.
+type Shared = Arc<Vec<Entry, Memory>, Memory>;
 
 /// A finite map from tokens to quantities that aren't zero, from -(2^63 - 1) to 2^63 - 1. Contracts see its entries, in the
-/// rising order of their tokens.
+/// rising order of their tokens. Several owners may share them, and the bundle of no token keeps none.
 #[derive(Debug, Drop)]
 pub struct Bundle {
-    entries: Vec<Entry, Memory>,
+    entries: Option<Shared>,
 }
 
 impl Model for Bundle {
@@ -19,9 +26,21 @@ impl Model for Bundle {
 
     ghost Value = { List Entry };
 
-    ghost view = { λ b. b.entries.items };
+    ghost use Rattle.mp_bundle.specs.Inside.Bundle.{entries_in};
 
-    ghost invariant = { λ b. IsBundle b.entries.items };
+    ghost view = { λ b. entries_in b.entries };
+
+    ghost invariant = { λ b. IsBundle (entries_in b.entries) };
+}
+
+// What a bundle of these entries keeps.
+fn to_shared(memory: Memory, entries: Vec<Entry, Memory>) -> Result<Option<Shared>, NoMemory>
+    ensures { IfOk result (λ s. entries_in s ≡ entries.items) }
+{
+    if entries.is_empty() {
+        return Ok(None);
+    }
+    Ok(Some(Arc::new(memory, entries)?))
 }
 
 impl Bundle {
@@ -31,15 +50,13 @@ impl Bundle {
     ghost use Rattle.mp_bundle.specs.BundleFault.{entries_of, fault_of, IsFaultOf};
 
     /// The bundle of no token. It takes no memory.
-    pub fn empty(memory: Memory) -> Bundle
+    pub fn empty() -> Bundle
         ensures { result ≡ [] }
     {
-        Bundle {
-            entries: Vec::new(memory),
-        }
+        Bundle { entries: None }
     }
 
-    /// The bundle of these entries.
+    /// The bundle of these entries, in two growths, or in none where there are none.
     ///
     /// # Errors
     /// The fault of the first entry that has one, and of those the one of the least number: `NotRising` where its token
@@ -53,25 +70,41 @@ impl Bundle {
         if let Some(fault) = first_fault(&entries) {
             return Err(fault);
         }
+        let entries = to_entries(memory, &entries)?;
         Ok(Bundle {
-            entries: to_entries(memory, &entries)?,
+            entries: to_shared(memory, entries)?,
         })
     }
 
-    /// The bundle of entries that have no fault, as they stand. It takes no memory.
-    pub fn of_faultless(entries: Vec<Entry, Memory>) -> Bundle
+    /// The bundle of entries that have no fault, as they stand, in one growth, or in none where there are none.
+    pub fn of_faultless(memory: Memory, entries: Vec<Entry, Memory>) -> Result<Bundle, NoMemory>
         requires { fault_of entries.items ≡ None }
-        ensures { result ≡ entries.items }
+        ensures { IfOk result (λ b. b ≡ entries.items) }
     {
-        Bundle { entries }
+        Ok(Bundle {
+            entries: to_shared(memory, entries)?,
+        })
+    }
+
+    /// The same bundle. The entries are shared, and not copied.
+    pub fn share(&self) -> Result<Bundle, NoMemory>
+        ensures { IfOk result (λ b. b ≡ self.now) }
+    {
+        match &self.entries {
+            Some(entries) => Ok(Bundle {
+                entries: Some(Arc::try_clone(entries)?),
+            }),
+            None => Ok(Bundle::empty()),
+        }
     }
 
     /// The quantity of a token, which is 0 where there is none.
     pub fn quantity(&self, policy: &PolicyId, name: &[u8]) -> i64
         ensures { result ≡ quantity_of self.now (token policy.now name.now) }
     {
+        let entries = self.entries();
         match Token::of(policy, name) {
-            Some(token) => quantity_at(&self.entries, &token),
+            Some(token) => quantity_at(entries, &token),
             None => 0,
         }
     }
@@ -81,7 +114,10 @@ impl Bundle {
         ensures all { result.now ≡ self.now }
         ensures bundle { IsBundle self.now }
     {
-        self.entries.as_slice()
+        match &self.entries {
+            Some(entries) => entries.as_slice(),
+            None => &[],
+        }
     }
 }
 
@@ -99,7 +135,7 @@ impl PartialEq for Bundle {
         ensures gives { result ≡ same_entries self.now other.now }
         ensures same { IsTrue result ↔ (self.now ≡ other.now) }
     {
-        self.entries == other.entries
+        self.entries() == other.entries()
     }
 }
 

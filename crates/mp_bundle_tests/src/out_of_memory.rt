@@ -41,20 +41,26 @@ fn add(sum: &mut Sum, bundle: &Bundle) -> Result<(), NoMemory> {
     }
 }
 
-// Refused, it says so, and with the next growth refused it answers.
+// With either growth refused it says so, and with the third it answers.
 #[test]
-fn a_bundle_takes_one_growth(rt: HostRuntime) -> Result<(), Fail> {
+fn a_bundle_takes_two_growths(rt: HostRuntime) -> Result<(), Fail> {
     let memory = Memory::new(rt.alloc())?;
-    let (refused, whole) = (entries_of(memory, 9)?, entries_of(memory, 9)?);
-    memory.refuse(1);
-    let fault = Bundle::of_entries(memory, refused).err();
-    assert_eq!(rt; fault, Some(BundleFault::NoMemory));
-    assert!(rt; !memory.waits());
-    memory.refuse(2);
-    let bundle = Bundle::of_entries(memory, whole)?;
+    for nth in 1..3 {
+        let given = entries_of(memory, 9)?;
+        memory.refuse(nth);
+        let fault = Bundle::of_entries(memory, given).err();
+        assert_eq!(rt; fault, Some(BundleFault::NoMemory));
+        assert!(rt; !memory.waits());
+    }
+    let given = entries_of(memory, 9)?;
+    memory.refuse(3);
+    let bundle = Bundle::of_entries(memory, given)?;
     assert!(rt; memory.waits());
-    assert_eq!(rt; bundle.entries().len(), 9);
-    assert_eq!(rt; bundle.quantity(&POLICY, b"\x08"), 9);
+    memory.refuse(1);
+    let shared = bundle.share()?;
+    assert!(rt; memory.waits());
+    assert_eq!(rt; shared.entries().len(), 9);
+    assert_eq!(rt; shared.quantity(&POLICY, b"\x08"), 9);
     Ok(())
 }
 

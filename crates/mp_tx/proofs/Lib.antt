@@ -7,3 +7,5 @@ pub mod Bundles
 pub mod PartsRead
 pub mod TxReading
 pub mod PartsFaults
+pub mod References
+pub mod Repeats

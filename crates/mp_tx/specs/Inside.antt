@@ -1,1 +1,4 @@
+pub mod Ledger
+pub mod LedgerFault
+pub mod Reference
 pub mod Tx

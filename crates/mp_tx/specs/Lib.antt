@@ -5,4 +5,6 @@ pub mod Spelling
 pub mod Parts
 pub mod Reading
 pub mod TxFault
+pub mod Ledger
+pub mod LedgerFault
 pub mod Inside

@@ -2,6 +2,7 @@
 
 use mp_bundle::Bundle;
 use mp_bytes::Hash;
+use mp_memory::NoMemory;
 use mp_script::Address;
 
 /// An output (the EUTXO and native-token papers of Chakravarty et al.): a bundle that is locked by a script and names a datum.
@@ -12,4 +13,19 @@ pub struct Output {
     /// The hash of its datum.
     pub datum_hash: Hash,
     pub value: Bundle,
+}
+
+impl Output {
+    ghost use Rattle.std.specs.Prelude.{◌≡◌, IfOk};
+
+    /// The same output. The entries of its bundle are shared, and not copied.
+    pub fn share(&self) -> Result<Output, NoMemory>
+        ensures { IfOk result (λ o. o ≡ self.now) }
+    {
+        Ok(Output {
+            address: self.address,
+            datum_hash: self.datum_hash,
+            value: self.value.share()?,
+        })
+    }
 }

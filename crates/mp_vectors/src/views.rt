@@ -147,7 +147,7 @@ pub fn holds_in_nothing(
         script: Script::decode(memory, bytes)?,
         datum: datum_of(memory, datum)?,
         spent: Sum::new(memory),
-        forge: Bundle::empty(memory),
+        forge: Bundle::empty(),
     };
     Ok(comes_alone_to(memory, &alone, wanted))
 }

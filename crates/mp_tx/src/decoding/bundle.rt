@@ -61,7 +61,7 @@ fn put_entries<'a>(
     Ok(rest)
 }
 
-/// A bundle, in one growth, or in none where it is empty.
+/// A bundle, in two growths, or in none where there are no bytes for an entry.
 #[tactic(auto, unfolding(crate::specs::Reading::bundle_read))]
 pub fn read_bundle(memory: Memory, bytes: &[u8]) -> Result<(Bundle, &[u8]), TxFault>
     ensures { Reads (λ x. (x.0, x.1.now)) result (bundle_read bytes.now) }
@@ -70,5 +70,5 @@ pub fn read_bundle(memory: Memory, bytes: &[u8]) -> Result<(Bundle, &[u8]), TxFa
     let most = rest.len() / LEAST_ENTRY_BYTES;
     let mut entries = Vec::with_capacity(memory, most.min(count as usize))?;
     let rest = put_entries(&mut entries, count, rest)?;
-    Ok((Bundle::of_faultless(entries), rest))
+    Ok((Bundle::of_faultless(memory, entries)?, rest))
 }

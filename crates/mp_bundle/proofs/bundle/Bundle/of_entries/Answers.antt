@@ -9,5 +9,5 @@ to_entries-requires c = short_names c.deref-2.result.now (ap (λ xs. fault_of (e
 
 pub invariant_of-result : goal.invariant_of-result
 invariant_of-result c =
-    subst IsBundle (sym c.in_ok-to_entries.ensures) (bundle_from_none (entries_of c.deref-2.result.now)
+    subst IsBundle (sym (c.in_ok-to_shared.ensures ∙ c.in_ok-entries.ensures)) (bundle_from_none (entries_of c.deref-2.result.now)
     (ap (λ xs. fault_of (entries_of xs)) (c.deref-2.ensures.value ∙ sym c.deref.ensures.value) ∙ sym c.first_fault.ensures ∙ c.in_default.is))

@@ -4,4 +4,4 @@ use Rattle.mp_bundle.proofs.Search.{long_name}
 use Rattle.mp_bundle.proofs.bundle.Bundle.quantity.Goals as goal
 
 pub returns-in-None : goal.returns-in-None
-returns-in-None c = rw (← c.self.view_is) (sym (long_name c.self.inside.entries.items (token c.args.policy.now c.args.name.now) c.self.invariant (grind (arith, c.in-None.ensures))))
+returns-in-None c = sym (long_name c.args.self.now (token c.args.policy.now c.args.name.now) c.entries-entries.ensures.bundle (grind (arith, c.in-None.ensures)))

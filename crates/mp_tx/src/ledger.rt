@@ -1,0 +1,138 @@
+//! Ledger states.
+
+ghost use Rattle.std.specs.Prelude.{◌≡◌, [], OnOk, IfErr};
+ghost use Rattle.mp_tx.specs.Ledger.{refs, AreDistinct};
+ghost use Rattle.mp_tx.specs.Inside.LedgerFault.{HasRepeat};
+
+use crate::ledger_fault::LedgerFault;
+use crate::output::Output;
+use crate::reference::OutRef;
+use crate::salt::Salt;
+use indexmap::IndexMap;
+use mp_memory::{Memory, NoMemory};
+use std::marker::Model;
+use std::sync::Arc;
+
+/// The most bytes that a block may have: 2^39.
+pub const MAX_BLOCK_BYTES: u64 = 1 << 39;
+
+/// An output with its reference.
+type Entry = (OutRef, Output);
+
+type Outputs = IndexMap<OutRef, Output, Salt, Memory>;
+
+/// A ledger state: a tick, the bytes that a block may have, and a finite map from references to outputs. Several owners may
+/// share the map. Looking an output up takes no walk over the others: the map is a table whose places depend on a salt.
+#[derive(Drop)]
+pub struct Ledger {
+    tick: u64,
+    block_bytes: u64,
+    outputs: Arc<Outputs, Memory>,
+}
+
+impl Model for Ledger {
+    ghost use Rattle.std.specs.Coded.{codes};
+    ghost use Rattle.std.specs.FinMap as finite;
+    ghost use Rattle.mp_tx.specs.Ledger.{LedgerState};
+
+    ghost Value = { LedgerState };
+
+    ghost coded = { Prim.hlevel (codes, finite.code) };
+
+    ghost use Rattle.mp_tx.specs.Ledger.{HasBlockBytes};
+    ghost use Rattle.mp_tx.specs.Inside.Ledger.{state};
+
+    ghost view = { state };
+
+    ghost invariant = { λ l. HasBlockBytes l.block_bytes };
+}
+
+// Puts outputs into a map that is empty, up to the first whose reference stood before. Its place is the number of those
+// that the map has.
+fn put_outputs(map: &mut Outputs, outputs: Vec<Entry, Memory>) -> Result<(), LedgerFault>
+    requires { map.old.entries ≡ [] }
+    ensures all { OnOk result (map.new.entries ≡ outputs.items) }
+    ensures distinct { OnOk result (AreDistinct (refs outputs.items)) }
+    ensures fault { IfErr result (HasRepeat (refs outputs.items)) }
+{
+    for (reference, output) in outputs {
+        if map.insert(reference, output)?.is_some() {
+            return Err(LedgerFault::Repeated(map.len()));
+        }
+    }
+    Ok(())
+}
+
+impl Ledger {
+    ghost use Rattle.std.specs.Prelude.{◌≡◌, IfOk, IfErr, OnOk, option_copied};
+    ghost use Rattle.std.specs.FinMap.{get};
+    ghost use Rattle.mp_tx.specs.Ledger.{HasBlockBytes, ledger_of, refs, AreDistinct};
+    ghost use Rattle.mp_tx.specs.LedgerFault.{HasFault};
+
+    /// The ledger state of these outputs, in one pass over them. The salt is the host's to pick at random and to keep secret.
+    ///
+    /// # Errors
+    /// `BadBlockBytes` where a block may have no bytes or more than 2^39, and else `Repeated` with the first place whose
+    /// reference stood before. `NoMemory` may stand in place of each.
+    pub fn of_outputs(
+        memory: Memory,
+        salt: Salt,
+        tick: u64,
+        block_bytes: u64,
+        outputs: Vec<Entry, Memory>,
+    ) -> Result<Ledger, LedgerFault>
+        ensures ok { IfOk result (λ l. l ≡ ledger_of tick block_bytes outputs.items) }
+        ensures block_bytes { OnOk result (HasBlockBytes block_bytes) }
+        ensures distinct { OnOk result (AreDistinct (refs outputs.items)) }
+        ensures fault { IfErr result (λ e. HasFault e block_bytes (refs outputs.items)) }
+    {
+        if block_bytes == 0 || block_bytes > MAX_BLOCK_BYTES {
+            return Err(LedgerFault::BadBlockBytes);
+        }
+        let mut map = IndexMap::with_capacity_and_hasher(memory, outputs.len(), salt)?;
+        put_outputs(&mut map, outputs)?;
+        Ok(Ledger {
+            tick,
+            block_bytes,
+            outputs: Arc::new(memory, map)?,
+        })
+    }
+
+    /// The tick that it stands at.
+    pub fn tick(&self) -> u64
+        ensures { result ≡ self.now.tick }
+    {
+        self.tick
+    }
+
+    /// How many bytes a block may have: 1 to 2^39.
+    pub fn block_bytes(&self) -> u64
+        ensures same { result ≡ self.now.block_bytes }
+        ensures range { HasBlockBytes result }
+    {
+        self.block_bytes
+    }
+
+    /// The salt that it was made with.
+    pub fn salt(&self) -> Salt {
+        *self.outputs.hasher()
+    }
+
+    /// The output that the reference leads to, if there is one.
+    pub fn get(&self, reference: &OutRef) -> Option<&Output>
+        ensures { option_copied result ≡ get self.now.utxo reference.now }
+    {
+        self.outputs.get(reference)
+    }
+
+    /// The same ledger state. The outputs are shared, and not copied.
+    pub fn share(&self) -> Result<Ledger, NoMemory>
+        ensures { IfOk result (λ l. l ≡ self.now) }
+    {
+        Ok(Ledger {
+            tick: self.tick,
+            block_bytes: self.block_bytes,
+            outputs: Arc::try_clone(&self.outputs)?,
+        })
+    }
+}

@@ -1,0 +1,50 @@
+//! Why outputs make no ledger state.
+
+ghost use Rattle.std.specs.Prelude.{◌≡◌};
+ghost use Rattle.mp_tx.specs.declared.ledger_fault.LedgerFault.TheVariants as ledger_faults;
+ghost use Rattle.mp_tx.specs.LedgerFault as ledger_fault;
+
+use std::alloc::{AllocError, AllocFailed};
+use thiserror::Error;
+
+/// Why outputs make no ledger state. `NoMemory` may stand in place of the others.
+#[derive(Clone, Copy, Debug, PartialEq, Eq, Error)]
+pub enum LedgerFault {
+    #[error("no memory")]
+    NoMemory,
+    /// The first place, from 0, whose reference an earlier output has. It is told where the block bytes are in range.
+    #[error("output {0} has the reference of an earlier one")]
+    Repeated(usize),
+    /// A block may not have 0 bytes, nor more than 2^39.
+    #[error("the block bytes are not 1 to 549755813888")]
+    BadBlockBytes,
+}
+
+impl LedgerFault {
+    /// The number of the fault: 1 to 3.
+    pub const fn number(self) -> u64
+        ensures { result ≡ ledger_fault.number self }
+    {
+        match self {
+            LedgerFault::NoMemory => 1,
+            LedgerFault::Repeated(_) => 2,
+            LedgerFault::BadBlockBytes => 3,
+        }
+    }
+}
+
+impl From<AllocError> for LedgerFault {
+    ghost from_gives = { λ _ e. e ≡ ledger_faults.NoMemory };
+
+    fn from(_error: AllocError) -> LedgerFault {
+        LedgerFault::NoMemory
+    }
+}
+
+impl<T: Drop> From<AllocFailed<T>> for LedgerFault {
+    ghost from_gives = { λ _ e. e ≡ ledger_faults.NoMemory };
+
+    fn from(_refused: AllocFailed<T>) -> LedgerFault {
+        LedgerFault::NoMemory
+    }
+}
