@@ -7,9 +7,9 @@ use Rattle.mp_seqpool.specs.declared.refusal.Refusal.{Refusal}
 use Rattle.mp_seqpool.specs.declared.refusal.Refusal.TheVariants as refusals
 use Rattle.mp_seqpool.specs.declared.command.Reply.{Reply}
 use Rattle.mp_seqpool.specs.declared.command.Reply.TheVariants.{Accepted}
-use Rattle.mp_seqpool.specs.Order.{Pool}
+use Rattle.mp_seqpool.specs.Pool.{Pool}
 use Rattle.mp_seqpool.specs.SlowPool.{bytes_held}
-use Rattle.mp_driver.specs.Meanings.{Names, name_of}
+use Rattle.mp_driver.specs.Names.{Names, name_of}
 
 -- a space, and then the number
 abbrev pub spaced : ℕ → List ℕ

@@ -6,7 +6,7 @@ use Rattle.mp_tx.specs.Reference.{ref_cmp}
 use Rattle.mp_tx.specs.Output.{Output}
 use Rattle.mp_tx.specs.Transaction.{Transaction, id_of}
 use Rattle.mp_text.specs.Numbers.{number_of}
-use Rattle.mp_driver.specs.Meanings.{Names, meaning_of, made_of, opening_of}
+use Rattle.mp_driver.specs.Names.{Names, binding_of, made_of, opening_of}
 
 -- number K of the opening outputs, from 0
 abbrev pub opening_ref : ℕ → OutRef
@@ -23,8 +23,8 @@ output_ref None k = None
 
 -- where the word has a dot it is TX.K, output K of a transaction, and else the name of an opening output
 abbrev pub ref_by : Names → List ℕ → Option ℕ → Option OutRef
-ref_by names word None = opening_of (meaning_of word names)
-ref_by names word (Some dot) = output_ref (made_of (meaning_of (take dot word) names)) (place_of (drop (dot + 1) word))
+ref_by names word None = opening_of (binding_of word names)
+ref_by names word (Some dot) = output_ref (made_of (binding_of (take dot word) names)) (place_of (drop (dot + 1) word))
 
 unfoldable pub ref_of : Names → List ℕ → Option OutRef
 ref_of names word = ref_by names word (position (λ b. b == 46) word)

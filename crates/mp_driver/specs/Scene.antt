@@ -5,13 +5,14 @@ use Rattle.mp_tx.specs.declared.reference.OutRef.{OutRef}
 use Rattle.mp_tx.specs.Output.{Output}
 use Rattle.mp_tx.specs.Transaction.{Transaction}
 use Rattle.mp_tx.specs.Ledger.{ledger_of}
-use Rattle.mp_seqpool.specs.Order.{Submit, Pool}
+use Rattle.mp_seqpool.specs.Command.{Submit}
+use Rattle.mp_seqpool.specs.Pool.{Pool}
 use Rattle.mp_seqpool.specs.SlowPool.{empty_pool, answer, next}
 use Rattle.mp_text.specs.Numbers.{quantity_of}
 use Rattle.mp_text.specs.Names.{is_name}
 use Rattle.mp_text.specs.Words.{words_of, are_none_or_comment}
 use Rattle.mp_text.specs.Lines.{is_clean}
-use Rattle.mp_driver.specs.Meanings.{Meaning, Opening, Made, Names, meaning_of, made_of}
+use Rattle.mp_driver.specs.Names.{Binding, Opening, Made, Names, binding_of, made_of}
 use Rattle.mp_driver.specs.References.{opening_ref}
 use Rattle.mp_driver.specs.Items.{empty_draft, draft_of, transaction_of, is_transaction, plain_output}
 use Rattle.mp_driver.specs.AnswerText.{answer_text, snapshot_text}
@@ -42,10 +43,10 @@ Step = Option (Scene × List ℕ)
 
 -- a name that nothing has yet
 abbrev pub is_new : Scene → List ℕ → Bool
-is_new s name = is_name name && is_none (meaning_of name s.names)
+is_new s name = is_name name && is_none (binding_of name s.names)
 
-abbrev pub declare : Scene → List ℕ → Meaning → Scene
-declare s name meaning = record s { names = s.names ++ (name, meaning) ∷ [] }
+abbrev pub declare : Scene → List ℕ → Binding → Scene
+declare s name binding = record s { names = s.names ++ (name, binding) ∷ [] }
 
 -- out NAME Q, before the first command, at most 65,536 times
 abbrev pub with_output : Scene → List ℕ → List (OutRef × Output) → ℕ → Scene
@@ -80,7 +81,7 @@ submitted s t = (record s { stage = Open (next (pool_at s.stage) (Submit t)) }, 
 
 abbrev pub submit_line : Scene → List (List ℕ) → Step
 submit_line s [] = None
-submit_line s (name ∷ []) = option_map (submitted s) (made_of (meaning_of name s.names))
+submit_line s (name ∷ []) = option_map (submitted s) (made_of (binding_of name s.names))
 submit_line s (name ∷ other ∷ more) = None
 
 abbrev pub snapshot_line : Scene → List (List ℕ) → Step

@@ -2,7 +2,7 @@
 
 ghost use Rattle.std.specs.Prelude.{◌≡◌, ℕ, List, [], ◌∷◌, ◌++◌, length, flat_map, IfOk, OnOk, codes};
 ghost use Rattle.std.specs.Arc.{arc_value};
-ghost use Rattle.mp_seqpool.specs.Items.{items_of};
+ghost use Rattle.mp_seqpool.specs.Inside.Item.{items_of};
 ghost use Rattle.mp_driver.specs.AnswerText.{spaced, invalid_text, refusal_text, answer_text, item_text, snapshot_text};
 ghost use Rattle.mp_driver.specs.Held.{names_of};
 

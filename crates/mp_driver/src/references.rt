@@ -2,7 +2,7 @@
 
 ghost use Rattle.std.specs.Prelude.{◌≡◌, ◌<◌, ◌≤◌, ◌==◌, length, insert, position, IfSome, OnOk};
 ghost use Rattle.mp_driver.specs.References.{place_of, output_ref, ref_of, insert_ref};
-ghost use Rattle.mp_driver.specs.Meanings.{meaning_of, made_of};
+ghost use Rattle.mp_driver.specs.Names.{binding_of, made_of};
 ghost use Rattle.mp_driver.specs.Held.{names_of};
 
 use crate::names::{Name, opening_named, transaction_named};
@@ -25,7 +25,7 @@ fn place_of(word: &[u8]) -> Option<u16>
 
 // Output `place` of the transaction with the name.
 fn output_of(names: &[Name], name: &[u8], place: &[u8]) -> Option<OutRef>
-    ensures { result ≡ output_ref (made_of (meaning_of name.now (names_of names.now))) (place_of place.now) }
+    ensures { result ≡ output_ref (made_of (binding_of name.now (names_of names.now))) (place_of place.now) }
 {
     let tx = transaction_named(names, name)?;
     let index = place_of(place)?;

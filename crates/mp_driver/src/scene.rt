@@ -2,20 +2,20 @@
 
 ghost use Rattle.std.specs.Prelude.{◌≡◌, ◌&&◌, [], ◌∷◌, ◌++◌, None, is_none, MatchOption, IfOk, OnOk, IsErrOf};
 ghost use Rattle.std.specs.Arc.{arc_value};
-ghost use Rattle.mp_seqpool.specs.Order.{Submit};
+ghost use Rattle.mp_seqpool.specs.Command.{Submit};
 ghost use Rattle.mp_seqpool.specs.SlowPool.{answer, next};
 ghost use Rattle.mp_text.specs.Names.{is_name};
 ghost use Rattle.mp_text.specs.Words.{words_of};
-ghost use Rattle.mp_driver.specs.Meanings.{meaning_of};
+ghost use Rattle.mp_driver.specs.Names.{binding_of};
 ghost use Rattle.mp_driver.specs.AnswerText.{answer_text};
 ghost use Rattle.mp_driver.specs.Scene.{Before, Open, Scene as Told, pool_at, output_line, submit_line};
-ghost use Rattle.mp_driver.specs.Held.{names_of, meant};
+ghost use Rattle.mp_driver.specs.Held.{names_of, to_binding};
 ghost use Rattle.mp_driver.specs.Staged.{stage_of};
 
 use crate::answers::{answer_line, snapshot_line};
 use crate::fault::LineFault;
 use crate::items::{draft_of, output_of, transaction_of};
-use crate::names::{Meaning, Name, meaning_of, transaction_named};
+use crate::names::{Binding, Name, binding_of, transaction_named};
 use crate::openings::Openings;
 use mp_memory::{Memory, NoMemory};
 use mp_seqpool::{Config, Refusal, SeqPool};
@@ -86,21 +86,21 @@ fn one_word(words: &[u8]) -> Option<&[u8]>
 
 // A name that nothing has yet.
 fn is_new(names: &[Name], name: &[u8]) -> bool
-    ensures { result ≡ (is_name name.now && is_none (meaning_of name.now (names_of names.now))) }
+    ensures { result ≡ (is_name name.now && is_none (binding_of name.now (names_of names.now))) }
 {
-    is_name(name) && meaning_of(names, name).is_none()
+    is_name(name) && binding_of(names, name).is_none()
 }
 
 fn declare(
     memory: Memory,
     names: &mut Vec<Name, Memory>,
     word: &[u8],
-    meaning: Meaning,
+    binding: Binding,
 ) -> Result<(), NoMemory>
-    ensures { OnOk result (names_of names.new.items ≡ names_of names.old.items ++ (word.now, meant meaning) ∷ []) }
+    ensures { OnOk result (names_of names.new.items ≡ names_of names.old.items ++ (word.now, to_binding binding) ∷ []) }
 {
     let word = Vec::from_slice(memory, word)?;
-    names.push(Name { word, meaning })?;
+    names.push(Name { word, binding })?;
     Ok(())
 }
 
@@ -195,7 +195,7 @@ impl Scene {
                 };
                 let reference = openings.next();
                 openings.push(output)?;
-                declare(memory, &mut self.names, name, Meaning::Opening(reference))?;
+                declare(memory, &mut self.names, name, Binding::Opening(reference))?;
                 Ok(())
             }
         }
@@ -219,7 +219,7 @@ impl Scene {
         let draft = draft_of(memory, &self.names, items)?;
         let tx = transaction_of(memory, draft)?;
         let tx = Arc::new(memory, tx)?;
-        declare(memory, &mut self.names, name, Meaning::Made(tx))?;
+        declare(memory, &mut self.names, name, Binding::Made(tx))?;
         Ok(())
     }
 

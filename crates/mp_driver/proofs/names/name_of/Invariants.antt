@@ -1,5 +1,5 @@
 use Rattle.std.proofs.Common.{◌≡◌, drop}
-use Rattle.mp_driver.specs.Meanings.{name_of}
+use Rattle.mp_driver.specs.Names.{name_of}
 use Rattle.mp_driver.specs.Held.{names_of}
 use Rattle.mp_driver.proofs.names.name_of.Given as goal
 

@@ -1,6 +1,6 @@
 use Rattle.std.proofs.Common.{sym, ap, ◌∙◌}
 use Rattle.std.specs.Arc.{arc_value}
-use Rattle.mp_seqpool.specs.Order.{Submit}
+use Rattle.mp_seqpool.specs.Command.{Submit}
 use Rattle.mp_seqpool.proofs.Histories.{told, next-refused}
 use Rattle.mp_driver.specs.AnswerText.{answer_text}
 use Rattle.mp_driver.proofs.scene.answered.Goals as goal

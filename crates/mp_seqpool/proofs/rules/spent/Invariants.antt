@@ -3,8 +3,8 @@ use Rattle.std.specs.Prelude.{sum_by}
 use Rattle.std.specs.FinMap.{get}
 use Rattle.mp_seqpool.specs.Apply.{after}
 use Rattle.mp_seqpool.specs.Validity.{coin_of}
-use Rattle.mp_seqpool.specs.Items.{items_of}
-use Rattle.mp_seqpool.specs.Order.{transactions}
+use Rattle.mp_seqpool.specs.Inside.Item.{items_of}
+use Rattle.mp_seqpool.specs.Pool.{transactions}
 use Rattle.mp_seqpool.proofs.rules.spent.Given as goal
 
 -- the coin so far, below 2^63 an input

@@ -1,9 +1,9 @@
--- What a pool holds.
+-- What a pool keeps beside the state that contracts see.
 use Rattle.std.specs.Prelude.{◌≡◌, ◌<◌, ◌≤◌, ◌^◌, sum_by, All}
 use Rattle.mp_tx.specs.Transaction.{size_of}
 use Rattle.mp_seqpool.specs.declared.pool.SeqPool.TheInside.{Inside}
-use Rattle.mp_seqpool.specs.Items.{items_of}
-use Rattle.mp_seqpool.specs.Order.{Pool, transactions, tickets}
+use Rattle.mp_seqpool.specs.Inside.Item.{items_of}
+use Rattle.mp_seqpool.specs.Pool.{Pool, transactions, tickets}
 
 abbrev pub state : Inside → Pool
 state p = record {

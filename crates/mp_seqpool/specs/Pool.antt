@@ -1,13 +1,8 @@
--- A command as plain data, and a pool's state.
+-- The state of a pool.
 use Rattle.std.specs.Prelude.{ℕ, List, map}
 use Rattle.mp_tx.specs.Transaction.{Transaction}
 use Rattle.mp_tx.specs.Ledger.{LedgerState}
 
--- what a caller asks of the pool
-pub data Order : Type 0 where
-  Submit : Transaction → Order
-
--- the state of a pool
 pub record Pool : Type 0 where
   -- the adopted ledger state
   pub ledger : LedgerState

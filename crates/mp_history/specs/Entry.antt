@@ -1,12 +1,12 @@
--- One line of a history as plain data.
+-- One line of a history.
 use Rattle.std.specs.Prelude.{ℕ}
 use Rattle.mp_seqpool.specs.declared.command.Reply.{Reply}
-use Rattle.mp_seqpool.specs.Order.{Order}
+use Rattle.mp_seqpool.specs.Command.{Command}
 
-pub record Done : Type 0 where
+pub record Entry : Type 0 where
   -- who asked
   pub caller : ℕ
   -- what was asked
-  pub order : Order
+  pub command : Command
   -- what was replied
   pub reply : Reply
