@@ -13,20 +13,28 @@ pub data Binding : Type 0 where
 abbrev pub Names : Type 0
 Names = List (List ℕ × Binding)
 
+-- what the name stands for, if it was declared
 abbrev pub binding_of : List ℕ → Names → Option Binding
 binding_of name [] = None
 binding_of name (n ∷ ns) = if pointwise nat_eq name n.0 then Some n.1 else binding_of name ns
 
--- the transaction, if that is what is to_binding
-abbrev pub made_of : Option Binding → Option Transaction
-made_of None = None
-made_of (Some (Opening r)) = None
-made_of (Some (Made t)) = Some t
+abbrev pub bound_transaction : Option Binding → Option Transaction
+bound_transaction None = None
+bound_transaction (Some (Opening r)) = None
+bound_transaction (Some (Made t)) = Some t
 
-abbrev pub opening_of : Option Binding → Option OutRef
-opening_of None = None
-opening_of (Some (Opening r)) = Some r
-opening_of (Some (Made t)) = None
+abbrev pub bound_opening : Option Binding → Option OutRef
+bound_opening None = None
+bound_opening (Some (Opening r)) = Some r
+bound_opening (Some (Made t)) = None
+
+-- the transaction that the name stands for, if it stands for one
+abbrev pub transaction_named : List ℕ → Names → Option Transaction
+transaction_named name names = bound_transaction (binding_of name names)
+
+-- the reference of the opening output that the name stands for, if it stands for one
+abbrev pub opening_named : List ℕ → Names → Option OutRef
+opening_named name names = bound_opening (binding_of name names)
 
 -- the name that the first transaction with this id was declared with
 abbrev pub name_of : List ℕ → Names → List ℕ

@@ -12,7 +12,7 @@ use Rattle.mp_text.specs.Numbers.{quantity_of}
 use Rattle.mp_text.specs.Names.{is_name}
 use Rattle.mp_text.specs.Words.{words_of, are_none_or_comment}
 use Rattle.mp_text.specs.Lines.{is_clean}
-use Rattle.mp_driver.specs.Names.{Binding, Opening, Made, Names, binding_of, made_of}
+use Rattle.mp_driver.specs.Names.{Binding, Opening, Made, Names, binding_of, transaction_named}
 use Rattle.mp_driver.specs.References.{opening_ref}
 use Rattle.mp_driver.specs.Items.{empty_draft, draft_of, transaction_of, is_transaction, plain_output}
 use Rattle.mp_driver.specs.AnswerText.{answer_text, snapshot_text}
@@ -34,8 +34,9 @@ abbrev pub pool_at : Stage → Pool
 pool_at (Before outputs) = empty_pool 1000000 0 (ledger_of 0 500000 outputs)
 pool_at (Open p) = p
 
-abbrev pub opened : Scene → Scene
-opened s = record s { stage = Open (pool_at s.stage) }
+-- the pool is open
+abbrev pub with_pool_open : Scene → Scene
+with_pool_open s = record s { stage = Open (pool_at s.stage) }
 
 -- the state after a line, and what the line writes
 abbrev pub Step : Type 0
@@ -76,16 +77,19 @@ transaction_line s (name ∷ word ∷ words) =
     else None
 
 -- submit NAME
-abbrev pub submitted : Scene → Transaction → Scene × List ℕ
-submitted s t = (record s { stage = Open (next (pool_at s.stage) (Submit t)) }, answer_text (answer (pool_at s.stage) (Submit t)))
+abbrev pub submit_to : Scene → Transaction → Scene × List ℕ
+submit_to s t = (
+  record s { stage = Open (next (pool_at s.stage) (Submit t)) },
+  answer_text (answer (pool_at s.stage) (Submit t)),
+)
 
 abbrev pub submit_line : Scene → List (List ℕ) → Step
 submit_line s [] = None
-submit_line s (name ∷ []) = option_map (submitted s) (made_of (binding_of name s.names))
+submit_line s (name ∷ []) = option_map (submit_to s) (transaction_named name s.names)
 submit_line s (name ∷ other ∷ more) = None
 
 abbrev pub snapshot_line : Scene → List (List ℕ) → Step
-snapshot_line s [] = Some (opened s, snapshot_text s.names (pool_at s.stage))
+snapshot_line s [] = Some (with_pool_open s, snapshot_text s.names (pool_at s.stage))
 snapshot_line s (other ∷ more) = None
 
 -- by the first word; any other is bad

@@ -2,8 +2,8 @@
 
 ghost use Rattle.std.specs.Prelude.{◌≡◌, option_copied, option_map};
 ghost use Rattle.std.specs.Arc.{arc_value};
-ghost use Rattle.mp_driver.specs.Names.{binding_of, made_of, opening_of, name_of};
-ghost use Rattle.mp_driver.specs.Held.{to_binding, names_of};
+ghost use Rattle.mp_driver.specs.Names.{binding_of, transaction_named, opening_named, name_of};
+ghost use Rattle.mp_driver.specs.Inside.Name.{to_binding, names_of};
 
 use mp_memory::Memory;
 use mp_tx::{OutRef, Tx, TxId};
@@ -38,7 +38,7 @@ pub fn binding_of<'a>(names: &'a [Name], word: &[u8]) -> Option<&'a Binding>
 
 /// The transaction that the word stands for.
 pub fn transaction_named<'a>(names: &'a [Name], word: &[u8]) -> Option<&'a Arc<Tx, Memory>>
-    ensures { option_map arc_value (option_copied result) ≡ made_of (binding_of word.now (names_of names.now)) }
+    ensures { option_map arc_value (option_copied result) ≡ transaction_named word.now (names_of names.now) }
 {
     match binding_of(names, word) {
         Some(Binding::Made(tx)) => Some(tx),
@@ -48,7 +48,7 @@ pub fn transaction_named<'a>(names: &'a [Name], word: &[u8]) -> Option<&'a Arc<T
 
 /// The reference of the opening output that the word stands for.
 pub fn opening_named(names: &[Name], word: &[u8]) -> Option<OutRef>
-    ensures { result ≡ opening_of (binding_of word.now (names_of names.now)) }
+    ensures { result ≡ opening_named word.now (names_of names.now) }
 {
     match binding_of(names, word) {
         Some(Binding::Opening(reference)) => Some(*reference),

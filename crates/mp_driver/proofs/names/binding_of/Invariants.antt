@@ -1,6 +1,6 @@
 use Rattle.std.proofs.Common.{◌≡◌, drop}
 use Rattle.mp_driver.specs.Names.{binding_of}
-use Rattle.mp_driver.specs.Held.{names_of}
+use Rattle.mp_driver.specs.Inside.Name.{names_of}
 use Rattle.mp_driver.proofs.names.binding_of.Given as goal
 
 -- the names that are left say it, if any does

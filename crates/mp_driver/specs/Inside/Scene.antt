@@ -2,7 +2,7 @@
 use Rattle.mp_driver.specs.declared.scene.Stage.{Stage}
 use Rattle.mp_driver.specs.declared.scene.Stage.TheVariants as stages
 use Rattle.mp_driver.specs.declared.scene.Scene.{Scene}
-use Rattle.mp_driver.specs.Held.{names_of}
+use Rattle.mp_driver.specs.Inside.Name.{names_of}
 use Rattle.mp_driver.specs.Scene.{Before, Open}
 use Rattle.mp_driver.specs.Scene as told
 
