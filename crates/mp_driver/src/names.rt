@@ -26,7 +26,8 @@ pub struct Name {
 
 /// What the word stands for, if it was declared.
 pub fn binding_of<'a>(names: &'a [Name], word: &[u8]) -> Option<&'a Binding>
-    ensures { option_map to_binding (option_copied result) ≡ binding_of word.now (names_of names.now) }
+    ensures { option_map to_binding (option_copied result)
+        ≡ binding_of word.now (names_of names.now) }
 {
     for name in names {
         if word == name.word.as_slice() {
@@ -38,7 +39,8 @@ pub fn binding_of<'a>(names: &'a [Name], word: &[u8]) -> Option<&'a Binding>
 
 /// The transaction that the word stands for.
 pub fn transaction_named<'a>(names: &'a [Name], word: &[u8]) -> Option<&'a Arc<Tx, Memory>>
-    ensures { option_map arc_value (option_copied result) ≡ transaction_named word.now (names_of names.now) }
+    ensures { option_map arc_value (option_copied result)
+        ≡ transaction_named word.now (names_of names.now) }
 {
     match binding_of(names, word) {
         Some(Binding::Made(tx)) => Some(tx),

@@ -25,7 +25,8 @@ fn place_of(word: &[u8]) -> Option<u16>
 
 // Output `place` of the transaction with the name.
 fn output_ref(names: &[Name], name: &[u8], place: &[u8]) -> Option<OutRef>
-    ensures { result ≡ output_ref (transaction_named name.now (names_of names.now)) (place_of place.now) }
+    ensures { result
+        ≡ output_ref (transaction_named name.now (names_of names.now)) (place_of place.now) }
 {
     let tx = transaction_named(names, name)?;
     let index = place_of(place)?;

@@ -212,7 +212,8 @@ impl Scene {
     // tx NAME ITEM ..
     fn transaction_line(&mut self, memory: Memory, words: &[u8]) -> Result<(), LineFault>
         ensures ok { OnOk result
-            (transaction_line (scene_of self.old) (words_of words.now) ≡ Some (scene_of self.new, [])) }
+            (transaction_line (scene_of self.old) (words_of words.now)
+            ≡ Some (scene_of self.new, [])) }
         ensures bad { IsErrOf result LineFault.Bad
             → transaction_line (scene_of self.old) (words_of words.now) ≡ None }
         ensures stays { IsErrOf result LineFault.Bad → scene_of self.new ≡ scene_of self.old }
@@ -236,7 +237,8 @@ impl Scene {
     // submit NAME
     fn submit_line(&mut self, memory: Memory, words: &[u8]) -> Result<Text, LineFault>
         ensures ok { IfOk result (λ text.
-            submit_line (scene_of self.old) (words_of words.now) ≡ Some (scene_of self.new, text.items)) }
+            submit_line (scene_of self.old) (words_of words.now)
+            ≡ Some (scene_of self.new, text.items)) }
         ensures bad { IsErrOf result LineFault.Bad
             → submit_line (scene_of self.old) (words_of words.now) ≡ None }
         ensures stays { IsErrOf result LineFault.Bad → scene_of self.new ≡ scene_of self.old }
@@ -253,7 +255,8 @@ impl Scene {
     // snapshot
     fn snapshot_line(&mut self, memory: Memory, words: &[u8]) -> Result<Text, LineFault>
         ensures ok { IfOk result (λ text.
-            snapshot_line (scene_of self.old) (words_of words.now) ≡ Some (scene_of self.new, text.items)) }
+            snapshot_line (scene_of self.old) (words_of words.now)
+            ≡ Some (scene_of self.new, text.items)) }
         ensures bad { IsErrOf result LineFault.Bad
             → snapshot_line (scene_of self.old) (words_of words.now) ≡ None }
         ensures stays { IsErrOf result LineFault.Bad → scene_of self.new ≡ scene_of self.old }
@@ -271,7 +274,8 @@ impl Scene {
     // The line's command, by its first word.
     fn command_line(&mut self, memory: Memory, word: &[u8], words: &[u8]) -> Result<Text, LineFault>
         ensures ok { IfOk result (λ text.
-            command_line (scene_of self.old) word.now (words_of words.now) ≡ Some (scene_of self.new, text.items)) }
+            command_line (scene_of self.old) word.now (words_of words.now)
+            ≡ Some (scene_of self.new, text.items)) }
         ensures bad { IsErrOf result LineFault.Bad
             → command_line (scene_of self.old) word.now (words_of words.now) ≡ None }
         ensures stays { IsErrOf result LineFault.Bad → scene_of self.new ≡ scene_of self.old }

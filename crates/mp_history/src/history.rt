@@ -36,10 +36,10 @@ fn replay(pool: &mut SeqPool, callers: u32, place: usize, entry: &Entry) -> Resu
     }
 }
 
-/// Runs a history of so many callers anew on a pool that opens upon the ledger state. It gives the
-/// pool after all entries where the history is legal: each entry's caller is below `callers`, and its
-/// reply is the slow pool's after the entries before it. Else it gives the first place where that
-/// fails, and the caller is looked at first there.
+/// Runs a history of so many callers anew on a pool that opens upon the ledger state. Where the
+/// history is legal, it gives the pool after all entries: each entry's caller is below `callers`, and
+/// its reply is the slow pool's after the entries before it. Otherwise it gives the first place where
+/// that fails, and the caller is looked at first there.
 pub fn audit(
     memory: Memory,
     config: Config,

@@ -66,9 +66,9 @@ pub record HasRoom (p : Pool) (t : Transaction) : Type 0 where
   pub bytes : bytes_held p + size_of t ≤ 2 ^ 40
 
 -- the refusal of an answer
-abbrev pub refused_with : Result Reply Refusal → Option Refusal
-refused_with (Ok reply) = None
-refused_with (Err refusal) = Some refusal
+abbrev pub refusal_in : Result Reply Refusal → Option Refusal
+refusal_in (Ok reply) = None
+refusal_in (Err refusal) = Some refusal
 
 -- A refusal that a call gives is the slow pool's. Memory may be wanting at any command.
 abbrev pub IsRefused : Pool → Command → Refusal → Type 0

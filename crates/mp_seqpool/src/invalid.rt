@@ -6,7 +6,8 @@ ghost use Rattle.mp_seqpool.specs.Invalid as invalid;
 use mp_tx::{PolicyId, TokenName};
 use thiserror::Error;
 
-/// The first rule that a transaction breaks upon the ledger after all transactions of the pool, at its least place.
+/// The first rule that a transaction breaks upon the ledger after all transactions of the pool, at its
+/// least place.
 #[derive(Clone, Copy, Debug, PartialEq, Eq, Error)]
 pub enum Invalid {
     #[error("the transaction has no input")]

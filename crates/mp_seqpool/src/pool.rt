@@ -61,7 +61,7 @@ impl SeqPool {
     ghost use Rattle.mp_seqpool.specs.Inside.Item.{items_of};
     ghost use Rattle.mp_seqpool.specs.Command.{Submit};
     ghost use Rattle.mp_seqpool.specs.Config.{fresh_pool};
-    ghost use Rattle.mp_seqpool.specs.SlowPool.{answer, next, refused_with, IsRefused, bytes_held, HasRoom};
+    ghost use Rattle.mp_seqpool.specs.SlowPool.{answer, next, refusal_in, IsRefused, bytes_held, HasRoom};
     ghost use Rattle.mp_seqpool.specs.Inside.Command.{command_of};
     ghost use Rattle.mp_seqpool.specs.declared.command.Reply.TheVariants.{Accepted};
 
@@ -82,7 +82,7 @@ impl SeqPool {
     // Why the transaction is refused, if it is.
     #[tactic(auto, unfolding(crate::specs::SlowPool::answer))]
     fn refusal_of(&self, tx: &Tx) -> Option<Refusal>
-        ensures refused { refused_with (answer self.now (Submit tx.now)) ≡ result }
+        ensures refused { refusal_in (answer self.now (Submit tx.now)) ≡ result }
         ensures taken { IfNone result
             (answer self.now (Submit tx.now) ≡ Ok (Accepted (self.now.last + 1))) }
         ensures room { IfNone result (HasRoom self.now tx.now) }

@@ -56,9 +56,10 @@ fn coin_at(ledger: &Ledger, items: &[Item], reference: &OutRef) -> u64
     }
 }
 
-fn spent(ledger: &Ledger, items: &[Item], inputs: &[Input]) -> u128
+fn spent_coin(ledger: &Ledger, items: &[Item], inputs: &[Input]) -> u128
     requires { length inputs.now ≤ 256 }
-    ensures { result ≡ sum_by (λ i. coin_of (unspent_after ledger.now items.now i.from)) inputs.now }
+    ensures { result
+        ≡ sum_by (λ i. coin_of (unspent_after ledger.now items.now i.from)) inputs.now }
 {
     let mut total = 0;
     for input in inputs {
@@ -67,7 +68,7 @@ fn spent(ledger: &Ledger, items: &[Item], inputs: &[Input]) -> u128
     total
 }
 
-fn paid(outputs: &[Output]) -> u128
+fn paid_coin(outputs: &[Output]) -> u128
     requires { length outputs.now ≤ 256 }
     ensures { result ≡ sum_by (λ o. o.coin) outputs.now }
 {
@@ -92,7 +93,7 @@ pub fn broken_rule(ledger: &Ledger, items: &[Item], tx: &Tx) -> Option<Invalid>
     if let Some(place) = taken_place(ledger, items, tx) {
         return Some(Invalid::OutputTaken(place));
     }
-    if spent(ledger, items, tx.inputs()) != paid(tx.outputs()) {
+    if spent_coin(ledger, items, tx.inputs()) != paid_coin(tx.outputs()) {
         return Some(Invalid::Unbalanced(COIN, TokenName::of(b"")));
     }
     None

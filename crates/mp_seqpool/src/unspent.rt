@@ -14,7 +14,7 @@ fn is_spent_by(tx: &Tx, reference: &OutRef) -> bool
     tx.inputs().iter().any(|input| *reference == input.from)
 }
 
-fn made_by<'a>(tx: &'a Tx, reference: &OutRef) -> Option<&'a Output>
+fn output_made<'a>(tx: &'a Tx, reference: &OutRef) -> Option<&'a Output>
     ensures { option_copied result ≡ output_made tx.now reference.now }
 {
     if reference.id == *tx.id() {
@@ -30,7 +30,7 @@ pub fn find<'a>(ledger: &'a Ledger, items: &'a [Item], reference: &OutRef) -> Op
 {
     let mut left = items;
     while let Some((item, rest)) = left.split_last() {
-        if let Some(output) = made_by(&item.tx, reference) {
+        if let Some(output) = output_made(&item.tx, reference) {
             return Some(output);
         }
         if is_spent_by(&item.tx, reference) {

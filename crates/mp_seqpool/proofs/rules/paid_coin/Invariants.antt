@@ -1,6 +1,6 @@
 use Rattle.std.proofs.Common.{◌≡◌, ◌≤◌, ◌*◌, ◌^◌, take}
 use Rattle.std.specs.Prelude.{sum_by}
-use Rattle.mp_seqpool.proofs.rules.paid.Given as goal
+use Rattle.mp_seqpool.proofs.rules.paid_coin.Given as goal
 
 -- the coin so far, below 2^63 an output
 abbrev pub invariant-loop-output : goal.invariant-loop-output

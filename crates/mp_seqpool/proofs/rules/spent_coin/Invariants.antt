@@ -5,7 +5,7 @@ use Rattle.mp_seqpool.specs.Apply.{after}
 use Rattle.mp_seqpool.specs.Validity.{coin_of}
 use Rattle.mp_seqpool.specs.Inside.Item.{items_of}
 use Rattle.mp_seqpool.specs.Pool.{transactions}
-use Rattle.mp_seqpool.proofs.rules.spent.Given as goal
+use Rattle.mp_seqpool.proofs.rules.spent_coin.Given as goal
 
 -- the coin so far, below 2^63 an input
 abbrev pub invariant-loop-input : goal.invariant-loop-input
