@@ -14,7 +14,8 @@ use mp_tx::Ledger;
 
 /// Runs the commands in order on a pool that opens upon the ledger state, puts the answer to each
 /// at its place, and gives the pool after them all. Answers and pool are the slow pool's, and every
-/// state on the way obeys the pool laws. `NoMemory` is the only error: it may come at any command.
+/// state on the way obeys the pool laws. It may return `NoMemory` instead, and may have put some
+/// answers at their places by then.
 pub fn play(
     memory: Memory,
     config: Config,

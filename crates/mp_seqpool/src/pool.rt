@@ -16,7 +16,7 @@ use std::sync::Arc;
 
 /// The mempool of one thread (the Mempool API of ouroboros-consensus): applied in order to the
 /// adopted ledger state, every transaction is valid; each has a ticket, and tickets increase and
-/// are never reused.
+/// are never reused. Any of these calls may return `NoMemory` instead, and then nothing has changed.
 #[derive(Drop)]
 pub struct SeqPool {
     config: Config,
