@@ -5,12 +5,12 @@ use Rattle.std.specs.Int.{w16, w64, to_be_bytes, cast_unsigned}
 use Rattle.std.proofs.lemmas.List.{append-nil}
 use Rattle.mp_script.specs.declared.fault.DataFault.{DataFault}
 use Rattle.mp_script.specs.declared.fault.DataFault.TheVariants.{NoMemory, Truncated, BadTag}
-use Rattle.mp_script.specs.Fields.{number_at, count_at, sized_at}
-use Rattle.mp_script.specs.Reading.{◌>>=◌, or_fault, rest_of}
+use Rattle.mp_bytes.specs.Fields.{number_at, count_at, sized_at}
+use Rattle.mp_bytes.specs.Reading.{◌>>=◌, or_fault, rest_of}
 use Rattle.mp_script.specs.Datum.{Datum, Items, number, octets, list, none, item, count, depth, deepest, Fits, AllFit, spelling, spellings, Spells, IsDatum}
 use Rattle.mp_script.specs.DataReading.{Read, number_read, octets_read, items_read, list_read, datum_read, whole, datum_of}
-use Rattle.mp_script.proofs.Bytes.{IsBytes, IsBytes-rest, bind_ok, or_fault_ok, ok_is, Takes, Takes-then, tagged}
-use Rattle.mp_script.proofs.FieldLaws.{number_takes, number_again, count_takes, count_again, sized_takes, sized_again}
+use Rattle.mp_bytes.proofs.Bytes.{IsBytes, IsBytes-rest, bind_ok, or_fault_ok, ok_is, Takes, Takes-then, tagged}
+use Rattle.mp_bytes.proofs.FieldLaws.{number_takes, number_again, count_takes, count_again, sized_takes, sized_again}
 
 -- a datum that was read, up to a depth
 pub record WasRead (most : ℕ) (bytes : List ℕ) (x : Datum × List ℕ) : Type 0 where

@@ -2,7 +2,7 @@
 use Rattle.std.proofs.Common.{arith, ◌≡◌, ℕ, suc, ◌+◌, ◌-◌, ◌<◌, List, refl, sym, ap, ◌∙◌}
 use Rattle.std.specs.Prelude.{Result, Ok, Err}
 use Rattle.mp_script.specs.declared.fault.DataFault.{DataFault}
-use Rattle.mp_script.specs.Reading.{◌>>=◌, rest_of}
+use Rattle.mp_bytes.specs.Reading.{◌>>=◌, rest_of}
 use Rattle.mp_script.specs.Datum.{Datum, Items, item}
 use Rattle.mp_script.specs.DataReading.{Read, items_read}
 

@@ -7,7 +7,7 @@ use Rattle.mp_script.specs.DataReading.{datum_of}
 use Rattle.mp_script.specs.ScriptReading.{script_of}
 use Rattle.mp_script.specs.Laws.{DatumIsOne, ScriptIsOne, SpellingIsOne, SameIsEqual}
 use Rattle.mp_script.proofs.DataLaws as data_laws
-use Rattle.mp_script.proofs.PartLaws.{tree_is}
+use Rattle.mp_script.proofs.DatumRefLaws.{tree_is}
 use Rattle.mp_script.proofs.ScriptLaws as script_laws
 
 one_value : {A E : Type 0} (r : Result A E) (x y : A) → r ≡ Ok x → r ≡ Ok y → x ≡ y

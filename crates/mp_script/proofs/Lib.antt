@@ -1,8 +1,6 @@
-pub mod Bytes
 pub mod Items
-pub mod FieldLaws
 pub mod DataLaws
-pub mod PartLaws
+pub mod DatumRefLaws
 pub mod OperatorLaws
 pub mod ScriptLaws
 pub mod EvalLaws

@@ -16,16 +16,16 @@ use Rattle.mp_script.specs.declared.operator.Binary.{Binary}
 use Rattle.mp_script.specs.declared.operator.Binary.TheVariants as binary
 use Rattle.mp_script.specs.declared.operator.Ternary.{Ternary}
 use Rattle.mp_script.specs.declared.operator.Ternary.TheVariants as ternary
-use Rattle.mp_script.specs.Fields.{number_at, run_at}
-use Rattle.mp_script.specs.Reading.{◌>>=◌, or_fault}
-use Rattle.mp_script.specs.Operators.{Op, leaf_code, unary_code, binary_code, ternary_code, with_code, leaves, unaries, binaries, ternaries, leaf_of, unary_of, binary_of, ternary_of}
+use Rattle.mp_bytes.specs.Fields.{number_at, run_at}
+use Rattle.mp_bytes.specs.Reading.{◌>>=◌, or_fault}
+use Rattle.mp_script.specs.Operators.{Operator, leaf_code, unary_code, binary_code, ternary_code, with_code, leaves, unaries, binaries, ternaries, leaf_of, unary_of, binary_of, ternary_of}
 use Rattle.mp_script.specs.Operators as op
 use Rattle.mp_script.specs.ScriptReading.{or_else, plain_of, int_read, bytes_read, operator_read}
-use Rattle.mp_script.proofs.Bytes.{IsBytes, IsBytes-rest, bind_ok, or_fault_ok, guard_some, ok_is, Takes, tagged, chosen, some_is}
-use Rattle.mp_script.proofs.FieldLaws.{number_takes, number_again, run_takes, run_again}
+use Rattle.mp_bytes.proofs.Bytes.{IsBytes, IsBytes-rest, bind_ok, or_fault_ok, guard_some, ok_is, Takes, tagged, chosen, some_is}
+use Rattle.mp_bytes.proofs.FieldLaws.{number_takes, number_again, run_takes, run_again}
 
 -- the bytes of an operator
-abbrev pub op_bytes : Op → List ℕ
+abbrev pub op_bytes : Operator → List ℕ
 op_bytes (op.int n) = 2 ∷ to_be_bytes w64 (cast_unsigned w64 n)
 op_bytes (op.bytes b) = 3 ∷ length b ∷ b
 op_bytes (op.nullary o) = leaf_code o ∷ []
@@ -33,7 +33,7 @@ op_bytes (op.on_one o) = unary_code o ∷ []
 op_bytes (op.on_two o) = binary_code o ∷ []
 op_bytes (op.on_three o) = ternary_code o ∷ []
 
-abbrev pub OpFits : Op → Type 0
+abbrev pub OpFits : Operator → Type 0
 OpFits (op.int n) = FitsSigned w64 n
 OpFits (op.bytes b) = length b < 2 ^ 8
 OpFits (op.nullary o) = Unit {0}
@@ -51,28 +51,28 @@ code_found code_of (x ∷ among) code a e =
       | inr p ↦ code_found code_of among code a p.1
     ]
 
-mapped_some : {A : Type 0} (f : A → Op) (x : Option A) (o : Op) → option_map f x ≡ Some o → (a : A) × (x ≡ Some a) × (f a ≡ o)
+mapped_some : {A : Type 0} (f : A → Operator) (x : Option A) (o : Operator) → option_map f x ≡ Some o → (a : A) × (x ≡ Some a) × (f a ≡ o)
 mapped_some f None o e = absurd cc
 mapped_some f (Some a) o e = (a, refl, cc)
 
-or_else_ok : (x : Option Op) (other : Result Op ScriptFault) (o : Op) → or_else x other ≡ Ok o → (x ≡ Some o) ⊎ (other ≡ Ok o)
+or_else_ok : (x : Option Operator) (other : Result Operator ScriptFault) (o : Operator) → or_else x other ≡ Ok o → (x ≡ Some o) ⊎ (other ≡ Ok o)
 or_else_ok None other o e = inr e
 or_else_ok (Some p) other o e = inl cc
 
-bad_is_none : (o : Op) → Err BadOperator ≡ Ok o → ⊥
+bad_is_none : (o : Operator) → Err BadOperator ≡ Ok o → ⊥
 bad_is_none o e = absurd cc
 
-record IsPlain (code : ℕ) (o : Op) : Type 0 where
+record IsPlain (code : ℕ) (o : Operator) : Type 0 where
   bytes : code ∷ [] ≡ op_bytes o
   fits : OpFits o
 
-plain_found : {A : Type 0} (f : A → Op) (code_of : A → ℕ) (among : List A) (code : ℕ) (o : Op) → ((a : A) → IsPlain (code_of a) (f a)) → option_map f (with_code code_of among code) ≡ Some o → IsPlain code o
+plain_found : {A : Type 0} (f : A → Operator) (code_of : A → ℕ) (among : List A) (code : ℕ) (o : Operator) → ((a : A) → IsPlain (code_of a) (f a)) → option_map f (with_code code_of among code) ≡ Some o → IsPlain code o
 plain_found f code_of among code o plain e =
     let m = mapped_some f (with_code code_of among code) o e in
     let c = code_found code_of among code m.0 m.1 in
-    subst (λ (p : Op). IsPlain code p) m.2 (subst (λ (k : ℕ). IsPlain k (f m.0)) (sym c) (plain m.0))
+    subst (λ (p : Operator). IsPlain code p) m.2 (subst (λ (k : ℕ). IsPlain k (f m.0)) (sym c) (plain m.0))
 
-plain_is : (code : ℕ) (o : Op) → plain_of code ≡ Ok o → IsPlain code o
+plain_is : (code : ℕ) (o : Operator) → plain_of code ≡ Ok o → IsPlain code o
 unfolding plain_of
 plain_is code o e =
     elim (or_else_ok (option_map op.nullary (leaf_of code)) _ o e) [
@@ -91,33 +91,33 @@ plain_is code o e =
 
 -- ---- an operator at the front
 
-pub record WasOp (text : List ℕ) (x : Op × List ℕ) : Type 0 where
+pub record WasOp (text : List ℕ) (x : Operator × List ℕ) : Type 0 where
   pub takes : Takes text (op_bytes x.0) x.1
   pub fits : OpFits x.0
 
-int_was : (text : List ℕ) (x : Op × List ℕ) → IsBytes text → int_read text ≡ Ok x → WasOp (2 ∷ text) x
+int_was : (text : List ℕ) (x : Operator × List ℕ) → IsBytes text → int_read text ≡ Ok x → WasOp (2 ∷ text) x
 unfolding int_read
 int_was text x fits e =
     let b = bind_ok (or_fault Truncated (number_at text)) (λ n. Ok (op.int n.0, n.1)) x e in
     let t = number_takes text b.0.0 b.0.1 fits (or_fault_ok Truncated (number_at text) b.0 b.1) in
-    subst (λ (y : Op × List ℕ). WasOp (2 ∷ text) y) (ok_is (op.int b.0.0, b.0.1) x b.2) (record { takes = tagged 2 text _ _ t.0; fits = t.1 })
+    subst (λ (y : Operator × List ℕ). WasOp (2 ∷ text) y) (ok_is (op.int b.0.0, b.0.1) x b.2) (record { takes = tagged 2 text _ _ t.0; fits = t.1 })
 
-bytes_was : (text : List ℕ) (x : Op × List ℕ) → IsBytes text → bytes_read text ≡ Ok x → WasOp (3 ∷ text) x
+bytes_was : (text : List ℕ) (x : Operator × List ℕ) → IsBytes text → bytes_read text ≡ Ok x → WasOp (3 ∷ text) x
 unfolding bytes_read
 bytes_was [] x fits e = absurd cc
 bytes_was (len ∷ text) x fits e =
     let b = bind_ok (or_fault Truncated (run_at len text)) (λ run. Ok (op.bytes run.0, run.1)) x e in
     let t = run_takes len text b.0.0 b.0.1 (IsBytes-rest len text fits) (or_fault_ok Truncated (run_at len text) b.0 b.1) in
     let same : Takes (len ∷ text) (length b.0.0 ∷ b.0.0) b.0.1 = subst (λ (k : ℕ). Takes (len ∷ text) (k ∷ b.0.0) b.0.1) (sym t.1) (tagged len text _ _ t.0) in
-    subst (λ (y : Op × List ℕ). WasOp (3 ∷ len ∷ text) y) (ok_is (op.bytes b.0.0, b.0.1) x b.2) (record { takes = tagged 3 (len ∷ text) _ _ same; fits = omega (arith, t.1, fits 0) })
+    subst (λ (y : Operator × List ℕ). WasOp (3 ∷ len ∷ text) y) (ok_is (op.bytes b.0.0, b.0.1) x b.2) (record { takes = tagged 3 (len ∷ text) _ _ same; fits = omega (arith, t.1, fits 0) })
 
-plain_was : (code : ℕ) (text : List ℕ) (x : Op × List ℕ) → IsBytes text → (plain_of code >>= λ o. Ok (o, text)) ≡ Ok x → WasOp (code ∷ text) x
+plain_was : (code : ℕ) (text : List ℕ) (x : Operator × List ℕ) → IsBytes text → (plain_of code >>= λ o. Ok (o, text)) ≡ Ok x → WasOp (code ∷ text) x
 plain_was code text x fits e =
     let b = bind_ok (plain_of code) (λ o. Ok (o, text)) x e in
     let p = plain_is code b.0 b.1 in
-    subst (λ (y : Op × List ℕ). WasOp (code ∷ text) y) (ok_is (b.0, text) x b.2) (record { takes = record { parts = ap (λ (t : List ℕ). t ++ text) p.bytes; rest_fits = fits }; fits = p.fits })
+    subst (λ (y : Operator × List ℕ). WasOp (code ∷ text) y) (ok_is (b.0, text) x b.2) (record { takes = record { parts = ap (λ (t : List ℕ). t ++ text) p.bytes; rest_fits = fits }; fits = p.fits })
 
-pub operator_was : (text : List ℕ) (x : Op × List ℕ) → IsBytes text → operator_read text ≡ Ok x → WasOp text x
+pub operator_was : (text : List ℕ) (x : Operator × List ℕ) → IsBytes text → operator_read text ≡ Ok x → WasOp text x
 unfolding operator_read
 operator_was [] x fits e = absurd cc
 operator_was (code ∷ text) x fits e =
@@ -142,26 +142,26 @@ run_shorter n text x e =
     let g = guard_some _ _ x e in
     omega (arith, ap (λ (y : List ℕ × List ℕ). length y.1) g.1, length-drop n text)
 
-int_shorter : (text : List ℕ) (x : Op × List ℕ) → int_read text ≡ Ok x → length x.1 ≤ length text
+int_shorter : (text : List ℕ) (x : Operator × List ℕ) → int_read text ≡ Ok x → length x.1 ≤ length text
 unfolding int_read
 int_shorter text x e =
     let b = bind_ok (or_fault Truncated (number_at text)) (λ n. Ok (op.int n.0, n.1)) x e in
-    subst (λ (y : Op × List ℕ). length y.1 ≤ length text) (ok_is (op.int b.0.0, b.0.1) x b.2) (number_shorter text b.0 (or_fault_ok Truncated (number_at text) b.0 b.1))
+    subst (λ (y : Operator × List ℕ). length y.1 ≤ length text) (ok_is (op.int b.0.0, b.0.1) x b.2) (number_shorter text b.0 (or_fault_ok Truncated (number_at text) b.0 b.1))
 
-bytes_shorter : (text : List ℕ) (x : Op × List ℕ) → bytes_read text ≡ Ok x → length x.1 ≤ length text
+bytes_shorter : (text : List ℕ) (x : Operator × List ℕ) → bytes_read text ≡ Ok x → length x.1 ≤ length text
 unfolding bytes_read
 bytes_shorter [] x e = absurd cc
 bytes_shorter (len ∷ text) x e =
     let b = bind_ok (or_fault Truncated (run_at len text)) (λ run. Ok (op.bytes run.0, run.1)) x e in
     let r = run_shorter len text b.0 (or_fault_ok Truncated (run_at len text) b.0 b.1) in
-    subst (λ (y : Op × List ℕ). length y.1 ≤ length (len ∷ text)) (ok_is (op.bytes b.0.0, b.0.1) x b.2) (omega (arith, r))
+    subst (λ (y : Operator × List ℕ). length y.1 ≤ length (len ∷ text)) (ok_is (op.bytes b.0.0, b.0.1) x b.2) (omega (arith, r))
 
-plain_shorter : (code : ℕ) (text : List ℕ) (x : Op × List ℕ) → (plain_of code >>= λ o. Ok (o, text)) ≡ Ok x → length x.1 ≤ length text
+plain_shorter : (code : ℕ) (text : List ℕ) (x : Operator × List ℕ) → (plain_of code >>= λ o. Ok (o, text)) ≡ Ok x → length x.1 ≤ length text
 plain_shorter code text x e =
     let b = bind_ok (plain_of code) (λ o. Ok (o, text)) x e in
-    subst (λ (y : Op × List ℕ). length y.1 ≤ length text) (ok_is (b.0, text) x b.2) (omega arith)
+    subst (λ (y : Operator × List ℕ). length y.1 ≤ length text) (ok_is (b.0, text) x b.2) (omega arith)
 
-pub operator_shorter : (text : List ℕ) (x : Op × List ℕ) → operator_read text ≡ Ok x → length x.1 < length text
+pub operator_shorter : (text : List ℕ) (x : Operator × List ℕ) → operator_read text ≡ Ok x → length x.1 < length text
 unfolding operator_read
 operator_shorter [] x e = absurd cc
 operator_shorter (code ∷ text) x e =
@@ -218,7 +218,7 @@ ternary_again ternary.If rest = refl
 ternary_again ternary.Paid rest = refl
 ternary_again ternary.RefQuantity rest = refl
 
-pub operator_again : (o : Op) (rest : List ℕ) → OpFits o → operator_read (op_bytes o ++ rest) ≡ Ok (o, rest)
+pub operator_again : (o : Operator) (rest : List ℕ) → OpFits o → operator_read (op_bytes o ++ rest) ≡ Ok (o, rest)
 unfolding operator_read int_read bytes_read
 operator_again (op.int n) rest fits = ap (λ (f : Option (ℤ × List ℕ)). or_fault Truncated f >>= λ n. Ok (op.int n.0, n.1)) (number_again n rest fits)
 operator_again (op.bytes b) rest fits = ap (λ (f : Option (List ℕ × List ℕ)). or_fault Truncated f >>= λ run. Ok (op.bytes run.0, run.1)) (run_again b rest)

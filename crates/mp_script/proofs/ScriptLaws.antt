@@ -5,12 +5,13 @@ use Rattle.std.proofs.lemmas.Bool.{leb-true, le-leb}
 use Rattle.std.proofs.lemmas.List.{append-nil}
 use Rattle.mp_script.specs.declared.fault.ScriptFault.{ScriptFault}
 use Rattle.mp_script.specs.declared.fault.ScriptFault.TheVariants.{NoMemory, TooLong, TooDeep}
-use Rattle.mp_script.specs.Reading.{◌>>=◌, seen}
-use Rattle.mp_script.specs.Operators.{Op}
+use Rattle.mp_bytes.specs.Reading.{◌>>=◌, seen}
+use Rattle.mp_script.specs.Operators.{Operator}
 use Rattle.mp_script.specs.Operators as op
 use Rattle.mp_script.specs.Script.{Tree, int, bytes, leaf, unary, binary, ternary, depth, size, Fits, spelling, Spells, IsScript}
-use Rattle.mp_script.specs.ScriptReading.{operator_read, alone, reads, made, put, script_of, put_depth}
-use Rattle.mp_script.proofs.Bytes.{IsBytes, bind_ok, ok_is}
+use Rattle.mp_script.specs.ScriptReading.{operator_read, alone, reads, made, put, script_of}
+use Rattle.mp_script.specs.Inside.Depths.{put_depth}
+use Rattle.mp_bytes.proofs.Bytes.{IsBytes, bind_ok, ok_is}
 use Rattle.mp_script.proofs.OperatorLaws.{op_bytes, OpFits, operator_was, operator_again}
 
 -- ---- depths alone
@@ -19,7 +20,7 @@ seen_cond : {X A : Type 0} (f : X → A) (b : Bool) (x : X) (e : ScriptFault) �
 seen_cond f true x e = refl
 seen_cond f false x e = refl
 
-put_of_depths : (o : Op) (waiting : List Tree) → put_depth o (map depth waiting) ≡ seen (map depth) (put o waiting)
+put_of_depths : (o : Operator) (waiting : List Tree) → put_depth o (map depth waiting) ≡ seen (map depth) (put o waiting)
 put_of_depths (op.int n) waiting = refl
 put_of_depths (op.bytes b) waiting = refl
 put_of_depths (op.nullary o) waiting = refl
@@ -38,7 +39,7 @@ alone_of_depths [] = refl
 alone_of_depths (w ∷ []) = refl
 alone_of_depths (w ∷ v ∷ waiting) = refl
 
-too_long : (r : Result (Op × List ℕ) ScriptFault) → (r >>= λ o. Err TooLong) ≡ seen depth (r >>= λ o. Err TooLong)
+too_long : (r : Result (Operator × List ℕ) ScriptFault) → (r >>= λ o. Err TooLong) ≡ seen depth (r >>= λ o. Err TooLong)
 too_long (Ok o) = refl
 too_long (Err e) = refl
 
@@ -49,7 +50,7 @@ after_put : (room : ℕ) → ReadsDepths room → (p : Result (List Tree) Script
 after_put room more (Ok next) text = more next text
 after_put room more (Err e) text = refl
 
-after_op : (room : ℕ) → ReadsDepths room → (waiting : List Tree) (r : Result (Op × List ℕ) ScriptFault) → (r >>= λ o. put_depth o.0 (map depth waiting) >>= λ next. reads put_depth room next o.1) ≡ seen depth (r >>= λ o. put o.0 waiting >>= λ next. reads put room next o.1)
+after_op : (room : ℕ) → ReadsDepths room → (waiting : List Tree) (r : Result (Operator × List ℕ) ScriptFault) → (r >>= λ o. put_depth o.0 (map depth waiting) >>= λ next. reads put_depth room next o.1) ≡ seen depth (r >>= λ o. put o.0 waiting >>= λ next. reads put room next o.1)
 after_op room more waiting (Ok o) = ap (λ p. p >>= λ next. reads put_depth room next o.1) (put_of_depths o.0 waiting) ∙ after_put room more (put o.0 waiting) o.1
 after_op room more waiting (Err e) = refl
 
@@ -87,7 +88,7 @@ abbrev AllGood : List Tree → Type 0
 AllGood [] = Unit {0}
 AllGood (w ∷ waiting) = Fits w × (depth w ≤ 64) × AllGood waiting
 
-record WasMade (o : Op) (waiting : List Tree) (x : Tree × List Tree) : Type 0 where
+record WasMade (o : Operator) (waiting : List Tree) (x : Tree × List Tree) : Type 0 where
   text : spelled waiting ++ op_bytes o ≡ spelled x.1 ++ spelling x.0
   number : sizes x.1 + size x.0 ≡ suc (sizes waiting)
   fits : Fits x.0
@@ -99,7 +100,7 @@ three w a b c = ap (λ (x : List ℕ). x ++ c) (append_assoc w a b) ∙ append_a
 four : (w a b c d : List ℕ) → (((w ++ a) ++ b) ++ c) ++ d ≡ w ++ (((a ++ b) ++ c) ++ d)
 four w a b c d = ap (λ (x : List ℕ). x ++ d) (three w a b c) ∙ append_assoc w ((a ++ b) ++ c) d
 
-was_made : (o : Op) (waiting : List Tree) (x : Tree × List Tree) → OpFits o → AllGood waiting → made o waiting ≡ Ok x → WasMade o waiting x
+was_made : (o : Operator) (waiting : List Tree) (x : Tree × List Tree) → OpFits o → AllGood waiting → made o waiting ≡ Ok x → WasMade o waiting x
 was_made (op.int n) waiting x fits good e = subst (λ (y : Tree × List Tree). WasMade (op.int n) waiting y) (ok_is (int n, waiting) x e) (record { text = refl; number = omega arith; fits = fits; good = good })
 was_made (op.bytes b) waiting x fits good e = subst (λ (y : Tree × List Tree). WasMade (op.bytes b) waiting y) (ok_is (bytes b, waiting) x e) (record { text = refl; number = omega arith; fits = fits; good = good })
 was_made (op.nullary o) waiting x fits good e = subst (λ (y : Tree × List Tree). WasMade (op.nullary o) waiting y) (ok_is (leaf o, waiting) x e) (record { text = refl; number = omega arith; fits = tt; good = good })
@@ -117,12 +118,12 @@ pub guard_ok : {A : Type 0} (b : Bool) (x y : A) (f : ScriptFault) → cond b (O
 guard_ok true x y f e = (refl, ok_is x y e)
 guard_ok false x y f e = absurd cc
 
-record WasPut (o : Op) (waiting next : List Tree) : Type 0 where
+record WasPut (o : Operator) (waiting next : List Tree) : Type 0 where
   text : spelled waiting ++ op_bytes o ≡ spelled next
   number : sizes next ≡ suc (sizes waiting)
   good : AllGood next
 
-was_put : (o : Op) (waiting next : List Tree) → OpFits o → AllGood waiting → put o waiting ≡ Ok next → WasPut o waiting next
+was_put : (o : Operator) (waiting next : List Tree) → OpFits o → AllGood waiting → put o waiting ≡ Ok next → WasPut o waiting next
 was_put o waiting next fits good e =
     let b = bind_ok (made o waiting) (λ x. cond (leb (depth x.0) 64) (Ok (x.0 ∷ x.1)) (Err TooDeep)) next e in
     let m = was_made o waiting b.0 fits good b.1 in
@@ -140,7 +141,7 @@ alone_read room [] t good e = absurd cc
 alone_read room (w ∷ []) t good e = subst (λ (y : Tree). WasRead room (w ∷ []) [] y) (ok_is w t e) (record { joined = append-nil (spelling w); short = omega arith; fits = good.0; shallow = good.1 })
 alone_read room (w ∷ v ∷ waiting) t good e = absurd cc
 
-pub never_long : (r : Result (Op × List ℕ) ScriptFault) (t : Tree) → (r >>= λ o. Err TooLong) ≡ Ok t → ⊥
+pub never_long : (r : Result (Operator × List ℕ) ScriptFault) (t : Tree) → (r >>= λ o. Err TooLong) ≡ Ok t → ⊥
 never_long (Ok o) t e = absurd cc
 never_long (Err f) t e = absurd cc
 
@@ -168,7 +169,7 @@ read_is_spelled text t fits e =
 
 -- ---- and what is spelled so is read
 
-opened : (o : Op) (room : ℕ) (waiting : List Tree) (rest : List ℕ) → reads put (suc room) waiting (op_bytes o ++ rest) ≡ (operator_read (op_bytes o ++ rest) >>= λ x. put x.0 waiting >>= λ next. reads put room next x.1)
+opened : (o : Operator) (room : ℕ) (waiting : List Tree) (rest : List ℕ) → reads put (suc room) waiting (op_bytes o ++ rest) ≡ (operator_read (op_bytes o ++ rest) >>= λ x. put x.0 waiting >>= λ next. reads put room next x.1)
 opened (op.int n) room waiting rest = refl
 opened (op.bytes b) room waiting rest = refl
 opened (op.nullary o) room waiting rest = refl
@@ -176,7 +177,7 @@ opened (op.on_one o) room waiting rest = refl
 opened (op.on_two o) room waiting rest = refl
 opened (op.on_three o) room waiting rest = refl
 
-one_step : (o : Op) (room : ℕ) (waiting next : List Tree) (rest : List ℕ) → OpFits o → put o waiting ≡ Ok next → reads put (suc room) waiting (op_bytes o ++ rest) ≡ reads put room next rest
+one_step : (o : Operator) (room : ℕ) (waiting next : List Tree) (rest : List ℕ) → OpFits o → put o waiting ≡ Ok next → reads put (suc room) waiting (op_bytes o ++ rest) ≡ reads put room next rest
 one_step o room waiting next rest fits e =
     opened o room waiting rest
     ∙ ap (λ r. r >>= λ x. put x.0 waiting >>= λ next. reads put room next x.1) (operator_again o rest fits)

@@ -2,8 +2,8 @@
 use Rattle.std.specs.Prelude.{◌≡◌, ◌⊎◌, ℕ, zero, suc, List, [], ◌∷◌, Result, Ok, Err, if◌then◌else◌, nat_eq}
 use Rattle.mp_script.specs.declared.fault.DataFault.{DataFault}
 use Rattle.mp_script.specs.declared.fault.DataFault.TheVariants.{NoMemory, Truncated, BadTag, TooDeep, Trailing}
-use Rattle.mp_script.specs.Fields.{number_at, count_at, sized_at}
-use Rattle.mp_script.specs.Reading.{◌>>=◌, or_fault}
+use Rattle.mp_bytes.specs.Fields.{number_at, count_at, sized_at}
+use Rattle.mp_bytes.specs.Reading.{◌>>=◌, or_fault}
 use Rattle.mp_script.specs.Datum.{Datum, Items, number, octets, list, none, item, IsDatum}
 
 abbrev pub Read : Type 0 → Type 0
@@ -52,6 +52,14 @@ whole (x, b ∷ bytes) = Err Trailing
 abbrev pub datum_of : List ℕ → Result Datum DataFault
 datum_of bytes = datum_read 16 bytes >>= whole
 
+abbrev pub or_unit : Result Datum DataFault → Datum
+or_unit (Ok d) = d
+or_unit (Err e) = list none
+
+-- the datum that the bytes spell, and where they spell none the empty list
+abbrev pub tree_of : List ℕ → Datum
+tree_of bytes = or_unit (datum_of bytes)
+
 -- the fault is the first one, or want of memory where there is none
-abbrev pub MayFail : DataFault → List ℕ → Type 0
-MayFail fault bytes = (datum_of bytes ≡ Err fault) ⊎ ((fault ≡ NoMemory) × IsDatum bytes)
+abbrev pub IsFaultOf : List ℕ → DataFault → Type 0
+IsFaultOf bytes fault = (datum_of bytes ≡ Err fault) ⊎ ((fault ≡ NoMemory) × IsDatum bytes)

@@ -2,8 +2,7 @@
 use Rattle.std.specs.Prelude.{◌≡◌, ◌↔◌, List, ℕ, IsTrue, Ok}
 use Rattle.mp_script.specs.Datum as data_terms
 use Rattle.mp_script.specs.Datum.{Datum}
-use Rattle.mp_script.specs.DataReading.{datum_of}
-use Rattle.mp_script.specs.Parts.{tree_of}
+use Rattle.mp_script.specs.DataReading.{datum_of, tree_of}
 use Rattle.mp_script.specs.Script.{Tree}
 use Rattle.mp_script.specs.Script as script_terms
 use Rattle.mp_script.specs.ScriptReading.{script_of}

@@ -1,15 +1,11 @@
 pub mod FaultNumbers
-pub mod Fields
-pub mod Reading
 pub mod Datum
 pub mod DataReading
-pub mod Kept
-pub mod Parts
 pub mod Operators
 pub mod Script
 pub mod ScriptReading
 pub mod View
 pub mod Value
 pub mod Meaning
-pub mod Waiting
 pub mod Laws
+pub mod Inside

@@ -7,7 +7,7 @@ use Rattle.std.specs.List.{list_any}
 use Rattle.std.specs.Option.{option_map, option_and_then}
 use Rattle.mp_bundle.specs.declared.token.Token.{Token}
 use Rattle.mp_bundle.specs.Token.{token}
-use Rattle.mp_bundle.specs.Bundle.{quantity_of}
+use Rattle.mp_bundle.specs.Bundle.{Entry, quantity_of}
 use Rattle.mp_script.specs.declared.operator.Leaf.{Leaf}
 use Rattle.mp_script.specs.declared.operator.Leaf.TheVariants as code
 use Rattle.mp_script.specs.declared.operator.Unary.{Unary}
@@ -18,44 +18,44 @@ use Rattle.mp_script.specs.declared.operator.Ternary.{Ternary}
 use Rattle.mp_script.specs.declared.operator.Ternary.TheVariants as three
 use Rattle.mp_script.specs.Datum.{Datum, spelling, number_in, octets_in, length_in, item_in}
 use Rattle.mp_script.specs.Script.{Tree, int, bytes, leaf, unary, binary, ternary}
-use Rattle.mp_script.specs.View.{Sight, Payment, Reference}
-use Rattle.mp_script.specs.Value.{Val, nothing, truth, whole, octets, tree}
+use Rattle.mp_script.specs.View.{View, PaidTo, Referred}
+use Rattle.mp_script.specs.Value.{Value, nothing, truth, whole, octets, tree}
 
 -- ---- kinds
 
-abbrev pub truth_in : Val → Option Bool
+abbrev pub truth_in : Value → Option Bool
 truth_in (truth b) = Some b
 truth_in _ = None
 
-abbrev pub datum_in : Val → Option Datum
+abbrev pub datum_in : Value → Option Datum
 datum_in (tree d) = Some d
 datum_in _ = None
 
 -- a place in a list: a number from 0 to 2^64 - 1
-abbrev pub place_in : Val → Option ℕ
+abbrev pub place_in : Value → Option ℕ
 place_in (whole (pos n)) = if nat_lt n (2 ^ 64) then Some n else None
 place_in _ = None
 
 -- what becomes of what there is, and Nothing where there is none
-abbrev pub on : {A : Type 0} → Option A → (A → Val) → Val
+abbrev pub on : {A : Type 0} → Option A → (A → Value) → Value
 on None f = nothing
 on (Some a) f = f a
 
 -- two whole numbers
-abbrev pub wholes_in : Val → Val → Option (ℤ × ℤ)
+abbrev pub wholes_in : Value → Value → Option (ℤ × ℤ)
 wholes_in (whole a) (whole b) = Some (a, b)
 wholes_in _ _ = None
 
-abbrev pub on_wholes : (ℤ → ℤ → Val) → Val → Val → Val
+abbrev pub on_wholes : (ℤ → ℤ → Value) → Value → Value → Value
 on_wholes f a b = on (wholes_in a b) (λ p. f p.0 p.1)
 
 -- ---- truth
 
-abbrev pub negation : Val → Val
+abbrev pub negation : Value → Value
 negation a = on (truth_in a) (λ b. truth (not b))
 
 -- Kleene's and: what is no truth value counts as Nothing
-abbrev pub conjunction : Option Bool → Option Bool → Val
+abbrev pub conjunction : Option Bool → Option Bool → Value
 conjunction (Some false) b = truth false
 conjunction (Some true) (Some b) = truth b
 conjunction (Some true) None = nothing
@@ -64,7 +64,7 @@ conjunction None (Some true) = nothing
 conjunction None None = nothing
 
 -- Kleene's or
-abbrev pub disjunction : Option Bool → Option Bool → Val
+abbrev pub disjunction : Option Bool → Option Bool → Value
 disjunction (Some true) b = truth true
 disjunction (Some false) (Some b) = truth b
 disjunction (Some false) None = nothing
@@ -72,7 +72,7 @@ disjunction None (Some true) = truth true
 disjunction None (Some false) = nothing
 disjunction None None = nothing
 
-abbrev pub choice : Option Bool → Val → Val → Val
+abbrev pub choice : Option Bool → Value → Value → Value
 choice (Some true) a b = a
 choice (Some false) a b = b
 choice None a b = nothing
@@ -82,7 +82,7 @@ abbrev pub same_datum : Datum → Datum → Bool
 same_datum d e = pointwise nat_eq (spelling d) (spelling e)
 
 -- whether two values of one kind are equal
-abbrev pub equality : Val → Val → Val
+abbrev pub equality : Value → Value → Value
 equality (truth a) (truth b) = truth (beq a b)
 equality (whole a) (whole b) = truth (int_eq a b)
 equality (octets a) (octets b) = truth (pointwise nat_eq a b)
@@ -96,40 +96,68 @@ abbrev pub fits : ℤ → Bool
 fits (pos n) = nat_lt n (2 ^ 127)
 fits (negsuc n) = nat_lt n (2 ^ 127)
 
-abbrev pub number : ℤ → Val
+abbrev pub number : ℤ → Value
 number n = if fits n then whole n else nothing
 
 -- ---- tokens
 
 -- 32 bytes: a key, a policy or an address
-abbrev pub hash_in : Val → Option (List ℕ)
+abbrev pub hash_in : Value → Option (List ℕ)
 hash_in (octets b) = if nat_eq (length b) 32 then Some b else None
 hash_in _ = None
 
-abbrev pub name_in : Val → Option (List ℕ)
+abbrev pub name_in : Value → Option (List ℕ)
 name_in (octets b) = if nat_le (length b) 32 then Some b else None
 name_in _ = None
 
-abbrev pub token_in : Val → Val → Option Token
+abbrev pub token_in : Value → Value → Option Token
 token_in p n = option_and_then (λ policy. option_map (token policy) (name_in n)) (hash_in p)
 
 -- how much of a token there is
-abbrev pub amount : Option Token → (Token → ℤ) → Val
+abbrev pub amount : Option Token → (Token → ℤ) → Value
 amount t quantity = on t (λ t. whole (quantity t))
 
--- how much of a token the outputs with an address hold
-abbrev pub paid_to : List ℕ → Token → List Payment → ℤ
+-- how much of a token a bundle has
+abbrev pub bundle_quantity : List Entry → Value → Value → Value
+bundle_quantity bundle p n = amount (token_in p n) (quantity_of bundle)
+
+-- how much of a token an output pays to an address
+abbrev pub paid_by : PaidTo → List ℕ → Token → ℤ
+paid_by o address t = if pointwise nat_eq o.address address then quantity_of o.bundle t else pos 0
+
+-- how much of a token the outputs pay to an address
+abbrev pub paid_to : List ℕ → Token → List PaidTo → ℤ
 paid_to address t [] = pos 0
-paid_to address t (o ∷ outputs) = (if pointwise nat_eq o.address address then quantity_of o.bundle t else pos 0) +ℤ paid_to address t outputs
+paid_to address t (o ∷ outputs) = paid_by o address t +ℤ paid_to address t outputs
+
+-- the same where the address and the token are values
+abbrev pub paid_quantity : List PaidTo → Value → Value → Value → Value
+paid_quantity outputs x p n = on (hash_in x) (λ address. amount (token_in p n) (λ t. paid_to address t outputs))
+
+-- ---- data
+
+-- the datum at a place of a list
+abbrev pub list_item : Value → Value → Option Datum
+list_item d n = option_and_then (λ list. option_and_then (item_in list) (place_in n)) (datum_in d)
+
+-- ---- keys
+
+-- whether a key is among those that signed
+abbrev pub has_signed : List (List ℕ) → List ℕ → Bool
+has_signed keys key = list_any (λ k. pointwise nat_eq k key) keys
 
 -- ---- references
 
-abbrev pub reference_at : List Reference → Val → Option Reference
+abbrev pub reference_at : List Referred → Value → Option Referred
 reference_at references n = option_and_then (λ place. slice_get references place) (place_in n)
+
+-- how much of a token the output holds that a reference names
+abbrev pub ref_quantity : List Referred → Value → Value → Value → Value
+ref_quantity references n p name = on (reference_at references n) (λ r. bundle_quantity r.bundle p name)
 
 -- ---- by the operator
 
-abbrev pub of_leaf : Leaf → Sight → Val
+abbrev pub of_leaf : Leaf → View → Value
 of_leaf code.False s = truth false
 of_leaf code.True s = truth true
 of_leaf code.Datum s = on s.datum tree
@@ -140,16 +168,16 @@ of_leaf code.To s = whole (pos s.to)
 of_leaf code.OutputCount s = whole (pos (length s.outputs))
 of_leaf code.RefCount s = whole (pos (length s.references))
 
-abbrev pub of_one : Unary → Sight → Val → Val
+abbrev pub of_one : Unary → View → Value → Value
 of_one one.Not s a = negation a
 of_one one.AsInt s d = on (option_and_then number_in (datum_in d)) whole
 of_one one.AsBytes s d = on (option_and_then octets_in (datum_in d)) octets
 of_one one.Length s d = on (option_and_then length_in (datum_in d)) (λ n. whole (pos n))
-of_one one.SignedBy s k = on (hash_in k) (λ key. truth (list_any (λ k. pointwise nat_eq k key) s.keys))
+of_one one.SignedBy s k = on (hash_in k) (λ key. truth (has_signed s.keys key))
 of_one one.RefAddress s n = on (reference_at s.references n) (λ r. octets r.address)
 of_one one.RefDatumHash s n = on (reference_at s.references n) (λ r. octets r.datum_hash)
 
-abbrev pub of_two : Binary → Sight → Val → Val → Val
+abbrev pub of_two : Binary → View → Value → Value → Value
 of_two two.And s a b = conjunction (truth_in a) (truth_in b)
 of_two two.Or s a b = disjunction (truth_in a) (truth_in b)
 of_two two.Eq s a b = equality a b
@@ -158,18 +186,18 @@ of_two two.AtMost s a b = on_wholes (λ x y. truth (int_le x y)) a b
 of_two two.Add s a b = on_wholes (λ x y. number (x +ℤ y)) a b
 of_two two.Sub s a b = on_wholes (λ x y. number (x -ℤ y)) a b
 of_two two.Mul s a b = on_wholes (λ x y. number (x *ℤ y)) a b
-of_two two.Item s d n = on (option_and_then (λ list. option_and_then (item_in list) (place_in n)) (datum_in d)) tree
-of_two two.OwnQuantity s p n = on s.own_value (λ bundle. amount (token_in p n) (quantity_of bundle))
+of_two two.Item s d n = on (list_item d n) tree
+of_two two.OwnQuantity s p n = on s.own_value (λ bundle. bundle_quantity bundle p n)
 of_two two.Spent s p n = amount (token_in p n) s.spent
-of_two two.Forged s p n = amount (token_in p n) (quantity_of s.forge)
+of_two two.Forged s p n = bundle_quantity s.forge p n
 
-abbrev pub of_three : Ternary → Sight → Val → Val → Val → Val
+abbrev pub of_three : Ternary → View → Value → Value → Value → Value
 of_three three.If s c a b = choice (truth_in c) a b
-of_three three.Paid s x p n = on (hash_in x) (λ address. amount (token_in p n) (λ t. paid_to address t s.outputs))
-of_three three.RefQuantity s n p name = on (reference_at s.references n) (λ r. amount (token_in p name) (quantity_of r.bundle))
+of_three three.Paid s x p n = paid_quantity s.outputs x p n
+of_three three.RefQuantity s n p name = ref_quantity s.references n p name
 
 -- the value of a script
-abbrev pub value : Sight → Tree → Val
+abbrev pub value : View → Tree → Value
 value s (int n) = whole n
 value s (bytes b) = octets b
 value s (leaf o) = of_leaf o s

@@ -8,8 +8,8 @@ use Rattle.mp_script.specs.declared.operator.Binary.{Binary}
 use Rattle.mp_script.specs.declared.operator.Binary.TheVariants as binary
 use Rattle.mp_script.specs.declared.operator.Ternary.{Ternary}
 use Rattle.mp_script.specs.declared.operator.Ternary.TheVariants as ternary
-use Rattle.mp_script.specs.declared.operator.Operator.{Operator}
-use Rattle.mp_script.specs.declared.operator.Operator.TheVariants as code
+use Rattle.mp_script.specs.declared.operator.Operator as code
+use Rattle.mp_script.specs.declared.operator.Operator.TheVariants as variant
 
 abbrev pub leaf_code : Leaf → ℕ
 leaf_code leaf.False = 0x00
@@ -80,19 +80,19 @@ abbrev pub ternary_of : ℕ → Option Ternary
 ternary_of = with_code ternary_code ternaries
 
 -- an operator, with its further bytes
-pub data Op : Type 0 where
-  int : ℤ → Op
-  bytes : List ℕ → Op
-  nullary : Leaf → Op
-  on_one : Unary → Op
-  on_two : Binary → Op
-  on_three : Ternary → Op
+pub data Operator : Type 0 where
+  int : ℤ → Operator
+  bytes : List ℕ → Operator
+  nullary : Leaf → Operator
+  on_one : Unary → Operator
+  on_two : Binary → Operator
+  on_three : Ternary → Operator
 
 -- an operator, as contracts see it
-abbrev pub op_of : Operator → Op
-op_of (code.Int n) = int n
-op_of (code.Bytes b) = bytes b.now
-op_of (code.Leaf o) = nullary o
-op_of (code.Unary o) = on_one o
-op_of (code.Binary o) = on_two o
-op_of (code.Ternary o) = on_three o
+abbrev pub operator_of : code.Operator → Operator
+operator_of (variant.Int n) = int n
+operator_of (variant.Bytes b) = bytes b.now
+operator_of (variant.Leaf o) = nullary o
+operator_of (variant.Unary o) = on_one o
+operator_of (variant.Binary o) = on_two o
+operator_of (variant.Ternary o) = on_three o

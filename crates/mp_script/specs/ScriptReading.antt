@@ -1,39 +1,39 @@
 -- Reading a script: the operators from the left, each over the expressions that wait for it, or the first fault.
-use Rattle.std.specs.Prelude.{◌≡◌, ◌⊎◌, ℕ, zero, suc, List, [], ◌∷◌, Option, None, Some, Result, Ok, Err, if◌then◌else◌, nat_eq, nat_le, max}
+use Rattle.std.specs.Prelude.{◌≡◌, ◌⊎◌, ℕ, zero, suc, List, [], ◌∷◌, Option, None, Some, Result, Ok, Err, if◌then◌else◌, nat_eq, nat_le}
 use Rattle.std.specs.Option.{option_map}
 use Rattle.mp_script.specs.declared.fault.ScriptFault.{ScriptFault}
 use Rattle.mp_script.specs.declared.fault.ScriptFault.TheVariants.{NoMemory, Truncated, BadOperator, Underflow, NotOneExpression, TooLong, TooDeep}
-use Rattle.mp_script.specs.Fields.{number_at, run_at}
-use Rattle.mp_script.specs.Reading.{◌>>=◌, or_fault}
-use Rattle.mp_script.specs.Operators.{Op, leaf_of, unary_of, binary_of, ternary_of}
+use Rattle.mp_bytes.specs.Fields.{number_at, run_at}
+use Rattle.mp_bytes.specs.Reading.{◌>>=◌, or_fault}
+use Rattle.mp_script.specs.Operators.{Operator, leaf_of, unary_of, binary_of, ternary_of}
 use Rattle.mp_script.specs.Operators as op
 use Rattle.mp_script.specs.Script.{Tree, int, bytes, leaf, unary, binary, ternary, depth, IsScript}
 
-abbrev pub or_else : Option Op → Result Op ScriptFault → Result Op ScriptFault
+abbrev pub or_else : Option Operator → Result Operator ScriptFault → Result Operator ScriptFault
 or_else None other = other
 or_else (Some o) other = Ok o
 
 -- the operator of a byte that has no further bytes
-unfoldable pub plain_of : ℕ → Result Op ScriptFault
+unfoldable pub plain_of : ℕ → Result Operator ScriptFault
 plain_of code =
     or_else (option_map op.nullary (leaf_of code))
     (or_else (option_map op.on_one (unary_of code))
     (or_else (option_map op.on_two (binary_of code))
     (or_else (option_map op.on_three (ternary_of code)) (Err BadOperator))))
 
-unfoldable pub int_read : List ℕ → Result (Op × List ℕ) ScriptFault
+unfoldable pub int_read : List ℕ → Result (Operator × List ℕ) ScriptFault
 int_read text = do
   n ← or_fault Truncated (number_at text)
   Ok (op.int n.0, n.1)
 
-unfoldable pub bytes_read : List ℕ → Result (Op × List ℕ) ScriptFault
+unfoldable pub bytes_read : List ℕ → Result (Operator × List ℕ) ScriptFault
 bytes_read [] = Err Truncated
 bytes_read (len ∷ text) = do
   run ← or_fault Truncated (run_at len text)
   Ok (op.bytes run.0, run.1)
 
 -- the operator at the front, and the bytes after it
-unfoldable pub operator_read : List ℕ → Result (Op × List ℕ) ScriptFault
+unfoldable pub operator_read : List ℕ → Result (Operator × List ℕ) ScriptFault
 operator_read [] = Err Truncated
 operator_read (code ∷ text) =
     if nat_eq code 2 then int_read text
@@ -47,7 +47,7 @@ alone (w ∷ []) = Ok w
 alone (w ∷ v ∷ waiting) = Err NotOneExpression
 
 -- up to so many operators, each of which is put in the place of its operands among those that wait, the last one first
-abbrev pub reads : {W : Type 0} → (Op → List W → Result (List W) ScriptFault) → ℕ → List W → List ℕ → Result W ScriptFault
+abbrev pub reads : {W : Type 0} → (Operator → List W → Result (List W) ScriptFault) → ℕ → List W → List ℕ → Result W ScriptFault
 reads put room waiting [] = alone waiting
 reads put zero waiting (code ∷ text) = operator_read (code ∷ text) >>= λ o. Err TooLong
 reads put (suc room) waiting (code ∷ text) = do
@@ -56,7 +56,7 @@ reads put (suc room) waiting (code ∷ text) = do
   reads put room next o.1
 
 -- the expression that an operator makes of those that wait, and what goes on waiting
-abbrev pub made : Op → List Tree → Result (Tree × List Tree) ScriptFault
+abbrev pub made : Operator → List Tree → Result (Tree × List Tree) ScriptFault
 made (op.int n) waiting = Ok (int n, waiting)
 made (op.bytes b) waiting = Ok (bytes b, waiting)
 made (op.nullary o) waiting = Ok (leaf o, waiting)
@@ -66,26 +66,13 @@ made (op.on_three o) (c ∷ b ∷ a ∷ waiting) = Ok (ternary o a b c, waiting)
 made o waiting = Err Underflow
 
 -- it waits in turn, up to a depth of 64
-abbrev pub put : Op → List Tree → Result (List Tree) ScriptFault
+abbrev pub put : Operator → List Tree → Result (List Tree) ScriptFault
 put o waiting = made o waiting >>= λ x. if nat_le (depth x.0) 64 then Ok (x.0 ∷ x.1) else Err TooDeep
 
 -- the script that the text spells, or the first fault
 abbrev pub script_of : List ℕ → Result Tree ScriptFault
 script_of text = reads put 1024 [] text
 
--- the same of the depths alone: that of the deepest operand, or 0
-abbrev pub deepest : Op → List ℕ → Result (ℕ × List ℕ) ScriptFault
-deepest (op.int n) depths = Ok (0, depths)
-deepest (op.bytes b) depths = Ok (0, depths)
-deepest (op.nullary o) depths = Ok (0, depths)
-deepest (op.on_one o) (a ∷ depths) = Ok (a, depths)
-deepest (op.on_two o) (b ∷ a ∷ depths) = Ok (max a b, depths)
-deepest (op.on_three o) (c ∷ b ∷ a ∷ depths) = Ok (max a (max b c), depths)
-deepest o depths = Err Underflow
-
-abbrev pub put_depth : Op → List ℕ → Result (List ℕ) ScriptFault
-put_depth o depths = deepest o depths >>= λ x. if nat_le (suc x.0) 64 then Ok (suc x.0 ∷ x.1) else Err TooDeep
-
 -- the fault is the first one, or want of memory where there is none
-abbrev pub MayFail : ScriptFault → List ℕ → Type 0
-MayFail fault text = (script_of text ≡ Err fault) ⊎ ((fault ≡ NoMemory) × IsScript text)
+abbrev pub IsFaultOf : List ℕ → ScriptFault → Type 0
+IsFaultOf text fault = (script_of text ≡ Err fault) ⊎ ((fault ≡ NoMemory) × IsScript text)

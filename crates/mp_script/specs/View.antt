@@ -4,25 +4,25 @@ use Rattle.std.specs.Option.{option_map}
 use Rattle.mp_bundle.specs.declared.token.Token.{Token}
 use Rattle.mp_bundle.specs.Bundle.{Entry}
 use Rattle.mp_bundle.specs.Sum.{total_of}
-use Rattle.mp_script.specs.declared.view.PaidTo.{PaidTo}
-use Rattle.mp_script.specs.declared.view.Referred.{Referred}
-use Rattle.mp_script.specs.declared.view.View.{View}
+use Rattle.mp_script.specs.declared.view.PaidTo as paid_to_code
+use Rattle.mp_script.specs.declared.view.Referred as referred_code
+use Rattle.mp_script.specs.declared.view.View as view_code
 use Rattle.mp_script.specs.Datum.{Datum}
-use Rattle.mp_script.specs.Parts.{tree_of}
+use Rattle.mp_script.specs.DataReading.{tree_of}
 
 -- an output of the transaction
-pub record Payment : Type 0 where
+pub record PaidTo : Type 0 where
   pub address : List ℕ
   pub bundle : List Entry
 
 -- an output that a reference input names (CIP-31)
-pub record Reference : Type 0 where
+pub record Referred : Type 0 where
   pub address : List ℕ
   pub datum_hash : List ℕ
   pub bundle : List Entry
 
 -- the transaction, and the script's own place in it
-pub record Sight : Type 0 where
+pub record View : Type 0 where
   -- the hash of the script that runs
   pub own_hash : List ℕ
   -- of the output that the script guards; a policy script has none of these three
@@ -37,18 +37,18 @@ pub record Sight : Type 0 where
   -- the total of each token over all outputs that are spent
   pub spent : Token → ℤ
   pub forge : List Entry
-  pub outputs : List Payment
-  pub references : List Reference
+  pub outputs : List PaidTo
+  pub references : List Referred
 
-abbrev pub payment_of : PaidTo → Payment
-payment_of o = record { address = o.address.now; bundle = o.value.now }
+abbrev pub paid_to_of : paid_to_code.PaidTo → PaidTo
+paid_to_of o = record { address = o.address.now; bundle = o.value.now }
 
-abbrev pub reference_of : Referred → Reference
-reference_of o = record { address = o.address.now; datum_hash = o.datum_hash.now; bundle = o.value.now }
+abbrev pub referred_of : referred_code.Referred → Referred
+referred_of o = record { address = o.address.now; datum_hash = o.datum_hash.now; bundle = o.value.now }
 
 -- what is seen by a view
-abbrev pub sight_of : View → Sight
-sight_of v = record {
+abbrev pub view_of : view_code.View → View
+view_of v = record {
   own_hash = v.own_hash.now;
   datum = option_map (λ d. tree_of d.now) v.datum;
   redeemer = option_map (λ d. tree_of d.now) v.redeemer;
@@ -58,6 +58,6 @@ sight_of v = record {
   keys = v.keys.now;
   spent = total_of v.spent.now;
   forge = v.forge.now;
-  outputs = map payment_of v.outputs.now;
-  references = map reference_of v.references.now;
+  outputs = map paid_to_of v.outputs.now;
+  references = map referred_of v.references.now;
 }

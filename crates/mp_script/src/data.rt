@@ -4,30 +4,28 @@ ghost use Rattle.std.specs.Prelude.{◌≡◌, Err, IfErr, OnOk};
 ghost use Rattle.mp_script.specs.Datum.{IsDatum};
 ghost use Rattle.mp_script.specs.DataReading.{datum_of};
 
+use crate::datum_ref::DatumRef;
 use crate::fault::DataFault;
-use crate::hash::{Hash, digest};
-use crate::part::Part;
 use crate::walk::{MAX_DEPTH, datum_end};
-use mp_memory::Memory;
+use mp_bytes::{Hash, HashedBytes};
+use mp_memory::{Memory, NoMemory};
 use std::marker::Model;
 
 /// A datum: a whole number, bytes, or a list of data, up to a depth of 16. Contracts see its bytes.
 #[derive(Debug, Drop)]
 pub struct Data {
-    bytes: Vec<u8, Memory>,
-    hash: Hash,
+    spelled: HashedBytes,
 }
 
 impl Model for Data {
     ghost use Rattle.std.specs.Prelude.{ℕ, List};
     ghost use Rattle.mp_script.specs.Datum.{IsDatum};
-    ghost use Rattle.mp_script.specs.Kept.{IsKept};
 
     ghost Value = { List ℕ };
 
-    ghost view = { λ d. d.bytes.items };
+    ghost view = { λ d. d.spelled };
 
-    ghost invariant = { λ d. IsKept IsDatum d.bytes.items d.hash };
+    ghost invariant = { λ d. IsDatum d.spelled };
 }
 
 // Whether the bytes spell a datum.
@@ -45,9 +43,9 @@ fn check(bytes: &[u8]) -> Result<(), DataFault>
 impl Data {
     ghost use Rattle.std.specs.Prelude.{◌≡◌, IfOk, IfErr};
     ghost use Rattle.sha2.specs.Sha256.{sha256};
-    ghost use Rattle.mp_script.specs.declared.fault.DataFault.TheVariants.{NoMemory};
+    ghost use Rattle.mp_script.specs.declared.fault.DataFault.TheVariants as faults;
     ghost use Rattle.mp_script.specs.Datum.{Datum, Spells, IsDatum};
-    ghost use Rattle.mp_script.specs.DataReading.{MayFail};
+    ghost use Rattle.mp_script.specs.DataReading.{IsFaultOf};
 
     /// The datum that the bytes spell, kept in one growth of just their number.
     ///
@@ -57,13 +55,21 @@ impl Data {
     /// the end `Trailing` where bytes are left. `NoMemory` may stand in place of a datum.
     pub fn decode(memory: Memory, bytes: &[u8]) -> Result<Data, DataFault>
         ensures found { IfOk result (λ d. (d ≡ bytes.now) × IsDatum bytes.now) }
-        ensures only { (d : Datum) → Spells bytes.now d → IfErr result (λ e. e ≡ NoMemory) }
-        ensures exact { IfErr result (λ e. MayFail e bytes.now) }
+        ensures only { (d : Datum) → Spells bytes.now d → IfErr result (λ e. e ≡ faults.NoMemory) }
+        ensures exact { IfErr result (λ e. IsFaultOf bytes.now e) }
     {
         check(bytes)?;
         Ok(Data {
-            bytes: bytes.to_vec(memory)?,
-            hash: digest(bytes),
+            spelled: HashedBytes::of(memory, bytes)?,
+        })
+    }
+
+    /// The same datum once more, in one growth.
+    pub fn copy(&self, memory: Memory) -> Result<Data, NoMemory>
+        ensures { IfOk result (λ d. d ≡ self.now) }
+    {
+        Ok(Data {
+            spelled: self.spelled.copy(memory)?,
         })
     }
 
@@ -72,20 +78,20 @@ impl Data {
         ensures same { result.now ≡ self.now }
         ensures datum { IsDatum self.now }
     {
-        &self.bytes
+        self.spelled.bytes()
     }
 
     /// The SHA-256 (FIPS 180-4) of its bytes.
     pub fn hash(&self) -> &Hash
         ensures { result.now ≡ sha256 self.now }
     {
-        &self.hash
+        self.spelled.hash()
     }
 
     /// The whole datum, as a part.
-    pub fn whole(&self) -> Part<'_>
+    pub fn whole(&self) -> DatumRef<'_>
         ensures { result ≡ self.now }
     {
-        Part::of(&self.bytes)
+        DatumRef::of(self.spelled.bytes())
     }
 }

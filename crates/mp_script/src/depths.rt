@@ -2,8 +2,9 @@
 
 ghost use Rattle.std.specs.Prelude.{◌≡◌, ℕ, ◌+◌, ◌<◌, ◌≤◌, [], ◌∷◌, Ok, Err, length, IfOk, IfErr, OnOk};
 ghost use Rattle.mp_script.specs.declared.fault.ScriptFault.TheVariants.{Underflow};
-ghost use Rattle.mp_script.specs.Operators.{op_of};
-ghost use Rattle.mp_script.specs.ScriptReading.{deepest, put_depth, reads};
+ghost use Rattle.mp_script.specs.Operators.{operator_of};
+ghost use Rattle.mp_script.specs.ScriptReading.{reads};
+ghost use Rattle.mp_script.specs.Inside.Depths.{deepest, put_depth};
 
 use crate::fault::ScriptFault;
 use crate::operator::{Operator, operator_at};
@@ -26,8 +27,8 @@ fn operand(depths: &mut Depths) -> Result<u8, ScriptFault>
 
 // The depth of the deepest operand, which is 0 where there is none. The operands are taken off.
 fn deepest_operand(depths: &mut Depths, operator: &Operator) -> Result<u8, ScriptFault>
-    ensures ok { IfOk result (λ d. deepest (op_of operator.now) depths.old ≡ Ok (d, depths.new)) }
-    ensures err { IfErr result (λ e. deepest (op_of operator.now) depths.old ≡ Err e) }
+    ensures ok { IfOk result (λ d. deepest (operator_of operator.now) depths.old ≡ Ok (d, depths.new)) }
+    ensures err { IfErr result (λ e. deepest (operator_of operator.now) depths.old ≡ Err e) }
 {
     match operator {
         Operator::Int(_) | Operator::Bytes(_) | Operator::Leaf(_) => Ok(0),
@@ -49,8 +50,8 @@ fn deepest_operand(depths: &mut Depths, operator: &Operator) -> Result<u8, Scrip
 // Puts the depth of what the operator makes in the place of its operands' depths.
 fn build(depths: &mut Depths, operator: &Operator) -> Result<(), ScriptFault>
     requires { length depths.old < 1024 }
-    ensures ok { OnOk result (put_depth (op_of operator.now) depths.old ≡ Ok depths.new) }
-    ensures err { IfErr result (λ e. put_depth (op_of operator.now) depths.old ≡ Err e) }
+    ensures ok { OnOk result (put_depth (operator_of operator.now) depths.old ≡ Ok depths.new) }
+    ensures err { IfErr result (λ e. put_depth (operator_of operator.now) depths.old ≡ Err e) }
     ensures few { OnOk result (length depths.new ≤ length depths.old + 1) }
 {
     let deepest = deepest_operand(depths, operator)?;

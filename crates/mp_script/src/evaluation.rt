@@ -10,12 +10,12 @@ mod token;
 mod tree;
 
 ghost use Rattle.std.specs.Prelude.{◌≡◌, ◌<◌, ◌≤◌, ◌∷◌, Some, length, map};
-ghost use Rattle.mp_script.specs.Operators.{op_of};
+ghost use Rattle.mp_script.specs.Operators.{operator_of};
 ghost use Rattle.mp_script.specs.Script.{Tree, Spells};
-ghost use Rattle.mp_script.specs.View.{sight_of};
-ghost use Rattle.mp_script.specs.Value.{val_of};
+ghost use Rattle.mp_script.specs.View.{view_of};
+ghost use Rattle.mp_script.specs.Value.{value_of};
 ghost use Rattle.mp_script.specs.Meaning.{of_one, of_two, of_three, value};
-ghost use Rattle.mp_script.specs.Waiting.{arity, acts};
+ghost use Rattle.mp_script.specs.Inside.Waiting.{arity, acts};
 
 use crate::operator::{Binary, Operator, Ternary, Unary, operator_at};
 use crate::script::Script;
@@ -29,7 +29,7 @@ const MAX_WAITING: usize = 128;
 type Values<'a> = Stack<Value<'a>, MAX_WAITING>;
 
 fn of_one<'a>(operator: Unary, a: Value<'a>, view: &View<'a>) -> Value<'a>
-    ensures { val_of result ≡ of_one operator (sight_of view.now) (val_of a.entry) }
+    ensures { value_of result ≡ of_one operator (view_of view.now) (value_of a.entry) }
 {
     match operator {
         Unary::Not => logic::not(a),
@@ -43,7 +43,7 @@ fn of_one<'a>(operator: Unary, a: Value<'a>, view: &View<'a>) -> Value<'a>
 }
 
 fn of_two<'a>(operator: Binary, a: Value<'a>, b: Value<'a>, view: &View<'a>) -> Value<'a>
-    ensures { val_of result ≡ of_two operator (sight_of view.now) (val_of a.entry) (val_of b.entry) }
+    ensures { value_of result ≡ of_two operator (view_of view.now) (value_of a.entry) (value_of b.entry) }
 {
     match operator {
         Binary::And => logic::and(a, b),
@@ -69,7 +69,9 @@ fn of_three<'a>(
     view: &View<'a>,
 ) -> Value<'a>
     requires { length view.now.outputs.now ≤ 256 }
-    ensures { val_of result ≡ of_three operator (sight_of view.now) (val_of a.entry) (val_of b.entry) (val_of c.entry) }
+    ensures { value_of result ≡
+        of_three operator (view_of view.now) (value_of a.entry) (value_of b.entry)
+        (value_of c.entry) }
 {
     match operator {
         Ternary::If => logic::choice(a, b, c),
@@ -90,10 +92,11 @@ fn operand<'a>(stack: &mut Values<'a>) -> Value<'a>
 
 // Puts what the operator makes in the place of its operands.
 fn act<'a>(stack: &mut Values<'a>, operator: Operator<'a>, view: &View<'a>)
-    requires operands { arity (op_of operator) ≤ length stack.old }
+    requires operands { arity (operator_of operator) ≤ length stack.old }
     requires room { length stack.old < 128 }
     requires outputs { length view.now.outputs.now ≤ 256 }
-    ensures { acts (sight_of view.now) (op_of operator.entry) (map val_of stack.old) ≡ Some (map val_of stack.new) }
+    ensures { acts (view_of view.now) (operator_of operator.entry) (map value_of stack.old) ≡
+        Some (map value_of stack.new) }
 {
     let value = match operator {
         Operator::Int(number) => Value::Whole(number as i128),
@@ -121,7 +124,7 @@ fn act<'a>(stack: &mut Values<'a>, operator: Operator<'a>, view: &View<'a>)
 /// The value of a script in a view. It takes no memory, and goes once over the operators.
 pub fn eval<'a>(script: &'a Script, view: &View<'a>) -> Value<'a>
     requires { length view.now.outputs.now ≤ 256 }
-    ensures { (tree : Tree) → Spells script.now tree → val_of result ≡ value (sight_of view.now) tree }
+    ensures { (tree : Tree) → Spells script.now tree → value_of result ≡ value (view_of view.now) tree }
 {
     let mut stack = Stack::new();
     let mut rest = script.bytes();

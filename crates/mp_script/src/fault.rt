@@ -5,7 +5,7 @@ ghost use Rattle.mp_script.specs.declared.fault.DataFault.TheVariants as data_fa
 ghost use Rattle.mp_script.specs.declared.fault.ScriptFault.TheVariants as script_faults;
 ghost use Rattle.mp_script.specs.FaultNumbers.{data_number, script_number};
 
-use std::alloc::{AllocError, AllocFailed};
+use mp_memory::NoMemory;
 use thiserror::Error;
 
 /// Why bytes spell no datum.
@@ -38,18 +38,10 @@ impl DataFault {
     }
 }
 
-impl From<AllocError> for DataFault {
+impl From<NoMemory> for DataFault {
     ghost from_gives = { λ _ e. e ≡ data_faults.NoMemory };
 
-    fn from(_error: AllocError) -> DataFault {
-        DataFault::NoMemory
-    }
-}
-
-impl<T: Drop> From<AllocFailed<T>> for DataFault {
-    ghost from_gives = { λ _ e. e ≡ data_faults.NoMemory };
-
-    fn from(_error: AllocFailed<T>) -> DataFault {
+    fn from(_error: NoMemory) -> DataFault {
         DataFault::NoMemory
     }
 }
@@ -90,18 +82,10 @@ impl ScriptFault {
     }
 }
 
-impl From<AllocError> for ScriptFault {
+impl From<NoMemory> for ScriptFault {
     ghost from_gives = { λ _ e. e ≡ script_faults.NoMemory };
 
-    fn from(_error: AllocError) -> ScriptFault {
-        ScriptFault::NoMemory
-    }
-}
-
-impl<T: Drop> From<AllocFailed<T>> for ScriptFault {
-    ghost from_gives = { λ _ e. e ≡ script_faults.NoMemory };
-
-    fn from(_error: AllocFailed<T>) -> ScriptFault {
+    fn from(_error: NoMemory) -> ScriptFault {
         ScriptFault::NoMemory
     }
 }

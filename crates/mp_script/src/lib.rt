@@ -5,14 +5,12 @@
 #![tactic(auto)]
 
 mod data;
+mod datum_ref;
 mod depths;
 mod evaluation;
 mod fault;
-mod fields;
-mod hash;
 pub mod laws;
 mod operator;
-mod part;
 mod script;
 mod stack;
 mod value;
@@ -20,10 +18,10 @@ mod view;
 mod walk;
 
 pub use data::Data;
+pub use datum_ref::DatumRef;
 pub use evaluation::eval;
 pub use fault::{DataFault, ScriptFault};
-pub use hash::{Address, Hash, Key, digest};
-pub use part::Part;
+pub use mp_bytes::Hash;
 pub use script::Script;
 pub use value::Value;
-pub use view::{PaidTo, Referred, View};
+pub use view::{Address, Key, PaidTo, Referred, View};

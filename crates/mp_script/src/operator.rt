@@ -1,12 +1,12 @@
 //! The operators of scripts, by the number of their operands, and their bytes.
 
 ghost use Rattle.std.specs.Prelude.{◌≡◌};
-ghost use Rattle.mp_script.specs.Reading.{seen};
-ghost use Rattle.mp_script.specs.Operators.{leaf_of, unary_of, binary_of, ternary_of, op_of};
+ghost use Rattle.mp_bytes.specs.Reading.{seen};
+ghost use Rattle.mp_script.specs.Operators.{leaf_of, unary_of, binary_of, ternary_of, operator_of};
 ghost use Rattle.mp_script.specs.ScriptReading.{plain_of, int_read, bytes_read, operator_read};
 
 use crate::fault::ScriptFault;
-use crate::fields::{split_number, split_run};
+use mp_bytes::{split_number, split_run};
 
 /// An operator without operands or further bytes.
 #[derive(Clone, Copy)]
@@ -140,7 +140,7 @@ fn ternary_of(code: u8) -> Option<Ternary>
 // The operator of a byte that has no further bytes.
 #[tactic(auto, unfolding(crate::specs::ScriptReading::plain_of))]
 fn plain_of<'a>(code: u8) -> Result<Operator<'a>, ScriptFault>
-    ensures { seen op_of result ≡ plain_of code }
+    ensures { seen operator_of result ≡ plain_of code }
 {
     if let Some(leaf) = leaf_of(code) {
         return Ok(Operator::Leaf(leaf));
@@ -159,7 +159,7 @@ fn plain_of<'a>(code: u8) -> Result<Operator<'a>, ScriptFault>
 
 #[tactic(auto, unfolding(crate::specs::ScriptReading::int_read))]
 fn int_at(bytes: &[u8]) -> Result<(Operator<'_>, &[u8]), ScriptFault>
-    ensures { seen (λ x. (op_of x.0, x.1.now)) result ≡ int_read bytes.now }
+    ensures { seen (λ x. (operator_of x.0, x.1.now)) result ≡ int_read bytes.now }
 {
     let (number, rest) = split_number(bytes).ok_or(ScriptFault::Truncated)?;
     Ok((Operator::Int(number), rest))
@@ -167,7 +167,7 @@ fn int_at(bytes: &[u8]) -> Result<(Operator<'_>, &[u8]), ScriptFault>
 
 #[tactic(auto, unfolding(crate::specs::ScriptReading::bytes_read))]
 fn octets_at(bytes: &[u8]) -> Result<(Operator<'_>, &[u8]), ScriptFault>
-    ensures { seen (λ x. (op_of x.0, x.1.now)) result ≡ bytes_read bytes.now }
+    ensures { seen (λ x. (operator_of x.0, x.1.now)) result ≡ bytes_read bytes.now }
 {
     let (len, rest) = bytes.split_first().ok_or(ScriptFault::Truncated)?;
     let (octets, rest) = split_run(rest, *len as usize).ok_or(ScriptFault::Truncated)?;
@@ -178,7 +178,7 @@ fn octets_at(bytes: &[u8]) -> Result<(Operator<'_>, &[u8]), ScriptFault>
 /// else `Truncated` where bytes are missing.
 #[tactic(auto, unfolding(crate::specs::ScriptReading::operator_read))]
 pub fn operator_at(bytes: &[u8]) -> Result<(Operator<'_>, &[u8]), ScriptFault>
-    ensures { seen (λ x. (op_of x.0, x.1.now)) result ≡ operator_read bytes.now }
+    ensures { seen (λ x. (operator_of x.0, x.1.now)) result ≡ operator_read bytes.now }
 {
     let (code, rest) = bytes.split_first().ok_or(ScriptFault::Truncated)?;
     match *code {

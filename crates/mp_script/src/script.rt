@@ -6,27 +6,25 @@ ghost use Rattle.mp_script.specs.ScriptReading.{script_of};
 
 use crate::depths::check_depths;
 use crate::fault::ScriptFault;
-use crate::hash::{Hash, digest};
-use mp_memory::Memory;
+use mp_bytes::{Hash, HashedBytes};
+use mp_memory::{Memory, NoMemory};
 use std::marker::Model;
 
 /// A script: one expression of up to 1,024 operators, up to a depth of 64. Contracts see its bytes.
 #[derive(Debug, Drop)]
 pub struct Script {
-    bytes: Vec<u8, Memory>,
-    hash: Hash,
+    spelled: HashedBytes,
 }
 
 impl Model for Script {
     ghost use Rattle.std.specs.Prelude.{ℕ, List};
     ghost use Rattle.mp_script.specs.Script.{IsScript};
-    ghost use Rattle.mp_script.specs.Kept.{IsKept};
 
     ghost Value = { List ℕ };
 
-    ghost view = { λ s. s.bytes.items };
+    ghost view = { λ s. s.spelled };
 
-    ghost invariant = { λ s. IsKept IsScript s.bytes.items s.hash };
+    ghost invariant = { λ s. IsScript s.spelled };
 }
 
 // Whether the bytes spell a script.
@@ -40,9 +38,9 @@ fn check(bytes: &[u8]) -> Result<(), ScriptFault>
 impl Script {
     ghost use Rattle.std.specs.Prelude.{◌≡◌, IfOk, IfErr};
     ghost use Rattle.sha2.specs.Sha256.{sha256};
-    ghost use Rattle.mp_script.specs.declared.fault.ScriptFault.TheVariants.{NoMemory};
+    ghost use Rattle.mp_script.specs.declared.fault.ScriptFault.TheVariants as faults;
     ghost use Rattle.mp_script.specs.Script.{Tree, Spells, IsScript};
-    ghost use Rattle.mp_script.specs.ScriptReading.{MayFail};
+    ghost use Rattle.mp_script.specs.ScriptReading.{IsFaultOf};
 
     /// The script that the bytes spell, kept in one growth of just their number.
     ///
@@ -53,13 +51,21 @@ impl Script {
     /// waits. `NoMemory` may stand in place of a script.
     pub fn decode(memory: Memory, bytes: &[u8]) -> Result<Script, ScriptFault>
         ensures found { IfOk result (λ s. (s ≡ bytes.now) × IsScript bytes.now) }
-        ensures only { (t : Tree) → Spells bytes.now t → IfErr result (λ e. e ≡ NoMemory) }
-        ensures exact { IfErr result (λ e. MayFail e bytes.now) }
+        ensures only { (t : Tree) → Spells bytes.now t → IfErr result (λ e. e ≡ faults.NoMemory) }
+        ensures exact { IfErr result (λ e. IsFaultOf bytes.now e) }
     {
         check(bytes)?;
         Ok(Script {
-            bytes: bytes.to_vec(memory)?,
-            hash: digest(bytes),
+            spelled: HashedBytes::of(memory, bytes)?,
+        })
+    }
+
+    /// The same script once more, in one growth.
+    pub fn copy(&self, memory: Memory) -> Result<Script, NoMemory>
+        ensures { IfOk result (λ s. s ≡ self.now) }
+    {
+        Ok(Script {
+            spelled: self.spelled.copy(memory)?,
         })
     }
 
@@ -68,13 +74,13 @@ impl Script {
         ensures same { result.now ≡ self.now }
         ensures script { IsScript self.now }
     {
-        &self.bytes
+        self.spelled.bytes()
     }
 
     /// The SHA-256 (FIPS 180-4) of its bytes.
     pub fn hash(&self) -> &Hash
         ensures { result.now ≡ sha256 self.now }
     {
-        &self.hash
+        self.spelled.hash()
     }
 }

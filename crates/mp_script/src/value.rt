@@ -1,6 +1,6 @@
 //! What a script, and each part of it, comes to.
 
-use crate::part::Part;
+use crate::datum_ref::DatumRef;
 
 /// What an expression comes to.
 #[derive(Debug, Default, Drop)]
@@ -15,5 +15,5 @@ pub enum Value<'a> {
     /// Bytes.
     Octets(&'a [u8]),
     /// A datum, or a part of one.
-    Tree(Part<'a>),
+    Tree(DatumRef<'a>),
 }

@@ -1,8 +1,14 @@
 //! What a script sees where it runs.
 
 use crate::data::Data;
-use crate::hash::{Address, Hash, Key};
 use mp_bundle::{Bundle, Sum};
+use mp_bytes::Hash;
+
+/// Where an output lies: the digest of the script that guards it.
+pub type Address = Hash;
+
+/// The public key of a signer.
+pub type Key = [u8; 32];
 
 /// An output of the transaction: to which address it pays what.
 #[derive(Clone, Copy)]

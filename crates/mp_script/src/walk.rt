@@ -1,11 +1,11 @@
 //! Walks over the bytes of data.
 
 ghost use Rattle.std.specs.Prelude.{◌≡◌, ◌-◌};
-ghost use Rattle.mp_script.specs.Reading.{rest_of, seen};
+ghost use Rattle.mp_bytes.specs.Reading.{rest_of, seen};
 ghost use Rattle.mp_script.specs.DataReading.{number_read, octets_read, items_read, list_read, datum_read};
 
 use crate::fault::DataFault;
-use crate::fields::{split_count, split_number, split_sized};
+use mp_bytes::{split_count, split_number, split_sized};
 
 /// The tag of a number.
 pub const NUMBER: u8 = 1;
@@ -38,7 +38,8 @@ fn octets_end(bytes: &[u8]) -> Result<&[u8], DataFault>
 // The bytes after so many data, each of a depth up to `most_depth`.
 #[cycle(walk)]
 fn items_end(bytes: &[u8], count: u16, most_depth: u8) -> Result<&[u8], DataFault>
-    ensures { seen (λ rest. rest.now) result ≡ rest_of (items_read (datum_read most_depth) count bytes.now) }
+    ensures { seen (λ rest. rest.now) result ≡
+        rest_of (items_read (datum_read most_depth) count bytes.now) }
 {
     let mut rest = bytes;
     for _ in 0..count {

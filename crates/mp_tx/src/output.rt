@@ -1,7 +1,8 @@
 //! Outputs: what a transaction pays.
 
 use crate::plain::{Data, Script};
-use mp_script::{Address, Hash, digest};
+use mp_bytes::{Hash, digest};
+use mp_script::Address;
 use std::marker::Model;
 
 /// An output of coin, locked by the plain script with the plain datum.

@@ -1,6 +1,6 @@
 //! References to outputs, and the ids and signatures that transactions name.
 
-use mp_script::Hash;
+use mp_bytes::Hash;
 
 /// The id of a transaction: the digest of its body.
 pub type TxId = Hash;

@@ -7,8 +7,8 @@ ghost use Rattle.mp_tx.specs.Transaction.{Transaction, sized, counted, input_byt
 use crate::input::Input;
 use crate::output::Output;
 use crate::reference::TxId;
+use mp_bytes::digest;
 use mp_memory::{Memory, NoMemory};
-use mp_script::digest;
 
 const VERSION: u8 = 1;
 

@@ -1,7 +1,7 @@
 //! The kinds of vectors.
 
 use crate::answer::{is_number, is_told};
-use crate::{bundle, datum, faults, ledger, part, script, sum, text, transaction, value};
+use crate::{bundle, datum, datum_ref, faults, ledger, script, sum, text, transaction, value};
 use anyhow::Result;
 use mp_memory::Memory;
 use mp_text::{is_name, number, quantity};
@@ -10,7 +10,7 @@ use mp_text::{is_name, number, quantity};
 #[derive(Clone, Copy)]
 pub enum Kind {
     Datum,
-    Part,
+    DatumRef,
     Script,
     Value,
     Bundle,
@@ -28,7 +28,7 @@ impl Kind {
     /// Each of them, in the order in which they are checked.
     pub const ALL: [Kind; 13] = [
         Kind::Datum,
-        Kind::Part,
+        Kind::DatumRef,
         Kind::Script,
         Kind::Value,
         Kind::Bundle,
@@ -46,7 +46,7 @@ impl Kind {
     pub fn file_name(self) -> &'static str {
         match self {
             Kind::Datum => "datum.txt",
-            Kind::Part => "part.txt",
+            Kind::DatumRef => "datum_ref.txt",
             Kind::Script => "script.txt",
             Kind::Value => "value.txt",
             Kind::Bundle => "bundle.txt",
@@ -65,7 +65,7 @@ impl Kind {
     pub fn holds(self, memory: Memory, given: &str, wanted: &str) -> Result<bool> {
         match self {
             Kind::Datum => datum::holds(memory, given, wanted),
-            Kind::Part => part::holds(memory, given, wanted),
+            Kind::DatumRef => datum_ref::holds(memory, given, wanted),
             Kind::Script => script::holds(memory, given, wanted),
             Kind::Value => value::holds(memory, given, wanted),
             Kind::Bundle => bundle::holds(memory, given, wanted),

@@ -5,12 +5,12 @@
 mod answer;
 mod bundle;
 mod datum;
+mod datum_ref;
 mod faults;
 mod kind;
 mod ledger;
 mod line;
 mod numbered;
-mod part;
 mod pieces;
 mod references;
 mod scene;

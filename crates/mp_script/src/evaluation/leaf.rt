@@ -2,19 +2,19 @@
 
 ghost use Rattle.std.specs.Prelude.{◌≡◌};
 ghost use Rattle.std.specs.Option.{option_map};
-ghost use Rattle.mp_script.specs.Parts.{tree_of};
-ghost use Rattle.mp_script.specs.View.{sight_of};
-ghost use Rattle.mp_script.specs.Value.{val_of, tree};
+ghost use Rattle.mp_script.specs.DataReading.{tree_of};
+ghost use Rattle.mp_script.specs.View.{view_of};
+ghost use Rattle.mp_script.specs.Value.{value_of, tree};
 ghost use Rattle.mp_script.specs.Meaning.{on, of_leaf};
 
 use crate::data::Data;
-use crate::hash::Hash;
 use crate::operator::Leaf;
 use crate::value::Value;
 use crate::view::View;
+use mp_bytes::Hash;
 
 fn tree(datum: Option<&Data>) -> Value<'_>
-    ensures { val_of result ≡ on (option_map (λ d. tree_of d.now) datum.entry) tree }
+    ensures { value_of result ≡ on (option_map (λ d. tree_of d.now) datum.entry) tree }
 {
     match datum {
         Some(datum) => Value::Tree(datum.whole()),
@@ -24,7 +24,7 @@ fn tree(datum: Option<&Data>) -> Value<'_>
 
 /// The value of an operator without operands.
 pub fn value<'a>(leaf: Leaf, view: &View<'a>) -> Value<'a>
-    ensures { val_of result ≡ of_leaf leaf (sight_of view.now) }
+    ensures { value_of result ≡ of_leaf leaf (view_of view.now) }
 {
     match leaf {
         Leaf::False => Value::Truth(false),

@@ -1,15 +1,15 @@
 //! Truth values, choice and equality.
 
 ghost use Rattle.std.specs.Prelude.{◌≡◌};
-ghost use Rattle.mp_script.specs.Parts.{tree_of};
-ghost use Rattle.mp_script.specs.Value.{val_of};
+ghost use Rattle.mp_script.specs.DataReading.{tree_of};
+ghost use Rattle.mp_script.specs.Value.{value_of};
 ghost use Rattle.mp_script.specs.Meaning.{truth_in, negation, conjunction, disjunction, choice, same_datum, equality};
 
-use crate::part::Part;
+use crate::datum_ref::DatumRef;
 use crate::value::Value;
 
 fn truth(value: Value) -> Option<bool>
-    ensures { result ≡ truth_in (val_of value.entry) }
+    ensures { result ≡ truth_in (value_of value.entry) }
 {
     match value {
         Value::Truth(truth) => Some(truth),
@@ -19,7 +19,7 @@ fn truth(value: Value) -> Option<bool>
 
 /// The other truth value.
 pub fn not(a: Value<'_>) -> Value<'_>
-    ensures { val_of result ≡ negation (val_of a.entry) }
+    ensures { value_of result ≡ negation (value_of a.entry) }
 {
     match a {
         Value::Truth(truth) => Value::Truth(!truth),
@@ -29,7 +29,7 @@ pub fn not(a: Value<'_>) -> Value<'_>
 
 /// Kleene's and: false where either is false, true where both are true.
 pub fn and<'a>(a: Value<'a>, b: Value<'a>) -> Value<'a>
-    ensures { val_of result ≡ conjunction (truth_in (val_of a.entry)) (truth_in (val_of b.entry)) }
+    ensures { value_of result ≡ conjunction (truth_in (value_of a.entry)) (truth_in (value_of b.entry)) }
 {
     match (truth(a), truth(b)) {
         (Some(false), _) | (_, Some(false)) => Value::Truth(false),
@@ -40,7 +40,7 @@ pub fn and<'a>(a: Value<'a>, b: Value<'a>) -> Value<'a>
 
 /// Kleene's or: true where either is true, false where both are false.
 pub fn or<'a>(a: Value<'a>, b: Value<'a>) -> Value<'a>
-    ensures { val_of result ≡ disjunction (truth_in (val_of a.entry)) (truth_in (val_of b.entry)) }
+    ensures { value_of result ≡ disjunction (truth_in (value_of a.entry)) (truth_in (value_of b.entry)) }
 {
     match (truth(a), truth(b)) {
         (Some(true), _) | (_, Some(true)) => Value::Truth(true),
@@ -51,7 +51,8 @@ pub fn or<'a>(a: Value<'a>, b: Value<'a>) -> Value<'a>
 
 /// The second where the first is true, the third where it is false. The other one may be anything.
 pub fn choice<'a>(condition: Value<'a>, a: Value<'a>, b: Value<'a>) -> Value<'a>
-    ensures { val_of result ≡ choice (truth_in (val_of condition.entry)) (val_of a.entry) (val_of b.entry) }
+    ensures { value_of result ≡
+        choice (truth_in (value_of condition.entry)) (value_of a.entry) (value_of b.entry) }
 {
     match condition {
         Value::Truth(true) => a,
@@ -60,7 +61,7 @@ pub fn choice<'a>(condition: Value<'a>, a: Value<'a>, b: Value<'a>) -> Value<'a>
     }
 }
 
-fn same(a: &Part, b: &Part) -> bool
+fn same(a: &DatumRef, b: &DatumRef) -> bool
     ensures { result ≡ same_datum (tree_of a.now) (tree_of b.now) }
 {
     a.bytes() == b.bytes()
@@ -68,7 +69,7 @@ fn same(a: &Part, b: &Part) -> bool
 
 /// Whether two values of one kind are equal.
 pub fn equal<'a>(a: Value<'a>, b: Value<'a>) -> Value<'a>
-    ensures { val_of result ≡ equality (val_of a.entry) (val_of b.entry) }
+    ensures { value_of result ≡ equality (value_of a.entry) (value_of b.entry) }
 {
     match (a, b) {
         (Value::Truth(a), Value::Truth(b)) => Value::Truth(a == b),

@@ -1,13 +1,13 @@
 //! Whole numbers of up to 128 bits.
 
 ghost use Rattle.std.specs.Prelude.{◌≡◌, ◌+ℤ◌, ◌-ℤ◌, ◌*ℤ◌, int_lt, int_le};
-ghost use Rattle.mp_script.specs.Value.{val_of, truth, whole};
+ghost use Rattle.mp_script.specs.Value.{value_of, truth, whole};
 ghost use Rattle.mp_script.specs.Meaning.{on, on_wholes, number, wholes_in};
 
 use crate::value::Value;
 
 fn wholes(a: Value, b: Value) -> Option<(i128, i128)>
-    ensures { result ≡ wholes_in (val_of a.entry) (val_of b.entry) }
+    ensures { result ≡ wholes_in (value_of a.entry) (value_of b.entry) }
 {
     match (a, b) {
         (Value::Whole(a), Value::Whole(b)) => Some((a, b)),
@@ -16,7 +16,7 @@ fn wholes(a: Value, b: Value) -> Option<(i128, i128)>
 }
 
 fn whole<'a>(number: Option<i128>) -> Value<'a>
-    ensures { val_of result ≡ on number whole }
+    ensures { value_of result ≡ on number whole }
 {
     match number {
         Some(number) => Value::Whole(number),
@@ -26,7 +26,8 @@ fn whole<'a>(number: Option<i128>) -> Value<'a>
 
 /// Whether a < b.
 pub fn less<'a>(a: Value<'a>, b: Value<'a>) -> Value<'a>
-    ensures { val_of result ≡ on_wholes (λ x y. truth (int_lt x y)) (val_of a.entry) (val_of b.entry) }
+    ensures { value_of result ≡
+        on_wholes (λ x y. truth (int_lt x y)) (value_of a.entry) (value_of b.entry) }
 {
     match wholes(a, b) {
         Some((a, b)) => Value::Truth(a < b),
@@ -36,7 +37,8 @@ pub fn less<'a>(a: Value<'a>, b: Value<'a>) -> Value<'a>
 
 /// Whether a <= b.
 pub fn at_most<'a>(a: Value<'a>, b: Value<'a>) -> Value<'a>
-    ensures { val_of result ≡ on_wholes (λ x y. truth (int_le x y)) (val_of a.entry) (val_of b.entry) }
+    ensures { value_of result ≡
+        on_wholes (λ x y. truth (int_le x y)) (value_of a.entry) (value_of b.entry) }
 {
     match wholes(a, b) {
         Some((a, b)) => Value::Truth(a <= b),
@@ -46,7 +48,7 @@ pub fn at_most<'a>(a: Value<'a>, b: Value<'a>) -> Value<'a>
 
 /// a + b.
 pub fn sum<'a>(a: Value<'a>, b: Value<'a>) -> Value<'a>
-    ensures { val_of result ≡ on_wholes (λ x y. number (x +ℤ y)) (val_of a.entry) (val_of b.entry) }
+    ensures { value_of result ≡ on_wholes (λ x y. number (x +ℤ y)) (value_of a.entry) (value_of b.entry) }
 {
     match wholes(a, b) {
         Some((a, b)) => whole(a.checked_add(b)),
@@ -56,7 +58,7 @@ pub fn sum<'a>(a: Value<'a>, b: Value<'a>) -> Value<'a>
 
 /// a - b.
 pub fn difference<'a>(a: Value<'a>, b: Value<'a>) -> Value<'a>
-    ensures { val_of result ≡ on_wholes (λ x y. number (x -ℤ y)) (val_of a.entry) (val_of b.entry) }
+    ensures { value_of result ≡ on_wholes (λ x y. number (x -ℤ y)) (value_of a.entry) (value_of b.entry) }
 {
     match wholes(a, b) {
         Some((a, b)) => whole(a.checked_sub(b)),
@@ -66,7 +68,7 @@ pub fn difference<'a>(a: Value<'a>, b: Value<'a>) -> Value<'a>
 
 /// a * b.
 pub fn product<'a>(a: Value<'a>, b: Value<'a>) -> Value<'a>
-    ensures { val_of result ≡ on_wholes (λ x y. number (x *ℤ y)) (val_of a.entry) (val_of b.entry) }
+    ensures { value_of result ≡ on_wholes (λ x y. number (x *ℤ y)) (value_of a.entry) (value_of b.entry) }
 {
     match wholes(a, b) {
         Some((a, b)) => whole(a.checked_mul(b)),

@@ -1,22 +1,19 @@
 //! What the transaction pays to an address.
 
-ghost use Rattle.std.specs.Prelude.{◌≡◌, ◌≤◌, pos, nat_eq, length, map, if◌then◌else◌};
-ghost use Rattle.std.specs.Cmp.Lexicographic.{pointwise};
+ghost use Rattle.std.specs.Prelude.{◌≡◌, ◌≤◌, length, map};
 ghost use Rattle.mp_bundle.specs.Token.{token};
-ghost use Rattle.mp_bundle.specs.Bundle.{quantity_of};
-ghost use Rattle.mp_script.specs.View.{payment_of};
-ghost use Rattle.mp_script.specs.Value.{val_of};
-ghost use Rattle.mp_script.specs.Meaning.{on, hash_in, token_in, amount, paid_to};
+ghost use Rattle.mp_script.specs.View.{paid_to_of};
+ghost use Rattle.mp_script.specs.Value.{value_of};
+ghost use Rattle.mp_script.specs.Meaning.{paid_by, paid_to, paid_quantity};
 
 use super::token::{hash_of, token_of};
-use crate::hash::Address;
 use crate::value::Value;
-use crate::view::PaidTo;
+use crate::view::{Address, PaidTo};
 use mp_bundle::PolicyId;
 
 // How much of a token the output holds, where it has the address.
 fn paid_by(output: &PaidTo, address: &Address, policy: &PolicyId, name: &[u8]) -> i64
-    ensures { result ≡ (if pointwise nat_eq output.now.address.now address.now then quantity_of output.now.value.now (token policy.now name.now) else pos 0) }
+    ensures { result ≡ paid_by (paid_to_of output.now) address.now (token policy.now name.now) }
 {
     if output.address == address {
         output.value.quantity(policy, name)
@@ -27,7 +24,7 @@ fn paid_by(output: &PaidTo, address: &Address, policy: &PolicyId, name: &[u8]) -
 
 fn total(outputs: &[PaidTo], address: &Address, policy: &PolicyId, name: &[u8]) -> i128
     requires { length outputs.now ≤ 256 }
-    ensures { result ≡ paid_to address.now (token policy.now name.now) (map payment_of outputs.now) }
+    ensures { result ≡ paid_to address.now (token policy.now name.now) (map paid_to_of outputs.now) }
 {
     let mut total = 0;
     for output in outputs {
@@ -44,7 +41,9 @@ pub fn paid<'a>(
     outputs: &[PaidTo],
 ) -> Value<'a>
     requires { length outputs.now ≤ 256 }
-    ensures { val_of result ≡ on (hash_in (val_of address.entry)) (λ a. amount (token_in (val_of policy.entry) (val_of name.entry)) (λ t. paid_to a t (map payment_of outputs.now))) }
+    ensures { value_of result ≡
+        paid_quantity (map paid_to_of outputs.now) (value_of address.entry) (value_of policy.entry)
+        (value_of name.entry) }
 {
     match (hash_of(address), token_of(policy, name)) {
         (Some(address), Some((policy, name))) => {

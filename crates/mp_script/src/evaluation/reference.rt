@@ -2,18 +2,18 @@
 
 ghost use Rattle.std.specs.Prelude.{◌≡◌, map};
 ghost use Rattle.std.specs.Option.{option_map};
-ghost use Rattle.mp_bundle.specs.Bundle.{quantity_of};
-ghost use Rattle.mp_script.specs.View.{reference_of};
-ghost use Rattle.mp_script.specs.Value.{val_of, octets};
-ghost use Rattle.mp_script.specs.Meaning.{on, token_in, amount, reference_at};
+ghost use Rattle.mp_script.specs.View.{referred_of};
+ghost use Rattle.mp_script.specs.Value.{value_of, octets};
+ghost use Rattle.mp_script.specs.Meaning.{on, reference_at, ref_quantity};
 
 use super::token::bundle_quantity;
-use crate::hash::{Address, Hash};
 use crate::value::Value;
-use crate::view::Referred;
+use crate::view::{Address, Referred};
+use mp_bytes::Hash;
 
 fn referred<'s, 'a>(at: Value<'a>, references: &'s [Referred<'a>]) -> Option<&'s Referred<'a>>
-    ensures { option_map (λ r. reference_of r.now) result ≡ reference_at (map reference_of references.now) (val_of at.entry) }
+    ensures { option_map (λ r. referred_of r.now) result ≡
+        reference_at (map referred_of references.now) (value_of at.entry) }
 {
     match at {
         Value::Whole(number) => references.get(usize::try_from(number).ok()?),
@@ -23,7 +23,9 @@ fn referred<'s, 'a>(at: Value<'a>, references: &'s [Referred<'a>]) -> Option<&'s
 
 /// The address of the output that a reference names.
 pub fn address<'a>(at: Value<'a>, references: &[Referred<'a>]) -> Value<'a>
-    ensures { val_of result ≡ on (reference_at (map reference_of references.now) (val_of at.entry)) (λ r. octets r.address) }
+    ensures { value_of result ≡
+        on (reference_at (map referred_of references.now) (value_of at.entry))
+        (λ r. octets r.address) }
 {
     match referred(at, references) {
         Some(output) => {
@@ -36,7 +38,9 @@ pub fn address<'a>(at: Value<'a>, references: &[Referred<'a>]) -> Value<'a>
 
 /// Its datum hash.
 pub fn datum_hash<'a>(at: Value<'a>, references: &[Referred<'a>]) -> Value<'a>
-    ensures { val_of result ≡ on (reference_at (map reference_of references.now) (val_of at.entry)) (λ r. octets r.datum_hash) }
+    ensures { value_of result ≡
+        on (reference_at (map referred_of references.now) (value_of at.entry))
+        (λ r. octets r.datum_hash) }
 {
     match referred(at, references) {
         Some(output) => {
@@ -54,7 +58,9 @@ pub fn quantity<'a>(
     name: Value<'a>,
     references: &[Referred<'a>],
 ) -> Value<'a>
-    ensures { val_of result ≡ on (reference_at (map reference_of references.now) (val_of at.entry)) (λ r. amount (token_in (val_of policy.entry) (val_of name.entry)) (quantity_of r.bundle)) }
+    ensures { value_of result ≡
+        ref_quantity (map referred_of references.now) (value_of at.entry) (value_of policy.entry)
+        (value_of name.entry) }
 {
     match referred(at, references) {
         Some(output) => bundle_quantity(policy, name, output.value),

@@ -1,24 +1,22 @@
 //! Signatures.
 
-ghost use Rattle.std.specs.Prelude.{◌≡◌, nat_eq};
-ghost use Rattle.std.specs.Cmp.Lexicographic.{pointwise};
-ghost use Rattle.std.specs.List.{list_any};
-ghost use Rattle.mp_script.specs.Value.{val_of, truth};
-ghost use Rattle.mp_script.specs.Meaning.{on, hash_in};
+ghost use Rattle.std.specs.Prelude.{◌≡◌};
+ghost use Rattle.mp_script.specs.Value.{value_of, truth};
+ghost use Rattle.mp_script.specs.Meaning.{on, hash_in, has_signed};
 
 use super::token::hash_of;
-use crate::hash::Key;
 use crate::value::Value;
+use crate::view::Key;
 
 fn has_signed(keys: &[Key], wanted: &Key) -> bool
-    ensures { result ≡ list_any (λ k. pointwise nat_eq k wanted.now) keys.now }
+    ensures { result ≡ has_signed keys.now wanted.now }
 {
     keys.iter().any(|key| key == wanted)
 }
 
 /// Whether there is a signature of a key.
 pub fn signed_by<'a>(key: Value<'a>, keys: &[Key]) -> Value<'a>
-    ensures { val_of result ≡ on (hash_in (val_of key.entry)) (λ key. truth (list_any (λ k. pointwise nat_eq k key) keys.now)) }
+    ensures { value_of result ≡ on (hash_in (value_of key.entry)) (λ key. truth (has_signed keys.now key)) }
 {
     match hash_of(key) {
         Some(key) => Value::Truth(has_signed(keys, key)),

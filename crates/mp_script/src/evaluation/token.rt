@@ -3,20 +3,19 @@
 ghost use Rattle.std.specs.Prelude.{◌≡◌};
 ghost use Rattle.std.specs.Option.{option_map};
 ghost use Rattle.mp_bundle.specs.Token.{token};
-ghost use Rattle.mp_bundle.specs.Bundle.{quantity_of};
 ghost use Rattle.mp_bundle.specs.Sum.{total_of};
-ghost use Rattle.mp_script.specs.Value.{val_of};
-ghost use Rattle.mp_script.specs.Meaning.{on, hash_in, name_in, token_in, amount};
+ghost use Rattle.mp_script.specs.Value.{value_of};
+ghost use Rattle.mp_script.specs.Meaning.{on, hash_in, name_in, token_in, amount, bundle_quantity};
 
-use crate::hash::Hash;
 use crate::value::Value;
 use mp_bundle::{Bundle, PolicyId, Sum};
+use mp_bytes::Hash;
 
 const MAX_NAME_BYTES: usize = 32;
 
 /// The 32 bytes that a value is, where it is so many.
 pub fn hash_of(value: Value<'_>) -> Option<&Hash>
-    ensures { option_map (λ b. b.now) result ≡ hash_in (val_of value.entry) }
+    ensures { option_map (λ b. b.now) result ≡ hash_in (value_of value.entry) }
 {
     match value {
         Value::Octets(octets) => octets.as_array::<32>(),
@@ -25,7 +24,7 @@ pub fn hash_of(value: Value<'_>) -> Option<&Hash>
 }
 
 fn name_of(value: Value<'_>) -> Option<&[u8]>
-    ensures { option_map (λ b. b.now) result ≡ name_in (val_of value.entry) }
+    ensures { option_map (λ b. b.now) result ≡ name_in (value_of value.entry) }
 {
     match value {
         Value::Octets(octets) if octets.len() <= MAX_NAME_BYTES => Some(octets),
@@ -35,14 +34,15 @@ fn name_of(value: Value<'_>) -> Option<&[u8]>
 
 /// The policy of 32 bytes and the name of up to 32 that two values are, where they are so many.
 pub fn token_of<'a>(policy: Value<'a>, name: Value<'a>) -> Option<(&'a PolicyId, &'a [u8])>
-    ensures { option_map (λ t. token t.0.now t.1.now) result ≡ token_in (val_of policy.entry) (val_of name.entry) }
+    ensures { option_map (λ t. token t.0.now t.1.now) result ≡
+        token_in (value_of policy.entry) (value_of name.entry) }
 {
     Some((hash_of(policy)?, name_of(name)?))
 }
 
 /// How much of a token a bundle holds.
 pub fn bundle_quantity<'a>(policy: Value<'a>, name: Value<'a>, bundle: &Bundle) -> Value<'a>
-    ensures { val_of result ≡ amount (token_in (val_of policy.entry) (val_of name.entry)) (quantity_of bundle.now) }
+    ensures { value_of result ≡ bundle_quantity bundle.now (value_of policy.entry) (value_of name.entry) }
 {
     match token_of(policy, name) {
         Some((policy, name)) => Value::Whole(bundle.quantity(policy, name) as i128),
@@ -52,7 +52,9 @@ pub fn bundle_quantity<'a>(policy: Value<'a>, name: Value<'a>, bundle: &Bundle) 
 
 /// How much of a token the spent output holds.
 pub fn own<'a>(policy: Value<'a>, name: Value<'a>, own_value: Option<&Bundle>) -> Value<'a>
-    ensures { val_of result ≡ on own_value.entry (λ bundle. amount (token_in (val_of policy.entry) (val_of name.entry)) (quantity_of bundle.now)) }
+    ensures { value_of result ≡
+        on own_value.entry
+        (λ bundle. bundle_quantity bundle.now (value_of policy.entry) (value_of name.entry)) }
 {
     match own_value {
         Some(bundle) => bundle_quantity(policy, name, bundle),
@@ -62,7 +64,8 @@ pub fn own<'a>(policy: Value<'a>, name: Value<'a>, own_value: Option<&Bundle>) -
 
 /// How much of a token all spent outputs hold.
 pub fn spent<'a>(policy: Value<'a>, name: Value<'a>, sum: &Sum) -> Value<'a>
-    ensures { val_of result ≡ amount (token_in (val_of policy.entry) (val_of name.entry)) (total_of sum.now) }
+    ensures { value_of result ≡
+        amount (token_in (value_of policy.entry) (value_of name.entry)) (total_of sum.now) }
 {
     match token_of(policy, name) {
         Some((policy, name)) => Value::Whole(sum.total(policy, name)),

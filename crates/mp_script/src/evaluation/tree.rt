@@ -2,16 +2,16 @@
 
 ghost use Rattle.std.specs.Prelude.{◌≡◌, pos};
 ghost use Rattle.std.specs.Option.{option_map, option_and_then};
-ghost use Rattle.mp_script.specs.Datum.{number_in, octets_in, length_in, item_in};
-ghost use Rattle.mp_script.specs.Parts.{tree_of};
-ghost use Rattle.mp_script.specs.Value.{val_of, whole, octets, tree};
-ghost use Rattle.mp_script.specs.Meaning.{on, datum_in, place_in};
+ghost use Rattle.mp_script.specs.Datum.{number_in, octets_in, length_in};
+ghost use Rattle.mp_script.specs.DataReading.{tree_of};
+ghost use Rattle.mp_script.specs.Value.{value_of, whole, octets, tree};
+ghost use Rattle.mp_script.specs.Meaning.{on, datum_in, place_in, list_item};
 
-use crate::part::Part;
+use crate::datum_ref::DatumRef;
 use crate::value::Value;
 
-fn tree(value: Value<'_>) -> Option<Part<'_>>
-    ensures { option_map tree_of result ≡ datum_in (val_of value.entry) }
+fn tree(value: Value<'_>) -> Option<DatumRef<'_>>
+    ensures { option_map tree_of result ≡ datum_in (value_of value.entry) }
 {
     match value {
         Value::Tree(part) => Some(part),
@@ -20,7 +20,7 @@ fn tree(value: Value<'_>) -> Option<Part<'_>>
 }
 
 fn place(value: Value) -> Option<u64>
-    ensures { result ≡ place_in (val_of value.entry) }
+    ensures { result ≡ place_in (value_of value.entry) }
 {
     match value {
         Value::Whole(number) => u64::try_from(number).ok(),
@@ -29,32 +29,32 @@ fn place(value: Value) -> Option<u64>
 }
 
 fn number_of(value: Value) -> Option<i64>
-    ensures { result ≡ option_and_then number_in (datum_in (val_of value.entry)) }
+    ensures { result ≡ option_and_then number_in (datum_in (value_of value.entry)) }
 {
     tree(value)?.number()
 }
 
 fn octets_of(value: Value<'_>) -> Option<&[u8]>
-    ensures { option_map (λ b. b.now) result ≡ option_and_then octets_in (datum_in (val_of value.entry)) }
+    ensures { option_map (λ b. b.now) result ≡ option_and_then octets_in (datum_in (value_of value.entry)) }
 {
     tree(value)?.octets()
 }
 
 fn length_of(value: Value) -> Option<u16>
-    ensures { result ≡ option_and_then length_in (datum_in (val_of value.entry)) }
+    ensures { result ≡ option_and_then length_in (datum_in (value_of value.entry)) }
 {
     tree(value)?.length()
 }
 
-fn item_of<'a>(list: Value<'a>, at: Value<'a>) -> Option<Part<'a>>
-    ensures { option_map tree_of result ≡ option_and_then (λ d. option_and_then (item_in d) (place_in (val_of at.entry))) (datum_in (val_of list.entry)) }
+fn item_of<'a>(list: Value<'a>, at: Value<'a>) -> Option<DatumRef<'a>>
+    ensures { option_map tree_of result ≡ list_item (value_of list.entry) (value_of at.entry) }
 {
     tree(list)?.item(place(at)?)
 }
 
 /// The number of a datum that is a number.
 pub fn as_int(datum: Value<'_>) -> Value<'_>
-    ensures { val_of result ≡ on (option_and_then number_in (datum_in (val_of datum.entry))) whole }
+    ensures { value_of result ≡ on (option_and_then number_in (datum_in (value_of datum.entry))) whole }
 {
     match number_of(datum) {
         Some(number) => Value::Whole(number as i128),
@@ -64,7 +64,7 @@ pub fn as_int(datum: Value<'_>) -> Value<'_>
 
 /// The bytes of a datum that is bytes.
 pub fn as_bytes(datum: Value<'_>) -> Value<'_>
-    ensures { val_of result ≡ on (option_and_then octets_in (datum_in (val_of datum.entry))) octets }
+    ensures { value_of result ≡ on (option_and_then octets_in (datum_in (value_of datum.entry))) octets }
 {
     match octets_of(datum) {
         Some(octets) => Value::Octets(octets),
@@ -74,7 +74,8 @@ pub fn as_bytes(datum: Value<'_>) -> Value<'_>
 
 /// The number of items of a list.
 pub fn length(datum: Value<'_>) -> Value<'_>
-    ensures { val_of result ≡ on (option_and_then length_in (datum_in (val_of datum.entry))) (λ n. whole (pos n)) }
+    ensures { value_of result ≡
+        on (option_and_then length_in (datum_in (value_of datum.entry))) (λ n. whole (pos n)) }
 {
     match length_of(datum) {
         Some(length) => Value::Whole(length as i128),
@@ -84,7 +85,7 @@ pub fn length(datum: Value<'_>) -> Value<'_>
 
 /// The item of a list at a place, from 0.
 pub fn item<'a>(datum: Value<'a>, at: Value<'a>) -> Value<'a>
-    ensures { val_of result ≡ on (option_and_then (λ d. option_and_then (item_in d) (place_in (val_of at.entry))) (datum_in (val_of datum.entry))) tree }
+    ensures { value_of result ≡ on (list_item (value_of datum.entry) (value_of at.entry)) tree }
 {
     match item_of(datum, at) {
         Some(item) => Value::Tree(item),

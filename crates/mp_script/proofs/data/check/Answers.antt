@@ -1,6 +1,6 @@
 use Rattle.std.proofs.Common.{arith, sym, ap, ◌∙◌}
 use Rattle.std.proofs.lemmas.Bool.{eqb-true}
-use Rattle.mp_script.specs.Reading.{seen}
+use Rattle.mp_bytes.specs.Reading.{seen}
 use Rattle.mp_script.proofs.DataLaws.{walked_is_datum}
 use Rattle.mp_script.proofs.data.check.Goals as goal
 

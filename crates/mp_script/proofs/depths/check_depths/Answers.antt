@@ -1,8 +1,9 @@
 use Rattle.std.proofs.Common.{arith, List, ℕ, sym, ap, ◌∙◌}
 use Rattle.std.proofs.lemmas.Bool.{eqb-true}
-use Rattle.mp_script.specs.Reading.{seen}
-use Rattle.mp_script.specs.Operators.{op_of}
-use Rattle.mp_script.specs.ScriptReading.{put_depth, reads}
+use Rattle.mp_bytes.specs.Reading.{seen}
+use Rattle.mp_script.specs.Operators.{operator_of}
+use Rattle.mp_script.specs.ScriptReading.{reads}
+use Rattle.mp_script.specs.Inside.Depths.{put_depth}
 use Rattle.mp_script.proofs.OperatorLaws.{operator_shorter}
 use Rattle.mp_script.proofs.ScriptLaws.{reading_ends}
 use Rattle.mp_script.proofs.depths.check_depths.Goals as goal
@@ -12,7 +13,7 @@ loop-rest-init c = record { reading = ap (λ (ds : List ℕ). reads put_depth 10
 
 pub loop-rest-smaller : goal.loop-rest-smaller
 loop-rest-smaller c =
-    operator_shorter c.loop-rest.rest.now (op_of c.in_ok-operator.operator, c.in_ok-operator.after.now) (sym c.operator_at.ensures ∙ ap (seen (λ x. (op_of x.0, x.1.now))) c.in_ok-operator.was)
+    operator_shorter c.loop-rest.rest.now (operator_of c.in_ok-operator.operator, c.in_ok-operator.after.now) (sym c.operator_at.ensures ∙ ap (seen (λ x. (operator_of x.0, x.1.now))) c.in_ok-operator.was)
 
 pub returns-then-len-eq1-clause-ok : goal.returns-then-len-eq1-clause-ok
 returns-then-len-eq1-clause-ok c =

@@ -1,5 +1,6 @@
 use Rattle.std.proofs.Common.{◌≡◌, ◌+◌, ◌≤◌, [], length}
-use Rattle.mp_script.specs.ScriptReading.{put_depth, reads}
+use Rattle.mp_script.specs.ScriptReading.{reads}
+use Rattle.mp_script.specs.Inside.Depths.{put_depth}
 use Rattle.mp_script.proofs.depths.check_depths.Given as goal
 
 -- what is left leads where all leads, and has room

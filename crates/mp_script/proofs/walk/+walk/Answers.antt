@@ -1,6 +1,6 @@
 use Rattle.std.proofs.Common.{ap, sym, ◌∙◌}
 use Rattle.std.proofs.lemmas.Result.{err_from_is_err_and}
-use Rattle.mp_script.specs.Reading.{seen}
+use Rattle.mp_bytes.specs.Reading.{seen}
 use Rattle.mp_script.specs.DataReading.{datum_read}
 use Rattle.mp_script.proofs.Items.{next-item}
 use Rattle.mp_script.proofs.walk.+walk.Goals as goal

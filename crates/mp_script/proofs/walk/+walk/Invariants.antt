@@ -1,5 +1,5 @@
 use Rattle.std.proofs.Common.{◌≡◌, ◌-◌, ◌+◌, ◌*◌}
-use Rattle.mp_script.specs.Reading.{rest_of}
+use Rattle.mp_bytes.specs.Reading.{rest_of}
 use Rattle.mp_script.specs.DataReading.{items_read, datum_read}
 use Rattle.mp_script.proofs.walk.+walk.Given as goal
 

@@ -1,7 +1,7 @@
 use Rattle.std.proofs.Common.{List, ℕ, ap, ◌∙◌}
 use Rattle.std.specs.Prelude.{nat_eq}
 use Rattle.std.specs.Cmp.Lexicographic.{pointwise}
-use Rattle.mp_script.proofs.PartLaws.{same_bytes}
+use Rattle.mp_script.proofs.DatumRefLaws.{same_bytes}
 use Rattle.mp_script.proofs.evaluation.logic.same.Goals as goal
 
 pub returns : goal.returns

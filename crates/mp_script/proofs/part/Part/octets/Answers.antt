@@ -1,8 +1,0 @@
-use Rattle.std.proofs.Common.{subst, ap, ◌∙◌}
-use Rattle.mp_script.specs.Datum.{IsDatum}
-use Rattle.mp_script.specs.Parts.{octets_seen}
-use Rattle.mp_script.proofs.PartLaws.{octets_are_seen}
-use Rattle.mp_script.proofs.part.Part.octets.Goals as goal
-
-pub returns : goal.returns
-returns c = c.octets_in.ensures ∙ ap octets_seen c.self.view_is ∙ octets_are_seen c.args.self.now (subst IsDatum c.self.view_is c.self.invariant)

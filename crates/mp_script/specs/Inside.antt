@@ -1,0 +1,3 @@
+pub mod DatumRef
+pub mod Depths
+pub mod Waiting
