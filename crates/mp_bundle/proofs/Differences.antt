@@ -11,8 +11,8 @@ use Rattle.std.specs.declared.cmp.Ordering.TheVariants.{Less, Equal, Greater}
 use Rattle.mp_bundle.specs.declared.token.Token.{Token}
 use Rattle.mp_bundle.specs.Token.{token_cmp}
 use Rattle.mp_bundle.specs.Bundle.{Entry, quantity_of}
-use Rattle.mp_bundle.specs.Totals.{first_unlike, lesser}
-use Rattle.mp_bundle.specs.Sum.{Summed, total_of, AreAlike, IsFirstDifference}
+use Rattle.mp_bundle.specs.Inside.Totals.{first_unlike, lesser}
+use Rattle.mp_bundle.specs.Sum.{Sum, total_of, AreAlike, IsFirstDifference}
 use Rattle.mp_bundle.proofs.Tokens.{token_total, token_exact}
 use Rattle.mp_bundle.proofs.Search.{equal, less}
 use Rattle.mp_bundle.proofs.TotalsLemmas.{find_below}
@@ -106,7 +106,7 @@ join es fs (Some a) (Some b) f g =
       | false ↦ λ e. record { differs = f.differs; least = λ q lt. alike es fs q (f.before q lt) (g.before q (not_above a b q e lt)) }
     ] refl
 
-module _ (a b : Summed) (es fs : List Entry) (is_a : (q : Token) → total_of a q ≡ quantity_of es q) (is_b : (q : Token) → total_of b q ≡ quantity_of fs q) where
+module _ (a b : Sum) (es fs : List Entry) (is_a : (q : Token) → total_of a q ≡ quantity_of es q) (is_b : (q : Token) → total_of b q ≡ quantity_of fs q) where
   seen : (found : Option Token) → MatchOption found ((q : Token) → quantity_of es q ≡ quantity_of fs q) (IsLeast es fs) → MatchOption found (AreAlike a b) (IsFirstDifference a b)
   seen None all = λ q. is_a q ∙ all q ∙ sym (is_b q)
   seen (Some k) first = record {

@@ -16,7 +16,7 @@ use Rattle.mp_bundle.specs.declared.fault.BundleFault.TheVariants.{NoMemory, Not
 use Rattle.mp_bundle.specs.declared.token.Token.{Token}
 use Rattle.mp_bundle.specs.Token.{token_cmp}
 use Rattle.mp_bundle.specs.Bundle.{Entry, IsWithin, IsEntry, IsBundle}
-use Rattle.mp_bundle.specs.Fault.{Given, entries_of, follows, is_out_of_range, entry_fault, fault_after, fault_of, IsFaultOf}
+use Rattle.mp_bundle.specs.BundleFault.{Given, entries_of, follows, is_out_of_range, entry_fault, fault_after, fault_of, IsFaultOf}
 use Rattle.mp_bundle.proofs.Tokens.{token_total}
 
 pub is_fault : (entries : List Entry) (fault : BundleFault) → fault_of entries ≡ Some fault → IsFaultOf entries fault

@@ -15,7 +15,7 @@ use Rattle.std.proofs.lemmas.List.Sums.{sum_by-cons}
 use Rattle.mp_bundle.specs.declared.token.Token.{Token}
 use Rattle.mp_bundle.specs.Token.{token_cmp}
 use Rattle.mp_bundle.specs.Bundle.{Entry, IsEntry, quantity_of}
-use Rattle.mp_bundle.specs.Sum.{Summed, nothing, total_of, total_over, AddsAll, AreAlike, IsFirstDifference}
+use Rattle.mp_bundle.specs.Sum.{Sum, nothing, total_of, total_over, AddsAll, AreAlike, IsFirstDifference}
 use Rattle.mp_bundle.specs.Laws.{FaultlessIsBundle, QuantitiesDetermine, TotalIsSum, OneMore, OrderIsFree, DifferencesAreFound}
 use Rattle.mp_bundle.proofs.Tokens.{token_total, token_exact}
 use Rattle.mp_bundle.proofs.Faults.{not_true, bundle_from_none, none_from_bundle}
@@ -72,11 +72,11 @@ regroup : (new next old quantity over : ℤ) → new ≡ next +ℤ over → next
 regroup new next old quantity over e f = omega (arith, ints)
 
 -- a sum's total after bundles is what it was before, and the quantities
-total_after : (old : Summed) (bundles : List (List Entry)) (new : Summed) → AddsAll old bundles new → (q : Token) → total_of new q ≡ total_of old q +ℤ total_over bundles q
+total_after : (old : Sum) (bundles : List (List Entry)) (new : Sum) → AddsAll old bundles new → (q : Token) → total_of new q ≡ total_of old q +ℤ total_over bundles q
 total_after old [] new is q = ap (λ s. total_of s q) is ∙ nothing_more (total_of old q)
 total_after old (bundle ∷ bundles) new (next, adds, rest) q = regroup _ _ _ _ _ (total_after next bundles new rest q) (adds.totals q)
 
-added_after : (old : Summed) (bundles : List (List Entry)) (new : Summed) → AddsAll old bundles new → new.added ≡ old.added + length bundles
+added_after : (old : Sum) (bundles : List (List Entry)) (new : Sum) → AddsAll old bundles new → new.added ≡ old.added + length bundles
 added_after old [] new is = ap (λ s. s.added) is ∙ omega arith
 added_after old (bundle ∷ bundles) new (next, adds, rest) = let last = added_after next bundles new rest in let first = adds.added in omega arith
 
@@ -126,14 +126,14 @@ pub order_is_free : OrderIsFree
 order_is_free bundles others a b h all_a all_b q =
     (total_is_sum bundles a all_a).totals q ∙ over-permuted bundles others q h ∙ sym ((total_is_sum others b all_b).totals q)
 
-kept_totals : (a : Summed) (q : Token) → total_of a q ≡ quantity_of (entries a.nonzero) q
+kept_totals : (a : Sum) (q : Token) → total_of a q ≡ quantity_of (entries a.nonzero) q
 kept_totals a q = ap (λ o. unwrap_or o (pos 0)) (get-entries a.nonzero q)
 
 as_true : (b : Bool) → T b → b ≡ true
 as_true true t = refl
 as_true false t = absurd t
 
-none_differs : (a b : Summed) (found : Option Token) → MatchOption found (AreAlike a b) (IsFirstDifference a b) → ((q : Token) → ¬ IsFirstDifference a b q) → AreAlike a b
+none_differs : (a b : Sum) (found : Option Token) → MatchOption found (AreAlike a b) (IsFirstDifference a b) → ((q : Token) → ¬ IsFirstDifference a b q) → AreAlike a b
 none_differs a b None all none = all
 none_differs a b (Some k) first none = absurd (none k first)
 

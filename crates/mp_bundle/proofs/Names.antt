@@ -3,7 +3,7 @@ use Rattle.std.proofs.Common.{ℕ, ◌≤◌, List, ◌++◌, length, drop, ◌�
 use Rattle.std.specs.Prelude.{replicate}
 use Rattle.std.proofs.lemmas.List.{drop-replicate}
 use Rattle.std.proofs.Math.Seq.{drop-append_seam}
-use Rattle.mp_bundle.specs.TokenName.{IsPadded}
+use Rattle.mp_bundle.specs.Inside.TokenName.{IsPadded}
 
 pub is_padded : (xs : List ℕ) → length xs ≤ 32 → IsPadded (record { bytes = xs ++ drop (length xs) (replicate 32 0); len = length xs })
 is_padded xs le = record {

@@ -20,7 +20,7 @@ use Rattle.std.proofs.lemmas.List.Elements.{All-more}
 use Rattle.mp_bundle.specs.declared.token.Token.{Token}
 use Rattle.mp_bundle.specs.Token.{token_cmp}
 use Rattle.mp_bundle.specs.Bundle.{Entry, quantity_of}
-use Rattle.mp_bundle.specs.Totals.{HasRoom, KeepsTotals, nonzero_of}
+use Rattle.mp_bundle.specs.Inside.Totals.{HasRoom, KeepsTotals, nonzero_of}
 use Rattle.mp_bundle.proofs.Tokens.{token_total, token_exact}
 use Rattle.mp_bundle.proofs.Search.{equal, less}
 

@@ -1,4 +1,5 @@
--- A bundle: how much there is of each token (token bundles of the native-tokens paper of Chakravarty et al.).
+-- A bundle: how much there is of each token (token bundles of Chakravarty et al., Native Custom
+-- Tokens in the Extended UTXO Model).
 use Rattle.std.specs.Prelude.{◌≢◌, ℕ, ◌^◌, ◌-◌, ◌≤◌, ℤ, pos, neg_ℤ, ◌≤ℤ◌, List, length, IsTrue}
 use Rattle.std.specs.Option.{unwrap_or}
 use Rattle.std.specs.List.{AllByRecursion}

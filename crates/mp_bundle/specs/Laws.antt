@@ -3,8 +3,8 @@ use Rattle.std.specs.Prelude.{◌≡◌, ◌↔◌, List, [], ◌∷◌, ◌++�
 use Rattle.std.specs.List.Sorted.{IsPermutation}
 use Rattle.mp_bundle.specs.declared.token.Token.{Token}
 use Rattle.mp_bundle.specs.Bundle.{Entry, quantity_of, IsBundle}
-use Rattle.mp_bundle.specs.Fault.{fault_of}
-use Rattle.mp_bundle.specs.Sum.{Summed, nothing, Adds, AddsAll, AreAlike, IsSumOf, IsFirstDifference}
+use Rattle.mp_bundle.specs.BundleFault.{fault_of}
+use Rattle.mp_bundle.specs.Sum.{Sum, nothing, Adds, AddsAll, AreAlike, IsSumOf, IsFirstDifference}
 
 -- entries have no fault exactly where they are those of a bundle
 abbrev pub FaultlessIsBundle : Type 0
@@ -12,20 +12,27 @@ FaultlessIsBundle = (entries : List Entry) → (fault_of entries ≡ None) ↔ I
 
 -- a bundle is determined by its quantities
 abbrev pub QuantitiesDetermine : Type 0
-QuantitiesDetermine = (a b : List Entry) → IsBundle a → IsBundle b → ((token : Token) → quantity_of a token ≡ quantity_of b token) → a ≡ b
+QuantitiesDetermine =
+    (a b : List Entry) → IsBundle a → IsBundle b
+    → ((token : Token) → quantity_of a token ≡ quantity_of b token) → a ≡ b
 
 -- the total of a token is the sum of its quantities
 abbrev pub TotalIsSum : Type 0
-TotalIsSum = (bundles : List (List Entry)) (sum : Summed) → AddsAll nothing bundles sum → IsSumOf bundles sum
+TotalIsSum =
+    (bundles : List (List Entry)) (sum : Sum) → AddsAll nothing bundles sum → IsSumOf bundles sum
 
 -- with one more bundle, the sum of bundles is that of one more
 abbrev pub OneMore : Type 0
-OneMore = (bundles : List (List Entry)) (bundle : List Entry) (old new : Summed) → IsSumOf bundles old → Adds old bundle new → IsSumOf (bundles ++ bundle ∷ []) new
+OneMore =
+    (bundles : List (List Entry)) (bundle : List Entry) (old new : Sum)
+    → IsSumOf bundles old → Adds old bundle new → IsSumOf (bundles ++ bundle ∷ []) new
 
 -- the sum of bundles doesn't depend on their order
 abbrev pub OrderIsFree : Type 0
-OrderIsFree = (bundles others : List (List Entry)) (a b : Summed) → IsPermutation bundles others → AddsAll nothing bundles a → AddsAll nothing others b → AreAlike a b
+OrderIsFree =
+    (bundles others : List (List Entry)) (a b : Sum) → IsPermutation bundles others
+    → AddsAll nothing bundles a → AddsAll nothing others b → AreAlike a b
 
 -- two sums have no first difference exactly where all totals are equal
 abbrev pub DifferencesAreFound : Type 0
-DifferencesAreFound = (a b : Summed) → ((token : Token) → ¬ IsFirstDifference a b token) ↔ AreAlike a b
+DifferencesAreFound = (a b : Sum) → ((token : Token) → ¬ IsFirstDifference a b token) ↔ AreAlike a b

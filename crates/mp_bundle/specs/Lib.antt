@@ -1,10 +1,7 @@
-pub mod TokenName
-pub mod FaultNumber
 pub mod Token
 pub mod Bundle
 pub mod Same
-pub mod Fault
+pub mod BundleFault
 pub mod Sum
-pub mod Totals
-pub mod Kept
 pub mod Laws
+pub mod Inside

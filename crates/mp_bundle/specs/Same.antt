@@ -13,7 +13,11 @@ abbrev pub same_entries : List Entry → List Entry → Bool
 same_entries xs ys = pointwise same_entry xs ys
 
 same_token_equiv : IsEquivalence same_token
-same_token_equiv = and_equiv (on_equiv (λ t. t.policy) nat_list_eq_equiv) (on_equiv (λ t. t.name) nat_list_eq_equiv)
+same_token_equiv =
+    and_equiv (on_equiv (λ t. t.policy) nat_list_eq_equiv)
+    (on_equiv (λ t. t.name) nat_list_eq_equiv)
 
 pub same_entries_equiv : IsEquivalence same_entries
-same_entries_equiv = lists_equiv (and_equiv (on_equiv (λ e. e.0) same_token_equiv) (on_equiv (λ e. e.1) int_eq_equiv))
+same_entries_equiv =
+    lists_equiv
+    (and_equiv (on_equiv (λ e. e.0) same_token_equiv) (on_equiv (λ e. e.1) int_eq_equiv))

@@ -28,7 +28,7 @@ impl Bundle {
     ghost use Rattle.std.specs.Prelude.{◌≡◌, [], IfOk, IfErr, OnOk, None};
     ghost use Rattle.mp_bundle.specs.Token.{token};
     ghost use Rattle.mp_bundle.specs.Bundle.{quantity_of, IsBundle};
-    ghost use Rattle.mp_bundle.specs.Fault.{entries_of, fault_of, IsFaultOf};
+    ghost use Rattle.mp_bundle.specs.BundleFault.{entries_of, fault_of, IsFaultOf};
 
     /// The bundle of no token. It takes no memory.
     pub fn empty(memory: Memory) -> Bundle

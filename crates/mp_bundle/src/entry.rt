@@ -1,12 +1,12 @@
 //! Entries of bundles, and the check of those that are given.
 
 ghost use Rattle.std.specs.Prelude.{◌≡◌, ◌≤◌, All, IsTrue, IfOk, length};
-ghost use Rattle.std.specs.Option.{option_map};
 ghost use Rattle.std.specs.FinMap.{is_sorted};
 ghost use Rattle.std.specs.Ordering.{is_lt};
 ghost use Rattle.mp_bundle.specs.Token.{token_cmp};
 ghost use Rattle.mp_bundle.specs.Bundle.{quantity_of};
-ghost use Rattle.mp_bundle.specs.Fault.{token_of, entry_of, entries_of, follows, is_out_of_range, entry_fault, fault_of};
+ghost use Rattle.mp_bundle.specs.Inside.Entry.{token_before};
+ghost use Rattle.mp_bundle.specs.BundleFault.{token_of, entry_of, entries_of, follows, is_out_of_range, entry_fault, fault_of};
 
 use crate::fault::BundleFault;
 use crate::token::{PolicyId, Token};
@@ -29,7 +29,7 @@ fn precedes(first: &Given, second: &Given) -> bool
 }
 
 fn comes_after(before: Option<&Given>, entry: &Given) -> bool
-    ensures { result ≡ follows (option_map (λ b. token_of b.now) before.entry) (token_of entry.now) }
+    ensures { result ≡ follows (token_before before.entry) (token_of entry.now) }
 {
     match before {
         None => true,
@@ -44,7 +44,7 @@ fn is_least(quantity: i64) -> bool
 }
 
 fn fault_at(before: Option<&Given>, entry: &Given) -> Option<BundleFault>
-    ensures { result ≡ entry_fault (option_map (λ b. token_of b.now) before.entry) (entry_of entry.now) }
+    ensures { result ≡ entry_fault (token_before before.entry) (entry_of entry.now) }
 {
     if !comes_after(before, entry) {
         return Some(BundleFault::NotRising);

@@ -2,7 +2,7 @@
 
 ghost use Rattle.std.specs.Prelude.{◌≡◌};
 ghost use Rattle.mp_bundle.specs.declared.fault.BundleFault.TheVariants as faults;
-ghost use Rattle.mp_bundle.specs.FaultNumber.{number_of};
+ghost use Rattle.mp_bundle.specs.BundleFault as bundle_fault;
 
 use mp_memory::NoMemory;
 use std::alloc::{AllocError, AllocFailed};
@@ -24,9 +24,9 @@ pub enum BundleFault {
 }
 
 impl BundleFault {
-    /// Its number.
+    /// The number of the fault: 1 to 5.
     pub const fn number(self) -> u64
-        ensures { result ≡ number_of self }
+        ensures { result ≡ bundle_fault.number self }
     {
         match self {
             BundleFault::NoMemory => 1,

@@ -22,17 +22,17 @@ pub struct Sum {
 impl Model for Sum {
     ghost use Rattle.std.specs.Coded.{codes};
     ghost use Rattle.std.specs.FinMap as finite;
-    ghost use Rattle.mp_bundle.specs.Sum.{Summed};
+    ghost use Rattle.mp_bundle.specs.Sum as told;
 
-    ghost Value = { Summed };
+    ghost Value = { told.Sum };
 
     ghost coded = { Prim.hlevel (codes, finite.code) };
 
-    ghost use Rattle.mp_bundle.specs.Kept.{summed, IsKept};
+    ghost use Rattle.mp_bundle.specs.Inside.Sum.{sum_of, IsHeld};
 
-    ghost view = { summed };
+    ghost view = { sum_of };
 
-    ghost invariant = { IsKept };
+    ghost invariant = { IsHeld };
 }
 
 impl Sum {
@@ -87,7 +87,8 @@ impl Sum {
     /// The least token whose totals differ, if there is one. Its name has at most 32 bytes.
     pub fn first_difference<'a>(&'a self, other: &'a Sum) -> Option<(PolicyId, &'a [u8])>
         ensures none { IfNone result (AreAlike self.now other.now) }
-        ensures first { IfSome result (λ d. IsFirstDifference self.now other.now (token d.0 d.1.now)) }
+        ensures first { IfSome result
+            (λ d. IsFirstDifference self.now other.now (token d.0 d.1.now)) }
         ensures short { IfSome result (λ d. length d.1.now ≤ 32) }
     {
         let missed = first_unlike(&self.totals, &other.totals);

@@ -1,6 +1,6 @@
 //! Tokens.
 
-ghost use Rattle.std.specs.Prelude.{◌≡◌, nat_le, length, if◌then◌else◌};
+ghost use Rattle.std.specs.Prelude.{◌≡◌};
 
 use crate::token_name::{MAX_NAME_BYTES, TokenName};
 
@@ -15,11 +15,11 @@ pub struct Token {
 }
 
 impl Token {
-    ghost use Rattle.mp_bundle.specs.Token.{token};
+    ghost use Rattle.mp_bundle.specs.Token.{short_token};
 
     /// The token of this policy and this name, if there is one.
     pub fn of(policy: &PolicyId, name: &[u8]) -> Option<Token>
-        ensures { result ≡ (if nat_le (length name.now) 32 then Some (token policy.now name.now) else None) }
+        ensures { result ≡ short_token policy.now name.now }
     {
         if name.len() > MAX_NAME_BYTES {
             return None;

@@ -24,7 +24,7 @@ impl Model for TokenName {
 
     ghost Value = { List ℕ };
 
-    ghost use Rattle.mp_bundle.specs.TokenName.{name, padded, IsPadded, padded-name};
+    ghost use Rattle.mp_bundle.specs.Inside.TokenName.{name, padded, IsPadded, padded-name};
 
     ghost view = { name };
 

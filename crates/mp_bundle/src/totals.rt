@@ -7,7 +7,7 @@ ghost use Rattle.std.specs.BTreeMap.{ContainsKey};
 ghost use Rattle.mp_bundle.specs.declared.token.Token.{Token};
 ghost use Rattle.mp_bundle.specs.Token.{token_cmp};
 ghost use Rattle.mp_bundle.specs.Bundle.{IsWithin, quantity_of};
-ghost use Rattle.mp_bundle.specs.Totals.{HasRoom, HasSpan, KeepsRoom, KeepsTotals, RaisesAt, RaisesAll, first_unlike, lesser};
+ghost use Rattle.mp_bundle.specs.Inside.Totals.{HasRoom, HasSpan, KeepsRoom, KeepsTotals, RaisesAt, RaisesAll, first_unlike, lesser};
 
 use crate::entry::Entry;
 use crate::token::Token;
@@ -90,7 +90,8 @@ fn precedes(first: &Token, second: &Token) -> bool
 
 /// The lesser token of two that there may be.
 pub fn lesser<'a>(first: Option<&'a Token>, second: Option<&'a Token>) -> Option<&'a Token>
-    ensures { option_copied result ≡ lesser (option_copied first.entry) (option_copied second.entry) }
+    ensures { option_copied result
+        ≡ lesser (option_copied first.entry) (option_copied second.entry) }
 {
     match (first, second) {
         (None, second) => second,

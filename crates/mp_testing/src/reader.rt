@@ -1,8 +1,11 @@
 //! A reader that fails when it is told to.
+ghost use Rattle.std.specs.Prelude.{◌≡◌, ◌≤◌, length, take, replicate};
+
 use std::io;
 use std::io::{ErrorKind, Read};
 
-/// A reader of some bytes and then of as many `x` as the filler says. No contract says what it gives.
+/// A reader of some bytes and then of as many `x` as the filler says. Contracts know what it has left, unless its reads give
+/// no byte.
 #[derive(Drop)]
 pub struct FailingReader {
     /// What is still to be read.
@@ -18,8 +21,16 @@ pub struct FailingReader {
 }
 
 impl FailingReader {
+    ghost use Rattle.std.specs.Prelude.{◌≡◌};
+
     /// A reader of these bytes, up to 4,096 of them at once, of which no read fails.
-    pub fn of(bytes: &'static [u8]) -> FailingReader {
+    pub fn of(bytes: &'static [u8]) -> FailingReader
+        ensures bytes { result.bytes.now ≡ bytes.now }
+        ensures filler { result.filler ≡ 0 }
+        ensures at_once { result.at_once ≡ 4096 }
+        ensures fails_at { result.fails_at ≡ 0 }
+        ensures reads { result.reads ≡ 0 }
+    {
         FailingReader {
             bytes,
             filler: 0,
@@ -30,7 +41,19 @@ impl FailingReader {
     }
 }
 
+fn fill_front(buf: &mut [u8], count: usize)
+    requires { count ≤ length buf.old }
+    ensures len { length buf.new ≡ length buf.old }
+    ensures front { take count buf.new ≡ replicate count 120 }
+{
+    buf[..count].fill(b'x');
+}
+
 impl Read for FailingReader {
+    ghost use Rattle.mp_testing.specs.Devices.{left_in};
+
+    ghost remaining = { left_in };
+
     fn read(&mut self, buf: &mut [u8]) -> io::Result<usize> {
         self.reads = self.reads.saturating_add(1);
         if self.reads == self.fails_at {
@@ -38,7 +61,7 @@ impl Read for FailingReader {
         }
         if self.bytes.is_empty() {
             let count = self.at_once.min(self.filler).min(buf.len());
-            buf[..count].fill(b'x');
+            fill_front(buf, count);
             self.filler -= count;
             return Ok(count);
         }

@@ -1,15 +1,23 @@
 //! Sample transactions and ledger states.
+ghost use Rattle.std.specs.Prelude.{◌≡◌, replicate, IfOk};
+
 use mp_memory::{Memory, NoMemory};
 use mp_tx::{Input, Ledger, LedgerFault, OutRef, Output, Tx, TxFault, TxId, TxParts};
 use std::sync::Arc;
 
 /// A reference to output `index` of a transaction.
-pub fn output_of(id: &TxId, index: u16) -> OutRef {
+pub fn output_of(id: &TxId, index: u16) -> OutRef
+    ensures id { result.id ≡ id.now }
+    ensures index { result.index ≡ index }
+{
     OutRef { id: *id, index }
 }
 
 /// Output `index` of the transaction whose id is zeros: a ledger state begins with such outputs.
-pub fn opening(index: u16) -> OutRef {
+pub fn opening(index: u16) -> OutRef
+    ensures id { result.id ≡ replicate 32 0 }
+    ensures index { result.index ≡ index }
+{
     output_of(&[0; 32], index)
 }
 
@@ -42,7 +50,10 @@ pub fn transaction(
 }
 
 /// A ledger state at tick 0 with openings 0, 1, .. of 100 coin each.
-pub fn ledger(memory: Memory, openings: u16, block_bytes: u64) -> Result<Ledger, LedgerFault> {
+pub fn ledger(memory: Memory, openings: u16, block_bytes: u64) -> Result<Ledger, LedgerFault>
+    ensures tick { IfOk result (λ ledger. ledger.tick ≡ 0) }
+    ensures block_bytes { IfOk result (λ ledger. ledger.block_bytes ≡ block_bytes) }
+{
     let mut outputs = Vec::new(memory);
     for index in 0..openings {
         outputs.push((opening(index), Output::of_coin(100)))?;

@@ -1,7 +1,8 @@
 //! A call tried under every refusal of memory: the helper for the tests of each crate.
-ghost use Rattle.std.specs.Prelude.{◌≡◌, ◌≢◌, ℕ, ◌<◌, true, false, IfOk, IsErrOf};
+ghost use Rattle.std.specs.Prelude.{◌<◌, false, IfOk, IfErr};
 ghost use Rattle.std.specs.Fn.{FnOnceReturnsAtMut, FnReturnsAt};
-ghost use Rattle.mp_testing.specs.Trial.{MayAnswer, MayChange};
+ghost use Rattle.mp_testing.specs.Trial.{MayAnswer, IsTrialFault};
+ghost use Rattle.mp_testing.specs.Inside.Trial.{IsEarlyFault};
 
 use mp_memory::Metered;
 use std::alloc::Allocator;
@@ -105,10 +106,8 @@ where
     requires tells { N.IsAlwaysCallable is_no_memory.now }
     ensures called { IfOk result (MayAnswer M.Fn C.FnOnce make.now call.now) }
     ensures told { IfOk result (λ answer. FnReturnsAt N.Fn is_no_memory.now answer false) }
-    ensures not_made { IsErrOf result TrialFault.NotMade → M.post make.now None }
-    ensures unswallowed { (nth : ℕ) → result ≢ Err (TrialFault.Swallowed nth) }
-    ensures unchanged { (nth : ℕ) → result ≢ Err (TrialFault.Changed nth) }
-    ensures unasked { IsErrOf result TrialFault.Unasked → (answer : A) × MayAnswer M.Fn C.FnOnce make.now call.now answer × FnReturnsAt N.Fn is_no_memory.now answer true }
+    ensures fault { IfErr result
+        (IsEarlyFault M.Fn C.FnOnce N.Fn make.now call.now is_no_memory.now) }
 {
     memory.refuse(0);
     let Some(mut value) = made(make) else {
@@ -143,10 +142,9 @@ where
     requires calls { C.IsAlwaysCallable call.now }
     requires tells { N.IsAlwaysCallable is_no_memory.now }
     requires compares { U.IsAlwaysCallable is_unchanged.now }
-    ensures not_made { IsErrOf result TrialFault.NotMade → M.post make.now None }
-    ensures no_more_asked { IsErrOf result TrialFault.Unasked → ⊥ }
-    ensures swallowed { (nth : ℕ) → result ≡ Err (TrialFault.Swallowed nth) → (answer : A) × MayAnswer M.Fn C.FnOnce make.now call.now answer × FnReturnsAt N.Fn is_no_memory.now answer false }
-    ensures changed { (nth : ℕ) → result ≡ Err (TrialFault.Changed nth) → MayChange M.Fn C.FnOnce N.Fn U.Fn make.now call.now is_no_memory.now is_unchanged.now }
+    ensures fault { IfErr result
+        (IsTrialFault M.Fn C.FnOnce N.Fn U.Fn
+        make.now call.now is_no_memory.now is_unchanged.now) }
 {
     let Some(mut value) = made(make) else {
         return Err(TrialFault::NotMade);
@@ -197,10 +195,9 @@ where
     requires tells { N.IsAlwaysCallable is_no_memory.now }
     requires compares { U.IsAlwaysCallable is_unchanged.now }
     ensures counted { IfOk result (λ growths. growths < MAX_GROWTHS) }
-    ensures not_made { IsErrOf result TrialFault.NotMade → M.post make.now None }
-    ensures no_more_asked { IsErrOf result TrialFault.Unasked → ⊥ }
-    ensures swallowed { (nth : ℕ) → result ≡ Err (TrialFault.Swallowed nth) → (answer : A) × MayAnswer M.Fn C.FnOnce make.now call.now answer × FnReturnsAt N.Fn is_no_memory.now answer false }
-    ensures changed { (nth : ℕ) → result ≡ Err (TrialFault.Changed nth) → MayChange M.Fn C.FnOnce N.Fn U.Fn make.now call.now is_no_memory.now is_unchanged.now }
+    ensures fault { IfErr result
+        (IsTrialFault M.Fn C.FnOnce N.Fn U.Fn
+        make.now call.now is_no_memory.now is_unchanged.now) }
 {
     for growths in 0..MAX_GROWTHS {
         if !stands(
@@ -244,10 +241,8 @@ where
     ensures called { IfOk result (λ done. MayAnswer M.Fn C.FnOnce make call done.answer) }
     ensures told { IfOk result (λ done. FnReturnsAt N.Fn is_no_memory done.answer false) }
     ensures counted { IfOk result (λ done. done.growths < MAX_GROWTHS) }
-    ensures not_made { IsErrOf result TrialFault.NotMade → M.post make None }
-    ensures unasked { IsErrOf result TrialFault.Unasked → (answer : A) × MayAnswer M.Fn C.FnOnce make call answer × FnReturnsAt N.Fn is_no_memory answer true }
-    ensures swallowed { (nth : ℕ) → result ≡ Err (TrialFault.Swallowed nth) → (answer : A) × MayAnswer M.Fn C.FnOnce make call answer × FnReturnsAt N.Fn is_no_memory answer false }
-    ensures changed { (nth : ℕ) → result ≡ Err (TrialFault.Changed nth) → MayChange M.Fn C.FnOnce N.Fn U.Fn make call is_no_memory is_unchanged }
+    ensures fault { IfErr result
+        (IsTrialFault M.Fn C.FnOnce N.Fn U.Fn make call is_no_memory is_unchanged) }
 {
     let answer = answer_of(memory, &make, &call, &is_no_memory)?;
     let growths = growths_of(memory, &make, &call, &is_no_memory, &is_unchanged, &answer)?;

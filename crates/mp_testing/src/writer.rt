@@ -3,7 +3,7 @@ use std::alloc::Global;
 use std::io;
 use std::io::{ErrorKind, Write};
 
-/// A writer that keeps what it takes. No contract says what it takes.
+/// A writer that keeps what it takes. Contracts know what it has taken.
 #[derive(Drop)]
 pub struct FailingWriter {
     /// What was taken.
@@ -17,8 +17,15 @@ pub struct FailingWriter {
 }
 
 impl FailingWriter {
+    ghost use Rattle.std.specs.Prelude.{◌≡◌, []};
+
     /// A writer that has taken nothing, takes up to 4,096 bytes at once, and of which no write fails.
-    pub fn new(alloc: Global) -> FailingWriter {
+    pub fn new(alloc: Global) -> FailingWriter
+        ensures taken { result.taken.items ≡ [] }
+        ensures at_once { result.at_once ≡ 4096 }
+        ensures fails_at { result.fails_at ≡ 0 }
+        ensures writes { result.writes ≡ 0 }
+    {
         FailingWriter {
             taken: Vec::new(alloc),
             at_once: 4096,
@@ -29,6 +36,10 @@ impl FailingWriter {
 }
 
 impl Write for FailingWriter {
+    ghost use Rattle.std.specs.Prelude.{Some};
+
+    ghost contents = { λ w. Some w.taken.items };
+
     fn write(&mut self, buf: &[u8]) -> io::Result<usize> {
         self.writes = self.writes.saturating_add(1);
         if self.writes == self.fails_at {

@@ -3,7 +3,8 @@ use Rattle.std.specs.Prelude.{ℕ, ◌≤◌, ◌==◌, ◌&&◌, List, [], ◌�
 use Rattle.std.specs.List.{onto_first, list_all}
 use Rattle.std.specs.Int.{IsInRange, is_in_range}
 
--- Each line feed, 10, ends a line. What stands after the last is a line too, where there is anything.
+-- Each line feed, 10, ends a line. What stands after the last is a line too, where there is
+-- anything.
 abbrev pub lines_of : List ℕ → List (List ℕ)
 lines_of [] = []
 lines_of (b ∷ text) = if b == 10 then [] ∷ lines_of text else onto_first b (lines_of text)

@@ -6,7 +6,9 @@ use Rattle.std.specs.Char.{is_ascii_lowercase, is_ascii_digit, IsAsciiLowercase,
 -- a lower-case letter, and then up to 15 lower-case letters or digits
 abbrev pub IsName : List ℕ → Type 0
 IsName [] = ⊥
-IsName (first ∷ others) = IsAsciiLowercase first × (length others ≤ 15) × All (λ b. IsAsciiLowercase b ⊎ IsAsciiDigit b) others
+IsName (first ∷ others) =
+    IsAsciiLowercase first × (length others ≤ 15)
+    × All (λ b. IsAsciiLowercase b ⊎ IsAsciiDigit b) others
 
 -- the tests of it
 abbrev pub is_letter_or_digit : ℕ → Bool
@@ -14,4 +16,5 @@ is_letter_or_digit b = is_ascii_lowercase b || is_ascii_digit b
 
 abbrev pub is_name : List ℕ → Bool
 is_name [] = false
-is_name (first ∷ others) = is_ascii_lowercase first && nat_le (length others) 15 && list_all is_letter_or_digit others
+is_name (first ∷ others) =
+    is_ascii_lowercase first && nat_le (length others) 15 && list_all is_letter_or_digit others

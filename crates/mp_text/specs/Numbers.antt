@@ -5,7 +5,8 @@ use Rattle.std.specs.Char.{is_ascii_digit}
 
 -- 1 to so many decimal digits
 abbrev pub are_digits : ℕ → List ℕ → Bool
-are_digits most word = nat_lt 0 (length word) && nat_le (length word) most && list_all is_ascii_digit word
+are_digits most word =
+    nat_lt 0 (length word) && nat_le (length word) most && list_all is_ascii_digit word
 
 -- what digits write: each, less the 48 of `0`, counts ten times as much as the one after it
 abbrev pub value_of_digits : List ℕ → ℕ
@@ -22,4 +23,6 @@ number_of word = if are_digits 20 word then if_below (2 ^ 64) (value_of_digits w
 
 -- 1 to 19 digits, and from 1 to 2^63 - 1
 abbrev pub quantity_of : List ℕ → Option ℕ
-quantity_of word = if are_digits 19 word && nat_lt 0 (value_of_digits word) then if_below (2 ^ 63) (value_of_digits word) else None
+quantity_of word =
+    if are_digits 19 word && nat_lt 0 (value_of_digits word)
+    then if_below (2 ^ 63) (value_of_digits word) else None

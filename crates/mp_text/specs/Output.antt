@@ -4,4 +4,5 @@ use Rattle.std.specs.Io.KnownBytes.{Appends}
 
 -- known bytes grow by a front of these, and not by all of them
 abbrev pub AppendsFront : Option (List ℕ) → Option (List ℕ) → List ℕ → Type 0
-AppendsFront old new bytes = (taken : ℕ) × (taken < length bytes) × Appends old new (take taken bytes)
+AppendsFront old new bytes =
+    (taken : ℕ) × (taken < length bytes) × Appends old new (take taken bytes)

@@ -39,7 +39,8 @@ impl From<AllocError> for InputFault {
 fn read_once<R: Read>(reader: &mut R, chunk: &mut [u8]) -> Result<usize, InputFault>
     requires { 0 < length chunk.old }
     ensures within { IfOk result (λ n. n ≤ length chunk.new) }
-    ensures bytes { IfOk result (λ n. Consumes (R.remaining reader.old) (R.remaining reader.new) (take n chunk.new)) }
+    ensures bytes { IfOk result
+        (λ n. Consumes (R.remaining reader.old) (R.remaining reader.new) (take n chunk.new)) }
     ensures end { IfOk result (λ n. n ≡ 0 → IsAtEnd (R.remaining reader.new)) }
 {
     reader.read(chunk).map_err(|_| InputFault::Read)
@@ -49,7 +50,8 @@ fn append(text: &mut Vec<u8, Memory>, bytes: &[u8]) -> Result<(), InputFault>
     requires { vec_len text.old ≤ MAX_BYTES }
     ensures bytes { OnOk result (text.new.items ≡ text.old.items ++ bytes.now) }
     ensures most { OnOk result (vec_len text.new ≤ MAX_BYTES) }
-    ensures over { IsErrOf result InputFault.Read ↔ (MAX_BYTES < vec_len text.old + length bytes.now) }
+    ensures over { IsErrOf result InputFault.Read
+        ↔ (MAX_BYTES < vec_len text.old + length bytes.now) }
 {
     if bytes.len() > MAX_BYTES - text.len() {
         return Err(InputFault::Read);
@@ -64,7 +66,8 @@ fn append(text: &mut Vec<u8, Memory>, bytes: &[u8]) -> Result<(), InputFault>
 /// `Read` where a read fails, where there are more bytes, and where 2^25 reads do not find the end. `NoMemory` may stand in
 /// place of each answer. After an `Err` nothing is said of the reader.
 pub fn read_all<R: Read>(memory: Memory, reader: &mut R) -> Result<Vec<u8, Memory>, InputFault>
-    ensures bytes { IfOk result (λ text. IfSome (R.remaining reader.old) (λ bytes. text.items ≡ bytes)) }
+    ensures bytes { IfOk result
+        (λ text. IfSome (R.remaining reader.old) (λ bytes. text.items ≡ bytes)) }
     ensures most { IfOk result (λ text. vec_len text ≤ MAX_BYTES) }
     ensures end { OnOk result (IsAtEnd (R.remaining reader.new)) }
 {

@@ -15,7 +15,8 @@ pub const MAX_LINE_BYTES: usize = 4096;
 /// it. Nothing else ends a line. `None` says that there is no line.
 pub fn first_line(text: &[u8]) -> Option<(&[u8], &[u8])>
     ensures none { IsNone result ↔ (lines_of text.now ≡ []) }
-    ensures first { IfSome result (λ found. lines_of text.now ≡ found.0.now ∷ lines_of found.1.now) }
+    ensures first { IfSome result
+        (λ found. lines_of text.now ≡ found.0.now ∷ lines_of found.1.now) }
     ensures shorter { IfSome result (λ found. length found.1.now < length text.now) }
 {
     if text.is_empty() {

@@ -16,7 +16,8 @@ pub struct WriteFault;
 fn write_once<W: Write>(writer: &mut W, bytes: &[u8]) -> Option<usize>
     ensures taken { IfSome result (λ n. 0 < n) }
     ensures within { IfSome result (λ n. n ≤ length bytes.now) }
-    ensures some { IfSome result (λ n. Appends (W.contents writer.old) (W.contents writer.new) (take n bytes.now)) }
+    ensures some { IfSome result
+        (λ n. Appends (W.contents writer.old) (W.contents writer.new) (take n bytes.now)) }
     ensures none { IfNone result (Keeps (W.contents writer.old) (W.contents writer.new)) }
 {
     match writer.write(bytes) {
@@ -29,7 +30,8 @@ fn write_once<W: Write>(writer: &mut W, bytes: &[u8]) -> Option<usize>
 /// of the bytes, and never all.
 pub fn write_all<W: Write>(writer: &mut W, bytes: &[u8]) -> Result<(), WriteFault>
     ensures ok { OnOk result (Appends (W.contents writer.old) (W.contents writer.new) bytes.now) }
-    ensures err { OnErr result (AppendsFront (W.contents writer.old) (W.contents writer.new) bytes.now) }
+    ensures err { OnErr result
+        (AppendsFront (W.contents writer.old) (W.contents writer.new) bytes.now) }
 {
     let mut written = 0;
     while written < bytes.len() {

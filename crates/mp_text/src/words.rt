@@ -33,7 +33,8 @@ fn cut(line: &[u8]) -> (&[u8], &[u8])
 /// nothing. `None` says that there is no word.
 pub fn first_word(line: &[u8]) -> Option<(&[u8], &[u8])>
     ensures none { IsNone result ↔ (words_of line.now ≡ []) }
-    ensures first { IfSome result (λ found. words_of line.now ≡ found.0.now ∷ words_of found.1.now) }
+    ensures first { IfSome result
+        (λ found. words_of line.now ≡ found.0.now ∷ words_of found.1.now) }
     ensures word { IfSome result (λ found. IsWord found.0.now) }
     ensures shorter { IfSome result (λ found. length found.1.now < length line.now) }
 {

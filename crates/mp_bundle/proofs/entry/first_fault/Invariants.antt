@@ -1,6 +1,6 @@
 use Rattle.std.proofs.Common.{◌≡◌, drop}
 use Rattle.std.specs.Option.{option_map}
-use Rattle.mp_bundle.specs.Fault.{token_of, entries_of, fault_after, fault_of}
+use Rattle.mp_bundle.specs.BundleFault.{token_of, entries_of, fault_after, fault_of}
 use Rattle.mp_bundle.proofs.entry.first_fault.Given as goal
 
 -- the fault of what is left is that of all

@@ -1,6 +1,6 @@
 use Rattle.std.proofs.Common.{arith}
 use Rattle.std.proofs.lemmas.Int.{ints}
-use Rattle.mp_bundle.specs.Fault.{is_out_of_range}
+use Rattle.mp_bundle.specs.BundleFault.{is_out_of_range}
 use Rattle.mp_bundle.proofs.entry.is_least.Goals as goal
 
 pub returns : goal.returns

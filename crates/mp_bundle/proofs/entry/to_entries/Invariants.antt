@@ -1,5 +1,5 @@
 use Rattle.std.proofs.Common.{◌≡◌, take}
-use Rattle.mp_bundle.specs.Fault.{entries_of}
+use Rattle.mp_bundle.specs.BundleFault.{entries_of}
 use Rattle.mp_bundle.proofs.entry.to_entries.Given as goal
 
 abbrev pub invariant-loop-policy : goal.invariant-loop-policy

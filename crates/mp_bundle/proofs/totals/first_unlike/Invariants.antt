@@ -1,5 +1,5 @@
 use Rattle.std.proofs.Common.{◌≡◌}
-use Rattle.mp_bundle.specs.Totals.{first_unlike}
+use Rattle.mp_bundle.specs.Inside.Totals.{first_unlike}
 use Rattle.mp_bundle.proofs.totals.first_unlike.Given as goal
 
 -- what is left has the first token that all have

@@ -1,5 +1,5 @@
 use Rattle.std.proofs.Common.{take}
-use Rattle.mp_bundle.specs.Totals.{HasRoom, KeepsTotals}
+use Rattle.mp_bundle.specs.Inside.Totals.{HasRoom, KeepsTotals}
 use Rattle.mp_bundle.proofs.totals.make_room.Given as goal
 
 -- the entries before the place have room

@@ -1,7 +1,7 @@
 use Rattle.std.proofs.Common.{◌≡◌, ◌+ℤ◌, drop}
 use Rattle.mp_bundle.specs.declared.token.Token.{Token}
 use Rattle.mp_bundle.specs.Bundle.{quantity_of}
-use Rattle.mp_bundle.specs.Totals.{HasRoom}
+use Rattle.mp_bundle.specs.Inside.Totals.{HasRoom}
 use Rattle.mp_bundle.proofs.totals.raise_all.Given as goal
 
 -- the totals so far and the quantities that are left make the totals to be

@@ -1,6 +1,6 @@
 use Rattle.std.proofs.Common.{sym, ap, subst, ◌∙◌}
 use Rattle.mp_bundle.specs.Bundle.{IsBundle}
-use Rattle.mp_bundle.specs.Fault.{entries_of, fault_of}
+use Rattle.mp_bundle.specs.BundleFault.{entries_of, fault_of}
 use Rattle.mp_bundle.proofs.Faults.{short_names, bundle_from_none}
 use Rattle.mp_bundle.proofs.bundle.Bundle.of_entries.Goals as goal
 

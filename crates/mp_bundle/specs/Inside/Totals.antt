@@ -10,7 +10,9 @@ use Rattle.mp_bundle.specs.Bundle.{Entry, IsWithin, quantity_of}
 -- the totals that aren't zero, as a map
 abbrev pub nonzero_of : List Entry → FinMap token_cmp ℤ
 nonzero_of [] = empty
-nonzero_of (e ∷ es) = if int_eq e.1 (pos 0) then remove (nonzero_of es) e.0 else insert (nonzero_of es) e.0 e.1
+nonzero_of (e ∷ es) =
+    if int_eq e.1 (pos 0) then remove (nonzero_of es) e.0
+    else insert (nonzero_of es) e.0 e.1
 
 -- there is a total for the token of each entry
 abbrev pub HasRoom : BTreeMap Token ℤ → List Entry → Type 0
@@ -18,7 +20,8 @@ HasRoom totals entries = All (λ e. ContainsKey token_cmp totals e.0) entries
 
 -- each key of old is one of new
 abbrev pub KeepsRoom : BTreeMap Token ℤ → BTreeMap Token ℤ → Type 0
-KeepsRoom old new = (token : Token) → ContainsKey token_cmp old token → ContainsKey token_cmp new token
+KeepsRoom old new =
+    (token : Token) → ContainsKey token_cmp old token → ContainsKey token_cmp new token
 
 -- new keeps each total of old, and may have more that are zero
 pub record KeepsTotals (old new : BTreeMap Token ℤ) : Type 0 where
@@ -27,20 +30,27 @@ pub record KeepsTotals (old new : BTreeMap Token ℤ) : Type 0 where
 
 -- new is old with a number added to the total of a token
 abbrev pub RaisesAt : BTreeMap Token ℤ → Token → ℤ → BTreeMap Token ℤ → Type 0
-RaisesAt old token by new = (other : Token) → quantity_of new.entries other ≡ quantity_of old.entries other +ℤ (if eq_by_cmp token_cmp token other then by else pos 0)
+RaisesAt old token by new =
+    (other : Token) → quantity_of new.entries other
+    ≡ quantity_of old.entries other +ℤ (if eq_by_cmp token_cmp token other then by else pos 0)
 
 -- new is old with each quantity of the entries added
 abbrev pub RaisesAll : BTreeMap Token ℤ → List Entry → BTreeMap Token ℤ → Type 0
-RaisesAll old entries new = (token : Token) → quantity_of new.entries token ≡ quantity_of old.entries token +ℤ quantity_of entries token
+RaisesAll old entries new =
+    (token : Token) → quantity_of new.entries token
+    ≡ quantity_of old.entries token +ℤ quantity_of entries token
 
 -- with each quantity of the entries added, each total fits 128 bits
 abbrev pub HasSpan : BTreeMap Token ℤ → List Entry → Type 0
-HasSpan totals entries = (token : Token) → IsWithin (2 ^ 127 - 1) (quantity_of totals.entries token +ℤ quantity_of entries token)
+HasSpan totals entries =
+    (token : Token)
+    → IsWithin (2 ^ 127 - 1) (quantity_of totals.entries token +ℤ quantity_of entries token)
 
 -- the token of the first total that the others don't have
 abbrev pub first_unlike : List Entry → List Entry → Option Token
 first_unlike [] others = None
-first_unlike (e ∷ es) others = if not (int_eq (quantity_of others e.0) e.1) then Some e.0 else first_unlike es others
+first_unlike (e ∷ es) others =
+    if not (int_eq (quantity_of others e.0) e.1) then Some e.0 else first_unlike es others
 
 -- the lesser token of two that there may be
 abbrev pub lesser : Option Token → Option Token → Option Token

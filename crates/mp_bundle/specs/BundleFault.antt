@@ -13,9 +13,11 @@ use Rattle.mp_bundle.specs.Bundle.{Entry}
 abbrev pub Given : Type 0 → Type 0
 Given Z = List ℕ × Vec ℕ Z × ℤ
 
+-- its token, whose name may be too long
 abbrev pub token_of : {Z : Type 0} → Given Z → Token
 token_of g = record { policy = g.0; name = g.1.items }
 
+-- the entry that it makes, if it has no fault
 abbrev pub entry_of : {Z : Type 0} → Given Z → Entry
 entry_of g = (token_of g, g.2)
 
@@ -52,3 +54,11 @@ fault_of entries = fault_after None entries
 abbrev pub IsFaultOf : List Entry → BundleFault → Type 0
 IsFaultOf entries NoMemory = Unit {0}
 IsFaultOf entries fault = fault_of entries ≡ Some fault
+
+-- the number of each fault
+abbrev pub number : BundleFault → ℕ
+number NoMemory = 1
+number NotRising = 2
+number ZeroQuantity = 3
+number NameTooLong = 4
+number QuantityRange = 5
