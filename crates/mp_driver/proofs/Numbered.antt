@@ -22,7 +22,7 @@ same_not_less a b e lt = omega arith
 pub no_repeat : (es : List (OutRef × Output)) (place : ℕ) → AreNumbered es → IsFirstRepeat (refs es) place → ⊥
 no_repeat es place n h =
     let d : OutRef = opening_ref 0 in
-    let e : OutRef × Output = (d, record { address = []; datum_hash = []; coin = 0 }) in
+    let e : OutRef × Output = (d, record { address = []; datum_hash = []; value = [] }) in
     let rs : List OutRef = refs es in
     let r : OutRef = get_or rs place d in
     let lt : place < length es = subst (λ m. place < m) (length-map es (λ (e : OutRef × Output). e.0)) h.within in

@@ -14,7 +14,8 @@ use Rattle.mp_text.specs.Words.{words_of, are_none_or_comment}
 use Rattle.mp_text.specs.Lines.{is_clean}
 use Rattle.mp_driver.specs.Names.{Binding, Opening, Made, Names, binding_of, transaction_named}
 use Rattle.mp_driver.specs.References.{opening_ref}
-use Rattle.mp_driver.specs.Items.{empty_draft, draft_of, transaction_of, is_transaction, plain_output}
+use Rattle.mp_driver.specs.Items.{empty_draft, draft_of, transaction_of, is_transaction}
+use Rattle.mp_driver.specs.Plain.{plain_output}
 use Rattle.mp_driver.specs.AnswerText.{answer_text, snapshot_text}
 
 -- the opening outputs before the first command, and the pool from it on
