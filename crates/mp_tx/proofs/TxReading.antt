@@ -356,3 +356,9 @@ was_written t none front all s e f a same =
     let g : front ≡ body t = f ∙ ap (λ (n : List ℕ). n ++ body t) e in
     let h : all ≡ body t ++ counted signature_bytes t.signatures = a ∙ ap (λ (n : List ℕ). n ++ counted signature_bytes s) g ∙ ap (λ (u : List Signature). body t ++ counted signature_bytes u) same in
     record { front_is = g; all_is = h; size = ap length h }
+
+abbrev result_ok : Transaction → Result Transaction TxFault
+result_ok t = Ok t
+
+pub read_once : (t u : Transaction) → result_ok t ≡ result_ok u → t ≡ u
+read_once t u e = ok_is t u e

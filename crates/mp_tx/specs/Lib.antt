@@ -5,6 +5,7 @@ pub mod Spelling
 pub mod Parts
 pub mod Reading
 pub mod TxFault
+pub mod Laws
 pub mod Ledger
 pub mod LedgerFault
 pub mod Inside

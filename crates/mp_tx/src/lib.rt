@@ -5,6 +5,7 @@ mod decoding;
 mod encoding;
 mod fault;
 mod input;
+pub mod laws;
 mod ledger;
 mod ledger_fault;
 mod order;

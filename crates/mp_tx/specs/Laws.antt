@@ -1,0 +1,18 @@
+-- Laws of transactions and their bytes.
+use Rattle.std.specs.Prelude.{◌≡◌, ◌↔◌, ℕ, List, None, Ok}
+use Rattle.mp_tx.specs.Transaction.{Transaction}
+use Rattle.mp_tx.specs.Spelling.{spelling}
+use Rattle.mp_tx.specs.Parts.{AreParts, IsTransaction, Spells}
+use Rattle.mp_tx.specs.Reading.{transaction_of}
+use Rattle.mp_tx.specs.TxFault.{parts_fault}
+
+-- bytes spell at most one transaction, which is the one that reading gives; a transaction has one spelling
+pub record TransactionIsOne : Type 0 where
+  pub spelled_once : (bytes : List ℕ) (t u : Transaction) → Spells bytes t → Spells bytes u → t ≡ u
+  pub read : (bytes : List ℕ) (t : Transaction) → Spells bytes t → transaction_of bytes ≡ Ok t
+  pub one_spelling : (a b : List ℕ) (t : Transaction) → Spells a t → Spells b t → a ≡ b
+  pub is_spelled : (t : Transaction) → AreParts t → IsTransaction t → Spells (spelling t) t
+
+-- parts have no fault exactly where they may stand in a transaction
+abbrev pub FaultlessIsTransaction : Type 0
+FaultlessIsTransaction = (t : Transaction) → (parts_fault t ≡ None) ↔ IsTransaction t

@@ -1,0 +1,13 @@
+//! Laws of transactions. Each is the contract of a function that does nothing.
+
+ghost use Rattle.mp_tx.specs.Laws.{TransactionIsOne, FaultlessIsTransaction};
+
+/// Bytes spell at most one transaction, which is the one that reading gives, and a transaction has one spelling.
+pub fn transaction_is_one()
+    ensures { TransactionIsOne }
+{}
+
+/// Parts have no fault exactly where they may stand in a transaction.
+pub fn faultless_is_transaction()
+    ensures { FaultlessIsTransaction }
+{}
