@@ -57,7 +57,7 @@ not_out_of_range : (n : ℤ) → IsWithin (2 ^ 63 - 1) n → is_out_of_range n �
 unfolding is_out_of_range
 not_out_of_range n h = grind (arith, ints)
 
-fine : (before : Option Token) (e : Entry) → entry_fault before e ≡ None → record { follows : follows before e.0 ≡ true; entry : IsEntry e }
+pub fine : (before : Option Token) (e : Entry) → entry_fault before e ≡ None → record { follows : follows before e.0 ≡ true; entry : IsEntry e }
 fine before e h =
     let t = no_test (follows before e.0) (int_eq e.1 (pos 0)) (nat_lt 32 (length e.0.name)) (is_out_of_range e.1) h in
     record {
@@ -69,7 +69,7 @@ fine before e h =
       };
     }
 
-first_none : {X : Type 0} (a b : Option X) → option_or a b ≡ None → (a ≡ None) × (b ≡ None)
+pub first_none : {X : Type 0} (a b : Option X) → option_or a b ≡ None → (a ≡ None) × (b ≡ None)
 first_none None b h = (refl, h)
 first_none (Some x) b h = Prim.cc
 

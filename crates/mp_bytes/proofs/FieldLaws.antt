@@ -8,7 +8,7 @@ use Rattle.std.proofs.lemmas.Bool.{ltb-false, le-ltb}
 use Rattle.std.proofs.lemmas.List.{take_at, drop_at, take-append-drop, length-append, length-take}
 use Rattle.std.proofs.lemmas.Nat.{be_bytes_2, be_bytes_8, from_be_bytes-to_be_bytes_2, from_be_bytes-to_be_bytes_8}
 use Rattle.std.proofs.lemmas.Int.{of_z-to_z, to_z-of_z, ints}
-use Rattle.mp_bytes.specs.Fields.{number_at, count_at, run_at, sized_at}
+use Rattle.mp_bytes.specs.Fields.{number_at, unsigned_at, count_at, run_at, sized_at}
 use Rattle.mp_bytes.proofs.Bytes.{IsBytes, IsBytes-drop, IsBytes-take, guard_some, Takes, Takes-then}
 
 -- ---- runs
@@ -108,3 +108,34 @@ number_is text rest n len e =
 pub number_again : (n : ℤ) (rest : List ℕ) → FitsSigned w64 n → number_at (to_be_bytes w64 (cast_unsigned w64 n) ++ rest) ≡ Some (n, rest)
 number_again n rest fits =
     number_is (to_be_bytes w64 (cast_unsigned w64 n)) rest n refl (ap (cast_signed w64) (from_be_bytes-to_be_bytes_8 (cast_unsigned w64 n) (unsigned-below n fits)) ∙ to_z-of_z w64 n fits)
+
+pub unsigned_takes : (bytes : List ℕ) (n : ℕ) (rest : List ℕ) → IsBytes bytes → unsigned_at bytes ≡ Some (n, rest) → Takes bytes (to_be_bytes w64 n) rest × (n < 2 ^ 64)
+unfolding unsigned_at
+unsigned_takes bytes n rest fits e =
+    let g = guard_some (ltb (length bytes) 8) (from_be_bytes w64 (take 8 bytes), drop 8 bytes) (n, rest) e in
+    let long : 8 ≤ length bytes = ltb-false _ _ g.0 in
+    let n-is : from_be_bytes w64 (take 8 bytes) ≡ n = ap (λ (p : ℕ × List ℕ). p.0) g.1 in
+    let rest-is : drop 8 bytes ≡ rest = ap (λ (p : ℕ × List ℕ). p.1) g.1 in
+    let front : to_be_bytes w64 n ≡ take 8 bytes = be_bytes_8 (take 8 bytes) n (omega (arith, length-take 8 bytes)) (IsBytes-take 8 bytes fits) (sym n-is) in
+    (record { parts = joined (to_be_bytes w64 n) 8 bytes rest front rest-is; rest_fits = rw (← rest-is) (IsBytes-drop 8 bytes fits) }, rw (← n-is) (below64 (take 8 bytes) (IsBytes-take 8 bytes fits)))
+
+unsigned_is : (text rest : List ℕ) (n : ℕ) → length text ≡ 8 → from_be_bytes w64 text ≡ n → unsigned_at (text ++ rest) ≡ Some (n, rest)
+unfolding unsigned_at
+unsigned_is text rest n len e =
+    let long : ltb (length (text ++ rest)) 8 ≡ false = le-ltb _ _ (omega (arith, length-append text rest)) in
+    rw (long, take_at text rest 8 len, drop_at text rest 8 len, e) refl
+
+pub unsigned_again : (n : ℕ) (rest : List ℕ) → n < 2 ^ 64 → unsigned_at (to_be_bytes w64 n ++ rest) ≡ Some (n, rest)
+unsigned_again n rest lt = unsigned_is (to_be_bytes w64 n) rest n refl (from_be_bytes-to_be_bytes_8 n lt)
+
+-- the front of bytes, and what follows it, are bytes
+pub IsBytes-front : (front rest : List ℕ) → IsBytes (front ++ rest) → IsBytes front
+IsBytes-front front rest fits = subst IsBytes (take_at front rest (length front) refl) (IsBytes-take (length front) (front ++ rest) fits)
+
+pub IsBytes-behind : (front rest : List ℕ) → IsBytes (front ++ rest) → IsBytes rest
+IsBytes-behind front rest fits = subst IsBytes (drop_at front rest (length front) refl) (IsBytes-drop (length front) (front ++ rest) fits)
+
+-- the bytes of a counted run are bytes
+pub sized_fits : (bytes run rest : List ℕ) → IsBytes bytes → Takes bytes (to_be_bytes w16 (length run) ++ run) rest → IsBytes run
+sized_fits bytes run rest fits t =
+    IsBytes-behind (to_be_bytes w16 (length run)) run (IsBytes-front (to_be_bytes w16 (length run) ++ run) rest (subst IsBytes t.parts fits))

@@ -4,7 +4,8 @@ use Rattle.std.proofs.lemmas.List.{get_or-map, get_or-take, length-map}
 use Rattle.mp_tx.specs.declared.reference.OutRef.{OutRef}
 use Rattle.mp_tx.specs.Output.{Output}
 use Rattle.mp_tx.specs.Ledger.{refs, IsFirstRepeat}
-use Rattle.mp_driver.specs.References.{opening_ref, AreNumbered}
+use Rattle.mp_driver.specs.References.{opening_ref}
+use Rattle.mp_driver.specs.Inside.Openings.{AreNumbered}
 
 numbered-at : (es : List (OutRef × Output)) → AreNumbered es → (k : ℕ) (e : OutRef × Output) (d : OutRef) → k < length es → (get_or (refs es) k d).index ≡ k
 numbered-at es n k e d lt = ap (λ (r : OutRef). r.index) (get_or-map (λ (e : OutRef × Output). e.0) es k e d lt ∙ n k e lt)

@@ -6,14 +6,14 @@ use Rattle.std.proofs.Math.Seq.{take-append_seam, take-append-add}
 use Rattle.std.proofs.lemmas.List.{take-append-le}
 use Rattle.mp_text.specs.Output.{AppendsFront}
 use Rattle.mp_driver.specs.Scene.{Scene, empty_scene, line_step, follow, outcome}
-use Rattle.mp_driver.specs.Ending.{told_by}
+use Rattle.mp_driver.specs.Ending.{outcome_of}
 
 -- The lines that are done wrote a text, which is what the writer got, and what is told of all starts with it.
 pub record Progress (old now : Option (List ℕ)) (all rest : List (List ℕ)) (s : Scene) (n : ℕ) : Type 0 where
   pub lines : List (List ℕ)
   pub text : List ℕ
   pub whole : all ≡ lines ++ rest
-  pub told : (more : List (List ℕ)) → told_by (lines ++ more) ≡ (text ++ (outcome s n more).0, (outcome s n more).1)
+  pub told : (more : List (List ℕ)) → outcome_of (lines ++ more) ≡ (text ++ (outcome s n more).0, (outcome s n more).1)
   pub wrote : Appends old now text
 
 pub Appends-nothing : (o : Option (List ℕ)) → Appends o o []
@@ -39,24 +39,24 @@ goes_on old now new all rest s t n line answer p step more_written = record {
   lines = p.lines ++ line ∷ [];
   text = p.text ++ answer;
   whole = p.whole ∙ sym (append_assoc p.lines (line ∷ []) rest);
-  told = λ more. ap told_by (append_assoc p.lines (line ∷ []) more) ∙ p.told (line ∷ more) ∙ ap (λ o. (p.text ++ o.0, o.1)) (good s t n line answer more step)
+  told = λ more. ap outcome_of (append_assoc p.lines (line ∷ []) more) ∙ p.told (line ∷ more) ∙ ap (λ o. (p.text ++ o.0, o.1)) (good s t n line answer more step)
       ∙ ap (λ x. (x, (outcome t (n + 1) more).1)) (sym (append_assoc p.text answer (outcome t (n + 1) more).0));
   wrote = Appends-more old now new p.text answer p.wrote more_written;
 }
 
 -- the lines that are done
-pub stops : (old now : Option (List ℕ)) (all rest : List (List ℕ)) (s : Scene) (n : ℕ) → Progress old now all rest s n → (k : ℕ) × Appends old now (told_by (take k all)).0 × ((told_by (take k all)).1 ≡ None)
+pub stops : (old now : Option (List ℕ)) (all rest : List (List ℕ)) (s : Scene) (n : ℕ) → Progress old now all rest s n → (k : ℕ) × Appends old now (outcome_of (take k all)).0 × ((outcome_of (take k all)).1 ≡ None)
 stops old now all rest s n p =
     let front : take (length p.lines) all ≡ p.lines = ap (take (length p.lines)) p.whole ∙ take-append_seam p.lines rest in
-    let e : told_by (take (length p.lines) all) ≡ (p.text ++ [], None) = ap told_by (front ∙ sym (append-nil p.lines)) ∙ p.told [] in
+    let e : outcome_of (take (length p.lines) all) ≡ (p.text ++ [], None) = ap outcome_of (front ∙ sym (append-nil p.lines)) ∙ p.told [] in
     (length p.lines, subst (Appends old now) (sym (ap (λ o. o.0) e ∙ append-nil p.text)) p.wrote, ap (λ o. o.1) e)
 
 -- a front of an answer
 pub is_cut : (old now new : Option (List ℕ)) (all rest : List (List ℕ)) (s t : Scene) (n : ℕ) (line answer : List ℕ) → Progress old now all (line ∷ rest) s n → line_step s line ≡ Some (t, answer) → AppendsFront now new answer
-    → AppendsFront old new (told_by all).0
+    → AppendsFront old new (outcome_of all).0
 is_cut old now new all rest s t n line answer p step (taken, lt, w) =
     let others : List ℕ = (outcome t (n + 1) rest).0 in
-    let e : (told_by all).0 ≡ p.text ++ (answer ++ others) = ap (λ o. o.0) (ap told_by p.whole ∙ p.told (line ∷ rest) ∙ ap (λ o. (p.text ++ o.0, o.1)) (good s t n line answer rest step)) in
+    let e : (outcome_of all).0 ≡ p.text ++ (answer ++ others) = ap (λ o. o.0) (ap outcome_of p.whole ∙ p.told (line ∷ rest) ∙ ap (λ o. (p.text ++ o.0, o.1)) (good s t n line answer rest step)) in
     let le : taken ≤ length answer = omega arith in
     subst (AppendsFront old new) (sym e) (
       length p.text + taken,

@@ -8,8 +8,8 @@ use Rattle.mp_driver.specs.declared.fault.Fault.TheVariants.{NoMemory, BadLine, 
 use Rattle.mp_driver.specs.Scene.{empty_scene, outcome}
 
 -- the text of lines up to the first bad one, and the number of that one, from 1
-abbrev pub told_by : List (List ℕ) → List ℕ × Option ℕ
-told_by lines = outcome empty_scene 1 lines
+abbrev pub outcome_of : List (List ℕ) → List ℕ × Option ℕ
+outcome_of lines = outcome empty_scene 1 lines
 
 -- no more than 2^24 bytes are done
 abbrev pub AreDone : List ℕ → Type 0
@@ -17,8 +17,8 @@ AreDone bytes = length bytes ≤ 2 ^ 24
 
 -- all answers; those before the first bad line; nothing; a front of the answers, and not all; those of some first lines, none of them bad
 abbrev pub Ended : List ℕ → Option (List ℕ) → Option (List ℕ) → Result (Unit {0}) Fault → Type 0
-Ended bytes old new (Ok u) = AreDone bytes × Appends old new (told_by (lines_of bytes)).0 × ((told_by (lines_of bytes)).1 ≡ None)
-Ended bytes old new (Err (BadLine n)) = AreDone bytes × Appends old new (told_by (lines_of bytes)).0 × ((told_by (lines_of bytes)).1 ≡ Some n)
+Ended bytes old new (Ok u) = AreDone bytes × Appends old new (outcome_of (lines_of bytes)).0 × ((outcome_of (lines_of bytes)).1 ≡ None)
+Ended bytes old new (Err (BadLine n)) = AreDone bytes × Appends old new (outcome_of (lines_of bytes)).0 × ((outcome_of (lines_of bytes)).1 ≡ Some n)
 Ended bytes old new (Err ReadFault) = Keeps old new
-Ended bytes old new (Err WriteFault) = AreDone bytes × AppendsFront old new (told_by (lines_of bytes)).0
-Ended bytes old new (Err NoMemory) = (k : ℕ) × Appends old new (told_by (take k (lines_of bytes))).0 × ((told_by (take k (lines_of bytes))).1 ≡ None)
+Ended bytes old new (Err WriteFault) = AreDone bytes × AppendsFront old new (outcome_of (lines_of bytes)).0
+Ended bytes old new (Err NoMemory) = (k : ℕ) × Appends old new (outcome_of (take k (lines_of bytes))).0 × ((outcome_of (take k (lines_of bytes))).1 ≡ None)

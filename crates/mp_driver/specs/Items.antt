@@ -9,7 +9,7 @@ use Rattle.mp_tx.specs.Reference.{ref_cmp}
 use Rattle.mp_tx.specs.Output.{Output}
 use Rattle.mp_tx.specs.Transaction.{Transaction, size_of}
 use Rattle.mp_text.specs.Numbers.{quantity_of}
-use Rattle.mp_driver.specs.Meanings.{Names}
+use Rattle.mp_driver.specs.Names.{Names}
 use Rattle.mp_driver.specs.References.{ref_of, insert_ref}
 
 -- an input by its reference, or an output by its coin

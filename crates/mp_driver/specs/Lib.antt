@@ -1,9 +1,8 @@
-pub mod Meanings
+pub mod Names
 pub mod AnswerText
 pub mod References
 pub mod Items
 pub mod Scene
-pub mod Held
-pub mod Numbers
-pub mod Staged
 pub mod Ending
+pub mod Fault
+pub mod Inside

@@ -1,12 +1,11 @@
 -- References in a scenario, and their order.
-use Rattle.std.specs.Prelude.{◌≡◌, ℕ, ◌+◌, ◌^◌, ◌<◌, ◌==◌, length, slice_index_or, nat_lt, List, [], ◌∷◌, take, drop, position, replicate, Option, None, Some, option_and_then, if◌then◌else◌}
+use Rattle.std.specs.Prelude.{ℕ, ◌+◌, ◌^◌, ◌==◌, nat_lt, List, [], ◌∷◌, take, drop, position, replicate, Option, None, Some, option_and_then, if◌then◌else◌}
 use Rattle.std.specs.Ordering.{is_lt}
 use Rattle.mp_tx.specs.declared.reference.OutRef.{OutRef}
 use Rattle.mp_tx.specs.Reference.{ref_cmp}
-use Rattle.mp_tx.specs.Output.{Output}
 use Rattle.mp_tx.specs.Transaction.{Transaction, id_of}
 use Rattle.mp_text.specs.Numbers.{number_of}
-use Rattle.mp_driver.specs.Meanings.{Names, meaning_of, made_of, opening_of}
+use Rattle.mp_driver.specs.Names.{Names, transaction_named, opening_named}
 
 -- number K of the opening outputs, from 0
 abbrev pub opening_ref : ℕ → OutRef
@@ -23,8 +22,8 @@ output_ref None k = None
 
 -- where the word has a dot it is TX.K, output K of a transaction, and else the name of an opening output
 abbrev pub ref_by : Names → List ℕ → Option ℕ → Option OutRef
-ref_by names word None = opening_of (meaning_of word names)
-ref_by names word (Some dot) = output_ref (made_of (meaning_of (take dot word) names)) (place_of (drop (dot + 1) word))
+ref_by names word None = opening_named word names
+ref_by names word (Some dot) = output_ref (transaction_named (take dot word) names) (place_of (drop (dot + 1) word))
 
 unfoldable pub ref_of : Names → List ℕ → Option OutRef
 ref_of names word = ref_by names word (position (λ b. b == 46) word)
@@ -33,7 +32,3 @@ ref_of names word = ref_by names word (position (λ b. b == 46) word)
 abbrev pub insert_ref : OutRef → List OutRef → List OutRef
 insert_ref r [] = r ∷ []
 insert_ref r (q ∷ qs) = if is_lt (ref_cmp r q) then r ∷ q ∷ qs else q ∷ insert_ref r qs
-
--- each output stands under the number of its place
-abbrev pub AreNumbered : List (OutRef × Output) → Type 0
-AreNumbered es = (k : ℕ) (d : OutRef × Output) → k < length es → (slice_index_or es k d).0 ≡ opening_ref k

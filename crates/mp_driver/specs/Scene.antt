@@ -5,13 +5,14 @@ use Rattle.mp_tx.specs.declared.reference.OutRef.{OutRef}
 use Rattle.mp_tx.specs.Output.{Output}
 use Rattle.mp_tx.specs.Transaction.{Transaction}
 use Rattle.mp_tx.specs.Ledger.{ledger_of}
-use Rattle.mp_seqpool.specs.Order.{Submit, Pool}
+use Rattle.mp_seqpool.specs.Command.{Submit}
+use Rattle.mp_seqpool.specs.Pool.{Pool}
 use Rattle.mp_seqpool.specs.SlowPool.{empty_pool, answer, next}
 use Rattle.mp_text.specs.Numbers.{quantity_of}
 use Rattle.mp_text.specs.Names.{is_name}
 use Rattle.mp_text.specs.Words.{words_of, are_none_or_comment}
 use Rattle.mp_text.specs.Lines.{is_clean}
-use Rattle.mp_driver.specs.Meanings.{Meaning, Opening, Made, Names, meaning_of, made_of}
+use Rattle.mp_driver.specs.Names.{Binding, Opening, Made, Names, binding_of, transaction_named}
 use Rattle.mp_driver.specs.References.{opening_ref}
 use Rattle.mp_driver.specs.Items.{empty_draft, draft_of, transaction_of, is_transaction, plain_output}
 use Rattle.mp_driver.specs.AnswerText.{answer_text, snapshot_text}
@@ -33,8 +34,9 @@ abbrev pub pool_at : Stage → Pool
 pool_at (Before outputs) = empty_pool 1000000 0 (ledger_of 0 500000 outputs)
 pool_at (Open p) = p
 
-abbrev pub opened : Scene → Scene
-opened s = record s { stage = Open (pool_at s.stage) }
+-- the pool is open
+abbrev pub with_pool_open : Scene → Scene
+with_pool_open s = record s { stage = Open (pool_at s.stage) }
 
 -- the state after a line, and what the line writes
 abbrev pub Step : Type 0
@@ -42,10 +44,10 @@ Step = Option (Scene × List ℕ)
 
 -- a name that nothing has yet
 abbrev pub is_new : Scene → List ℕ → Bool
-is_new s name = is_name name && is_none (meaning_of name s.names)
+is_new s name = is_name name && is_none (binding_of name s.names)
 
-abbrev pub declare : Scene → List ℕ → Meaning → Scene
-declare s name meaning = record s { names = s.names ++ (name, meaning) ∷ [] }
+abbrev pub declare : Scene → List ℕ → Binding → Scene
+declare s name binding = record s { names = s.names ++ (name, binding) ∷ [] }
 
 -- out NAME Q, before the first command, at most 65,536 times
 abbrev pub with_output : Scene → List ℕ → List (OutRef × Output) → ℕ → Scene
@@ -75,16 +77,19 @@ transaction_line s (name ∷ word ∷ words) =
     else None
 
 -- submit NAME
-abbrev pub submitted : Scene → Transaction → Scene × List ℕ
-submitted s t = (record s { stage = Open (next (pool_at s.stage) (Submit t)) }, answer_text (answer (pool_at s.stage) (Submit t)))
+abbrev pub submit_to : Scene → Transaction → Scene × List ℕ
+submit_to s t = (
+  record s { stage = Open (next (pool_at s.stage) (Submit t)) },
+  answer_text (answer (pool_at s.stage) (Submit t)),
+)
 
 abbrev pub submit_line : Scene → List (List ℕ) → Step
 submit_line s [] = None
-submit_line s (name ∷ []) = option_map (submitted s) (made_of (meaning_of name s.names))
+submit_line s (name ∷ []) = option_map (submit_to s) (transaction_named name s.names)
 submit_line s (name ∷ other ∷ more) = None
 
 abbrev pub snapshot_line : Scene → List (List ℕ) → Step
-snapshot_line s [] = Some (opened s, snapshot_text s.names (pool_at s.stage))
+snapshot_line s [] = Some (with_pool_open s, snapshot_text s.names (pool_at s.stage))
 snapshot_line s (other ∷ more) = None
 
 -- by the first word; any other is bad

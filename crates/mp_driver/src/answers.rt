@@ -2,9 +2,9 @@
 
 ghost use Rattle.std.specs.Prelude.{◌≡◌, ℕ, List, [], ◌∷◌, ◌++◌, length, flat_map, IfOk, OnOk, codes};
 ghost use Rattle.std.specs.Arc.{arc_value};
-ghost use Rattle.mp_seqpool.specs.Items.{items_of};
-ghost use Rattle.mp_driver.specs.AnswerText.{spaced, invalid_text, refusal_text, answer_text, item_text, snapshot_text};
-ghost use Rattle.mp_driver.specs.Held.{names_of};
+ghost use Rattle.mp_seqpool.specs.Inside.Item.{items_of};
+ghost use Rattle.mp_driver.specs.AnswerText.{number_text, invalid_text, refusal_text, answer_text, item_text, snapshot_text};
+ghost use Rattle.mp_driver.specs.Inside.Name.{names_of};
 
 use crate::names::{Name, name_of};
 use mp_memory::{Memory, NoMemory};
@@ -14,7 +14,7 @@ type Text = Vec<u8, Memory>;
 
 // A space and the number.
 fn put_number(memory: Memory, text: &mut Text, number: u64) -> Result<(), NoMemory>
-    ensures { OnOk result (text.new.items ≡ text.old.items ++ spaced number) }
+    ensures { OnOk result (text.new.items ≡ text.old.items ++ number_text number) }
 {
     text.push(b' ')?;
     let digits = number.to_string(memory)?;
@@ -82,7 +82,8 @@ pub fn answer_line(memory: Memory, answer: &Answer) -> Result<Text, NoMemory>
 }
 
 fn put_item(memory: Memory, text: &mut Text, names: &[Name], item: &Item) -> Result<(), NoMemory>
-    ensures { OnOk result (text.new.items ≡ text.old.items ++ item_text (names_of names.now) (item.now.ticket, arc_value item.now.tx)) }
+    ensures { OnOk result (text.new.items ≡ text.old.items
+        ++ item_text (names_of names.now) (item.now.ticket, arc_value item.now.tx)) }
 {
     put_number(memory, text, item.ticket)?;
     text.push(b':')?;
@@ -96,7 +97,8 @@ fn put_items(
     names: &[Name],
     items: &[Item],
 ) -> Result<(), NoMemory>
-    ensures { OnOk result (text.new.items ≡ text.old.items ++ flat_map (item_text (names_of names.now)) (items_of items.now)) }
+    ensures { OnOk result (text.new.items ≡ text.old.items
+        ++ flat_map (item_text (names_of names.now)) (items_of items.now)) }
 {
     for item in items {
         put_item(memory, text, names, item)?;

@@ -3,7 +3,7 @@
 ghost use Rattle.std.specs.Prelude.{◌≡◌};
 ghost use Rattle.mp_driver.specs.declared.fault.LineFault.TheVariants as line_faults;
 ghost use Rattle.mp_driver.specs.declared.fault.Fault.TheVariants as faults;
-ghost use Rattle.mp_driver.specs.Numbers.{fault_number};
+ghost use Rattle.mp_driver.specs.Fault as run_fault;
 
 use mp_memory::NoMemory;
 use std::alloc::AllocFailed;
@@ -50,7 +50,7 @@ pub enum Fault {
 impl Fault {
     /// The number of the fault: 1 to 4.
     pub const fn number(&self) -> u64
-        ensures { result ≡ fault_number self.now }
+        ensures { result ≡ run_fault.number self.now }
     {
         match self {
             Fault::NoMemory => 1,

@@ -5,7 +5,9 @@ ghost use Rattle.mp_text.specs.Words.{words_of};
 ghost use Rattle.mp_text.specs.Numbers.{quantity_of};
 ghost use Rattle.mp_driver.specs.Items.{Spends, Pays, item_of, plain_output, plain_input, with_item, empty_draft, draft_of, transaction_of, is_transaction};
 ghost use Rattle.mp_driver.specs.References.{ref_of};
-ghost use Rattle.mp_driver.specs.Held.{names_of, read_item, drafted};
+ghost use Rattle.mp_driver.specs.Inside.Name.{names_of};
+ghost use Rattle.mp_driver.specs.Inside.Item.{to_item};
+ghost use Rattle.mp_driver.specs.Inside.Draft.{to_draft};
 
 use crate::fault::LineFault;
 use crate::names::Name;
@@ -37,14 +39,15 @@ pub fn output_of(word: &[u8]) -> Option<Output>
 }
 
 fn spends(names: &[Name], word: &[u8]) -> Option<Item>
-    ensures { option_map read_item result ≡ option_map Spends (ref_of (names_of names.now) word.now) }
+    ensures { option_map to_item result ≡ option_map Spends (ref_of (names_of names.now) word.now) }
 {
     let reference = ref_of(names, word)?;
     Some(Item::Spends(reference))
 }
 
 fn pays(word: &[u8]) -> Option<Item>
-    ensures { option_map read_item result ≡ option_map (λ coin. Pays (plain_output coin)) (quantity_of word.now) }
+    ensures { option_map to_item result
+        ≡ option_map (λ coin. Pays (plain_output coin)) (quantity_of word.now) }
 {
     let output = output_of(word)?;
     Some(Item::Pays(output))
@@ -52,7 +55,7 @@ fn pays(word: &[u8]) -> Option<Item>
 
 // in=REF or out=Q.
 fn item_of(names: &[Name], word: &[u8]) -> Option<Item>
-    ensures { option_map read_item result ≡ item_of (names_of names.now) word.now }
+    ensures { option_map to_item result ≡ item_of (names_of names.now) word.now }
 {
     if word.starts_with(b"in=") {
         spends(names, &word[3..])
@@ -64,7 +67,7 @@ fn item_of(names: &[Name], word: &[u8]) -> Option<Item>
 }
 
 fn add(draft: &mut Draft, item: Item) -> Result<(), NoMemory>
-    ensures { OnOk result (drafted draft.new ≡ with_item (drafted draft.old) (read_item item)) }
+    ensures { OnOk result (to_draft draft.new ≡ with_item (to_draft draft.old) (to_item item)) }
 {
     match item {
         Item::Spends(reference) => insert_ref(&mut draft.spent, reference)?,
@@ -75,8 +78,10 @@ fn add(draft: &mut Draft, item: Item) -> Result<(), NoMemory>
 
 /// The items that the words are, put together.
 pub fn draft_of(memory: Memory, names: &[Name], words: &[u8]) -> Result<Draft, LineFault>
-    ensures ok { IfOk result (λ d. draft_of (names_of names.now) empty_draft (words_of words.now) ≡ Some (drafted d)) }
-    ensures bad { IsErrOf result LineFault.Bad → draft_of (names_of names.now) empty_draft (words_of words.now) ≡ None }
+    ensures ok { IfOk result (λ d.
+        draft_of (names_of names.now) empty_draft (words_of words.now) ≡ Some (to_draft d)) }
+    ensures bad { IsErrOf result LineFault.Bad
+        → draft_of (names_of names.now) empty_draft (words_of words.now) ≡ None }
 {
     let mut draft = Draft {
         spent: Vec::new(memory),
@@ -105,9 +110,9 @@ fn inputs_of(memory: Memory, spent: &[OutRef]) -> Result<Vec<Input, Memory>, NoM
 
 /// The transaction of the draft.
 pub fn transaction_of(memory: Memory, draft: Draft) -> Result<Tx, LineFault>
-    ensures ok { IfOk result (λ t. t ≡ transaction_of (drafted draft)) }
-    ensures fits { OnOk result (is_transaction (drafted draft) ≡ true) }
-    ensures bad { IsErrOf result LineFault.Bad → is_transaction (drafted draft) ≡ false }
+    ensures ok { IfOk result (λ t. t ≡ transaction_of (to_draft draft)) }
+    ensures fits { OnOk result (is_transaction (to_draft draft) ≡ true) }
+    ensures bad { IsErrOf result LineFault.Bad → is_transaction (to_draft draft) ≡ false }
 {
     let inputs = inputs_of(memory, &draft.spent)?;
     let Draft { spent: _, paid } = draft;

@@ -2,8 +2,8 @@
 
 ghost use Rattle.std.specs.Prelude.{◌≡◌, option_copied, option_map};
 ghost use Rattle.std.specs.Arc.{arc_value};
-ghost use Rattle.mp_driver.specs.Meanings.{meaning_of, made_of, opening_of, name_of};
-ghost use Rattle.mp_driver.specs.Held.{meant, names_of};
+ghost use Rattle.mp_driver.specs.Names.{binding_of, transaction_named, opening_named, name_of};
+ghost use Rattle.mp_driver.specs.Inside.Name.{to_binding, names_of};
 
 use mp_memory::Memory;
 use mp_tx::{OutRef, Tx, TxId};
@@ -11,7 +11,7 @@ use std::sync::Arc;
 
 /// What a name stands for.
 #[derive(Debug, Drop)]
-pub enum Meaning {
+pub enum Binding {
     /// An output of the opening ledger state.
     Opening(OutRef),
     Made(Arc<Tx, Memory>),
@@ -21,16 +21,17 @@ pub enum Meaning {
 #[derive(Debug, Drop)]
 pub struct Name {
     pub word: Vec<u8, Memory>,
-    pub meaning: Meaning,
+    pub binding: Binding,
 }
 
 /// What the word stands for, if it was declared.
-pub fn meaning_of<'a>(names: &'a [Name], word: &[u8]) -> Option<&'a Meaning>
-    ensures { option_map meant (option_copied result) ≡ meaning_of word.now (names_of names.now) }
+pub fn binding_of<'a>(names: &'a [Name], word: &[u8]) -> Option<&'a Binding>
+    ensures { option_map to_binding (option_copied result)
+        ≡ binding_of word.now (names_of names.now) }
 {
     for name in names {
         if word == name.word.as_slice() {
-            return Some(&name.meaning);
+            return Some(&name.binding);
         }
     }
     None
@@ -38,20 +39,21 @@ pub fn meaning_of<'a>(names: &'a [Name], word: &[u8]) -> Option<&'a Meaning>
 
 /// The transaction that the word stands for.
 pub fn transaction_named<'a>(names: &'a [Name], word: &[u8]) -> Option<&'a Arc<Tx, Memory>>
-    ensures { option_map arc_value (option_copied result) ≡ made_of (meaning_of word.now (names_of names.now)) }
+    ensures { option_map arc_value (option_copied result)
+        ≡ transaction_named word.now (names_of names.now) }
 {
-    match meaning_of(names, word) {
-        Some(Meaning::Made(tx)) => Some(tx),
+    match binding_of(names, word) {
+        Some(Binding::Made(tx)) => Some(tx),
         _ => None,
     }
 }
 
 /// The reference of the opening output that the word stands for.
 pub fn opening_named(names: &[Name], word: &[u8]) -> Option<OutRef>
-    ensures { result ≡ opening_of (meaning_of word.now (names_of names.now)) }
+    ensures { result ≡ opening_named word.now (names_of names.now) }
 {
-    match meaning_of(names, word) {
-        Some(Meaning::Opening(reference)) => Some(*reference),
+    match binding_of(names, word) {
+        Some(Binding::Opening(reference)) => Some(*reference),
         _ => None,
     }
 }
@@ -61,7 +63,7 @@ pub fn name_of<'a>(names: &'a [Name], id: &TxId) -> &'a [u8]
     ensures { result.now ≡ name_of id.now (names_of names.now) }
 {
     for name in names {
-        if let Meaning::Made(tx) = &name.meaning {
+        if let Binding::Made(tx) = &name.binding {
             if *id == *tx.id() {
                 return &name.word;
             }

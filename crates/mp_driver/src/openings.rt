@@ -7,20 +7,17 @@ use mp_memory::{Memory, NoMemory};
 use mp_tx::{OutRef, Output};
 use std::marker::Model;
 
-/// An output under its reference.
-pub type Entry = (OutRef, Output);
-
 /// The opening outputs so far, numbered from 0 under the id of zeros.
 #[derive(Drop)]
 pub struct Openings {
-    entries: Vec<Entry, Memory>,
+    entries: Vec<(OutRef, Output), Memory>,
 }
 
 impl Model for Openings {
     ghost use Rattle.std.specs.Prelude.{List};
     ghost use Rattle.mp_tx.specs.declared.reference.OutRef.{OutRef};
     ghost use Rattle.mp_tx.specs.Output as told;
-    ghost use Rattle.mp_driver.specs.References.{AreNumbered};
+    ghost use Rattle.mp_driver.specs.Inside.Openings.{AreNumbered};
 
     ghost Value = { List (OutRef × told.Output) };
 
@@ -31,7 +28,8 @@ impl Model for Openings {
 
 impl Openings {
     ghost use Rattle.std.specs.Prelude.{◌≡◌, ◌<◌, ◌^◌, [], ◌∷◌, ◌++◌, length, OnOk};
-    ghost use Rattle.mp_driver.specs.References.{opening_ref, AreNumbered};
+    ghost use Rattle.mp_driver.specs.References.{opening_ref};
+    ghost use Rattle.mp_driver.specs.Inside.Openings.{AreNumbered};
 
     /// No output.
     pub fn new(memory: Memory) -> Openings
@@ -63,7 +61,8 @@ impl Openings {
     /// Puts the output last, under the next reference.
     pub fn push(&mut self, output: Output) -> Result<(), NoMemory>
         requires { length self.old < 2 ^ 16 }
-        ensures { OnOk result (self.new ≡ self.old ++ (opening_ref (length self.old), output) ∷ []) }
+        ensures { OnOk result
+            (self.new ≡ self.old ++ (opening_ref (length self.old), output) ∷ []) }
     {
         let reference = self.next();
         self.entries.push((reference, output))?;
@@ -71,7 +70,7 @@ impl Openings {
     }
 
     /// The outputs under their references.
-    pub fn into_entries(self) -> Vec<Entry, Memory>
+    pub fn into_entries(self) -> Vec<(OutRef, Output), Memory>
         ensures entries { result.items ≡ self }
         ensures numbered { AreNumbered result.items }
     {

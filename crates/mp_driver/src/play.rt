@@ -35,11 +35,13 @@ fn answer_lines<W: Write>(memory: Memory, text: &[u8], writer: &mut W) -> Result
 /// Reads all of the input, and then does its lines in order, writing each line's answer.
 ///
 /// # Errors
-/// `ReadFault` before anything is written, where a read fails, there are over 2^24 bytes or the end isn't found in 2^25 reads;
-/// `BadLine` at the first line that is none of the language, after the answers of those before it; `WriteFault` with a front
-/// of the answers written; `NoMemory` after the answers of the lines before.
+/// `ReadFault` before anything is written, where a read fails, there are over 2^24 bytes or the end
+/// isn't found in 2^25 reads; `BadLine` at the first line that is none of the language, after the
+/// answers of those before it; `WriteFault` with a front of the answers written; `NoMemory` after the
+/// answers of the lines before.
 pub fn run<R: Read, W: Write>(memory: Memory, reader: &mut R, writer: &mut W) -> Result<(), Fault>
-    ensures { IfSome (R.remaining reader.old) (λ bytes. Ended bytes (W.contents writer.old) (W.contents writer.new) result) }
+    ensures { IfSome (R.remaining reader.old)
+        (λ bytes. Ended bytes (W.contents writer.old) (W.contents writer.new) result) }
 {
     match read_all(memory, reader) {
         Ok(text) => answer_lines(memory, &text, writer),

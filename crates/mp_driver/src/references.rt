@@ -2,8 +2,8 @@
 
 ghost use Rattle.std.specs.Prelude.{◌≡◌, ◌<◌, ◌≤◌, ◌==◌, length, insert, position, IfSome, OnOk};
 ghost use Rattle.mp_driver.specs.References.{place_of, output_ref, ref_of, insert_ref};
-ghost use Rattle.mp_driver.specs.Meanings.{meaning_of, made_of};
-ghost use Rattle.mp_driver.specs.Held.{names_of};
+ghost use Rattle.mp_driver.specs.Names.{transaction_named};
+ghost use Rattle.mp_driver.specs.Inside.Name.{names_of};
 
 use crate::names::{Name, opening_named, transaction_named};
 use mp_memory::{Memory, NoMemory};
@@ -24,8 +24,9 @@ fn place_of(word: &[u8]) -> Option<u16>
 }
 
 // Output `place` of the transaction with the name.
-fn output_of(names: &[Name], name: &[u8], place: &[u8]) -> Option<OutRef>
-    ensures { result ≡ output_ref (made_of (meaning_of name.now (names_of names.now))) (place_of place.now) }
+fn output_ref(names: &[Name], name: &[u8], place: &[u8]) -> Option<OutRef>
+    ensures { result
+        ≡ output_ref (transaction_named name.now (names_of names.now)) (place_of place.now) }
 {
     let tx = transaction_named(names, name)?;
     let index = place_of(place)?;
@@ -42,13 +43,14 @@ fn first_dot(word: &[u8]) -> Option<usize>
     word.iter().position(|&byte| byte == b'.')
 }
 
-/// The reference that a word is: `TX.K` of a declared transaction, or the name of an opening output.
+/// The reference that a word is: `TX.K` of a declared transaction, or the name of an opening
+/// output.
 #[tactic(auto, unfolding(crate::specs::References::ref_of))]
 pub fn ref_of(names: &[Name], word: &[u8]) -> Option<OutRef>
     ensures { result ≡ ref_of (names_of names.now) word.now }
 {
     match first_dot(word) {
-        Some(dot) => output_of(names, &word[..dot], &word[dot + 1..]),
+        Some(dot) => output_ref(names, &word[..dot], &word[dot + 1..]),
         None => opening_named(names, word),
     }
 }
@@ -56,7 +58,8 @@ pub fn ref_of(names: &[Name], word: &[u8]) -> Option<OutRef>
 // How many references, from the front, the new one doesn't come before.
 fn place_among(reference: &OutRef, references: &[OutRef]) -> usize
     ensures within { result ≤ length references.now }
-    ensures place { insert references.now result reference.now ≡ insert_ref reference.now references.now }
+    ensures place { insert references.now result reference.now
+        ≡ insert_ref reference.now references.now }
 {
     for (place, other) in references.iter().enumerate() {
         if reference.cmp(other).is_lt() {

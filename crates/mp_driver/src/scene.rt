@@ -2,23 +2,23 @@
 
 ghost use Rattle.std.specs.Prelude.{◌≡◌, ◌&&◌, [], ◌∷◌, ◌++◌, None, is_none, MatchOption, IfOk, OnOk, IsErrOf};
 ghost use Rattle.std.specs.Arc.{arc_value};
-ghost use Rattle.mp_seqpool.specs.Order.{Submit};
+ghost use Rattle.mp_seqpool.specs.Command.{Submit};
 ghost use Rattle.mp_seqpool.specs.SlowPool.{answer, next};
 ghost use Rattle.mp_text.specs.Names.{is_name};
 ghost use Rattle.mp_text.specs.Words.{words_of};
-ghost use Rattle.mp_driver.specs.Meanings.{meaning_of};
+ghost use Rattle.mp_driver.specs.Names.{binding_of};
 ghost use Rattle.mp_driver.specs.AnswerText.{answer_text};
 ghost use Rattle.mp_driver.specs.Scene.{Before, Open, Scene as Told, pool_at, output_line, submit_line};
-ghost use Rattle.mp_driver.specs.Held.{names_of, meant};
-ghost use Rattle.mp_driver.specs.Staged.{stage_of};
+ghost use Rattle.mp_driver.specs.Inside.Name.{names_of, to_binding};
+ghost use Rattle.mp_driver.specs.Inside.Scene.{stage_of};
 
 use crate::answers::{answer_line, snapshot_line};
 use crate::fault::LineFault;
 use crate::items::{draft_of, output_of, transaction_of};
-use crate::names::{Meaning, Name, meaning_of, transaction_named};
+use crate::names::{Binding, Name, binding_of, transaction_named};
 use crate::openings::Openings;
 use mp_memory::{Memory, NoMemory};
-use mp_seqpool::{Config, Refusal, SeqPool};
+use mp_seqpool::{Command, Config, SeqPool};
 use mp_text::{first_word, is_clean, is_comment_or_blank, is_name};
 use mp_tx::{Ledger, LedgerFault, Tx};
 use std::mem;
@@ -57,7 +57,8 @@ pub struct Scene {
 
 // The two words of a line that has no other.
 fn two_words(words: &[u8]) -> Option<(&[u8], &[u8])>
-    ensures { MatchOption result ((s : Told) → output_line s (words_of words.now) ≡ None) (λ p. words_of words.now ≡ p.0.now ∷ p.1.now ∷ []) }
+    ensures { MatchOption result ((s : Told) → output_line s (words_of words.now) ≡ None)
+        (λ p. words_of words.now ≡ p.0.now ∷ p.1.now ∷ []) }
 {
     let Some((first, rest)) = first_word(words) else {
         return None;
@@ -73,7 +74,8 @@ fn two_words(words: &[u8]) -> Option<(&[u8], &[u8])>
 
 // The one word of a line that has no other.
 fn one_word(words: &[u8]) -> Option<&[u8]>
-    ensures { MatchOption result ((s : Told) → submit_line s (words_of words.now) ≡ None) (λ w. words_of words.now ≡ w.now ∷ []) }
+    ensures { MatchOption result ((s : Told) → submit_line s (words_of words.now) ≡ None)
+        (λ w. words_of words.now ≡ w.now ∷ []) }
 {
     let Some((first, rest)) = first_word(words) else {
         return None;
@@ -86,21 +88,22 @@ fn one_word(words: &[u8]) -> Option<&[u8]>
 
 // A name that nothing has yet.
 fn is_new(names: &[Name], name: &[u8]) -> bool
-    ensures { result ≡ (is_name name.now && is_none (meaning_of name.now (names_of names.now))) }
+    ensures { result ≡ (is_name name.now && is_none (binding_of name.now (names_of names.now))) }
 {
-    is_name(name) && meaning_of(names, name).is_none()
+    is_name(name) && binding_of(names, name).is_none()
 }
 
 fn declare(
     memory: Memory,
     names: &mut Vec<Name, Memory>,
     word: &[u8],
-    meaning: Meaning,
+    binding: Binding,
 ) -> Result<(), NoMemory>
-    ensures { OnOk result (names_of names.new.items ≡ names_of names.old.items ++ (word.now, meant meaning) ∷ []) }
+    ensures { OnOk result (names_of names.new.items
+        ≡ names_of names.old.items ++ (word.now, to_binding binding) ∷ []) }
 {
     let word = Vec::from_slice(memory, word)?;
-    names.push(Name { word, meaning })?;
+    names.push(Name { word, binding })?;
     Ok(())
 }
 
@@ -120,7 +123,7 @@ fn pool_upon(memory: Memory, openings: Openings) -> Result<SeqPool, NoMemory>
 }
 
 // Opens the pool, unless it is.
-fn opened(memory: Memory, stage: &mut Stage) -> Result<(), NoMemory>
+fn open_pool(memory: Memory, stage: &mut Stage) -> Result<(), NoMemory>
     ensures { OnOk result (stage_of stage.new ≡ Open (pool_at (stage_of stage.old))) }
 {
     if let Stage::Before(openings) = stage {
@@ -130,29 +133,32 @@ fn opened(memory: Memory, stage: &mut Stage) -> Result<(), NoMemory>
     Ok(())
 }
 
-fn submitted(memory: Memory, stage: &mut Stage, tx: &Arc<Tx, Memory>) -> Result<Text, LineFault>
-    ensures answer { IfOk result (λ text. text.items ≡ answer_text (answer (pool_at (stage_of stage.old)) (Submit (arc_value tx.now)))) }
-    ensures next { OnOk result (stage_of stage.new ≡ Open (next (pool_at (stage_of stage.old)) (Submit (arc_value tx.now)))) }
-    ensures good { IsErrOf result LineFault.Bad → ⊥ }
+fn submit_to(memory: Memory, stage: &mut Stage, tx: &Arc<Tx, Memory>) -> Result<Text, NoMemory>
+    ensures answer { IfOk result (λ text. text.items
+        ≡ answer_text (answer (pool_at (stage_of stage.old)) (Submit (arc_value tx.now)))) }
+    ensures next { OnOk result (stage_of stage.new
+        ≡ Open (next (pool_at (stage_of stage.old)) (Submit (arc_value tx.now)))) }
 {
-    opened(memory, stage)?;
+    open_pool(memory, stage)?;
     match stage {
-        Stage::Open(pool) => answered(memory, pool, tx),
+        Stage::Open(pool) => submit_to_pool(memory, pool, tx),
         Stage::Before(_) => unreachable!(),
     }
 }
 
-fn answered(memory: Memory, pool: &mut SeqPool, tx: &Arc<Tx, Memory>) -> Result<Text, LineFault>
-    ensures answer { IfOk result (λ text. text.items ≡ answer_text (answer pool.old (Submit (arc_value tx.now)))) }
+fn submit_to_pool(
+    memory: Memory,
+    pool: &mut SeqPool,
+    tx: &Arc<Tx, Memory>,
+) -> Result<Text, NoMemory>
+    ensures answer { IfOk result (λ text. text.items
+        ≡ answer_text (answer pool.old (Submit (arc_value tx.now)))) }
     ensures next { OnOk result (pool.new ≡ next pool.old (Submit (arc_value tx.now))) }
-    ensures good { IsErrOf result LineFault.Bad → ⊥ }
 {
-    match pool.submit(tx) {
-        Ok(reply) => Ok(answer_line(memory, &Ok(reply))?),
-        Err(refusal) => match refusal {
-            Refusal::NoMemory => Err(LineFault::NoMemory),
-            other => Ok(answer_line(memory, &Err(other))?),
-        },
+    let command = Command::Submit(Arc::try_clone(tx)?);
+    match pool.step(&command) {
+        Ok(answer) => answer_line(memory, &answer),
+        Err(error) => Err(error),
     }
 }
 
@@ -160,7 +166,7 @@ impl Scene {
     ghost use Rattle.std.specs.Prelude.{◌≡◌, [], ◌∷◌, Some, None, IfOk, IfErr, OnOk, IsErrOf};
     ghost use Rattle.mp_text.specs.Words.{words_of};
     ghost use Rattle.mp_driver.specs.Scene.{empty_scene, output_line, transaction_line, submit_line, snapshot_line, command_line, line_step};
-    ghost use Rattle.mp_driver.specs.Staged.{scene_of};
+    ghost use Rattle.mp_driver.specs.Inside.Scene.{scene_of};
 
     /// The scene before the first line.
     pub fn new(memory: Memory) -> Scene
@@ -174,8 +180,10 @@ impl Scene {
 
     // out NAME Q
     fn output_line(&mut self, memory: Memory, words: &[u8]) -> Result<(), LineFault>
-        ensures ok { OnOk result (output_line (scene_of self.old) (words_of words.now) ≡ Some (scene_of self.new, [])) }
-        ensures bad { IsErrOf result LineFault.Bad → output_line (scene_of self.old) (words_of words.now) ≡ None }
+        ensures ok { OnOk result
+            (output_line (scene_of self.old) (words_of words.now) ≡ Some (scene_of self.new, [])) }
+        ensures bad { IsErrOf result LineFault.Bad
+            → output_line (scene_of self.old) (words_of words.now) ≡ None }
         ensures stays { IsErrOf result LineFault.Bad → scene_of self.new ≡ scene_of self.old }
     {
         let Some((name, word)) = two_words(words) else {
@@ -195,7 +203,7 @@ impl Scene {
                 };
                 let reference = openings.next();
                 openings.push(output)?;
-                declare(memory, &mut self.names, name, Meaning::Opening(reference))?;
+                declare(memory, &mut self.names, name, Binding::Opening(reference))?;
                 Ok(())
             }
         }
@@ -203,8 +211,11 @@ impl Scene {
 
     // tx NAME ITEM ..
     fn transaction_line(&mut self, memory: Memory, words: &[u8]) -> Result<(), LineFault>
-        ensures ok { OnOk result (transaction_line (scene_of self.old) (words_of words.now) ≡ Some (scene_of self.new, [])) }
-        ensures bad { IsErrOf result LineFault.Bad → transaction_line (scene_of self.old) (words_of words.now) ≡ None }
+        ensures ok { OnOk result
+            (transaction_line (scene_of self.old) (words_of words.now)
+            ≡ Some (scene_of self.new, [])) }
+        ensures bad { IsErrOf result LineFault.Bad
+            → transaction_line (scene_of self.old) (words_of words.now) ≡ None }
         ensures stays { IsErrOf result LineFault.Bad → scene_of self.new ≡ scene_of self.old }
     {
         let Some((name, items)) = first_word(words) else {
@@ -219,35 +230,41 @@ impl Scene {
         let draft = draft_of(memory, &self.names, items)?;
         let tx = transaction_of(memory, draft)?;
         let tx = Arc::new(memory, tx)?;
-        declare(memory, &mut self.names, name, Meaning::Made(tx))?;
+        declare(memory, &mut self.names, name, Binding::Made(tx))?;
         Ok(())
     }
 
     // submit NAME
     fn submit_line(&mut self, memory: Memory, words: &[u8]) -> Result<Text, LineFault>
-        ensures ok { IfOk result (λ text. submit_line (scene_of self.old) (words_of words.now) ≡ Some (scene_of self.new, text.items)) }
-        ensures bad { IsErrOf result LineFault.Bad → submit_line (scene_of self.old) (words_of words.now) ≡ None }
+        ensures ok { IfOk result (λ text.
+            submit_line (scene_of self.old) (words_of words.now)
+            ≡ Some (scene_of self.new, text.items)) }
+        ensures bad { IsErrOf result LineFault.Bad
+            → submit_line (scene_of self.old) (words_of words.now) ≡ None }
         ensures stays { IsErrOf result LineFault.Bad → scene_of self.new ≡ scene_of self.old }
     {
         let Some(name) = one_word(words) else {
             return Err(LineFault::Bad);
         };
         match transaction_named(&self.names, name) {
-            Some(tx) => submitted(memory, &mut self.stage, tx),
+            Some(tx) => Ok(submit_to(memory, &mut self.stage, tx)?),
             None => Err(LineFault::Bad),
         }
     }
 
     // snapshot
     fn snapshot_line(&mut self, memory: Memory, words: &[u8]) -> Result<Text, LineFault>
-        ensures ok { IfOk result (λ text. snapshot_line (scene_of self.old) (words_of words.now) ≡ Some (scene_of self.new, text.items)) }
-        ensures bad { IsErrOf result LineFault.Bad → snapshot_line (scene_of self.old) (words_of words.now) ≡ None }
+        ensures ok { IfOk result (λ text.
+            snapshot_line (scene_of self.old) (words_of words.now)
+            ≡ Some (scene_of self.new, text.items)) }
+        ensures bad { IsErrOf result LineFault.Bad
+            → snapshot_line (scene_of self.old) (words_of words.now) ≡ None }
         ensures stays { IsErrOf result LineFault.Bad → scene_of self.new ≡ scene_of self.old }
     {
         if first_word(words).is_some() {
             return Err(LineFault::Bad);
         }
-        opened(memory, &mut self.stage)?;
+        open_pool(memory, &mut self.stage)?;
         match &self.stage {
             Stage::Open(pool) => Ok(snapshot_line(memory, &self.names, pool)?),
             Stage::Before(_) => unreachable!(),
@@ -256,8 +273,11 @@ impl Scene {
 
     // The line's command, by its first word.
     fn command_line(&mut self, memory: Memory, word: &[u8], words: &[u8]) -> Result<Text, LineFault>
-        ensures ok { IfOk result (λ text. command_line (scene_of self.old) word.now (words_of words.now) ≡ Some (scene_of self.new, text.items)) }
-        ensures bad { IsErrOf result LineFault.Bad → command_line (scene_of self.old) word.now (words_of words.now) ≡ None }
+        ensures ok { IfOk result (λ text.
+            command_line (scene_of self.old) word.now (words_of words.now)
+            ≡ Some (scene_of self.new, text.items)) }
+        ensures bad { IsErrOf result LineFault.Bad
+            → command_line (scene_of self.old) word.now (words_of words.now) ≡ None }
         ensures stays { IsErrOf result LineFault.Bad → scene_of self.new ≡ scene_of self.old }
     {
         if word == b"out".as_slice() {
@@ -278,7 +298,8 @@ impl Scene {
     /// Does what a line says, and gives what it writes. A bad line does nothing.
     #[tactic(auto, unfolding(crate::specs::Scene::line_step))]
     pub fn read_line(&mut self, memory: Memory, line: &[u8]) -> Result<Text, LineFault>
-        ensures ok { IfOk result (λ text. line_step (scene_of self.old) line.now ≡ Some (scene_of self.new, text.items)) }
+        ensures ok { IfOk result (λ text.
+            line_step (scene_of self.old) line.now ≡ Some (scene_of self.new, text.items)) }
         ensures bad { IsErrOf result LineFault.Bad → line_step (scene_of self.old) line.now ≡ None }
         ensures stays { IsErrOf result LineFault.Bad → scene_of self.new ≡ scene_of self.old }
     {

@@ -6,13 +6,14 @@ use Rattle.std.proofs.Math.Seq.{take-length, take-append_seam}
 use Rattle.std.proofs.lemmas.Bool.{lt-ltb, eqb-false}
 use Rattle.mp_seqpool.specs.declared.command.Reply.{Reply}
 use Rattle.mp_seqpool.specs.declared.refusal.Refusal.{Refusal}
-use Rattle.mp_seqpool.specs.Order.{Order, Pool}
+use Rattle.mp_seqpool.specs.Command.{Command}
+use Rattle.mp_seqpool.specs.Pool.{Pool}
 use Rattle.mp_seqpool.specs.SlowPool.{answer}
 use Rattle.mp_seqpool.specs.PoolLaws.{IsLawful}
 use Rattle.mp_seqpool.proofs.Histories.{obeys}
-use Rattle.mp_history.specs.Done.{Done}
-use Rattle.mp_history.specs.Log.{orders, pool_of}
-use Rattle.mp_history.specs.World.{Version, World, Event, opens, present, is_holder, has_lock, put, entered, committed, answered, run}
+use Rattle.mp_history.specs.Entry.{Entry}
+use Rattle.mp_history.specs.Log.{commands, pool_of}
+use Rattle.mp_history.specs.World.{Version, World, Event, opens, present, is_holder, has_lock, put, with_entry, after_commit, after_answer, run}
 use Rattle.mp_history.specs.CoreLaw.{HasLock, IsCommit, IsAnswer, CoreLaw}
 use Rattle.mp_history.proofs.Core.{push-length, IsSound, sound-opens, sound-run, log-run, later-run, own-run}
 
@@ -32,34 +33,34 @@ done_if b v w e = ap (λ a. cond a v w) (sym e)
 less_one : (n k : ℕ) → n ≡ k + 1 → n - 1 ≡ k
 less_one n k e = omega arith
 
-without_last : (log : List Done) (d : Done) (n : ℕ) → n ≡ length (log ++ d ∷ []) → take (n - 1) (log ++ d ∷ []) ≡ log
+without_last : (log : List Entry) (d : Entry) (n : ℕ) → n ≡ length (log ++ d ∷ []) → take (n - 1) (log ++ d ∷ []) ≡ log
 without_last log d n is = ap (λ k. take k (log ++ d ∷ [])) (less_one n (length log) (is ∙ push-length log d)) ∙ take-append_seam log (d ∷ [])
 
-all_of : (log : List Done) (n : ℕ) → n ≡ length log → take n log ≡ log
+all_of : (log : List Entry) (n : ℕ) → n ≡ length log → take n log ≡ log
 all_of log n is = ap (λ k. take k log) is ∙ take-length log
 
 put-own : (f : ℕ → Version) (caller : ℕ) (v : Version) → put f caller v caller ≡ v
 put-own f caller v = ap (λ b. cond b v (f caller)) (eqb-refl caller)
 
-commit-is : (callers : ℕ) (p : Pool) (w : World) (caller : ℕ) (order : Order) (reply : Reply) → IsSound callers p w → answer w.locked order ≡ Ok reply → IsCommit p w (committed w caller order (Ok reply)) caller order reply
-commit-is callers p w caller order reply s e =
-    let d : Done = record { caller = caller; order = order; reply = reply } in
-    let v : Version = present (entered w d) in
+commit-is : (callers : ℕ) (p : Pool) (w : World) (caller : ℕ) (command : Command) (reply : Reply) → IsSound callers p w → answer w.locked command ≡ Ok reply → IsCommit p w (after_commit w caller command (Ok reply)) caller command reply
+commit-is callers p w caller command reply s e =
+    let d : Entry = record { caller = caller; command = command; reply = reply } in
+    let v : Version = present (with_entry w d) in
     let n = ap (λ (u : Version). u.number) (put-own w.held caller v) in
     record {
       entry = refl;
       number = n;
-      before = ap (λ log. answer (pool_of p log) order) (without_last w.log d (put w.held caller v caller).number n) ∙ ap (λ q. answer q order) (sym s.locked) ∙ e;
+      before = ap (λ log. answer (pool_of p log) command) (without_last w.log d (put w.held caller v caller).number n) ∙ ap (λ q. answer q command) (sym s.locked) ∙ e;
     }
 
-answer-is : (callers : ℕ) (p : Pool) (w : World) (caller : ℕ) (order : Order) (refusal : Refusal) → IsSound callers p w → answer w.locked order ≡ Err refusal → IsAnswer p w (answered w caller (Err refusal)) caller order refusal
-answer-is callers p w caller order refusal s e =
+answer-is : (callers : ℕ) (p : Pool) (w : World) (caller : ℕ) (command : Command) (refusal : Refusal) → IsSound callers p w → answer w.locked command ≡ Err refusal → IsAnswer p w (after_answer w caller (Err refusal)) caller command refusal
+answer-is callers p w caller command refusal s e =
     let n = ap (λ (u : Version). u.number) (put-own w.held caller (present w)) in
     record {
       entry = refl;
       number = n;
-      same = ap (λ (u : Version). answer u.state order) (put-own w.held caller (present w)) ∙ e;
-      after = ap (λ log. answer (pool_of p log) order) (all_of w.log (put w.held caller (present w) caller).number n) ∙ ap (λ q. answer q order) (sym s.locked) ∙ e;
+      same = ap (λ (u : Version). answer u.state command) (put-own w.held caller (present w)) ∙ e;
+      after = ap (λ log. answer (pool_of p log) command) (all_of w.log (put w.held caller (present w) caller).number n) ∙ ap (λ q. answer q command) (sym s.locked) ∙ e;
     }
 
 pub core_law : (callers : ℕ) (p : Pool) (es : List Event) → IsLawful p → CoreLaw callers p es (run callers (opens p) es)
@@ -68,7 +69,7 @@ core_law callers p es law =
     let s : IsSound callers p w = sound-run callers p (opens p) es (sound-opens callers p) in
     record {
       legal = s.legal;
-      lawful = obeys p (orders w.log) law;
+      lawful = obeys p (commands w.log) law;
       locked = s.locked;
       held = s.held;
       waiting = s.waiting;
@@ -79,10 +80,10 @@ core_law callers p es law =
       own = λ caller. (own-run callers p (opens p) es caller (sound-opens callers p) (record { has = tt })).has;
       growing = λ further. later-run callers p w further s;
       later = log-run callers w;
-      commit = λ caller order reply has e. subst (λ v. IsCommit p w v caller order reply)
-          (ap (committed w caller order) (sym e) ∙ done_if (has_lock callers w caller) (committed w caller order (answer w.locked order)) w (locked_by callers w caller has))
-          (commit-is callers p w caller order reply s e);
-      answer_told = λ caller order refusal has e. subst (λ v. IsAnswer p w v caller order refusal)
-          (ap (answered w caller) (sym e) ∙ done_if (has_lock callers w caller) (answered w caller (answer w.locked order)) w (locked_by callers w caller has))
-          (answer-is callers p w caller order refusal s e);
+      commit = λ caller command reply has e. subst (λ v. IsCommit p w v caller command reply)
+          (ap (after_commit w caller command) (sym e) ∙ done_if (has_lock callers w caller) (after_commit w caller command (answer w.locked command)) w (locked_by callers w caller has))
+          (commit-is callers p w caller command reply s e);
+      answer_told = λ caller command refusal has e. subst (λ v. IsAnswer p w v caller command refusal)
+          (ap (after_answer w caller) (sym e) ∙ done_if (has_lock callers w caller) (after_answer w caller (answer w.locked command)) w (locked_by callers w caller has))
+          (answer-is callers p w caller command refusal s e);
     }

@@ -2,15 +2,16 @@
 use Rattle.std.specs.Prelude.{◌≡◌, ℕ, ◌<◌, ◌≤◌, ◌-◌, List, [], ◌∷◌, ◌++◌, length, take, All, IfSome, Some, Ok, Err}
 use Rattle.mp_seqpool.specs.declared.command.Reply.{Reply}
 use Rattle.mp_seqpool.specs.declared.refusal.Refusal.{Refusal}
-use Rattle.mp_seqpool.specs.Order.{Order, Pool}
+use Rattle.mp_seqpool.specs.Command.{Command}
+use Rattle.mp_seqpool.specs.Pool.{Pool}
 use Rattle.mp_seqpool.specs.SlowPool.{answer}
 use Rattle.mp_seqpool.specs.PoolLaws.{ObeysLaws}
-use Rattle.mp_history.specs.Done.{Done}
-use Rattle.mp_history.specs.Log.{IsLegal, orders, pool_of, last_of}
+use Rattle.mp_history.specs.Entry.{Entry}
+use Rattle.mp_history.specs.Log.{IsLegal, commands, pool_of, last_of}
 use Rattle.mp_history.specs.World.{Version, World, Event, Commit, Answer, opens, step, run, commits}
 
 -- the version numbered n is the state after the first n entries
-pub record IsTrueVersion (p : Pool) (log : List Done) (v : Version) : Type 0 where
+pub record IsTrueVersion (p : Pool) (log : List Entry) (v : Version) : Type 0 where
   pub within : v.number ≤ length log
   pub same : v.state ≡ pool_of p (take v.number log)
 
@@ -20,31 +21,31 @@ pub record HasLock (callers : ℕ) (w : World) (caller : ℕ) : Type 0 where
   pub holds : w.holder ≡ Some caller
 
 -- a commit that is permitted, from one world to the next
-pub record IsCommit (p : Pool) (w v : World) (caller : ℕ) (order : Order) (reply : Reply) : Type 0 where
+pub record IsCommit (p : Pool) (w v : World) (caller : ℕ) (command : Command) (reply : Reply) : Type 0 where
   -- its entry comes last
-  pub entry : v.log ≡ w.log ++ record { caller = caller; order = order; reply = reply } ∷ []
+  pub entry : v.log ≡ w.log ++ record { caller = caller; command = command; reply = reply } ∷ []
   -- the caller holds the version with it
   pub number : (v.held caller).number ≡ length v.log
   -- its reply is the slow pool's upon that version's log without its last entry
-  pub before : answer (pool_of p (take ((v.held caller).number - 1) v.log)) order ≡ Ok reply
+  pub before : answer (pool_of p (take ((v.held caller).number - 1) v.log)) command ≡ Ok reply
 
 -- an answer that is permitted, from one world to the next
-pub record IsAnswer (p : Pool) (w v : World) (caller : ℕ) (order : Order) (refusal : Refusal) : Type 0 where
+pub record IsAnswer (p : Pool) (w v : World) (caller : ℕ) (command : Command) (refusal : Refusal) : Type 0 where
   -- nothing is entered
   pub entry : v.log ≡ w.log
   -- the caller holds the version of all entries
   pub number : (v.held caller).number ≡ length v.log
   -- that version's state refuses alike
-  pub same : answer (v.held caller).state order ≡ Err refusal
+  pub same : answer (v.held caller).state command ≡ Err refusal
   -- the state after that version's entries does too
-  pub after : answer (pool_of p (take (v.held caller).number v.log)) order ≡ Err refusal
+  pub after : answer (pool_of p (take (v.held caller).number v.log)) command ≡ Err refusal
 
 -- the world after any events, from the state that a pool opens with
 pub record CoreLaw (callers : ℕ) (p : Pool) (es : List Event) (w : World) : Type 0 where
   -- the log is legal
   pub legal : IsLegal callers p w.log
   -- every state on the way obeys the pool laws
-  pub lawful : ObeysLaws p (orders w.log)
+  pub lawful : ObeysLaws p (commands w.log)
   -- the locked state is that after all entries
   pub locked : w.locked ≡ pool_of p w.log
   -- each caller holds a true version
@@ -66,8 +67,8 @@ pub record CoreLaw (callers : ℕ) (p : Pool) (es : List Event) (w : World) : Ty
   -- whatever happens further, entries only come after those that are there
   pub later : (further : List Event) → (run callers w further).log ≡ w.log ++ commits callers w further
   -- what a commit does that comes next
-  pub commit : (caller : ℕ) (order : Order) (reply : Reply) → HasLock callers w caller → answer w.locked order ≡ Ok reply →
-      IsCommit p w (step callers w (Commit caller order)) caller order reply
+  pub commit : (caller : ℕ) (command : Command) (reply : Reply) → HasLock callers w caller → answer w.locked command ≡ Ok reply →
+      IsCommit p w (step callers w (Commit caller command)) caller command reply
   -- what an answer does that comes next
-  pub answer_told : (caller : ℕ) (order : Order) (refusal : Refusal) → HasLock callers w caller → answer w.locked order ≡ Err refusal →
-      IsAnswer p w (step callers w (Answer caller order)) caller order refusal
+  pub answer_told : (caller : ℕ) (command : Command) (refusal : Refusal) → HasLock callers w caller → answer w.locked command ≡ Err refusal →
+      IsAnswer p w (step callers w (Answer caller command)) caller command refusal

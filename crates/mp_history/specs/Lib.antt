@@ -1,7 +1,6 @@
-pub mod Done
-pub mod Entries
+pub mod Entry
 pub mod Log
-pub mod Numbers
-pub mod Faults
+pub mod AuditFault
 pub mod World
 pub mod CoreLaw
+pub mod Inside

@@ -3,9 +3,10 @@
 use Rattle.std.specs.Prelude.{ℕ, ◌==◌, nat_lt, Bool, false, ◌&&◌, List, [], ◌∷◌, ◌++◌, length, Option, None, Some, is_none, Result, Ok, Err, slice_get, if◌then◌else◌}
 use Rattle.mp_seqpool.specs.declared.command.Reply.{Reply}
 use Rattle.mp_seqpool.specs.declared.refusal.Refusal.{Refusal}
-use Rattle.mp_seqpool.specs.Order.{Order, Pool}
+use Rattle.mp_seqpool.specs.Command.{Command}
+use Rattle.mp_seqpool.specs.Pool.{Pool}
 use Rattle.mp_seqpool.specs.SlowPool.{answer, next}
-use Rattle.mp_history.specs.Done.{Done}
+use Rattle.mp_history.specs.Entry.{Entry}
 
 -- a state of the pool that callers may hold
 pub record Version : Type 0 where
@@ -17,7 +18,7 @@ pub record Version : Type 0 where
 -- what all callers share, and what each of them holds
 pub record World : Type 0 where
   -- the entries, in the order in which they were made
-  pub log : List Done
+  pub log : List Entry
   -- the state that only the lock's holder changes
   pub locked : Pool
   -- the version that waits to be shown
@@ -38,9 +39,9 @@ pub data Event : Type 0 where
   -- it takes the lock
   Take : (caller : ℕ) → Event
   -- it asks, and what it asks is done and entered
-  Commit : (caller : ℕ) (order : Order) → Event
+  Commit : (caller : ℕ) (command : Command) → Event
   -- it asks, and is refused
-  Answer : (caller : ℕ) (order : Order) → Event
+  Answer : (caller : ℕ) (command : Command) → Event
   -- it puts the version that waits on the board
   Show : (caller : ℕ) → Event
   -- it would show a version, and can't
@@ -84,45 +85,50 @@ has_lock callers w caller = nat_lt caller callers && is_holder w.holder caller
 abbrev pub put : {A : Type 0} → (ℕ → A) → ℕ → A → ℕ → A
 put f caller x c = if c == caller then x else f c
 
-abbrev pub holding : World → ℕ → Version → World
-holding w caller v = record w { held = put w.held caller v; ever = w.ever ++ v ∷ [] }
+-- the caller holds this version
+abbrev pub with_held : World → ℕ → Version → World
+with_held w caller v = record w { held = put w.held caller v; ever = w.ever ++ v ∷ [] }
 
-abbrev pub entered : World → Done → World
-entered w d = record w {
-  log = w.log ++ d ∷ [];
-  locked = next w.locked d.order;
-  last = put w.last d.caller (Some (length w.log));
+-- the entry last, and done
+abbrev pub with_entry : World → Entry → World
+with_entry w e = record w {
+  log = w.log ++ e ∷ [];
+  locked = next w.locked e.command;
+  last = put w.last e.caller (Some (length w.log));
 }
 
-abbrev pub waits : World → World
-waits w = record w { waiting = Some (present w) }
+-- the version of the locked state waits to be shown
+abbrev pub with_waiting : World → World
+with_waiting w = record w { waiting = Some (present w) }
 
 -- where the state doesn't refuse: the entry goes last into the log, and the caller holds the version after it, which also waits
-abbrev pub committed : World → ℕ → Order → Result Reply Refusal → World
-committed w caller order (Ok reply) =
-    let v = entered w (record { caller = caller; order = order; reply = reply }) in waits (holding v caller (present v))
-committed w caller order (Err refusal) = w
+abbrev pub after_commit : World → ℕ → Command → Result Reply Refusal → World
+after_commit w caller command (Ok reply) =
+    let v = with_entry w (record { caller = caller; command = command; reply = reply }) in
+    with_waiting (with_held v caller (present v))
+after_commit w caller command (Err refusal) = w
 
 -- where the state refuses: the caller holds the version of the locked state
-abbrev pub answered : World → ℕ → Result Reply Refusal → World
-answered w caller (Ok reply) = w
-answered w caller (Err refusal) = holding w caller (present w)
+abbrev pub after_answer : World → ℕ → Result Reply Refusal → World
+after_answer w caller (Ok reply) = w
+after_answer w caller (Err refusal) = with_held w caller (present w)
 
-abbrev pub shown : World → Option Version → World
-shown w None = w
-shown w (Some v) = record w { board = w.board ++ v ∷ []; waiting = None }
+-- the version that waits, if there is one, is on the board
+abbrev pub after_show : World → Option Version → World
+after_show w None = w
+after_show w (Some v) = record w { board = w.board ++ v ∷ []; waiting = None }
 
 -- a version comes to a caller, which holds it where it is later than its own
 abbrev pub adopt : World → ℕ → Option Version → World
 adopt w caller None = w
-adopt w caller (Some v) = if nat_lt (w.held caller).number v.number then holding w caller v else w
+adopt w caller (Some v) = if nat_lt (w.held caller).number v.number then with_held w caller v else w
 
 -- The world after an event. One that isn't permitted changes nothing.
 abbrev pub step : ℕ → World → Event → World
 step callers w (Take caller) = if nat_lt caller callers && is_none w.holder then record w { holder = Some caller } else w
-step callers w (Commit caller order) = if has_lock callers w caller then committed w caller order (answer w.locked order) else w
-step callers w (Answer caller order) = if has_lock callers w caller then answered w caller (answer w.locked order) else w
-step callers w (Show caller) = if has_lock callers w caller then shown w w.waiting else w
+step callers w (Commit caller command) = if has_lock callers w caller then after_commit w caller command (answer w.locked command) else w
+step callers w (Answer caller command) = if has_lock callers w caller then after_answer w caller (answer w.locked command) else w
+step callers w (Show caller) = if has_lock callers w caller then after_show w w.waiting else w
 step callers w (ShowRefused caller) = w
 step callers w (Release caller) = if has_lock callers w caller then record w { holder = None } else w
 step callers w (Read caller which) = if nat_lt caller callers then adopt w caller (slice_get w.board which) else w
@@ -134,16 +140,16 @@ run callers w [] = w
 run callers w (e ∷ es) = run callers (step callers w e) es
 
 -- the entry of a commit
-abbrev pub entry_of : ℕ → Order → Result Reply Refusal → List Done
-entry_of caller order (Ok reply) = record { caller = caller; order = order; reply = reply } ∷ []
-entry_of caller order (Err refusal) = []
+abbrev pub entries_by : ℕ → Command → Result Reply Refusal → List Entry
+entries_by caller command (Ok reply) = record { caller = caller; command = command; reply = reply } ∷ []
+entries_by caller command (Err refusal) = []
 
 -- what an event enters: a commit that is permitted, and nothing else
-abbrev pub enters : ℕ → World → Event → List Done
-enters callers w (Commit caller order) = if has_lock callers w caller then entry_of caller order (answer w.locked order) else []
+abbrev pub enters : ℕ → World → Event → List Entry
+enters callers w (Commit caller command) = if has_lock callers w caller then entries_by caller command (answer w.locked command) else []
 enters callers w _ = []
 
 -- the entries of all commits that are permitted, in order
-abbrev pub commits : ℕ → World → List Event → List Done
+abbrev pub commits : ℕ → World → List Event → List Entry
 commits callers w [] = []
 commits callers w (e ∷ es) = enters callers w e ++ commits callers (step callers w e) es

@@ -12,11 +12,11 @@ pub struct Entry {
 }
 
 impl Model for Entry {
-    ghost use Rattle.mp_history.specs.Done.{Done};
+    ghost use Rattle.mp_history.specs.Entry as told;
 
-    ghost Value = { Done };
+    ghost Value = { told.Entry };
 
-    ghost use Rattle.mp_history.specs.Entries.{done_of};
+    ghost use Rattle.mp_history.specs.Inside.Entry.{entry_of};
 
-    ghost view = { done_of };
+    ghost view = { entry_of };
 }

@@ -1,13 +1,14 @@
 //! Why a history is not legal.
 
 ghost use Rattle.std.specs.Prelude.{◌≡◌};
-ghost use Rattle.mp_history.specs.Numbers.{audit_number};
+ghost use Rattle.mp_history.specs.AuditFault as audit_fault;
 ghost use Rattle.mp_history.specs.declared.fault.AuditFault.TheVariants as faults;
 
 use mp_memory::NoMemory;
 use thiserror::Error;
 
-/// Why an audit gives no pool: the first bad place of the history, from 0. `NoMemory` may stand in place of any answer.
+/// Why an audit gives no pool: the first bad place of the history, from 0. `NoMemory` may stand in
+/// place of any answer.
 #[derive(Clone, Copy, Debug, PartialEq, Eq, Error)]
 pub enum AuditFault {
     #[error("no memory")]
@@ -23,7 +24,7 @@ pub enum AuditFault {
 impl AuditFault {
     /// The number of the fault: 1 to 3.
     pub const fn number(&self) -> u64
-        ensures { result ≡ audit_number self.now }
+        ensures { result ≡ audit_fault.number self.now }
     {
         match self {
             AuditFault::NoMemory => 1,

@@ -1,45 +1,45 @@
 //! Whether a history is legal.
 
-ghost use Rattle.std.specs.Prelude.{◌≡◌, ◌≢◌, IfOk, OnOk, IfErr};
+ghost use Rattle.std.specs.Prelude.{◌≡◌, ◌≢◌, Some, IfOk, OnOk, IfErr};
 ghost use Rattle.mp_seqpool.specs.Config.{fresh_pool};
 ghost use Rattle.mp_seqpool.specs.SlowPool.{next};
 ghost use Rattle.mp_history.specs.Log.{IsRight, IsLegal, pool_of};
-ghost use Rattle.mp_history.specs.Faults.{IsFaultAt, IsFirstFault, IsIllegal};
+ghost use Rattle.mp_history.specs.AuditFault.{entry_fault, IsFaultOf, IsIllegal};
 ghost use Rattle.mp_history.specs.declared.fault.AuditFault.TheVariants as faults;
 
 use crate::entry::Entry;
 use crate::fault::AuditFault;
-use mp_memory::Memory;
-use mp_seqpool::{Config, Refusal, SeqPool};
+use mp_memory::{Memory, NoMemory};
+use mp_seqpool::{Config, SeqPool};
 use mp_tx::Ledger;
 
 // Does what one entry asks, where the entry is right.
 fn replay(pool: &mut SeqPool, callers: u32, place: usize, entry: &Entry) -> Result<(), AuditFault>
     ensures right { OnOk result (IsRight callers pool.old entry.now) }
-    ensures next { OnOk result (pool.new ≡ next pool.old entry.now.order) }
-    ensures fault { IfErr result (IsFaultAt callers pool.old place entry.now) }
+    ensures next { OnOk result (pool.new ≡ next pool.old entry.now.command) }
+    ensures fault { IfErr result (λ fault. fault ≢ faults.NoMemory
+        → entry_fault callers pool.old place entry.now ≡ Some fault) }
 {
     if entry.caller >= callers {
         return Err(AuditFault::StrangeCaller(place));
     }
-    match pool.execute(&entry.command) {
-        Ok(reply) => {
+    match pool.step(&entry.command) {
+        Ok(Ok(reply)) => {
             if reply == entry.reply {
                 Ok(())
             } else {
                 Err(AuditFault::WrongReply(place))
             }
         }
-        Err(refusal) => match refusal {
-            Refusal::NoMemory => Err(AuditFault::NoMemory),
-            _ => Err(AuditFault::WrongReply(place)),
-        },
+        Ok(Err(_)) => Err(AuditFault::WrongReply(place)),
+        Err(NoMemory) => Err(AuditFault::NoMemory),
     }
 }
 
-/// Runs a history of so many callers anew on a pool that opens upon the ledger state. It gives the pool after all entries
-/// where the history is legal: each entry's caller is below `callers`, and its reply is the slow pool's after the entries
-/// before it. Else it gives the first place where that fails, and the caller is looked at first there.
+/// Runs a history of so many callers anew on a pool that opens upon the ledger state. Where the
+/// history is legal, it gives the pool after all entries: each entry's caller is below `callers`, and
+/// its reply is the slow pool's after the entries before it. Otherwise it gives the first place where
+/// that fails, and the caller is looked at first there.
 pub fn audit(
     memory: Memory,
     config: Config,
@@ -49,7 +49,7 @@ pub fn audit(
 ) -> Result<SeqPool, AuditFault>
     ensures legal { OnOk result (IsLegal callers (fresh_pool config ledger.now) entries.now) }
     ensures pool { IfOk result (λ pool. pool ≡ pool_of (fresh_pool config ledger.now) entries.now) }
-    ensures fault { IfErr result (IsFirstFault callers (fresh_pool config ledger.now) entries.now) }
+    ensures fault { IfErr result (IsFaultOf callers (fresh_pool config ledger.now) entries.now) }
     ensures illegal { IfErr result (λ fault. fault ≢ faults.NoMemory
         → IsIllegal callers (fresh_pool config ledger.now) entries.now) }
 {

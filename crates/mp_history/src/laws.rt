@@ -1,12 +1,26 @@
-//! What holds of every history of a pool that many callers share.
+//! What holds of every history of a pool that many callers share, and of every audit.
 
-ghost use Rattle.std.specs.Prelude.{ℕ, List};
-ghost use Rattle.mp_seqpool.specs.Order.{Pool};
+ghost use Rattle.std.specs.Prelude.{◌≡◌, ℕ, List, None, Some};
+ghost use Rattle.mp_seqpool.specs.Pool.{Pool};
 ghost use Rattle.mp_seqpool.specs.PoolLaws.{IsLawful};
+ghost use Rattle.mp_history.specs.declared.fault.AuditFault.{AuditFault};
+ghost use Rattle.mp_history.specs.Entry.{Entry};
+ghost use Rattle.mp_history.specs.Log.{IsLegal};
+ghost use Rattle.mp_history.specs.AuditFault.{first_fault, IsFirstFault};
 ghost use Rattle.mp_history.specs.World.{Event, opens, run};
 ghost use Rattle.mp_history.specs.CoreLaw.{CoreLaw};
 
-/// However the callers' events interleave, the history stays legal, and whoever holds a version holds a true one.
+/// However the callers' events interleave, the history stays legal, and whoever holds a version
+/// holds a true one.
 pub fn interleavings()
-    ensures { (callers : ℕ) (p : Pool) (es : List Event) → IsLawful p → CoreLaw callers p es (run callers (opens p) es) }
+    ensures { (callers : ℕ) (p : Pool) (es : List Event) → IsLawful p
+        → CoreLaw callers p es (run callers (opens p) es) }
+{}
+
+/// The first fault of a history tells of its first bad entry, and a history without one is legal.
+pub fn audit_faults()
+    ensures first { (callers : ℕ) (p : Pool) (log : List Entry) (fault : AuditFault)
+        → first_fault callers p log ≡ Some fault → IsFirstFault callers p log fault }
+    ensures legal { (callers : ℕ) (p : Pool) (log : List Entry)
+        → first_fault callers p log ≡ None → IsLegal callers p log }
 {}

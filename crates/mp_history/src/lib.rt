@@ -9,4 +9,4 @@ mod laws;
 pub use entry::Entry;
 pub use fault::AuditFault;
 pub use history::audit;
-pub use laws::interleavings;
+pub use laws::{audit_faults, interleavings};

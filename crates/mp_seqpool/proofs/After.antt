@@ -8,9 +8,9 @@ use Rattle.mp_tx.specs.declared.reference.OutRef.{OutRef}
 use Rattle.mp_tx.specs.Output.{Output}
 use Rattle.mp_tx.specs.Transaction.{Transaction}
 use Rattle.mp_seqpool.specs.declared.item.Item.{Item}
-use Rattle.mp_seqpool.specs.Apply.{Unspent, spends, made, apply, after}
-use Rattle.mp_seqpool.specs.Items.{items_of}
-use Rattle.mp_seqpool.specs.Order.{transactions}
+use Rattle.mp_seqpool.specs.Apply.{Unspent, spends, output_made, apply, after}
+use Rattle.mp_seqpool.specs.Inside.Item.{items_of}
+use Rattle.mp_seqpool.specs.Pool.{transactions}
 
 pub after-append : (u : Unspent) (ts : List Transaction) (t : Transaction) → after u (ts ++ t ∷ []) ≡ apply t (after u ts)
 after-append u [] t = refl
@@ -22,7 +22,7 @@ transactions-append rest item =
     ∙ map-append (λ (i : ℕ × Transaction). i.1) (items_of rest) ((item.ticket, arc_value item.tx) ∷ [])
 
 -- what the last transaction makes, else nothing where it spends, else what the others leave
-pub after-last : (u : Unspent) (left rest : List Item) (item : Item) (r : OutRef) (m : Option Output) (s : Bool) → left ≡ rest ++ item ∷ [] → m ≡ made (arc_value item.tx) r → s ≡ spends (arc_value item.tx) r
+pub after-last : (u : Unspent) (left rest : List Item) (item : Item) (r : OutRef) (m : Option Output) (s : Bool) → left ≡ rest ++ item ∷ [] → m ≡ output_made (arc_value item.tx) r → s ≡ spends (arc_value item.tx) r
     → after u (transactions (items_of left)) r ≡ option_or m (cond s None (after u (transactions (items_of rest)) r))
 after-last u left rest item r m s is makes spent =
     ap (λ l. after u (transactions (items_of l)) r) is ∙ ap (λ ts. after u ts r) (transactions-append rest item)

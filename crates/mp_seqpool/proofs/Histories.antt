@@ -16,9 +16,10 @@ use Rattle.mp_seqpool.specs.declared.command.Reply.{Reply}
 use Rattle.mp_seqpool.specs.declared.command.Reply.TheVariants.{Accepted}
 use Rattle.mp_seqpool.specs.Apply.{Unspent, apply, after}
 use Rattle.mp_seqpool.specs.Validity.{IsValid, Chain, first_fault}
-use Rattle.mp_seqpool.specs.Order.{Order, Submit, Pool, transactions, tickets}
+use Rattle.mp_seqpool.specs.Command.{Command, Submit}
+use Rattle.mp_seqpool.specs.Pool.{Pool, transactions, tickets}
 use Rattle.mp_tx.specs.Ledger.{LedgerState}
-use Rattle.mp_seqpool.specs.Commands.{IsRefused}
+use Rattle.mp_seqpool.specs.SlowPool.{IsRefused}
 use Rattle.mp_seqpool.specs.SlowPool.{empty_pool, unspent, ticket_of, answer_rules, answer_new, answer, pool_with, next, pool_after}
 use Rattle.mp_seqpool.specs.PoolLaws.{IsLawful, Lasts, GivesNext, ObeysLaws}
 use Rattle.mp_seqpool.proofs.Valid.{valid}
@@ -107,12 +108,12 @@ kept : (P : Pool → Type 0) (p : Pool) (t : Transaction) (a : Result Reply Refu
 kept P p t (Ok r) e old new = subst P (sym (next_is p t (Ok r) e)) (new r e)
 kept P p t (Err f) e old new = subst P (sym (next_is p t (Err f) e)) old
 
-pub lawful-next : (p : Pool) (o : Order) → IsLawful p → IsLawful (next p o)
+pub lawful-next : (p : Pool) (c : Command) → IsLawful p → IsLawful (next p c)
 lawful-next p (Submit t) law = kept IsLawful p t _ refl law (λ r e. lawful-accepted p t r law e)
 
-lawful-after : (p : Pool) (os : List Order) → IsLawful p → IsLawful (pool_after p os)
+lawful-after : (p : Pool) (cs : List Command) → IsLawful p → IsLawful (pool_after p cs)
 lawful-after p [] law = law
-lawful-after p (o ∷ os) law = lawful-after (next p o) os (lawful-next p o law)
+lawful-after p (c ∷ cs) law = lawful-after (next p c) cs (lawful-next p c law)
 
 too_late : (a b : ℕ) → a ≤ b → b + 1 ≤ a → ⊥
 too_late a b le ge = omega arith
@@ -120,15 +121,15 @@ too_late a b le ge = omega arith
 Follows : Pool → Pool → Type 0
 Follows p q = (p.last ≤ q.last) × Lasts p q
 
-follows-next : (p q : Pool) (o : Order) → Follows p q → Follows p (next q o)
+follows-next : (p q : Pool) (c : Command) → Follows p q → Follows p (next q c)
 unfolding Follows
 follows-next p q (Submit t) f = kept (Follows p) q t _ refl f (λ r e. (higher p.last q.last f.0, All-push (λ i. i.0 ≤ p.last → Contains p.items i) q.items (q.last + 1, t) f.1 (λ le. absurd (too_late p.last q.last f.0 le))))
 
-follows-after : (p q : Pool) (os : List Order) → Follows p q → Follows p (pool_after q os)
+follows-after : (p q : Pool) (cs : List Command) → Follows p q → Follows p (pool_after q cs)
 follows-after p q [] f = f
-follows-after p q (o ∷ os) f = follows-after p (next q o) os (follows-next p q o f)
+follows-after p q (c ∷ cs) f = follows-after p (next q c) cs (follows-next p q c f)
 
-pool_after-append : (p : Pool) (xs ys : List Order) → pool_after p (xs ++ ys) ≡ pool_after (pool_after p xs) ys
+pool_after-append : (p : Pool) (xs ys : List Command) → pool_after p (xs ++ ys) ≡ pool_after (pool_after p xs) ys
 pool_after-append p [] ys = refl
 pool_after-append p (x ∷ xs) ys = pool_after-append (next p x) xs ys
 
@@ -136,49 +137,45 @@ follows_itself : (p : Pool) → Follows p p
 unfolding Follows
 follows_itself p = (itself p.last, λ k d lt le. (k, lt, get_or_default p.items k _ d lt))
 
-take-within : (m n : ℕ) (os : List Order) → m ≤ n → take m (take n os) ≡ take m os
-take-within zero n os le = refl
-take-within (suc m) zero os le = absurd (omega arith)
+take-within : (m n : ℕ) (cs : List Command) → m ≤ n → take m (take n cs) ≡ take m cs
+take-within zero n cs le = refl
+take-within (suc m) zero cs le = absurd (omega arith)
 take-within (suc m) (suc n) [] le = refl
-take-within (suc m) (suc n) (o ∷ os) le = ap (λ r. o ∷ r) (take-within m n os (omega arith))
+take-within (suc m) (suc n) (c ∷ cs) le = ap (λ r. c ∷ r) (take-within m n cs (omega arith))
 
-lasting : (p : Pool) (os : List Order) (m n : ℕ) → m ≤ n → Lasts (pool_after p (take m os)) (pool_after p (take n os))
+lasting : (p : Pool) (cs : List Command) (m n : ℕ) → m ≤ n → Lasts (pool_after p (take m cs)) (pool_after p (take n cs))
 unfolding Follows
-lasting p os m n le =
-    let q = pool_after p (take m os) in
-    subst (Lasts q) (sym (ap (pool_after p) (sym (take-append-drop m (take n os)) ∙ ap (λ r. r ++ drop m (take n os)) (take-within m n os le)) ∙ pool_after-append p (take m os) (drop m (take n os)))) (follows-after q q (drop m (take n os)) (follows_itself q)).1
+lasting p cs m n le =
+    let q = pool_after p (take m cs) in
+    subst (Lasts q) (sym (ap (pool_after p) (sym (take-append-drop m (take n cs)) ∙ ap (λ r. r ++ drop m (take n cs)) (take-within m n cs le)) ∙ pool_after-append p (take m cs) (drop m (take n cs)))) (follows-after q q (drop m (take n cs)) (follows_itself q)).1
 
 abbrev ticket_in : Reply → ℕ
 ticket_in (Accepted k) = k
 
-gives_next : (p : Pool) (o : Order) → GivesNext p o
+gives_next : (p : Pool) (c : Command) → GivesNext p c
 gives_next p (Submit t) k e =
     let is : k ≡ p.last + 1 = ap ticket_in (taken p t (Accepted k) e).2 in
     (is, ap (λ (q : Pool). q.last) (next_is p t (Ok (Accepted k)) e) ∙ sym is)
 
-pub obeys : (p : Pool) (os : List Order) → IsLawful p → ObeysLaws p os
-obeys p os law = record {
-  lawful = λ n. lawful-after p (take n os) law;
-  lasting = lasting p os;
-  next_ticket = λ n o. gives_next (pool_after p (take n os)) o;
+pub obeys : (p : Pool) (cs : List Command) → IsLawful p → ObeysLaws p cs
+obeys p cs law = record {
+  lawful = λ n. lawful-after p (take n cs) law;
+  lasting = lasting p cs;
+  next_ticket = λ n c. gives_next (pool_after p (take n cs)) c;
 }
 
 pub lawful-empty : (limit last : ℕ) (ledger : LedgerState) → IsLawful (empty_pool limit last ledger)
 lawful-empty limit last ledger = record { chained = tt; rising = λ k lt. absurd (omega arith); above_zero = λ k d lt. absurd (omega arith); given = λ k d lt. absurd (omega arith); distinct = λ i j d ij lt. absurd (omega arith) }
 
 -- a refusal that doesn't want memory is the slow pool's
-pub told : (p : Pool) (o : Order) (f : Refusal) → IsRefused p o f → f ≢ refusals.NoMemory → answer p o ≡ Err f
-told p o refusals.NoMemory h is = absurd (is refl)
-told p o refusals.HistoryFull h is = h
-told p o refusals.TicketsSpent h is = h
-told p o (refusals.AlreadyInPool k) h is = h
-told p o (refusals.Full n f) h is = h
-told p o (refusals.Invalid f) h is = h
+pub told : (p : Pool) (c : Command) (f : Refusal) → IsRefused p c f → f ≢ refusals.NoMemory → answer p c ≡ Err f
+told p c refusals.NoMemory h is = absurd (is refl)
+told p c _ h is = h
 
 -- a refusal changes nothing
-pub next-refused : (p : Pool) (o : Order) (f : Refusal) → answer p o ≡ Err f → next p o ≡ p
+pub next-refused : (p : Pool) (c : Command) (f : Refusal) → answer p c ≡ Err f → next p c ≡ p
 next-refused p (Submit t) f e = next_is p t (Err f) e
 
 -- every history from an opening with no transaction
-pub obeys-empty : (limit last : ℕ) (ledger : LedgerState) (os : List Order) → ObeysLaws (empty_pool limit last ledger) os
-obeys-empty limit last ledger os = obeys (empty_pool limit last ledger) os (lawful-empty limit last ledger)
+pub obeys-empty : (limit last : ℕ) (ledger : LedgerState) (cs : List Command) → ObeysLaws (empty_pool limit last ledger) cs
+obeys-empty limit last ledger cs = obeys (empty_pool limit last ledger) cs (lawful-empty limit last ledger)

@@ -6,8 +6,9 @@ use Rattle.std.proofs.lemmas.List.{map-append}
 use Rattle.mp_tx.specs.Transaction.{Transaction}
 use Rattle.mp_seqpool.specs.declared.item.Item.{Item}
 use Rattle.mp_seqpool.specs.declared.command.Reply.{Reply}
-use Rattle.mp_seqpool.specs.Items.{items_of}
-use Rattle.mp_seqpool.specs.Order.{Submit, Pool}
+use Rattle.mp_seqpool.specs.Inside.Item.{items_of}
+use Rattle.mp_seqpool.specs.Command.{Submit}
+use Rattle.mp_seqpool.specs.Pool.{Pool}
 use Rattle.mp_seqpool.specs.SlowPool.{answer, pool_with, next}
 
 -- where a submit is accepted, the state after it has the transaction last

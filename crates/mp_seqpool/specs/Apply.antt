@@ -17,12 +17,12 @@ abbrev pub spends : Transaction → OutRef → Bool
 spends t r = list_any (λ i. same_ref r i.from) t.inputs
 
 -- what the transaction makes under a reference: output k stands under its id and k
-abbrev pub made : Transaction → OutRef → Option Output
-made t r = if pointwise nat_eq r.id (id_of t) then slice_get t.outputs r.index else None
+abbrev pub output_made : Transaction → OutRef → Option Output
+output_made t r = if pointwise nat_eq r.id (id_of t) then slice_get t.outputs r.index else None
 
 -- without what the transaction spends, and with what it makes
 abbrev pub apply : Transaction → Unspent → Unspent
-apply t u r = option_or (made t r) (if spends t r then None else u r)
+apply t u r = option_or (output_made t r) (if spends t r then None else u r)
 
 -- after all of the transactions, in order
 abbrev pub after : Unspent → List Transaction → Unspent

@@ -1,7 +1,7 @@
 -- The pool that a configuration sets up.
 use Rattle.mp_tx.specs.Ledger.{LedgerState}
 use Rattle.mp_seqpool.specs.declared.config.Config.{Config}
-use Rattle.mp_seqpool.specs.Order.{Pool}
+use Rattle.mp_seqpool.specs.Pool.{Pool}
 use Rattle.mp_seqpool.specs.SlowPool.{empty_pool}
 
 -- the empty pool with the limit and the last ticket of the configuration

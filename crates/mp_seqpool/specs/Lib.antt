@@ -1,10 +1,10 @@
 pub mod Apply
 pub mod Validity
-pub mod Order
+pub mod Command
+pub mod Pool
 pub mod SlowPool
 pub mod PoolLaws
-pub mod Items
-pub mod Held
-pub mod Commands
-pub mod Numbers
 pub mod Config
+pub mod Invalid
+pub mod Refusal
+pub mod Inside

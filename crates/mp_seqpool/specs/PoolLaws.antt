@@ -5,7 +5,8 @@ use Rattle.std.specs.FinMap.{get}
 use Rattle.mp_tx.specs.Transaction.{id_of}
 use Rattle.mp_seqpool.specs.declared.command.Reply.TheVariants.{Accepted}
 use Rattle.mp_seqpool.specs.Validity.{Chain}
-use Rattle.mp_seqpool.specs.Order.{Order, Pool, transactions, tickets}
+use Rattle.mp_seqpool.specs.Command.{Command}
+use Rattle.mp_seqpool.specs.Pool.{Pool, transactions, tickets}
 use Rattle.mp_seqpool.specs.SlowPool.{answer, next, pool_after}
 
 -- One state.
@@ -26,14 +27,14 @@ abbrev pub Lasts : Pool → Pool → Type 0
 Lasts p q = All (λ i. i.0 ≤ p.last → Contains p.items i) q.items
 
 -- One command: a ticket that is given is one more than the last one, and is the last one then.
-abbrev pub GivesNext : Pool → Order → Type 0
-GivesNext p o = (k : ℕ) → answer p o ≡ Ok (Accepted k) → (k ≡ p.last + 1) × ((next p o).last ≡ k)
+abbrev pub GivesNext : Pool → Command → Type 0
+GivesNext p c = (k : ℕ) → answer p c ≡ Ok (Accepted k) → (k ≡ p.last + 1) × ((next p c).last ≡ k)
 
 -- All states on the way through a list of commands.
-pub record ObeysLaws (p : Pool) (os : List Order) : Type 0 where
+pub record ObeysLaws (p : Pool) (cs : List Command) : Type 0 where
   -- each of them is lawful
-  pub lawful : (n : ℕ) → IsLawful (pool_after p (take n os))
+  pub lawful : (n : ℕ) → IsLawful (pool_after p (take n cs))
   -- of each two of them, the later one has under the earlier one's tickets only what stood there
-  pub lasting : (m n : ℕ) → m ≤ n → Lasts (pool_after p (take m os)) (pool_after p (take n os))
+  pub lasting : (m n : ℕ) → m ≤ n → Lasts (pool_after p (take m cs)) (pool_after p (take n cs))
   -- whatever is asked there, a ticket that is given is the next one
-  pub next_ticket : (n : ℕ) (o : Order) → GivesNext (pool_after p (take n os)) o
+  pub next_ticket : (n : ℕ) (c : Command) → GivesNext (pool_after p (take n cs)) c

@@ -1,6 +1,6 @@
 -- The slow pool: a list and a map. It computes everything anew from the ledger at each question.
 -- It follows the Mempool API of ouroboros-consensus.
-use Rattle.std.specs.Prelude.{ℕ, ◌+◌, ◌*◌, ◌-◌, ◌^◌, ◌<◌, ◌≤◌, nat_eq, nat_le, nat_lt, List, [], ◌∷◌, ◌++◌, sum_by, Option, None, Some, Result, Ok, Err, is_ok, if◌then◌else◌}
+use Rattle.std.specs.Prelude.{◌≡◌, ℕ, ◌+◌, ◌*◌, ◌-◌, ◌^◌, ◌<◌, ◌≤◌, nat_eq, nat_le, nat_lt, List, [], ◌∷◌, ◌++◌, sum_by, Option, None, Some, Result, Ok, Err, is_ok, if◌then◌else◌}
 use Rattle.std.specs.Cmp.Lexicographic.{pointwise}
 use Rattle.std.specs.FinMap.{get}
 use Rattle.mp_tx.specs.Transaction.{Transaction, id_of, size_of}
@@ -12,7 +12,8 @@ use Rattle.mp_seqpool.specs.declared.command.Reply.{Reply}
 use Rattle.mp_seqpool.specs.declared.command.Reply.TheVariants.{Accepted}
 use Rattle.mp_seqpool.specs.Apply.{Unspent, after}
 use Rattle.mp_seqpool.specs.Validity.{first_fault}
-use Rattle.mp_seqpool.specs.Order.{Order, Submit, Pool, transactions}
+use Rattle.mp_seqpool.specs.Command.{Command, Submit}
+use Rattle.mp_seqpool.specs.Pool.{Pool, transactions}
 
 -- what may be spent after all transactions of the pool
 abbrev pub unspent : Pool → Unspent
@@ -41,7 +42,7 @@ answer_new p t None =
 answer_new p t (Some ticket) = Err (refusals.AlreadyInPool ticket)
 
 -- the reply to a command, or the first refusal that holds
-unfoldable pub answer : Pool → Order → Result Reply Refusal
+unfoldable pub answer : Pool → Command → Result Reply Refusal
 answer p (Submit t) =
     if nat_le p.limit p.changes then Err refusals.HistoryFull
     else if nat_le (2 ^ 64 - 1) p.last then Err refusals.TicketsSpent
@@ -52,7 +53,7 @@ abbrev pub pool_with : Pool → Transaction → Pool
 pool_with p t = record p { items = p.items ++ (p.last + 1, t) ∷ []; last = p.last + 1; changes = p.changes + 1 }
 
 -- the state after a command: a refusal changes nothing
-unfoldable pub next : Pool → Order → Pool
+unfoldable pub next : Pool → Command → Pool
 next p (Submit t) = if is_ok (answer p (Submit t)) then pool_with p t else p
 
 -- the pool can count one more transaction
@@ -65,19 +66,24 @@ pub record HasRoom (p : Pool) (t : Transaction) : Type 0 where
   pub bytes : bytes_held p + size_of t ≤ 2 ^ 40
 
 -- the refusal of an answer
-abbrev pub refused_with : Result Reply Refusal → Option Refusal
-refused_with (Ok reply) = None
-refused_with (Err refusal) = Some refusal
+abbrev pub refusal_in : Result Reply Refusal → Option Refusal
+refusal_in (Ok reply) = None
+refusal_in (Err refusal) = Some refusal
+
+-- A refusal that a call gives is the slow pool's. Memory may be wanting at any command.
+abbrev pub IsRefused : Pool → Command → Refusal → Type 0
+IsRefused p c refusals.NoMemory = Unit {0}
+IsRefused p c refusal = answer p c ≡ Err refusal
 
 -- a pool with no transaction
 abbrev pub empty_pool : ℕ → ℕ → LedgerState → Pool
 empty_pool limit last ledger = record { ledger = ledger; items = []; last = last; changes = 0; limit = limit; opening_ticket = last }
 
 -- the answers to commands in order, and the state after them
-abbrev pub answers : Pool → List Order → List (Result Reply Refusal)
+abbrev pub answers : Pool → List Command → List (Result Reply Refusal)
 answers p [] = []
-answers p (o ∷ os) = answer p o ∷ answers (next p o) os
+answers p (c ∷ cs) = answer p c ∷ answers (next p c) cs
 
-abbrev pub pool_after : Pool → List Order → Pool
+abbrev pub pool_after : Pool → List Command → Pool
 pool_after p [] = p
-pool_after p (o ∷ os) = pool_after (next p o) os
+pool_after p (c ∷ cs) = pool_after (next p c) cs

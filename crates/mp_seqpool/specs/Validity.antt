@@ -3,6 +3,7 @@ use Rattle.std.specs.Prelude.{◌≡◌, ◌≢◌, ℕ, ◌<◌, ◌==◌, List
 use Rattle.std.specs.List.{position_from, range_with_len}
 use Rattle.std.specs.Option.{option_or, option_map_or}
 use Rattle.mp_tx.specs.declared.reference.OutRef.{OutRef}
+use Rattle.mp_tx.specs.declared.input.Input.{Input}
 use Rattle.mp_tx.specs.Output.{Output}
 use Rattle.mp_tx.specs.Transaction.{Transaction, id_of}
 use Rattle.mp_seqpool.specs.declared.invalid.Invalid.{Invalid}
@@ -41,14 +42,23 @@ Chain u (t ∷ ts) = IsValid u t × Chain (apply t u) ts
 
 -- Which rule fails first, each at its least place.
 
+-- the first input that names no output
+abbrev pub missing_place : Unspent → List Input → Option ℕ
+missing_place u inputs = position_from (λ i. is_none (u i.from)) 0 inputs
+
+-- the first own output whose reference is taken
+abbrev pub taken_place : Unspent → Transaction → Option ℕ
+taken_place u t =
+    position_from (λ k. is_some (u (own_ref t k))) 0 (range_with_len 0 (length t.outputs))
+
 abbrev pub no_inputs : Transaction → Option Invalid
 no_inputs t = if length t.inputs == 0 then Some NoInputs else None
 
 abbrev pub input_missing : Unspent → Transaction → Option Invalid
-input_missing u t = option_map InputMissing (position_from (λ i. is_none (u i.from)) 0 t.inputs)
+input_missing u t = option_map InputMissing (missing_place u t.inputs)
 
 abbrev pub output_taken : Unspent → Transaction → Option Invalid
-output_taken u t = option_map OutputTaken (position_from (λ k. is_some (u (own_ref t k))) 0 (range_with_len 0 (length t.outputs)))
+output_taken u t = option_map OutputTaken (taken_place u t)
 
 -- the only token is coin: its policy is zeros, and it has no name
 abbrev pub unbalanced : Unspent → Transaction → Option Invalid

@@ -1,5 +1,6 @@
 //! What is asked of the pool, and what it replies.
 
+use crate::refusal::Refusal;
 use mp_memory::{Memory, NoMemory};
 use mp_tx::Tx;
 use std::sync::Arc;
@@ -13,11 +14,11 @@ pub enum Command {
 
 impl Command {
     ghost use Rattle.std.specs.Prelude.{◌≡◌, IfOk};
-    ghost use Rattle.mp_seqpool.specs.Commands.{order_of};
+    ghost use Rattle.mp_seqpool.specs.Inside.Command.{command_of};
 
     /// The same command. What it holds is shared, and not copied.
     pub fn share(&self) -> Result<Command, NoMemory>
-        ensures { IfOk result (λ c. order_of c ≡ order_of self.now) }
+        ensures { IfOk result (λ c. command_of c ≡ command_of self.now) }
     {
         match self {
             Command::Submit(tx) => Ok(Command::Submit(Arc::try_clone(tx)?)),
@@ -31,6 +32,9 @@ pub enum Reply {
     /// The transaction stands in the pool, last, under this ticket.
     Accepted { ticket: u64 },
 }
+
+/// What the pool answers to a command: a reply or a refusal.
+pub type Answer = Result<Reply, Refusal>;
 
 impl Reply {
     ghost use Rattle.std.specs.Prelude.{◌≡◌, IfOk};

@@ -1,12 +1,13 @@
 //! Why a transaction may not follow upon the pool.
 
 ghost use Rattle.std.specs.Prelude.{◌≡◌};
-ghost use Rattle.mp_seqpool.specs.Numbers.{invalid_number};
+ghost use Rattle.mp_seqpool.specs.Invalid as invalid;
 
 use mp_tx::{PolicyId, TokenName};
 use thiserror::Error;
 
-/// The first rule that a transaction breaks, each at its least place, upon the ledger after all transactions of the pool.
+/// The first rule that a transaction breaks upon the ledger after all transactions of the pool, at its
+/// least place.
 #[derive(Clone, Copy, Debug, PartialEq, Eq, Error)]
 pub enum Invalid {
     #[error("the transaction has no input")]
@@ -17,7 +18,8 @@ pub enum Invalid {
     /// The place of an output whose reference is taken already, from 0.
     #[error("the reference of output {0} is taken")]
     OutputTaken(usize),
-    /// The least token whose spent and paid quantities differ. The policy of coin is zeros, and its name is empty.
+    /// The least token whose spent and paid quantities differ. The policy of coin is zeros, and
+    /// its name is empty.
     #[error("what is spent and paid of a token differs: policy {0:?}, name {1:?}")]
     Unbalanced(PolicyId, TokenName),
 }
@@ -25,7 +27,7 @@ pub enum Invalid {
 impl Invalid {
     /// The number of the rule: 2, 5, 8 or 10.
     pub const fn number(&self) -> u64
-        ensures { result ≡ invalid_number self.now }
+        ensures { result ≡ invalid.number self.now }
     {
         match self {
             Invalid::NoInputs => 2,

@@ -1,10 +1,10 @@
 //! The sequential pool.
 
 ghost use Rattle.std.specs.Prelude.{◌≡◌, ◌<◌, option_copied, nat_eq};
-ghost use Rattle.mp_seqpool.specs.Items.{items_of};
+ghost use Rattle.mp_seqpool.specs.Inside.Item.{items_of};
 ghost use Rattle.mp_seqpool.specs.SlowPool.{ticket_of};
 
-use crate::command::{Command, Reply};
+use crate::command::{Answer, Command, Reply};
 use crate::config::Config;
 use crate::item::Item;
 use crate::refusal::Refusal;
@@ -14,8 +14,9 @@ use mp_tx::{Ledger, Tx, TxId};
 use std::marker::Model;
 use std::sync::Arc;
 
-/// The mempool of one thread: transactions under rising tickets, each of them valid upon the adopted ledger state after
-/// all that stand before it (the Mempool API of ouroboros-consensus). A ticket is given once and never again.
+/// The mempool of one thread (the Mempool API of ouroboros-consensus): applied in order to the
+/// adopted ledger state, every transaction is valid; each has a ticket, and tickets increase and
+/// are never reused. Any of these calls may return `NoMemory` instead, and then nothing has changed.
 #[derive(Drop)]
 pub struct SeqPool {
     config: Config,
@@ -29,13 +30,13 @@ pub struct SeqPool {
 impl Model for SeqPool {
     ghost use Rattle.std.specs.Coded.{codes};
     ghost use Rattle.std.specs.FinMap as finite;
-    ghost use Rattle.mp_seqpool.specs.Order.{Pool};
+    ghost use Rattle.mp_seqpool.specs.Pool.{Pool};
 
     ghost Value = { Pool };
 
     ghost coded = { Prim.hlevel (codes, finite.code) };
 
-    ghost use Rattle.mp_seqpool.specs.Held.{state, IsCounted};
+    ghost use Rattle.mp_seqpool.specs.Inside.SeqPool.{state, IsCounted};
 
     ghost view = { state };
 
@@ -57,11 +58,11 @@ fn ticket_under(items: &[Item], id: &TxId) -> Option<u64>
 impl SeqPool {
     ghost use Rattle.std.specs.Prelude.{◌≡◌, ◌+◌, ◌≤◌, ◌^◌, IfNone, IfOk, IfErr, OnOk, OnErr, Ok};
     ghost use Rattle.std.specs.Arc.{arc_value};
-    ghost use Rattle.mp_seqpool.specs.Items.{items_of};
-    ghost use Rattle.mp_seqpool.specs.Order.{Submit};
+    ghost use Rattle.mp_seqpool.specs.Inside.Item.{items_of};
+    ghost use Rattle.mp_seqpool.specs.Command.{Submit};
     ghost use Rattle.mp_seqpool.specs.Config.{fresh_pool};
-    ghost use Rattle.mp_seqpool.specs.SlowPool.{answer, next, refused_with, bytes_held, HasRoom};
-    ghost use Rattle.mp_seqpool.specs.Commands.{order_of, IsRefused};
+    ghost use Rattle.mp_seqpool.specs.SlowPool.{answer, next, refusal_in, IsRefused, bytes_held, HasRoom};
+    ghost use Rattle.mp_seqpool.specs.Inside.Command.{command_of};
     ghost use Rattle.mp_seqpool.specs.declared.command.Reply.TheVariants.{Accepted};
 
     /// A pool with no transaction upon the ledger state.
@@ -81,8 +82,9 @@ impl SeqPool {
     // Why the transaction is refused, if it is.
     #[tactic(auto, unfolding(crate::specs::SlowPool::answer))]
     fn refusal_of(&self, tx: &Tx) -> Option<Refusal>
-        ensures refused { refused_with (answer self.now (Submit tx.now)) ≡ result }
-        ensures taken { IfNone result (answer self.now (Submit tx.now) ≡ Ok (Accepted (self.now.last + 1))) }
+        ensures refused { refusal_in (answer self.now (Submit tx.now)) ≡ result }
+        ensures taken { IfNone result
+            (answer self.now (Submit tx.now) ≡ Ok (Accepted (self.now.last + 1))) }
         ensures room { IfNone result (HasRoom self.now tx.now) }
     {
         if self.changes >= self.config.limit {
@@ -126,13 +128,28 @@ impl SeqPool {
 
     /// Does what the command asks, as the call of its kind does.
     pub fn execute(&mut self, command: &Command) -> Result<Reply, Refusal>
-        ensures ok { IfOk result (λ reply. answer self.old (order_of command.now) ≡ Ok reply) }
-        ensures next { OnOk result (self.new ≡ next self.old (order_of command.now)) }
-        ensures refused { IfErr result (IsRefused self.old (order_of command.now)) }
+        ensures ok { IfOk result (λ reply. answer self.old (command_of command.now) ≡ Ok reply) }
+        ensures next { OnOk result (self.new ≡ next self.old (command_of command.now)) }
+        ensures refused { IfErr result (IsRefused self.old (command_of command.now)) }
         ensures err { OnErr result (self.new ≡ self.old) }
     {
         match command {
             Command::Submit(tx) => self.submit(tx),
+        }
+    }
+
+    /// Does what the command asks, and answers with the reply or the refusal.
+    pub fn step(&mut self, command: &Command) -> Result<Answer, NoMemory>
+        ensures answer { IfOk result (λ a. a ≡ answer self.old (command_of command.now)) }
+        ensures next { OnOk result (self.new ≡ next self.old (command_of command.now)) }
+        ensures err { OnErr result (self.new ≡ self.old) }
+    {
+        match self.execute(command) {
+            Ok(reply) => Ok(Ok(reply)),
+            Err(refusal) => match refusal {
+                Refusal::NoMemory => Err(NoMemory),
+                other => Ok(Err(other)),
+            },
         }
     }
 

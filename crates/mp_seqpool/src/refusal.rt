@@ -2,15 +2,15 @@
 
 ghost use Rattle.std.specs.Prelude.{◌≡◌};
 ghost use Rattle.mp_seqpool.specs.declared.refusal.Refusal.TheVariants as refusals;
-ghost use Rattle.mp_seqpool.specs.Numbers.{refusal_number};
+ghost use Rattle.mp_seqpool.specs.Refusal as told;
 
 use crate::invalid::Invalid;
 use mp_memory::NoMemory;
 use std::alloc::{AllocError, AllocFailed};
 use thiserror::Error;
 
-/// Why the pool refuses a command. Where several hold, the one with the least number is told, but `NoMemory` may stand in
-/// place of any answer. A refusal changes nothing.
+/// Why the pool refuses a command. Where several hold, the one with the least number is told, but
+/// `NoMemory` may stand in place of any answer. A refusal changes nothing.
 #[derive(Clone, Copy, Debug, PartialEq, Eq, Error)]
 pub enum Refusal {
     #[error("no memory")]
@@ -35,7 +35,7 @@ pub enum Refusal {
 impl Refusal {
     /// The number of the refusal: 1 to 6.
     pub const fn number(&self) -> u64
-        ensures { result ≡ refusal_number self.now }
+        ensures { result ≡ told.number self.now }
     {
         match self {
             Refusal::NoMemory => 1,

@@ -1,12 +1,8 @@
 //! Which rule a transaction breaks upon the pool.
 
-ghost use Rattle.std.specs.Prelude.{◌≡◌, ◌<◌, ◌≤◌, ◌^◌, ◌*◌, length, is_none, is_some, sum_by};
-ghost use Rattle.std.specs.List.{position_from, range_with_len};
-ghost use Rattle.std.specs.FinMap.{get};
-ghost use Rattle.mp_seqpool.specs.Apply.{after};
-ghost use Rattle.mp_seqpool.specs.Validity.{own_ref, coin_of, spent_coin, paid_coin, first_fault};
-ghost use Rattle.mp_seqpool.specs.Items.{items_of};
-ghost use Rattle.mp_seqpool.specs.Order.{transactions};
+ghost use Rattle.std.specs.Prelude.{◌≡◌, ◌<◌, ◌≤◌, ◌^◌, length, is_some, sum_by};
+ghost use Rattle.mp_seqpool.specs.Validity.{coin_of, missing_place, taken_place, first_fault};
+ghost use Rattle.mp_seqpool.specs.Inside.Item.{unspent_after};
 
 use crate::invalid::Invalid;
 use crate::item::Item;
@@ -16,14 +12,14 @@ use mp_tx::{Input, Ledger, OutRef, Output, PolicyId, TokenName, Tx};
 const COIN: PolicyId = [0; 32];
 
 fn is_there(ledger: &Ledger, items: &[Item], reference: &OutRef) -> bool
-    ensures { result ≡ is_some (after (get ledger.now.utxo) (transactions (items_of items.now)) reference.now) }
+    ensures { result ≡ is_some (unspent_after ledger.now items.now reference.now) }
 {
     find(ledger, items, reference).is_some()
 }
 
 // The first place of an input that names no output.
 fn missing_place(ledger: &Ledger, items: &[Item], inputs: &[Input]) -> Option<usize>
-    ensures { result ≡ position_from (λ i. is_none (after (get ledger.now.utxo) (transactions (items_of items.now)) i.from)) 0 inputs.now }
+    ensures { result ≡ missing_place (unspent_after ledger.now items.now) inputs.now }
 {
     for (place, input) in inputs.iter().enumerate() {
         if !is_there(ledger, items, &input.from) {
@@ -35,7 +31,7 @@ fn missing_place(ledger: &Ledger, items: &[Item], inputs: &[Input]) -> Option<us
 
 // The first output whose reference is taken.
 fn taken_place(ledger: &Ledger, items: &[Item], tx: &Tx) -> Option<usize>
-    ensures { result ≡ position_from (λ k. is_some (after (get ledger.now.utxo) (transactions (items_of items.now)) (own_ref tx.now k))) 0 (range_with_len 0 (length tx.now.outputs)) }
+    ensures { result ≡ taken_place (unspent_after ledger.now items.now) tx.now }
 {
     let count = tx.outputs().len() as u16;
     for index in 0..count {
@@ -51,7 +47,7 @@ fn taken_place(ledger: &Ledger, items: &[Item], tx: &Tx) -> Option<usize>
 }
 
 fn coin_at(ledger: &Ledger, items: &[Item], reference: &OutRef) -> u64
-    ensures same { result ≡ coin_of (after (get ledger.now.utxo) (transactions (items_of items.now)) reference.now) }
+    ensures same { result ≡ coin_of (unspent_after ledger.now items.now reference.now) }
     ensures small { result < 2 ^ 63 }
 {
     match find(ledger, items, reference) {
@@ -60,9 +56,10 @@ fn coin_at(ledger: &Ledger, items: &[Item], reference: &OutRef) -> u64
     }
 }
 
-fn spent(ledger: &Ledger, items: &[Item], inputs: &[Input]) -> u128
+fn spent_coin(ledger: &Ledger, items: &[Item], inputs: &[Input]) -> u128
     requires { length inputs.now ≤ 256 }
-    ensures { result ≡ sum_by (λ i. coin_of (after (get ledger.now.utxo) (transactions (items_of items.now)) i.from)) inputs.now }
+    ensures { result
+        ≡ sum_by (λ i. coin_of (unspent_after ledger.now items.now i.from)) inputs.now }
 {
     let mut total = 0;
     for input in inputs {
@@ -71,7 +68,7 @@ fn spent(ledger: &Ledger, items: &[Item], inputs: &[Input]) -> u128
     total
 }
 
-fn paid(outputs: &[Output]) -> u128
+fn paid_coin(outputs: &[Output]) -> u128
     requires { length outputs.now ≤ 256 }
     ensures { result ≡ sum_by (λ o. o.coin) outputs.now }
 {
@@ -85,7 +82,7 @@ fn paid(outputs: &[Output]) -> u128
 /// The first rule that the transaction breaks upon the ledger after all items.
 #[tactic(auto, unfolding(crate::specs::Validity::first_fault))]
 pub fn broken_rule(ledger: &Ledger, items: &[Item], tx: &Tx) -> Option<Invalid>
-    ensures { result ≡ first_fault (after (get ledger.now.utxo) (transactions (items_of items.now))) tx.now }
+    ensures { result ≡ first_fault (unspent_after ledger.now items.now) tx.now }
 {
     if tx.inputs().is_empty() {
         return Some(Invalid::NoInputs);
@@ -96,7 +93,7 @@ pub fn broken_rule(ledger: &Ledger, items: &[Item], tx: &Tx) -> Option<Invalid>
     if let Some(place) = taken_place(ledger, items, tx) {
         return Some(Invalid::OutputTaken(place));
     }
-    if spent(ledger, items, tx.inputs()) != paid(tx.outputs()) {
+    if spent_coin(ledger, items, tx.inputs()) != paid_coin(tx.outputs()) {
         return Some(Invalid::Unbalanced(COIN, TokenName::of(b"")));
     }
     None

@@ -61,6 +61,21 @@ fn execute_under(
     (ticket, memory.waits(), counts(pool))
 }
 
+// Does the same in one step.
+fn step_under(
+    memory: Memory,
+    nth: u64,
+    pool: &mut SeqPool,
+    command: &Command,
+) -> (Option<u64>, bool, Counts) {
+    memory.refuse(nth);
+    let ticket = match pool.step(command) {
+        Ok(answer) => ticket_of(answer),
+        Err(NoMemory) => Some(0),
+    };
+    (ticket, memory.waits(), counts(pool))
+}
+
 // Plays the command on a new pool under the refusal of a growth.
 fn play_under(
     memory: Memory,
@@ -101,10 +116,15 @@ fn a_command_takes_the_growth_of_its_submit(rt: HostRuntime) -> Result<(), Fail>
     let mut pool = SeqPool::start(memory, CONFIG, &ledger)?;
     let refused = execute_under(memory, 1, &mut pool, &commands[0]);
     let applied = execute_under(memory, 2, &mut pool, &commands[0]);
+    let mut pool = SeqPool::start(memory, CONFIG, &ledger)?;
+    let unstepped = step_under(memory, 1, &mut pool, &commands[0]);
+    let stepped = step_under(memory, 2, &mut pool, &commands[0]);
     let unplayed = play_under(memory, 1, &ledger, &commands);
     let played = play_under(memory, 2, &ledger, &commands);
     assert_eq!(rt; refused, (Some(0), false, NEW));
     assert_eq!(rt; applied, (Some(9), true, OF_ONE));
+    assert_eq!(rt; unstepped, (Some(0), false, NEW));
+    assert_eq!(rt; stepped, (Some(9), true, OF_ONE));
     assert_eq!(rt; unplayed, (None, false));
     assert_eq!(rt; played, (Some(OF_ONE), true));
     Ok(())

@@ -18,7 +18,7 @@ pub require_ok : {A : Type 0} (test : Bool) (fault : TxFault) (x y : A) → requ
 require_ok true fault x y e = (refl, Prim.cc)
 require_ok false fault x y e = absurd Prim.cc
 
-none_is : {A : Type 0} (o : Option A) → is_none o ≡ true → o ≡ None
+pub none_is : {A : Type 0} (o : Option A) → is_none o ≡ true → o ≡ None
 none_is None e = refl
 none_is (Some x) e = absurd Prim.cc
 

@@ -1,5 +1,6 @@
 -- Which parts may stand in a transaction, and which bytes spell one.
-use Rattle.std.specs.Prelude.{◌≡◌, ℕ, ◌<◌, ◌≤◌, ◌^◌, List, length, All, IsTrue}
+use Rattle.std.specs.Prelude.{◌≡◌, ℕ, ◌<◌, ◌≤◌, ◌^◌, List, length, IsTrue}
+use Rattle.std.specs.List.{AllByRecursion}
 use Rattle.mp_bundle.specs.Bundle.{Entry, IsBundle}
 use Rattle.mp_script.specs.Datum.{IsDatum}
 use Rattle.mp_script.specs.Script.{IsScript}
@@ -32,7 +33,7 @@ pub record IsInput (i : Input) : Type 0 where
 pub record IsValue (entries : List Entry) : Type 0 where
   pub bundle : IsBundle entries
   pub few : length entries < 2 ^ 16
-  pub policies : All (λ e. length e.0.policy ≡ 32) entries
+  pub policies : AllByRecursion (λ e. length e.0.policy ≡ 32) entries
 
 pub record IsOutput (o : Output) : Type 0 where
   pub address : length o.address ≡ 32
@@ -45,15 +46,15 @@ pub record IsSignature (s : Signature) : Type 0 where
 
 -- Each part is what it is to be by itself.
 pub record AreParts (t : Transaction) : Type 0 where
-  pub inputs : All IsInput t.inputs
-  pub references : All IsRef t.references
-  pub outputs : All IsOutput t.outputs
+  pub inputs : AllByRecursion IsInput t.inputs
+  pub references : AllByRecursion IsRef t.references
+  pub outputs : AllByRecursion IsOutput t.outputs
   pub from : t.from < 2 ^ 64
   pub to : t.to < 2 ^ 64
   pub forge : IsValue t.forge
-  pub scripts : All (IsSized IsScript) t.scripts
+  pub scripts : AllByRecursion (IsSized IsScript) t.scripts
   pub few_scripts : length t.scripts < 2 ^ 16
-  pub signatures : All IsSignature t.signatures
+  pub signatures : AllByRecursion IsSignature t.signatures
   pub few_signatures : length t.signatures < 2 ^ 16
 
 -- They may stand together.

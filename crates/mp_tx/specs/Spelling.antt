@@ -39,11 +39,15 @@ abbrev pub references_bytes : List OutRef → List ℕ
 references_bytes [] = []
 references_bytes (r ∷ refs) = counted ref_bytes (r ∷ refs)
 
+-- the first tick, and then the last
+unfoldable pub interval_bytes : ℕ × ℕ → List ℕ
+interval_bytes i = to_be_bytes w64 i.0 ++ to_be_bytes w64 i.1
+
 -- everything before the signatures
 unfoldable pub body : Transaction → List ℕ
 body t =
     version_of t.references ∷ counted input_bytes t.inputs ++ references_bytes t.references ++ counted output_bytes t.outputs
-    ++ to_be_bytes w64 t.from ++ to_be_bytes w64 t.to ++ bundle_bytes t.forge ++ counted sized t.scripts
+    ++ interval_bytes (t.from, t.to) ++ bundle_bytes t.forge ++ counted sized t.scripts
 
 unfoldable pub spelling : Transaction → List ℕ
 spelling t = body t ++ counted signature_bytes t.signatures

@@ -1,5 +1,6 @@
 -- Which fault parts and bytes have that make no transaction.
 use Rattle.std.specs.Prelude.{◌≡◌, ℕ, ◌&&◌, Bool, not, List, length, Option, None, Some, Result, Ok, Err, if◌then◌else◌, nat_le, nat_lt}
+use Rattle.std.specs.Option.{option_or}
 use Rattle.mp_tx.specs.declared.fault.TxFault.{TxFault}
 use Rattle.mp_tx.specs.declared.fault.TxFault.TheVariants.{NoMemory, Truncated, Trailing, BadVersion, NotRising, BadBundle, BadScript, BadData, BadInterval, TooLarge, ReferenceSpent, NoReferences}
 use Rattle.mp_tx.specs.declared.tx.TxParts.{TxParts}
@@ -23,14 +24,17 @@ all_rise t = rises ref_cmp (spent_refs t.inputs) && rises ref_cmp t.references &
 abbrev pub is_small : Transaction → Bool
 is_small t = nat_le (length t.inputs) 256 && nat_le (length t.references) 256 && nat_le (length t.outputs) 256 && nat_le (size_of t) 16384
 
--- the fault of parts, the first in this order
-abbrev pub parts_fault : Transaction → Option TxFault
-parts_fault t =
+-- the fault in how parts stand to each other, the first in this order
+abbrev pub order_fault : Transaction → Option TxFault
+order_fault t =
     if not (all_rise t) then Some NotRising
     else if not (spends_none t.inputs t.references) then Some ReferenceSpent
     else if nat_lt t.to t.from then Some BadInterval
-    else if not (is_small t) then Some TooLarge
     else None
+
+-- the fault of parts: what is too large is told last
+abbrev pub parts_fault : Transaction → Option TxFault
+parts_fault t = option_or (order_fault t) (if is_small t then None else Some TooLarge)
 
 -- why these parts make no transaction. Memory may be wanting for any
 abbrev pub IsPartsFault : Transaction → TxFault → Type 0

@@ -2,6 +2,7 @@
 #![tactic(auto)]
 
 mod decoding;
+mod encoding;
 mod fault;
 mod input;
 mod ledger;

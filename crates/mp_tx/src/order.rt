@@ -1,14 +1,17 @@
-//! The orders in which the parts of a transaction rise.
+//! How the parts of a transaction stand to each other.
 
 ghost use Rattle.std.specs.Prelude.{◌≡◌};
 ghost use Rattle.std.specs.Option.{option_copied};
 ghost use Rattle.mp_tx.specs.Reference.{ref_cmp, same_ref};
-ghost use Rattle.mp_tx.specs.Rising.{follows};
-ghost use Rattle.mp_tx.specs.Transaction.{script_cmp, signature_cmp, spends};
+ghost use Rattle.mp_tx.specs.Rising.{follows, rises};
+ghost use Rattle.mp_tx.specs.Transaction.{spent_refs, script_cmp, signature_cmp, spends, spends_none};
+ghost use Rattle.mp_tx.specs.TxFault.{parts_of, all_rise, order_fault};
 
+use crate::fault::TxFault;
 use crate::input::Input;
 use crate::reference::OutRef;
 use crate::signature::Signature;
+use crate::tx::TxParts;
 use mp_script::Script;
 
 /// Whether a reference is greater than the one before it, if there is one.
@@ -56,4 +59,89 @@ pub fn spends(inputs: &[Input], reference: &OutRef) -> bool
     ensures { result ≡ spends inputs.now reference.now }
 {
     inputs.iter().any(|input| is_same(reference, &input.from))
+}
+
+fn inputs_rise(inputs: &[Input]) -> bool
+    ensures { result ≡ rises ref_cmp (spent_refs inputs.now) }
+{
+    let mut before = None;
+    for input in inputs {
+        if !ref_follows(before, &input.from) {
+            return false;
+        }
+        before = Some(input.from);
+    }
+    true
+}
+
+fn references_rise(references: &[OutRef]) -> bool
+    ensures { result ≡ rises ref_cmp references.now }
+{
+    let mut before = None;
+    for reference in references {
+        if !ref_follows(before, reference) {
+            return false;
+        }
+        before = Some(*reference);
+    }
+    true
+}
+
+fn scripts_rise(scripts: &[Script]) -> bool
+    ensures { result ≡ rises script_cmp scripts.now }
+{
+    let mut before = None;
+    for script in scripts {
+        if !script_follows(before, script) {
+            return false;
+        }
+        before = Some(script);
+    }
+    true
+}
+
+fn signatures_rise(signatures: &[Signature]) -> bool
+    ensures { result ≡ rises signature_cmp signatures.now }
+{
+    let mut before = None;
+    for signature in signatures {
+        if !signature_follows(before, signature) {
+            return false;
+        }
+        before = Some(*signature);
+    }
+    true
+}
+
+fn all_rise(parts: &TxParts) -> bool
+    ensures { result ≡ all_rise (parts_of parts.now) }
+{
+    inputs_rise(&parts.inputs)
+        && references_rise(&parts.references)
+        && scripts_rise(&parts.scripts)
+        && signatures_rise(&parts.signatures)
+}
+
+fn spends_none(inputs: &[Input], references: &[OutRef]) -> bool
+    ensures { result ≡ spends_none inputs.now references.now }
+{
+    references
+        .iter()
+        .all(|reference| !spends(inputs, reference))
+}
+
+/// The fault in how the parts stand to each other, if there is one.
+pub fn order_fault(parts: &TxParts) -> Option<TxFault>
+    ensures { result ≡ order_fault (parts_of parts.now) }
+{
+    if !all_rise(parts) {
+        return Some(TxFault::NotRising);
+    }
+    if !spends_none(&parts.inputs, &parts.references) {
+        return Some(TxFault::ReferenceSpent);
+    }
+    if parts.to < parts.from {
+        return Some(TxFault::BadInterval);
+    }
+    None
 }

@@ -1,11 +1,18 @@
 //! Transactions.
 
+ghost use Rattle.std.specs.Prelude.{◌≡◌, ◌&&◌, nat_le, length};
+
+use crate::decoding::read_parts;
+use crate::encoding::{put_body, put_signatures};
+use crate::fault::TxFault;
 use crate::input::Input;
+use crate::order::order_fault;
 use crate::output::Output;
 use crate::reference::{OutRef, TxId};
 use crate::signature::Signature;
 use mp_bundle::Bundle;
-use mp_memory::Memory;
+use mp_bytes::digest;
+use mp_memory::{Memory, NoMemory};
 use mp_script::Script;
 use std::marker::Model;
 
@@ -56,9 +63,85 @@ impl Model for Tx {
     ghost invariant = { IsTied };
 }
 
+fn has_few_parts(parts: &TxParts) -> bool
+    ensures {
+        result ≡ (nat_le (length parts.now.inputs.items) 256
+            && nat_le (length parts.now.references.items) 256
+            && nat_le (length parts.now.outputs.items) 256)
+    }
+{
+    parts.inputs.len() <= MAX_PARTS
+        && parts.references.len() <= MAX_PARTS
+        && parts.outputs.len() <= MAX_PARTS
+}
+
 impl Tx {
-    ghost use Rattle.std.specs.Prelude.{◌≡◌, ◌≤◌};
-    ghost use Rattle.mp_tx.specs.Spelling.{id_of, size_of};
+    ghost use Rattle.std.specs.Prelude.{◌≡◌, ◌≤◌, IfOk, IfErr};
+    ghost use Rattle.mp_tx.specs.declared.fault.TxFault.TheVariants as faults;
+    ghost use Rattle.mp_tx.specs.Transaction.{Transaction};
+    ghost use Rattle.mp_tx.specs.Spelling.{spelling, id_of, size_of};
+    ghost use Rattle.mp_tx.specs.Parts.{IsTransaction, Spells};
+    ghost use Rattle.mp_tx.specs.TxFault.{parts_of, IsPartsFault, IsBytesFault};
+
+    /// The transaction of these parts.
+    ///
+    /// # Errors
+    /// The first in this order: `NotRising` where an input, a reference, a policy script or a signature isn't greater than the
+    /// one before it, `ReferenceSpent` where a reference is also an input, `BadInterval` where the first tick is greater than
+    /// the last, and `TooLarge` where there are over 256 inputs, references or outputs, or over 16,384 bytes. `NoMemory` may
+    /// stand in place of each answer.
+    pub fn of_parts(memory: Memory, parts: TxParts) -> Result<Tx, TxFault>
+        ensures ok { IfOk result (λ t. t ≡ parts_of parts) }
+        ensures fits { IfOk result IsTransaction }
+        ensures fault { IfErr result (IsPartsFault (parts_of parts)) }
+    {
+        if let Some(fault) = order_fault(&parts) {
+            return Err(fault);
+        }
+        if !has_few_parts(&parts) {
+            return Err(TxFault::TooLarge);
+        }
+        let mut bytes = Vec::with_capacity(memory, MAX_BYTES)?;
+        put_body(&mut bytes, &parts)?;
+        let id = digest(&bytes);
+        put_signatures(&mut bytes, &parts.signatures)?;
+        if bytes.len() > MAX_BYTES {
+            return Err(TxFault::TooLarge);
+        }
+        let size = bytes.len() as u64;
+        Ok(Tx { parts, id, size })
+    }
+
+    /// The transaction that the bytes spell, in format 1 or format 2. Nothing that isn't kept takes memory.
+    ///
+    /// # Errors
+    /// `TooLarge` where there are over 16,384 bytes, and else the first fault from the left: each field whose bytes aren't all
+    /// there is `Truncated`, and each that is malformed has the fault that names it. At the end `Trailing` where bytes are
+    /// left. `NoMemory` may stand in place of each answer.
+    pub fn decode(memory: Memory, bytes: &[u8]) -> Result<Tx, TxFault>
+        ensures found { IfOk result (Spells bytes.now) }
+        ensures only {
+            (t : Transaction) → Spells bytes.now t → IfErr result (λ e. e ≡ faults.NoMemory)
+        }
+        ensures exact { IfErr result (IsBytesFault bytes.now) }
+    {
+        let (parts, body) = read_parts(memory, bytes)?;
+        Ok(Tx {
+            parts,
+            id: digest(body),
+            size: bytes.len() as u64,
+        })
+    }
+
+    /// Its bytes, made in one growth of just their number. Want of memory is the only error.
+    pub fn encode(&self, memory: Memory) -> Result<Vec<u8, Memory>, NoMemory>
+        ensures { IfOk result (λ v. v.items ≡ spelling self.now) }
+    {
+        let mut bytes = Vec::with_capacity(memory, self.size as usize)?;
+        put_body(&mut bytes, &self.parts)?;
+        put_signatures(&mut bytes, &self.parts.signatures)?;
+        Ok(bytes)
+    }
 
     /// The SHA-256 (FIPS 180-4) of its bytes before the signature count.
     pub fn id(&self) -> &TxId
@@ -73,5 +156,68 @@ impl Tx {
         ensures most { result ≤ 16384 }
     {
         self.size
+    }
+
+    /// What it spends, in rising order of the references.
+    pub fn inputs(&self) -> &[Input]
+        ensures inputs { result.now ≡ self.now.inputs }
+        ensures fits { IsTransaction self.now }
+    {
+        &self.parts.inputs
+    }
+
+    /// The outputs that it looks at and doesn't spend (CIP-31), in rising order.
+    pub fn references(&self) -> &[OutRef]
+        ensures references { result.now ≡ self.now.references }
+        ensures fits { IsTransaction self.now }
+    {
+        &self.parts.references
+    }
+
+    /// What it pays, in the order in which its parts had them.
+    pub fn outputs(&self) -> &[Output]
+        ensures outputs { result.now ≡ self.now.outputs }
+        ensures fits { IsTransaction self.now }
+    {
+        &self.parts.outputs
+    }
+
+    /// The first tick at which it may be applied.
+    pub fn from(&self) -> u64
+        ensures from { result ≡ self.now.from }
+        ensures fits { IsTransaction self.now }
+    {
+        self.parts.from
+    }
+
+    /// The last tick at which it may be applied.
+    pub fn to(&self) -> u64
+        ensures to { result ≡ self.now.to }
+        ensures fits { IsTransaction self.now }
+    {
+        self.parts.to
+    }
+
+    /// What it forges, and burns where a quantity is negative.
+    pub fn forge(&self) -> &Bundle
+        ensures { result.now ≡ self.now.forge }
+    {
+        &self.parts.forge
+    }
+
+    /// The policy scripts that it carries, in rising order of their bytes.
+    pub fn scripts(&self) -> &[Script]
+        ensures scripts { result.now ≡ self.now.scripts }
+        ensures fits { IsTransaction self.now }
+    {
+        &self.parts.scripts
+    }
+
+    /// Who has signed it, in rising order.
+    pub fn signatures(&self) -> &[Signature]
+        ensures signatures { result.now ≡ self.now.signatures }
+        ensures fits { IsTransaction self.now }
+    {
+        &self.parts.signatures
     }
 }

@@ -1,8 +1,8 @@
 use Rattle.std.proofs.Common.{◌≡◌, ◌++◌, take}
 use Rattle.std.specs.Prelude.{flat_map}
-use Rattle.mp_seqpool.specs.Items.{items_of}
+use Rattle.mp_seqpool.specs.Inside.Item.{items_of}
 use Rattle.mp_driver.specs.AnswerText.{item_text}
-use Rattle.mp_driver.specs.Held.{names_of}
+use Rattle.mp_driver.specs.Inside.Name.{names_of}
 use Rattle.mp_driver.proofs.answers.put_items.Given as goal
 
 -- the items so far

@@ -1,12 +1,13 @@
 use Rattle.std.proofs.Common.{◌≡◌, length}
 use Rattle.mp_text.specs.Words.{words_of}
 use Rattle.mp_driver.specs.Items.{empty_draft, draft_of}
-use Rattle.mp_driver.specs.Held.{names_of, drafted}
+use Rattle.mp_driver.specs.Inside.Name.{names_of}
+use Rattle.mp_driver.specs.Inside.Draft.{to_draft}
 use Rattle.mp_driver.proofs.items.draft_of.Given as goal
 
 -- the rest makes of the draft what all makes of nothing
 abbrev pub invariant-loop-word : goal.invariant-loop-word
-invariant-loop-word l = draft_of (names_of l.names) (drafted l.draft) (words_of l.rest) ≡ draft_of (names_of l.names) empty_draft (words_of l.words)
+invariant-loop-word l = draft_of (names_of l.names) (to_draft l.draft) (words_of l.rest) ≡ draft_of (names_of l.names) empty_draft (words_of l.words)
 
 abbrev pub decreases-loop-word : goal.decreases-loop-word
 decreases-loop-word l = length l.rest

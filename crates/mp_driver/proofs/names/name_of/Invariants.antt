@@ -1,6 +1,6 @@
 use Rattle.std.proofs.Common.{◌≡◌, drop}
-use Rattle.mp_driver.specs.Meanings.{name_of}
-use Rattle.mp_driver.specs.Held.{names_of}
+use Rattle.mp_driver.specs.Names.{name_of}
+use Rattle.mp_driver.specs.Inside.Name.{names_of}
 use Rattle.mp_driver.proofs.names.name_of.Given as goal
 
 -- the names that are left have it, if any has

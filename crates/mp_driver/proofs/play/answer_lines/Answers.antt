@@ -3,7 +3,7 @@ use Rattle.std.specs.Prelude.{Option}
 use Rattle.std.specs.Io.KnownBytes.{Appends}
 use Rattle.mp_text.specs.Lines.{lines_of}
 use Rattle.mp_text.specs.Output.{AppendsFront}
-use Rattle.mp_driver.specs.Staged.{scene_of}
+use Rattle.mp_driver.specs.Inside.Scene.{scene_of}
 use Rattle.mp_driver.proofs.Progress.{Progress, begins, goes_on, is_cut, stops}
 use Rattle.mp_driver.proofs.play.answer_lines.Goals as goal
 

@@ -1,6 +1,6 @@
 use Rattle.std.proofs.Common.{◌+◌, ◌≤◌, ◌^◌, length}
 use Rattle.mp_text.specs.Lines.{lines_of}
-use Rattle.mp_driver.specs.Staged.{scene_of}
+use Rattle.mp_driver.specs.Inside.Scene.{scene_of}
 use Rattle.mp_driver.proofs.Progress.{Progress}
 use Rattle.mp_driver.proofs.play.answer_lines.Given as goal
 

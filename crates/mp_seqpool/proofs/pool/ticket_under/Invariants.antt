@@ -1,5 +1,5 @@
 use Rattle.std.proofs.Common.{◌≡◌, drop}
-use Rattle.mp_seqpool.specs.Items.{items_of}
+use Rattle.mp_seqpool.specs.Inside.Item.{items_of}
 use Rattle.mp_seqpool.specs.SlowPool.{ticket_of}
 use Rattle.mp_seqpool.proofs.pool.ticket_under.Given as goal
 

@@ -4,8 +4,8 @@ use Rattle.std.specs.FinMap.{get}
 use Rattle.mp_tx.specs.Output.{Output}
 use Rattle.mp_seqpool.specs.Apply.{Unspent, after}
 use Rattle.mp_seqpool.specs.Validity.{own_ref}
-use Rattle.mp_seqpool.specs.Items.{items_of}
-use Rattle.mp_seqpool.specs.Order.{transactions}
+use Rattle.mp_seqpool.specs.Inside.Item.{items_of}
+use Rattle.mp_seqpool.specs.Pool.{transactions}
 use Rattle.mp_seqpool.proofs.Positions.{position_from-miss}
 use Rattle.mp_seqpool.proofs.rules.taken_place.Goals as goal
 

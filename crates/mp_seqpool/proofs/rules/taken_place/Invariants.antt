@@ -4,8 +4,8 @@ use Rattle.std.specs.List.{position_from, range_with_len}
 use Rattle.std.specs.FinMap.{get}
 use Rattle.mp_seqpool.specs.Apply.{after}
 use Rattle.mp_seqpool.specs.Validity.{own_ref}
-use Rattle.mp_seqpool.specs.Items.{items_of}
-use Rattle.mp_seqpool.specs.Order.{transactions}
+use Rattle.mp_seqpool.specs.Inside.Item.{items_of}
+use Rattle.mp_seqpool.specs.Pool.{transactions}
 use Rattle.mp_seqpool.proofs.rules.taken_place.Given as goal
 
 -- none before the index is taken

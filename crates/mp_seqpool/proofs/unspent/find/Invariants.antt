@@ -1,8 +1,8 @@
 use Rattle.std.proofs.Common.{◌≡◌, length}
 use Rattle.std.specs.FinMap.{get}
 use Rattle.mp_seqpool.specs.Apply.{after}
-use Rattle.mp_seqpool.specs.Items.{items_of}
-use Rattle.mp_seqpool.specs.Order.{transactions}
+use Rattle.mp_seqpool.specs.Inside.Item.{items_of}
+use Rattle.mp_seqpool.specs.Pool.{transactions}
 use Rattle.mp_seqpool.proofs.unspent.find.Given as goal
 
 -- what is left has at the reference what all have

@@ -2,7 +2,7 @@ use Rattle.std.proofs.Common.{◌+◌, refl, sym, ap, ◌∙◌}
 use Rattle.std.specs.Arc.{arc_value}
 use Rattle.mp_tx.specs.Transaction.{Transaction}
 use Rattle.mp_seqpool.specs.SlowPool.{answer, pool_with}
-use Rattle.mp_seqpool.specs.Order.{Submit}
+use Rattle.mp_seqpool.specs.Command.{Submit}
 use Rattle.mp_seqpool.proofs.Submits.{next-accepted, items_of-push}
 use Rattle.mp_seqpool.proofs.pool.SeqPool.submit.Goals as goal
 

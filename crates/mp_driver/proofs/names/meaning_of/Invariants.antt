@@ -1,8 +1,0 @@
-use Rattle.std.proofs.Common.{◌≡◌, drop}
-use Rattle.mp_driver.specs.Meanings.{meaning_of}
-use Rattle.mp_driver.specs.Held.{names_of}
-use Rattle.mp_driver.proofs.names.meaning_of.Given as goal
-
--- the names that are left say it, if any does
-abbrev pub invariant-loop-name : goal.invariant-loop-name
-invariant-loop-name l = meaning_of l.fn.word (names_of (drop l.name-index l.names)) ≡ meaning_of l.fn.word (names_of l.names)

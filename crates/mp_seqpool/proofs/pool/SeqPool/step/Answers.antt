@@ -1,0 +1,13 @@
+use Rattle.std.proofs.Common.{sym, ◌∙◌}
+use Rattle.mp_seqpool.specs.Inside.Command.{command_of}
+use Rattle.mp_seqpool.proofs.Histories.{told, next-refused}
+use Rattle.mp_seqpool.proofs.pool.SeqPool.step.Goals as goal
+
+pub returns-in_default : goal.returns-in_default
+returns-in_default c =
+    let is = told c.args.self.now (command_of c.args.command.now) c.in-Err.refusal c.in-Err.ensures.refused c.in_default.not-NoMemory in
+    record {
+      answer = sym is;
+      next = c.in-Err.ensures.err ∙ sym (next-refused c.args.self.now (command_of c.args.command.now) c.in-Err.refusal is);
+      err = tt;
+    }

@@ -1,9 +1,0 @@
-use Rattle.std.proofs.Common.{sym, ◌∙◌}
-use Rattle.mp_seqpool.specs.Commands.{order_of}
-use Rattle.mp_seqpool.proofs.Histories.{told, next-refused}
-use Rattle.mp_seqpool.proofs.run.step.Goals as goal
-
-pub returns-in_default : goal.returns-in_default
-returns-in_default c =
-    let is = told c.args.pool.now (order_of c.args.command.now) c.in-Err.refusal c.in-Err.ensures.refused c.in_default.not-NoMemory in
-    record { answer = sym is; next = c.in-Err.ensures.err ∙ sym (next-refused c.args.pool.now (order_of c.args.command.now) c.in-Err.refusal is) }

@@ -1,0 +1,13 @@
+-- A command without the share that its transaction is held by.
+use Rattle.std.specs.Prelude.{List, map}
+use Rattle.std.specs.Arc.{arc_value}
+use Rattle.mp_seqpool.specs.declared.command.Command.{Command}
+use Rattle.mp_seqpool.specs.declared.command.Command.TheVariants as commands
+use Rattle.mp_seqpool.specs.Command as told
+
+-- what a command asks for
+abbrev pub command_of : Command → told.Command
+command_of (commands.Submit tx) = told.Submit (arc_value tx)
+
+abbrev pub commands_of : List Command → List told.Command
+commands_of cs = map command_of cs

@@ -1,0 +1,26 @@
+use Rattle.std.proofs.Common.{arith, sym, ap, ◌∙◌}
+use Rattle.std.proofs.lemmas.Result.{err_from_is_err_and}
+use Rattle.sha2.specs.Sha256.{sha256}
+use Rattle.mp_tx.specs.Spelling.{body, id_of, size_of}
+use Rattle.mp_tx.specs.TxFault.{parts_of}
+use Rattle.mp_tx.proofs.PartsFaults.{only_memory}
+use Rattle.mp_tx.proofs.TxReading.{transaction_was, transaction_again, size_is}
+use Rattle.mp_tx.proofs.tx.Tx.decode.Goals as goal
+
+pub returns-in_err-parts-clause-only : goal.returns-in_err-parts-clause-only
+returns-in_err-parts-clause-only c t s =
+    let p = err_from_is_err_and c.from_residual.result c.from_residual.ensures.1 in
+    rw (p.1, p.2) (only_memory c.in_err-parts.field-0.0 (λ other. let e = sym (transaction_again c.args.bytes.now t s) ∙ c.in_err-parts.ensures.read other in Prim.cc))
+
+pub invariant_of-result : goal.invariant_of-result
+unfolding id_of
+invariant_of-result c =
+    let w = transaction_was c.args.bytes.now (parts_of c.in_ok-parts.parts) (λ i. omega (arith, c.type_inv.bytes i)) c.in_ok-parts.ensures.read in
+    record {
+      fits = w.spells.fits;
+      id = c.digest.ensures ∙ ap sha256 c.in_ok-parts.ensures.body;
+      size = sym (size_is c.args.bytes.now (parts_of c.in_ok-parts.parts) w.spells.spelled);
+    }
+
+pub returns-clause-found : goal.returns-clause-found
+returns-clause-found c = (transaction_was c.args.bytes.now (parts_of c.in_ok-parts.parts) (λ i. omega (arith, c.type_inv.bytes i)) c.in_ok-parts.ensures.read).spells
