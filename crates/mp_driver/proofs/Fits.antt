@@ -12,7 +12,10 @@ use Rattle.mp_tx.specs.Reference.{ref_cmp, RiseBy}
 use Rattle.mp_tx.specs.declared.fault.TxFault.{TxFault}
 use Rattle.mp_tx.specs.declared.fault.TxFault.TheVariants.{NoMemory, NotRising, TooLarge}
 use Rattle.mp_tx.specs.TxFault.{HasFault}
-use Rattle.mp_tx.specs.Transaction.{Transaction, IsTransaction, IsSmall, size_of}
+use Rattle.mp_tx.specs.Transaction.{Transaction}
+use Rattle.mp_tx.specs.Spelling.{size_of}
+use Rattle.mp_tx.specs.Parts.{IsTransaction}
+use Rattle.mp_tx.specs.Transaction.{IsSmall}
 use Rattle.mp_driver.specs.Items.{Draft, plain_input, transaction_of, rise, is_transaction}
 
 both : (a b : Bool) → (a && b) ≡ true → (a ≡ true) × (b ≡ true)

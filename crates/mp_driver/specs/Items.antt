@@ -6,8 +6,9 @@ use Rattle.sha2.specs.Sha256.{sha256}
 use Rattle.mp_tx.specs.declared.reference.OutRef.{OutRef}
 use Rattle.mp_tx.specs.declared.input.Input.{Input}
 use Rattle.mp_tx.specs.Reference.{ref_cmp}
-use Rattle.mp_tx.specs.Output.{Output}
-use Rattle.mp_tx.specs.Transaction.{Transaction, size_of}
+use Rattle.mp_tx.specs.declared.output.Output.{Output}
+use Rattle.mp_tx.specs.Transaction.{Transaction}
+use Rattle.mp_tx.specs.Spelling.{size_of}
 use Rattle.mp_text.specs.Numbers.{quantity_of}
 use Rattle.mp_driver.specs.Names.{Names}
 use Rattle.mp_driver.specs.References.{ref_of, insert_ref}
