@@ -69,7 +69,8 @@ impl Ledger {
     ghost use Rattle.mp_tx.specs.Ledger.{HasBlockBytes, ledger_of, refs, AreDistinct};
     ghost use Rattle.mp_tx.specs.LedgerFault.{HasFault};
 
-    /// The ledger state of these outputs, in one pass over them. The salt is the host's to pick at random and to keep secret.
+    /// The ledger state of these outputs, in one pass over them and five growths, or one where there are none. The salt is the
+    /// host's to pick at random and to keep secret.
     ///
     /// # Errors
     /// `BadBlockBytes` where a block may have no bytes or more than 2^39, and else `Repeated` with the first place whose
