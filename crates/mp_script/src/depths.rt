@@ -27,7 +27,8 @@ fn operand(depths: &mut Depths) -> Result<u8, ScriptFault>
 
 // The depth of the deepest operand, which is 0 where there is none. The operands are taken off.
 fn deepest_operand(depths: &mut Depths, operator: &Operator) -> Result<u8, ScriptFault>
-    ensures ok { IfOk result (λ d. deepest (operator_of operator.now) depths.old ≡ Ok (d, depths.new)) }
+    ensures ok { IfOk result (λ d. deepest (operator_of operator.now) depths.old ≡
+        Ok (d, depths.new)) }
     ensures err { IfErr result (λ e. deepest (operator_of operator.now) depths.old ≡ Err e) }
 {
     match operator {

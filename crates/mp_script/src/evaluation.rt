@@ -43,7 +43,8 @@ fn of_one<'a>(operator: Unary, a: Value<'a>, view: &View<'a>) -> Value<'a>
 }
 
 fn of_two<'a>(operator: Binary, a: Value<'a>, b: Value<'a>, view: &View<'a>) -> Value<'a>
-    ensures { value_of result ≡ of_two operator (view_of view.now) (value_of a.entry) (value_of b.entry) }
+    ensures { value_of result ≡
+        of_two operator (view_of view.now) (value_of a.entry) (value_of b.entry) }
 {
     match operator {
         Binary::And => logic::and(a, b),
@@ -124,7 +125,8 @@ fn act<'a>(stack: &mut Values<'a>, operator: Operator<'a>, view: &View<'a>)
 /// The value of a script in a view. It takes no memory, and goes once over the operators.
 pub fn eval<'a>(script: &'a Script, view: &View<'a>) -> Value<'a>
     requires { length view.now.outputs.now ≤ 256 }
-    ensures { (tree : Tree) → Spells script.now tree → value_of result ≡ value (view_of view.now) tree }
+    ensures { (tree : Tree) → Spells script.now tree → value_of result ≡
+        value (view_of view.now) tree }
 {
     let mut stack = Stack::new();
     let mut rest = script.bytes();

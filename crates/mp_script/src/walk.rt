@@ -51,7 +51,8 @@ fn items_end(bytes: &[u8], count: u16, most_depth: u8) -> Result<&[u8], DataFaul
 #[cycle(walk)]
 #[tactic(auto, unfolding(crate::specs::DataReading::list_read))]
 fn list_end(bytes: &[u8], most_depth: u8) -> Result<&[u8], DataFault>
-    ensures { seen (λ rest. rest.now) result ≡ rest_of (list_read (datum_read most_depth) bytes.now) }
+    ensures { seen (λ rest. rest.now) result ≡
+        rest_of (list_read (datum_read most_depth) bytes.now) }
 {
     let (count, rest) = split_count(bytes).ok_or(DataFault::Truncated)?;
     items_end(rest, count, most_depth)

@@ -1,17 +1,16 @@
 -- A bundle that is read was spelled so, and one that is spelled is read.
-use Rattle.std.proofs.Common.{◌≡◌, ℕ, ◌<◌, ◌≤◌, ◌-◌, ◌^◌, arith, Bool, true, false, List, [], ◌∷◌, ◌++◌, length, Option, None, Some, Result, Ok, Err, refl, sym, ap, subst, ◌∙◌, append_assoc, nat_lt}
+use Rattle.std.proofs.Common.{◌≡◌, ℕ, ◌≤◌, ◌-◌, ◌^◌, arith, Bool, true, List, [], ◌∷◌, ◌++◌, length, Option, None, Some, Result, Ok, refl, sym, ap, subst, ◌∙◌, append_assoc, nat_lt}
 use Rattle.std.specs.Prelude.{ℤ, not, is_none}
-use Rattle.std.specs.Int.{w16, w64, to_be_bytes, cast_unsigned}
+use Rattle.std.specs.Int.{w64, to_be_bytes, cast_unsigned}
 use Rattle.std.specs.Int.RustNames.{FitsSigned}
 use Rattle.std.specs.List.{AllByRecursion}
 use Rattle.std.specs.Option.{option_or}
 use Rattle.std.proofs.lemmas.Int.{ints}
 use Rattle.mp_bundle.specs.declared.token.Token.{Token}
 use Rattle.mp_bundle.specs.declared.fault.BundleFault.{BundleFault}
-use Rattle.mp_bundle.specs.Bundle.{Entry, IsWithin, IsBundle}
-use Rattle.mp_bundle.specs.BundleFault.{entry_fault, fault_after, fault_of}
+use Rattle.mp_bundle.specs.Bundle.{Entry, IsWithin}
+use Rattle.mp_bundle.specs.BundleFault.{entry_fault, fault_after}
 use Rattle.mp_bundle.proofs.Faults.{fine, first_none, bundle_from_none, none_from_bundle}
-use Rattle.mp_bytes.specs.Spelling.{counted}
 use Rattle.mp_bytes.specs.Fields.{number_at, run_at}
 use Rattle.mp_bytes.specs.Reading.{◌>>=◌}
 use Rattle.mp_bytes.proofs.Bytes.{IsBytes, IsBytes-rest, Takes, Takes-then, bind_ok, ok_is, or_fault_ok}
@@ -20,9 +19,9 @@ use Rattle.mp_tx.specs.declared.fault.TxFault.{TxFault}
 use Rattle.mp_tx.specs.declared.fault.TxFault.TheVariants.{Truncated, BadBundle}
 use Rattle.mp_tx.specs.Spelling.{entry_bytes, bundle_bytes}
 use Rattle.mp_tx.specs.Parts.{IsValue}
-use Rattle.mp_tx.specs.Reading.{Read, field, require, byte_read, entry_read, bundle_read}
-use Rattle.mp_tx.proofs.Entries.{require_ok, none_is, no_fault}
-use Rattle.mp_tx.proofs.Each.{EachAfter, IsSound, IsComplete, CountedWere, counted_were, counted_again}
+use Rattle.mp_tx.specs.Reading.{field, require, byte_read, entry_read, bundle_read}
+use Rattle.mp_tx.proofs.Entries.{require_ok, none_is}
+use Rattle.mp_tx.proofs.Each.{EachAfter, IsSound, IsComplete, counted_were, counted_again}
 use Rattle.mp_tx.proofs.Fields.{array_again}
 
 -- ---- steps of reading

@@ -1,5 +1,5 @@
 -- What holds of each item that is read, and of the order in which they stand.
-use Rattle.std.proofs.Common.{◌≡◌, ℕ, zero, suc, ◌<◌, ◌≤◌, ◌^◌, arith, Bool, true, false, ◌&&◌, List, [], ◌∷◌, ◌++◌, length, Option, None, Some, Result, Ok, Err, refl, sym, ap, subst, ◌∙◌, append_assoc, nat_lt}
+use Rattle.std.proofs.Common.{◌≡◌, ℕ, zero, suc, ◌<◌, ◌^◌, arith, Bool, true, false, ◌&&◌, List, [], ◌∷◌, ◌++◌, length, Option, None, Some, Ok, refl, sym, ap, subst, ◌∙◌, append_assoc, nat_lt}
 use Rattle.std.specs.Prelude.{flat_map, map, not}
 use Rattle.std.specs.Int.{w16, to_be_bytes}
 use Rattle.std.specs.List.{AllByRecursion}
@@ -9,9 +9,8 @@ use Rattle.mp_bytes.specs.Fields.{count_at}
 use Rattle.mp_bytes.specs.Reading.{◌>>=◌}
 use Rattle.mp_bytes.proofs.Bytes.{IsBytes, Takes, Takes-then, bind_ok, ok_is, or_fault_ok}
 use Rattle.mp_bytes.proofs.FieldLaws.{count_takes, count_again}
-use Rattle.mp_tx.specs.declared.fault.TxFault.{TxFault}
 use Rattle.mp_tx.specs.declared.fault.TxFault.TheVariants.{Truncated, TooLarge}
-use Rattle.mp_tx.specs.Rising.{follows, rises_after, rises}
+use Rattle.mp_tx.specs.Rising.{follows, rises_after}
 use Rattle.mp_tx.specs.Reading.{Read, field, require, items_read, counted_read, few_count_read, few_read}
 use Rattle.mp_tx.proofs.Entries.{require_ok}
 

@@ -1,5 +1,5 @@
 -- Entries that are read make a bundle.
-use Rattle.std.proofs.Common.{◌≡◌, ◌⊎◌, ℕ, zero, suc, Bool, true, false, List, [], ◌∷◌, Option, None, Some, Result, Ok, Err, refl, sym, ap, subst, ◌∙◌, nat_lt, cond}
+use Rattle.std.proofs.Common.{◌≡◌, ℕ, zero, suc, Bool, true, false, List, Option, None, Some, Ok, refl, ap, subst, ◌∙◌, nat_lt}
 use Rattle.std.specs.Prelude.{not, is_none}
 use Rattle.std.specs.Option.{option_or}
 use Rattle.mp_bundle.specs.declared.token.Token.{Token}
@@ -7,11 +7,10 @@ use Rattle.mp_bundle.specs.declared.fault.BundleFault.{BundleFault}
 use Rattle.mp_bundle.specs.Bundle.{Entry}
 use Rattle.mp_bundle.specs.BundleFault.{entry_fault, fault_after}
 use Rattle.mp_bytes.specs.Fields.{number_at, run_at}
-use Rattle.mp_bytes.specs.Reading.{◌>>=◌}
 use Rattle.mp_bytes.proofs.Bytes.{bind_ok, ok_is}
 use Rattle.mp_tx.specs.declared.fault.TxFault.{TxFault}
 use Rattle.mp_tx.specs.declared.fault.TxFault.TheVariants.{BadBundle}
-use Rattle.mp_tx.specs.Reading.{Read, require, field, byte_read, items_read, entry_read}
+use Rattle.mp_tx.specs.Reading.{require, field, byte_read, items_read, entry_read}
 
 -- what was required holds
 pub require_ok : {A : Type 0} (test : Bool) (fault : TxFault) (x y : A) → require test fault x ≡ Ok y → (test ≡ true) × (x ≡ y)

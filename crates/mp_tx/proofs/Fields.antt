@@ -1,9 +1,9 @@
 -- What the fields of a transaction are, once read, and that they are read again.
-use Rattle.std.proofs.Common.{◌≡◌, ℕ, ◌<◌, ◌≤◌, ◌^◌, arith, Bool, true, false, List, [], ◌∷◌, ◌++◌, length, Option, None, Some, Result, Ok, Err, refl, sym, ap, subst, ◌∙◌, append_assoc, nat_lt}
-use Rattle.std.specs.Prelude.{ℤ, not, is_ok, is_none}
+use Rattle.std.proofs.Common.{◌≡◌, ℕ, ◌<◌, ◌≤◌, ◌^◌, arith, Bool, true, List, ◌++◌, length, Option, Some, Result, Ok, Err, refl, ap, subst, ◌∙◌, append_assoc, nat_lt}
+use Rattle.std.specs.Prelude.{not, is_ok}
 use Rattle.std.specs.Int.{w16, w64, to_be_bytes}
 use Rattle.mp_bytes.specs.Spelling.{sized}
-use Rattle.mp_bytes.specs.Fields.{number_at, unsigned_at, count_at, run_at, sized_at}
+use Rattle.mp_bytes.specs.Fields.{unsigned_at, count_at, run_at, sized_at}
 use Rattle.mp_bytes.specs.Reading.{◌>>=◌}
 use Rattle.mp_bytes.proofs.Bytes.{IsBytes, Takes, Takes-then, bind_ok, ok_is, or_fault_ok}
 use Rattle.mp_bytes.proofs.FieldLaws.{run_takes, run_again, count_takes, count_again, sized_takes, sized_again, sized_fits, unsigned_takes, unsigned_again}
@@ -13,12 +13,11 @@ use Rattle.mp_script.specs.Script.{IsScript}
 use Rattle.mp_script.specs.ScriptReading.{script_of}
 use Rattle.mp_script.proofs.DataLaws as datums
 use Rattle.mp_script.proofs.ScriptLaws as scripts
-use Rattle.mp_tx.specs.declared.fault.TxFault.{TxFault}
 use Rattle.mp_tx.specs.declared.fault.TxFault.TheVariants.{Truncated, BadScript, BadData, BadInterval}
 use Rattle.mp_tx.specs.declared.reference.OutRef.{OutRef}
 use Rattle.mp_tx.specs.Spelling.{ref_bytes, interval_bytes}
 use Rattle.mp_tx.specs.Parts.{IsRef, IsSized}
-use Rattle.mp_tx.specs.Reading.{Read, field, require, ref_read, script_read, data_read, interval_read}
+use Rattle.mp_tx.specs.Reading.{field, require, ref_read, script_read, data_read, interval_read}
 use Rattle.mp_tx.proofs.Entries.{require_ok}
 use Rattle.mp_tx.proofs.Wholes.{script_is_ok, datum_is_ok}
 

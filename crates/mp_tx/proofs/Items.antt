@@ -1,5 +1,5 @@
 -- Reading items one after the other.
-use Rattle.std.proofs.Common.{arith, ◌≡◌, ℕ, suc, ◌+◌, ◌-◌, ◌<◌, List, [], ◌∷◌, ◌++◌, Option, None, Some, Result, Ok, Err, refl, sym, ap, subst, ◌∙◌, append_assoc}
+use Rattle.std.proofs.Common.{arith, ◌≡◌, ℕ, suc, ◌+◌, ◌-◌, ◌<◌, List, [], ◌∷◌, ◌++◌, Option, None, Some, Ok, Err, refl, sym, ap, subst, ◌∙◌, append_assoc}
 use Rattle.mp_bytes.specs.Reading.{◌>>=◌}
 use Rattle.mp_tx.specs.declared.fault.TxFault.{TxFault}
 use Rattle.std.specs.Prelude.{slice_get, length}
@@ -42,10 +42,10 @@ pub goes_on : {K X : Type 0} (key : X → K) (read : Option K → List ℕ → R
 goes_on {X = X} key read n k all done before rest x after lt way is = record {
   last = sym (last_key-push key None done x);
   same =
-    sym (after-first done x (items_read key read (Some (key x)) (n - (k + 1)) after))
-    ∙ ap (λ (r : Read X). behind done (r >>= λ first. items_read key read (Some (key first.0)) (n - (k + 1)) first.1 >>= λ more. Ok (first.0 ∷ more.0, more.1))) (sym is)
-    ∙ ap (λ m. behind done (items_read key read before m rest)) (sym (one_more n k lt))
-    ∙ way.same;
+      sym (after-first done x (items_read key read (Some (key x)) (n - (k + 1)) after))
+      ∙ ap (λ (r : Read X). behind done (r >>= λ first. items_read key read (Some (key first.0)) (n - (k + 1)) first.1 >>= λ more. Ok (first.0 ∷ more.0, more.1))) (sym is)
+      ∙ ap (λ m. behind done (items_read key read before m rest)) (sym (one_more n k lt))
+      ∙ way.same;
 }
 
 -- an item wasn't

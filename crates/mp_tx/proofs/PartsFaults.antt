@@ -1,12 +1,10 @@
 -- Parts without a fault make a transaction, and those of a transaction have none.
-use Rattle.std.proofs.Common.{◌≡◌, ◌≢◌, ℕ, ◌≤◌, arith, Bool, true, false, ◌&&◌, List, length, Option, None, Some, refl, sym, ap, subst, ◌∙◌, nat_lt, cond, ◌<◌}
-use Rattle.std.specs.Prelude.{not, nat_le, Err, Ok}
+use Rattle.std.proofs.Common.{◌≡◌, ◌≢◌, ℕ, ◌≤◌, arith, Bool, true, false, ◌&&◌, length, Option, None, Some, refl, ap, subst, ◌∙◌, nat_lt, cond, ◌<◌}
+use Rattle.std.specs.Prelude.{not, nat_le}
 use Rattle.std.specs.Option.{option_or}
 use Rattle.mp_tx.specs.declared.fault.TxFault.{TxFault}
 use Rattle.mp_tx.specs.declared.fault.TxFault.TheVariants.{NoMemory, Truncated, Trailing, BadVersion, NotRising, BadBundle, BadScript, BadData, BadInterval, TooLarge, ReferenceSpent, NoReferences}
-use Rattle.mp_tx.specs.Reference.{ref_cmp}
-use Rattle.mp_tx.specs.Rising.{rises}
-use Rattle.mp_tx.specs.Transaction.{Transaction, spent_refs, script_cmp, signature_cmp, spends_none}
+use Rattle.mp_tx.specs.Transaction.{Transaction, spends_none}
 use Rattle.mp_tx.specs.Spelling.{size_of}
 use Rattle.mp_tx.specs.Parts.{IsTransaction}
 use Rattle.mp_tx.specs.TxFault.{all_rise, is_small, order_fault, parts_fault}

@@ -1,16 +1,12 @@
 -- Inputs, references, outputs, policy scripts and signatures: what is read was spelled so, and what is spelled is read.
-use Rattle.std.proofs.Common.{◌≡◌, ℕ, ◌<◌, ◌≤◌, ◌^◌, arith, Bool, true, false, ◌&&◌, List, [], ◌∷◌, ◌++◌, length, Option, None, Some, Result, Ok, Err, refl, sym, ap, subst, ◌∙◌, append_assoc, nat_lt, nat_eq, zero, suc}
-use Rattle.std.specs.Prelude.{not, map}
-use Rattle.std.specs.List.{AllByRecursion, list_all}
-use Rattle.mp_bundle.specs.Bundle.{Entry}
-use Rattle.mp_bytes.specs.Spelling.{sized, counted}
-use Rattle.mp_bytes.specs.Fields.{count_at, run_at}
-use Rattle.mp_bytes.specs.Reading.{◌>>=◌}
-use Rattle.mp_bytes.proofs.Bytes.{IsBytes, Takes, Takes-then, bind_ok, ok_is, or_fault_ok}
-use Rattle.mp_bytes.proofs.FieldLaws.{run_takes, count_takes}
-use Rattle.mp_script.specs.Datum.{IsDatum}
+use Rattle.std.proofs.Common.{◌≡◌, ℕ, Bool, true, false, ◌&&◌, List, [], ◌∷◌, ◌++◌, Option, Some, refl, ap, subst, ◌∙◌, append_assoc}
+use Rattle.std.specs.Prelude.{not}
+use Rattle.std.specs.List.{AllByRecursion}
+use Rattle.mp_bytes.specs.Spelling.{sized}
+use Rattle.mp_bytes.specs.Fields.{run_at}
+use Rattle.mp_bytes.proofs.Bytes.{Takes, Takes-then, bind_ok, ok_is, or_fault_ok}
+use Rattle.mp_bytes.proofs.FieldLaws.{run_takes}
 use Rattle.mp_script.specs.Script.{IsScript}
-use Rattle.mp_tx.specs.declared.fault.TxFault.{TxFault}
 use Rattle.mp_tx.specs.declared.fault.TxFault.TheVariants.{Truncated, NotRising, ReferenceSpent}
 use Rattle.mp_tx.specs.declared.reference.OutRef.{OutRef}
 use Rattle.mp_tx.specs.declared.input.Input.{Input}
@@ -21,7 +17,7 @@ use Rattle.mp_tx.specs.Rising.{follows}
 use Rattle.mp_tx.specs.Transaction.{script_cmp, signature_cmp, spends, spends_none}
 use Rattle.mp_tx.specs.Spelling.{ref_bytes, input_bytes, output_bytes, signature_bytes, bundle_bytes}
 use Rattle.mp_tx.specs.Parts.{IsRef, IsSized, IsInput, IsOutput, IsSignature}
-use Rattle.mp_tx.specs.Reading.{Read, field, require, itself, ref_read, script_read, data_read, bundle_read, input_read, reference_read, output_read, policy_read, signature_read}
+use Rattle.mp_tx.specs.Reading.{field, require, itself, ref_read, script_read, data_read, bundle_read, input_read, reference_read, output_read, policy_read, signature_read}
 use Rattle.mp_tx.proofs.Entries.{require_ok}
 use Rattle.mp_tx.proofs.Each.{EachAfter, IsSound, IsComplete, Comes}
 use Rattle.mp_tx.proofs.Fields.{array_again, ref_was, ref_again, script_was, script_again, data_was, data_again}
@@ -43,11 +39,12 @@ input_was before bytes x fits e =
     let d = data_was validator.0.1 datum.0 v.0.rest_fits datum.1 in
     let redeemer = bind_ok (data_read datum.0.1) _ x datum.2 in
     let g = data_was datum.0.1 redeemer.0 d.0.rest_fits redeemer.1 in
-    subst (λ (y : Input × List ℕ). Takes bytes (input_bytes y.0) y.1 × Comes ref_cmp (λ i. i.from) IsInput before y.0) (ok_is _ x redeemer.2)
-    (Takes-then bytes (ref_bytes next.0.0 ++ sized validator.0.0 ++ sized datum.0.0) datum.0.1 (sized redeemer.0.0) redeemer.0.1
-    (Takes-then bytes (ref_bytes next.0.0 ++ sized validator.0.0) validator.0.1 (sized datum.0.0) datum.0.1
-    (Takes-then bytes (ref_bytes next.0.0) next.0.1 (sized validator.0.0) validator.0.1 n.0.0 v.0) d.0) g.0,
-    (n.1, record { from = n.0.1; validator = v.1; datum = d.1; redeemer = g.1 }))
+    subst (λ (y : Input × List ℕ). Takes bytes (input_bytes y.0) y.1 × Comes ref_cmp (λ i. i.from) IsInput before y.0) (ok_is _ x redeemer.2) (
+      Takes-then bytes (ref_bytes next.0.0 ++ sized validator.0.0 ++ sized datum.0.0) datum.0.1 (sized redeemer.0.0) redeemer.0.1
+          (Takes-then bytes (ref_bytes next.0.0 ++ sized validator.0.0) validator.0.1 (sized datum.0.0) datum.0.1
+          (Takes-then bytes (ref_bytes next.0.0) next.0.1 (sized validator.0.0) validator.0.1 n.0.0 v.0) d.0) g.0,
+      (n.1, record { from = n.0.1; validator = v.1; datum = d.1; redeemer = g.1 }),
+    )
 
 pub input_again : IsComplete input_read input_bytes (Comes ref_cmp (λ i. i.from) IsInput)
 unfolding input_read input_bytes
@@ -125,9 +122,10 @@ output_was before bytes x fits e =
     let h = run_takes 32 address.0.1 hash.0.0 hash.0.1 a.0.rest_fits (or_fault_ok Truncated _ hash.0 hash.1) in
     let value = bind_ok (bundle_read hash.0.1) _ x hash.2 in
     let v = bundle_was hash.0.1 value.0 h.0.rest_fits value.1 in
-    subst (λ (y : Output × List ℕ). Takes bytes (output_bytes y.0) y.1 × IsAny before y.0) (ok_is _ x value.2)
-    (Takes-then bytes (address.0.0 ++ hash.0.0) hash.0.1 (bundle_bytes value.0.0) value.0.1 (Takes-then bytes address.0.0 address.0.1 hash.0.0 hash.0.1 a.0 h.0) v.0,
-    record { address = a.1; datum_hash = h.1; value = v.1 })
+    subst (λ (y : Output × List ℕ). Takes bytes (output_bytes y.0) y.1 × IsAny before y.0) (ok_is _ x value.2) (
+      Takes-then bytes (address.0.0 ++ hash.0.0) hash.0.1 (bundle_bytes value.0.0) value.0.1 (Takes-then bytes address.0.0 address.0.1 hash.0.0 hash.0.1 a.0 h.0) v.0,
+      record { address = a.1; datum_hash = h.1; value = v.1 },
+    )
 
 pub output_again : IsComplete output_read output_bytes IsAny
 unfolding output_read output_bytes

@@ -1,6 +1,6 @@
 -- What is read as a transaction was spelled so, and a transaction that is spelled is read.
 use Rattle.std.proofs.lemmas.List.{take_at, length-append}
-use Rattle.std.proofs.Common.{take, ◌-◌, ◌≡◌, ◌⊎◌, ℕ, ◌<◌, ◌≤◌, ◌^◌, arith, Bool, true, false, ◌&&◌, List, [], ◌∷◌, ◌++◌, length, Option, None, Some, Result, Ok, Err, refl, sym, ap, subst, ◌∙◌, append_assoc, nat_lt, nat_eq, zero, suc, inl, inr, cond}
+use Rattle.std.proofs.Common.{take, ◌-◌, ◌≡◌, ◌⊎◌, ℕ, ◌<◌, ◌≤◌, ◌^◌, arith, Bool, true, false, List, [], ◌∷◌, ◌++◌, length, Option, None, Result, Ok, Err, refl, sym, ap, subst, ◌∙◌, append_assoc, nat_lt, nat_eq, inl, inr, cond}
 use Rattle.std.specs.Prelude.{not, map, IsTrue}
 use Rattle.std.specs.Int.{w16, to_be_bytes}
 use Rattle.std.specs.List.{AllByRecursion}
@@ -9,25 +9,25 @@ use Rattle.mp_bundle.specs.Bundle.{Entry}
 use Rattle.mp_bytes.specs.Spelling.{sized, counted}
 use Rattle.mp_bytes.specs.Fields.{count_at}
 use Rattle.mp_bytes.specs.Reading.{◌>>=◌}
-use Rattle.mp_bytes.proofs.Bytes.{IsBytes, IsBytes-rest, Takes, Takes-then, bind_ok, ok_is, or_fault_ok, chosen}
+use Rattle.mp_bytes.proofs.Bytes.{IsBytes, Takes, Takes-then, bind_ok, ok_is, or_fault_ok, chosen}
 use Rattle.mp_bytes.proofs.FieldLaws.{count_takes, count_again}
 use Rattle.mp_script.specs.Script.{IsScript}
 use Rattle.mp_tx.specs.declared.fault.TxFault.{TxFault}
-use Rattle.mp_tx.specs.declared.fault.TxFault.TheVariants.{Truncated, BadVersion, NoReferences, TooLarge, Trailing}
+use Rattle.mp_tx.specs.declared.fault.TxFault.TheVariants.{Truncated, BadVersion, NoReferences, TooLarge}
 use Rattle.mp_tx.specs.declared.reference.OutRef.{OutRef}
 use Rattle.mp_tx.specs.declared.input.Input.{Input}
 use Rattle.mp_tx.specs.declared.output.Output.{Output}
 use Rattle.mp_tx.specs.declared.signature.Signature.{Signature}
 use Rattle.mp_tx.specs.Reference.{ref_cmp}
 use Rattle.mp_tx.specs.Rising.{rises}
-use Rattle.mp_tx.specs.Transaction.{Transaction, spent_refs, script_cmp, signature_cmp, spends_none}
+use Rattle.mp_tx.specs.Transaction.{Transaction, script_cmp, signature_cmp}
 use Rattle.mp_tx.specs.Spelling.{ref_bytes, input_bytes, output_bytes, signature_bytes, bundle_bytes, interval_bytes, version_of, references_bytes, body, spelling, size_of}
-use Rattle.mp_tx.specs.Parts.{IsRef, IsSized, IsInput, IsOutput, IsSignature, IsValue, AreParts, IsTransaction, Spells}
-use Rattle.mp_tx.specs.Reading.{Read, field, require, itself, byte_read, version_read, few_read, counted_read, items_read, input_read, reference_read, references_read, output_read, interval_read, bundle_read, policy_read, signature_read, body_read, transaction_of, whole}
+use Rattle.mp_tx.specs.Parts.{IsSized, IsInput, IsOutput, IsSignature, IsValue, AreParts, IsTransaction, Spells}
+use Rattle.mp_tx.specs.Reading.{field, require, itself, byte_read, version_read, few_read, counted_read, input_read, reference_read, references_read, output_read, interval_read, bundle_read, policy_read, signature_read, body_read, transaction_of, whole}
 use Rattle.mp_tx.proofs.Entries.{require_ok}
 use Rattle.mp_tx.proofs.Each.{EachAfter, Comes, CountedWere, WereRead, counted_were, counted_again, few_were, few_again, items_were, items_again, each_rises, each_is, each_comes}
 use Rattle.mp_tx.proofs.Fields.{IsInterval, interval_was, interval_again}
-use Rattle.mp_tx.proofs.Bundles.{step, field_step, require_step, required, byte_was, byte_again, bundle_was, bundle_again}
+use Rattle.mp_tx.proofs.Bundles.{step, field_step, require_step, byte_was, byte_again, bundle_was, bundle_again}
 use Rattle.mp_tx.proofs.PartsRead.{IsLookedAt, IsAny, input_was, input_again, reference_was, reference_again, output_was, output_again, policy_was, policy_again, signature_was, signature_again, none_spent, are_refs, are_looked_at, each_output, any_output}
 
 -- ---- the version
@@ -46,8 +46,8 @@ version_was bytes v fits e =
     elim (chosen (nat_eq b.0.0 1) (Ok b.0) (require (nat_eq b.0.0 2) BadVersion b.0) (Ok v) b.2) [
       | inl p ↦ subst (λ (y : ℕ × List ℕ). Takes bytes (y.0 ∷ []) y.1 × IsVersion y.0) (ok_is b.0 v p.1) (t, inl (is_number b.0.0 1 p.0))
       | inr p ↦
-        let r = require_ok (nat_eq b.0.0 2) BadVersion b.0 v p.1 in
-        subst (λ (y : ℕ × List ℕ). Takes bytes (y.0 ∷ []) y.1 × IsVersion y.0) r.1 (t, inr (is_number b.0.0 2 r.0))
+          let r = require_ok (nat_eq b.0.0 2) BadVersion b.0 v p.1 in
+          subst (λ (y : ℕ × List ℕ). Takes bytes (y.0 ∷ []) y.1 × IsVersion y.0) r.1 (t, inr (is_number b.0.0 2 r.0))
     ]
 
 pub version_again : (refs : List OutRef) (rest : List ℕ) → version_read (version_of refs ∷ rest) ≡ Ok (version_of refs, rest)
@@ -311,12 +311,12 @@ transaction_was bytes t fits e =
     elim (chosen (nat_lt 16384 (length bytes)) (Err TooLarge) (body_read bytes >>= λ u. counted_read itself signature_read u.1 >>= λ s. whole (record u.0 { signatures = s.0 }, s.1)) (Ok t) e) [
       | inl p ↦ absurd (let e = p.1 in Prim.cc)
       | inr p ↦
-        let u = bind_ok (body_read bytes) _ t p.1 in
-        let b = body_was bytes u.0 fits u.1 in
-        let s = bind_ok (counted_read itself signature_read u.0.1) _ t u.2 in
-        let g = counted_were itself signature_read signature_bytes (Comes signature_cmp itself IsSignature) signature_was u.0.1 s.0 b.takes.rest_fits s.1 in
-        let w = whole_ok (record u.0.0 { signatures = s.0.0 }, s.0.1) t s.2 in
-        subst (TransactionWas bytes) w.same (were_read bytes u.0 s.0 (long_enough (length bytes) p.0) b g w.none)
+          let u = bind_ok (body_read bytes) _ t p.1 in
+          let b = body_was bytes u.0 fits u.1 in
+          let s = bind_ok (counted_read itself signature_read u.0.1) _ t u.2 in
+          let g = counted_were itself signature_read signature_bytes (Comes signature_cmp itself IsSignature) signature_was u.0.1 s.0 b.takes.rest_fits s.1 in
+          let w = whole_ok (record u.0.0 { signatures = s.0.0 }, s.0.1) t s.2 in
+          subst (TransactionWas bytes) w.same (were_read bytes u.0 s.0 (long_enough (length bytes) p.0) b g w.none)
     ]
 
 pub transaction_again : (bytes : List ℕ) (t : Transaction) → Spells bytes t → transaction_of bytes ≡ Ok t

@@ -1,5 +1,5 @@
 -- Bytes that are a whole script or datum are read as one.
-use Rattle.std.proofs.Common.{◌≡◌, List, ℕ, true, Ok, ap}
+use Rattle.std.proofs.Common.{◌≡◌, List, ℕ, true, ap}
 use Rattle.std.specs.Prelude.{is_ok}
 use Rattle.mp_script.specs.Datum.{IsDatum}
 use Rattle.mp_script.specs.DataReading.{datum_of}

@@ -1,5 +1,5 @@
 -- Reading a transaction from the left, with the first fault.
-use Rattle.std.specs.Prelude.{◌≡◌, ◌≢◌, ℕ, zero, suc, Bool, true, not, List, [], ◌∷◌, length, Option, None, Some, Result, Ok, Err, is_none, is_ok, if◌then◌else◌, nat_eq, nat_lt}
+use Rattle.std.specs.Prelude.{◌≡◌, ◌≢◌, ℕ, zero, suc, Bool, not, List, [], ◌∷◌, length, Option, None, Some, Result, Ok, Err, is_none, is_ok, if◌then◌else◌, nat_eq, nat_lt}
 use Rattle.mp_bytes.specs.Fields.{number_at, unsigned_at, count_at, run_at, sized_at}
 use Rattle.mp_bytes.specs.Reading.{◌>>=◌, or_fault}
 use Rattle.mp_bundle.specs.declared.token.Token.{Token}
@@ -112,7 +112,7 @@ entry_read before bytes = do
   name ← field (run_at short.0 short.1)
   quantity ← field (number_at name.1)
   require (is_none (entry_fault before (record { policy = policy.0; name = name.0 }, quantity.0))) BadBundle
-    ((record { policy = policy.0; name = name.0 }, quantity.0), quantity.1)
+      ((record { policy = policy.0; name = name.0 }, quantity.0), quantity.1)
 
 unfoldable pub bundle_read : List ℕ → Read (List Entry)
 bundle_read bytes = counted_read (λ e. e.0) entry_read bytes
@@ -176,10 +176,19 @@ body_read bytes = do
   interval ← interval_read outputs.1
   forge ← bundle_read interval.1
   scripts ← counted_read itself policy_read forge.1
-  Ok (record {
-    inputs = inputs.0; references = references.0; outputs = outputs.0; from = interval.0.0; to = interval.0.1;
-    forge = forge.0; scripts = scripts.0; signatures = [];
-  }, scripts.1)
+  Ok (
+    record {
+      inputs = inputs.0;
+      references = references.0;
+      outputs = outputs.0;
+      from = interval.0.0;
+      to = interval.0.1;
+      forge = forge.0;
+      scripts = scripts.0;
+      signatures = [];
+    },
+    scripts.1,
+  )
 
 -- the transaction that the bytes spell, or the first fault; what is too long isn't read
 unfoldable pub transaction_of : List ℕ → Result Transaction TxFault

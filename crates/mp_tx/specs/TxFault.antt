@@ -1,5 +1,5 @@
 -- Which fault parts and bytes have that make no transaction.
-use Rattle.std.specs.Prelude.{◌≡◌, ℕ, ◌&&◌, Bool, not, List, length, Option, None, Some, Result, Ok, Err, if◌then◌else◌, nat_le, nat_lt}
+use Rattle.std.specs.Prelude.{◌≡◌, ℕ, ◌&&◌, Bool, not, List, length, Option, None, Some, Err, if◌then◌else◌, nat_le, nat_lt}
 use Rattle.std.specs.Option.{option_or}
 use Rattle.mp_tx.specs.declared.fault.TxFault.{TxFault}
 use Rattle.mp_tx.specs.declared.fault.TxFault.TheVariants.{NoMemory, Truncated, Trailing, BadVersion, NotRising, BadBundle, BadScript, BadData, BadInterval, TooLarge, ReferenceSpent, NoReferences}
@@ -13,8 +13,14 @@ use Rattle.mp_tx.specs.Reading.{transaction_of}
 -- the transaction that parts make
 abbrev pub parts_of : TxParts → Transaction
 parts_of p = record {
-  inputs = p.inputs.items; references = p.references.items; outputs = p.outputs.items; from = p.from; to = p.to;
-  forge = p.forge; scripts = p.scripts.items; signatures = p.signatures.items;
+  inputs = p.inputs.items;
+  references = p.references.items;
+  outputs = p.outputs.items;
+  from = p.from;
+  to = p.to;
+  forge = p.forge;
+  scripts = p.scripts.items;
+  signatures = p.signatures.items;
 }
 
 abbrev pub all_rise : Transaction → Bool

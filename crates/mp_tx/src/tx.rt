@@ -64,11 +64,9 @@ impl Model for Tx {
 }
 
 fn has_few_parts(parts: &TxParts) -> bool
-    ensures {
-        result ≡ (nat_le (length parts.now.inputs.items) 256
-            && nat_le (length parts.now.references.items) 256
-            && nat_le (length parts.now.outputs.items) 256)
-    }
+    ensures { result ≡ (nat_le (length parts.now.inputs.items) 256
+        && nat_le (length parts.now.references.items) 256
+        && nat_le (length parts.now.outputs.items) 256) }
 {
     parts.inputs.len() <= MAX_PARTS
         && parts.references.len() <= MAX_PARTS
@@ -120,9 +118,7 @@ impl Tx {
     /// left. `NoMemory` may stand in place of each answer.
     pub fn decode(memory: Memory, bytes: &[u8]) -> Result<Tx, TxFault>
         ensures found { IfOk result (Spells bytes.now) }
-        ensures only {
-            (t : Transaction) → Spells bytes.now t → IfErr result (λ e. e ≡ faults.NoMemory)
-        }
+        ensures only { (t : Transaction) → Spells bytes.now t → IfErr result (λ e. e ≡ faults.NoMemory) }
         ensures exact { IfErr result (IsBytesFault bytes.now) }
     {
         let (parts, body) = read_parts(memory, bytes)?;

@@ -29,7 +29,8 @@ pub fn not(a: Value<'_>) -> Value<'_>
 
 /// Kleene's and: false where either is false, true where both are true.
 pub fn and<'a>(a: Value<'a>, b: Value<'a>) -> Value<'a>
-    ensures { value_of result ≡ conjunction (truth_in (value_of a.entry)) (truth_in (value_of b.entry)) }
+    ensures { value_of result ≡
+        conjunction (truth_in (value_of a.entry)) (truth_in (value_of b.entry)) }
 {
     match (truth(a), truth(b)) {
         (Some(false), _) | (_, Some(false)) => Value::Truth(false),
@@ -40,7 +41,8 @@ pub fn and<'a>(a: Value<'a>, b: Value<'a>) -> Value<'a>
 
 /// Kleene's or: true where either is true, false where both are false.
 pub fn or<'a>(a: Value<'a>, b: Value<'a>) -> Value<'a>
-    ensures { value_of result ≡ disjunction (truth_in (value_of a.entry)) (truth_in (value_of b.entry)) }
+    ensures { value_of result ≡
+        disjunction (truth_in (value_of a.entry)) (truth_in (value_of b.entry)) }
 {
     match (truth(a), truth(b)) {
         (Some(true), _) | (_, Some(true)) => Value::Truth(true),

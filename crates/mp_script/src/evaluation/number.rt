@@ -48,7 +48,8 @@ pub fn at_most<'a>(a: Value<'a>, b: Value<'a>) -> Value<'a>
 
 /// a + b.
 pub fn sum<'a>(a: Value<'a>, b: Value<'a>) -> Value<'a>
-    ensures { value_of result ≡ on_wholes (λ x y. number (x +ℤ y)) (value_of a.entry) (value_of b.entry) }
+    ensures { value_of result ≡
+        on_wholes (λ x y. number (x +ℤ y)) (value_of a.entry) (value_of b.entry) }
 {
     match wholes(a, b) {
         Some((a, b)) => whole(a.checked_add(b)),
@@ -58,7 +59,8 @@ pub fn sum<'a>(a: Value<'a>, b: Value<'a>) -> Value<'a>
 
 /// a - b.
 pub fn difference<'a>(a: Value<'a>, b: Value<'a>) -> Value<'a>
-    ensures { value_of result ≡ on_wholes (λ x y. number (x -ℤ y)) (value_of a.entry) (value_of b.entry) }
+    ensures { value_of result ≡
+        on_wholes (λ x y. number (x -ℤ y)) (value_of a.entry) (value_of b.entry) }
 {
     match wholes(a, b) {
         Some((a, b)) => whole(a.checked_sub(b)),
@@ -68,7 +70,8 @@ pub fn difference<'a>(a: Value<'a>, b: Value<'a>) -> Value<'a>
 
 /// a * b.
 pub fn product<'a>(a: Value<'a>, b: Value<'a>) -> Value<'a>
-    ensures { value_of result ≡ on_wholes (λ x y. number (x *ℤ y)) (value_of a.entry) (value_of b.entry) }
+    ensures { value_of result ≡
+        on_wholes (λ x y. number (x *ℤ y)) (value_of a.entry) (value_of b.entry) }
 {
     match wholes(a, b) {
         Some((a, b)) => whole(a.checked_mul(b)),

@@ -24,7 +24,8 @@ fn paid_by(output: &PaidTo, address: &Address, policy: &PolicyId, name: &[u8]) -
 
 fn total(outputs: &[PaidTo], address: &Address, policy: &PolicyId, name: &[u8]) -> i128
     requires { length outputs.now ≤ 256 }
-    ensures { result ≡ paid_to address.now (token policy.now name.now) (map paid_to_of outputs.now) }
+    ensures { result ≡
+        paid_to address.now (token policy.now name.now) (map paid_to_of outputs.now) }
 {
     let mut total = 0;
     for output in outputs {

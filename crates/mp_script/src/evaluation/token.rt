@@ -42,7 +42,8 @@ pub fn token_of<'a>(policy: Value<'a>, name: Value<'a>) -> Option<(&'a PolicyId,
 
 /// How much of a token a bundle holds.
 pub fn bundle_quantity<'a>(policy: Value<'a>, name: Value<'a>, bundle: &Bundle) -> Value<'a>
-    ensures { value_of result ≡ bundle_quantity bundle.now (value_of policy.entry) (value_of name.entry) }
+    ensures { value_of result ≡
+        bundle_quantity bundle.now (value_of policy.entry) (value_of name.entry) }
 {
     match token_of(policy, name) {
         Some((policy, name)) => Value::Whole(bundle.quantity(policy, name) as i128),

@@ -35,7 +35,8 @@ fn number_of(value: Value) -> Option<i64>
 }
 
 fn octets_of(value: Value<'_>) -> Option<&[u8]>
-    ensures { option_map (λ b. b.now) result ≡ option_and_then octets_in (datum_in (value_of value.entry)) }
+    ensures { option_map (λ b. b.now) result ≡
+        option_and_then octets_in (datum_in (value_of value.entry)) }
 {
     tree(value)?.octets()
 }
@@ -54,7 +55,8 @@ fn item_of<'a>(list: Value<'a>, at: Value<'a>) -> Option<DatumRef<'a>>
 
 /// The number of a datum that is a number.
 pub fn as_int(datum: Value<'_>) -> Value<'_>
-    ensures { value_of result ≡ on (option_and_then number_in (datum_in (value_of datum.entry))) whole }
+    ensures { value_of result ≡
+        on (option_and_then number_in (datum_in (value_of datum.entry))) whole }
 {
     match number_of(datum) {
         Some(number) => Value::Whole(number as i128),
@@ -64,7 +66,8 @@ pub fn as_int(datum: Value<'_>) -> Value<'_>
 
 /// The bytes of a datum that is bytes.
 pub fn as_bytes(datum: Value<'_>) -> Value<'_>
-    ensures { value_of result ≡ on (option_and_then octets_in (datum_in (value_of datum.entry))) octets }
+    ensures { value_of result ≡
+        on (option_and_then octets_in (datum_in (value_of datum.entry))) octets }
 {
     match octets_of(datum) {
         Some(octets) => Value::Octets(octets),

@@ -1,7 +1,6 @@
 -- What a transaction keeps beside its parts.
 use Rattle.std.specs.Prelude.{◌≡◌}
 use Rattle.mp_tx.specs.declared.tx.Tx.TheInside.{Inside}
-use Rattle.mp_tx.specs.declared.tx.TxParts.{TxParts}
 use Rattle.mp_tx.specs.Transaction.{Transaction}
 use Rattle.mp_tx.specs.Spelling.{id_of, size_of}
 use Rattle.mp_tx.specs.Parts.{IsTransaction}

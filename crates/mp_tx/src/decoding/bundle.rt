@@ -41,10 +41,8 @@ fn put_entries<'a>(
     bytes: &'a [u8],
 ) -> Result<&'a [u8], TxFault>
     requires { entries.old.items ≡ [] }
-    ensures {
-        Reads (λ rest. (entries.new.items, rest.now)) result
-            (items_read (λ e. e.0) entry_read None count bytes.now)
-    }
+    ensures { Reads (λ rest. (entries.new.items, rest.now)) result
+        (items_read (λ e. e.0) entry_read None count bytes.now) }
 {
     let mut before = None;
     let mut rest = bytes;

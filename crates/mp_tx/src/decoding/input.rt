@@ -42,10 +42,8 @@ fn put_inputs<'a>(
     bytes: &'a [u8],
 ) -> Result<&'a [u8], TxFault>
     requires { inputs.old.items ≡ [] }
-    ensures {
-        Reads (λ rest. (inputs.new.items, rest.now)) result
-            (items_read (λ i. i.from) input_read None count bytes.now)
-    }
+    ensures { Reads (λ rest. (inputs.new.items, rest.now)) result
+        (items_read (λ i. i.from) input_read None count bytes.now) }
 {
     let mut before = None;
     let mut rest = bytes;
@@ -63,13 +61,8 @@ fn put_inputs<'a>(
 }
 
 /// At most 256 inputs.
-pub fn read_inputs(
-    memory: Memory,
-    bytes: &[u8],
-) -> Result<(Vec<Input, Memory>, &[u8]), TxFault>
-    ensures {
-        Reads (λ x. (x.0.items, x.1.now)) result (few_read (λ i. i.from) input_read bytes.now)
-    }
+pub fn read_inputs(memory: Memory, bytes: &[u8]) -> Result<(Vec<Input, Memory>, &[u8]), TxFault>
+    ensures { Reads (λ x. (x.0.items, x.1.now)) result (few_read (λ i. i.from) input_read bytes.now) }
 {
     let (count, rest) = read_count(bytes)?;
     let mut inputs = Vec::with_capacity(memory, count as usize)?;

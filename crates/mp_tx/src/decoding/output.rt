@@ -13,10 +13,8 @@ use mp_memory::Memory;
 
 #[tactic(auto, unfolding(crate::specs::Reading::output_read))]
 fn read_output(memory: Memory, bytes: &[u8]) -> Result<(Output, &[u8]), TxFault>
-    ensures {
-        (before : Option told.Output) →
-            Reads (λ x. (x.0, x.1.now)) result (output_read before bytes.now)
-    }
+    ensures { (before : Option told.Output) →
+        Reads (λ x. (x.0, x.1.now)) result (output_read before bytes.now) }
 {
     let (address, rest) = split_array::<32>(bytes).ok_or(TxFault::Truncated)?;
     let (datum_hash, rest) = split_array::<32>(rest).ok_or(TxFault::Truncated)?;
@@ -37,10 +35,8 @@ fn put_outputs<'a>(
     bytes: &'a [u8],
 ) -> Result<&'a [u8], TxFault>
     requires { outputs.old.items ≡ [] }
-    ensures {
-        Reads (λ rest. (outputs.new.items, rest.now)) result
-            (items_read itself output_read None count bytes.now)
-    }
+    ensures { Reads (λ rest. (outputs.new.items, rest.now)) result
+        (items_read itself output_read None count bytes.now) }
 {
     let mut rest = bytes;
     for _ in 0..count {
@@ -56,10 +52,7 @@ fn put_outputs<'a>(
 }
 
 /// At most 256 outputs.
-pub fn read_outputs(
-    memory: Memory,
-    bytes: &[u8],
-) -> Result<(Vec<Output, Memory>, &[u8]), TxFault>
+pub fn read_outputs(memory: Memory, bytes: &[u8]) -> Result<(Vec<Output, Memory>, &[u8]), TxFault>
     ensures { Reads (λ x. (x.0.items, x.1.now)) result (few_read itself output_read bytes.now) }
 {
     let (count, rest) = read_count(bytes)?;

@@ -20,10 +20,8 @@ fn read_policy<'a>(
     before: Option<&Script>,
     bytes: &'a [u8],
 ) -> Result<(Script, &'a [u8]), TxFault>
-    ensures {
-        Reads (λ x. (x.0, x.1.now)) result
-            (policy_read (option_copied before.entry) bytes.now)
-    }
+    ensures { Reads (λ x. (x.0, x.1.now)) result
+        (policy_read (option_copied before.entry) bytes.now) }
 {
     let (script, rest) = read_script(memory, bytes)?;
     if !script_follows(before, &script) {
@@ -40,10 +38,8 @@ fn put_policies<'a>(
     bytes: &'a [u8],
 ) -> Result<&'a [u8], TxFault>
     requires { scripts.old.items ≡ [] }
-    ensures {
-        Reads (λ rest. (scripts.new.items, rest.now)) result
-            (items_read itself policy_read None count bytes.now)
-    }
+    ensures { Reads (λ rest. (scripts.new.items, rest.now)) result
+        (items_read itself policy_read None count bytes.now) }
 {
     let mut rest = bytes;
     for _ in 0..count {
@@ -59,10 +55,7 @@ fn put_policies<'a>(
 }
 
 /// The policy scripts.
-pub fn read_policies(
-    memory: Memory,
-    bytes: &[u8],
-) -> Result<(Vec<Script, Memory>, &[u8]), TxFault>
+pub fn read_policies(memory: Memory, bytes: &[u8]) -> Result<(Vec<Script, Memory>, &[u8]), TxFault>
     ensures { Reads (λ x. (x.0.items, x.1.now)) result (counted_read itself policy_read bytes.now) }
 {
     let (count, rest) = split_count(bytes).ok_or(TxFault::Truncated)?;

@@ -20,9 +20,7 @@ fn read_reference<'a>(
     before: Option<OutRef>,
     bytes: &'a [u8],
 ) -> Result<(OutRef, &'a [u8]), TxFault>
-    ensures {
-        seen (λ x. (x.0, x.1.now)) result ≡ reference_read inputs.now before bytes.now
-    }
+    ensures { seen (λ x. (x.0, x.1.now)) result ≡ reference_read inputs.now before bytes.now }
 {
     let (reference, rest) = read_ref(bytes)?;
     if !ref_follows(before, &reference) {
@@ -42,10 +40,8 @@ fn put_references<'a>(
     bytes: &'a [u8],
 ) -> Result<&'a [u8], TxFault>
     requires { references.old.items ≡ [] }
-    ensures {
-        Reads (λ rest. (references.new.items, rest.now)) result
-            (items_read itself (reference_read inputs.now) None count bytes.now)
-    }
+    ensures { Reads (λ rest. (references.new.items, rest.now)) result
+        (items_read itself (reference_read inputs.now) None count bytes.now) }
 {
     let mut before = None;
     let mut rest = bytes;
@@ -70,9 +66,7 @@ pub fn read_references<'a>(
     inputs: &[Input],
     bytes: &'a [u8],
 ) -> Result<(Vec<OutRef, Memory>, &'a [u8]), TxFault>
-    ensures {
-        Reads (λ x. (x.0.items, x.1.now)) result (references_read version inputs.now bytes.now)
-    }
+    ensures { Reads (λ x. (x.0.items, x.1.now)) result (references_read version inputs.now bytes.now) }
 {
     if version == FORMAT_WITHOUT_REFERENCES {
         return Ok((Vec::new(memory), bytes));

@@ -13,10 +13,7 @@ use mp_memory::Memory;
 const SIGNATURE_BYTES: usize = 96;
 
 #[tactic(auto, unfolding(crate::specs::Reading::signature_read))]
-fn read_signature(
-    before: Option<Signature>,
-    bytes: &[u8],
-) -> Result<(Signature, &[u8]), TxFault>
+fn read_signature(before: Option<Signature>, bytes: &[u8]) -> Result<(Signature, &[u8]), TxFault>
     ensures { seen (λ x. (x.0, x.1.now)) result ≡ signature_read before bytes.now }
 {
     let (key, rest) = split_array::<32>(bytes).ok_or(TxFault::Truncated)?;
@@ -38,10 +35,8 @@ fn put_signatures<'a>(
     bytes: &'a [u8],
 ) -> Result<&'a [u8], TxFault>
     requires { signatures.old.items ≡ [] }
-    ensures {
-        Reads (λ rest. (signatures.new.items, rest.now)) result
-            (items_read itself signature_read None count bytes.now)
-    }
+    ensures { Reads (λ rest. (signatures.new.items, rest.now)) result
+        (items_read itself signature_read None count bytes.now) }
 {
     let mut before = None;
     let mut rest = bytes;
@@ -63,9 +58,7 @@ pub fn read_signatures(
     memory: Memory,
     bytes: &[u8],
 ) -> Result<(Vec<Signature, Memory>, &[u8]), TxFault>
-    ensures {
-        Reads (λ x. (x.0.items, x.1.now)) result (counted_read itself signature_read bytes.now)
-    }
+    ensures { Reads (λ x. (x.0.items, x.1.now)) result (counted_read itself signature_read bytes.now) }
 {
     let (count, rest) = split_count(bytes).ok_or(TxFault::Truncated)?;
     let most = rest.len() / SIGNATURE_BYTES;

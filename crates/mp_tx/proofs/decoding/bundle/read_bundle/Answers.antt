@@ -1,4 +1,3 @@
-use Rattle.std.proofs.Common.{ap, ◌∙◌}
 use Rattle.std.specs.Prelude.{None}
 use Rattle.mp_tx.proofs.Entries.{no_faults}
 use Rattle.mp_tx.proofs.decoding.bundle.read_bundle.Goals as goal

@@ -1,5 +1,5 @@
-use Rattle.std.proofs.Common.{◌≡◌, ◌-◌, ◌+◌, List, ℕ, sym, ap, subst, ◌∙◌}
-use Rattle.std.specs.Prelude.{None, Some, length, slice_get}
+use Rattle.std.proofs.Common.{◌-◌, ◌+◌, List, ℕ, sym, ap, subst, ◌∙◌}
+use Rattle.std.specs.Prelude.{None, length, slice_get}
 use Rattle.mp_tx.specs.Reading.{items_read, itself, policy_read}
 use Rattle.mp_tx.proofs.Items.{IsOnTheWay, goes_on_last, stops, last_key, last_is}
 use Rattle.mp_tx.proofs.decoding.policy.put_policies.Goals as goal

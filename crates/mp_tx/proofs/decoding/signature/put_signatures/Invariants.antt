@@ -1,4 +1,4 @@
-use Rattle.std.proofs.Common.{◌≡◌, ◌-◌}
+use Rattle.std.proofs.Common.{◌-◌}
 use Rattle.std.specs.Prelude.{None}
 use Rattle.mp_tx.specs.Reading.{items_read, itself, signature_read}
 use Rattle.mp_tx.proofs.Items.{IsOnTheWay}

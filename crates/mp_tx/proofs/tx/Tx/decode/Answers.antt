@@ -1,7 +1,7 @@
 use Rattle.std.proofs.Common.{arith, sym, ap, ◌∙◌}
 use Rattle.std.proofs.lemmas.Result.{err_from_is_err_and}
 use Rattle.sha2.specs.Sha256.{sha256}
-use Rattle.mp_tx.specs.Spelling.{body, id_of, size_of}
+use Rattle.mp_tx.specs.Spelling.{id_of}
 use Rattle.mp_tx.specs.TxFault.{parts_of}
 use Rattle.mp_tx.proofs.PartsFaults.{only_memory}
 use Rattle.mp_tx.proofs.TxReading.{transaction_was, transaction_again, size_is}
