@@ -1,3 +1,4 @@
 pub mod Fits
+pub mod OneEntry
 pub mod Numbered
 pub mod Progress

@@ -2,7 +2,7 @@
 use Rattle.std.proofs.Common.{◌≡◌, ℕ, ◌<◌, ◌≤◌, List, [], length, get_or, sym, ap, subst, ◌∙◌, arith, length-take-le}
 use Rattle.std.proofs.lemmas.List.{get_or-map, get_or-take, length-map}
 use Rattle.mp_tx.specs.declared.reference.OutRef.{OutRef}
-use Rattle.mp_tx.specs.Output.{Output}
+use Rattle.mp_tx.specs.declared.output.Output.{Output}
 use Rattle.mp_tx.specs.Ledger.{refs, IsFirstRepeat}
 use Rattle.mp_driver.specs.References.{opening_ref}
 use Rattle.mp_driver.specs.Inside.Openings.{AreNumbered}
@@ -22,7 +22,7 @@ same_not_less a b e lt = omega arith
 pub no_repeat : (es : List (OutRef × Output)) (place : ℕ) → AreNumbered es → IsFirstRepeat (refs es) place → ⊥
 no_repeat es place n h =
     let d : OutRef = opening_ref 0 in
-    let e : OutRef × Output = (d, record { address = []; datum_hash = []; coin = 0 }) in
+    let e : OutRef × Output = (d, record { address = []; datum_hash = []; value = [] }) in
     let rs : List OutRef = refs es in
     let r : OutRef = get_or rs place d in
     let lt : place < length es = subst (λ m. place < m) (length-map es (λ (e : OutRef × Output). e.0)) h.within in

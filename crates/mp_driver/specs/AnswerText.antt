@@ -1,6 +1,7 @@
 -- The line that a command writes.
 use Rattle.std.specs.Prelude.{ℕ, List, [], ◌∷◌, ◌++◌, length, flat_map, decimal, codes, Result, Ok, Err}
-use Rattle.mp_tx.specs.Transaction.{Transaction, id_of}
+use Rattle.mp_tx.specs.Transaction.{Transaction}
+use Rattle.mp_tx.specs.Spelling.{id_of}
 use Rattle.mp_seqpool.specs.declared.invalid.Invalid.{Invalid}
 use Rattle.mp_seqpool.specs.declared.invalid.Invalid.TheVariants.{NoInputs, InputMissing, OutputTaken, Unbalanced}
 use Rattle.mp_seqpool.specs.declared.refusal.Refusal.{Refusal}

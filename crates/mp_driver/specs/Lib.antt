@@ -1,6 +1,7 @@
 pub mod Names
 pub mod AnswerText
 pub mod References
+pub mod Plain
 pub mod Items
 pub mod Scene
 pub mod Ending

@@ -2,7 +2,8 @@
 use Rattle.std.specs.Prelude.{ℕ, nat_eq, List, [], ◌∷◌, Option, None, Some, if◌then◌else◌}
 use Rattle.std.specs.Cmp.Lexicographic.{pointwise}
 use Rattle.mp_tx.specs.declared.reference.OutRef.{OutRef}
-use Rattle.mp_tx.specs.Transaction.{Transaction, id_of}
+use Rattle.mp_tx.specs.Transaction.{Transaction}
+use Rattle.mp_tx.specs.Spelling.{id_of}
 
 -- an opening output, by its reference, or a transaction
 pub data Binding : Type 0 where

@@ -2,7 +2,7 @@
 use Rattle.std.specs.Prelude.{ℕ, ◌+◌, ◌^◌, ◌&&◌, Bool, nat_eq, nat_lt, List, [], ◌∷◌, ◌++◌, length, codes, Option, None, Some, is_none, option_map, option_and_then, if◌then◌else◌}
 use Rattle.std.specs.Cmp.Lexicographic.{pointwise}
 use Rattle.mp_tx.specs.declared.reference.OutRef.{OutRef}
-use Rattle.mp_tx.specs.Output.{Output}
+use Rattle.mp_tx.specs.declared.output.Output.{Output}
 use Rattle.mp_tx.specs.Transaction.{Transaction}
 use Rattle.mp_tx.specs.Ledger.{ledger_of}
 use Rattle.mp_seqpool.specs.Command.{Submit}
@@ -14,7 +14,8 @@ use Rattle.mp_text.specs.Words.{words_of, are_none_or_comment}
 use Rattle.mp_text.specs.Lines.{is_clean}
 use Rattle.mp_driver.specs.Names.{Binding, Opening, Made, Names, binding_of, transaction_named}
 use Rattle.mp_driver.specs.References.{opening_ref}
-use Rattle.mp_driver.specs.Items.{empty_draft, draft_of, transaction_of, is_transaction, plain_output}
+use Rattle.mp_driver.specs.Items.{empty_draft, draft_of, transaction_of, is_transaction}
+use Rattle.mp_driver.specs.Plain.{plain_output}
 use Rattle.mp_driver.specs.AnswerText.{answer_text, snapshot_text}
 
 -- the opening outputs before the first command, and the pool from it on

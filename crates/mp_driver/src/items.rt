@@ -3,39 +3,35 @@
 ghost use Rattle.std.specs.Prelude.{◌≡◌, true, false, Some, None, map, option_map, IfOk, OnOk, IsErrOf};
 ghost use Rattle.mp_text.specs.Words.{words_of};
 ghost use Rattle.mp_text.specs.Numbers.{quantity_of};
-ghost use Rattle.mp_driver.specs.Items.{Spends, Pays, item_of, plain_output, plain_input, with_item, empty_draft, draft_of, transaction_of, is_transaction};
+ghost use Rattle.mp_driver.specs.Items.{Spends, Pays, item_of, with_item, empty_draft, draft_of, transaction_of, is_transaction};
+ghost use Rattle.mp_driver.specs.Plain.{plain_input, plain_output};
 ghost use Rattle.mp_driver.specs.References.{ref_of};
+ghost use Rattle.mp_tx.specs.TxFault.{parts_of};
 ghost use Rattle.mp_driver.specs.Inside.Name.{names_of};
 ghost use Rattle.mp_driver.specs.Inside.Item.{to_item};
 ghost use Rattle.mp_driver.specs.Inside.Draft.{to_draft};
 
 use crate::fault::LineFault;
 use crate::names::Name;
+use crate::plain::{Coin, plain_input, plain_output};
 use crate::references::{insert_ref, ref_of};
 use mp_memory::{Memory, NoMemory};
-use mp_text::{first_word, quantity};
+use mp_bundle::Bundle;
+use mp_text::first_word;
 use mp_tx::{Input, OutRef, Output, Tx, TxFault, TxParts};
 
-/// An input, by its reference, or an output.
+/// An input, by its reference, or an output, by its coin.
 #[derive(Debug, Drop)]
 pub enum Item {
     Spends(OutRef),
-    Pays(Output),
+    Pays(Coin),
 }
 
-/// Items put together: what is spent, rising, and what is paid.
+/// Items put together: what is spent, rising, and how much coin each output has.
 #[derive(Debug, Drop)]
 pub struct Draft {
     pub spent: Vec<OutRef, Memory>,
-    pub paid: Vec<Output, Memory>,
-}
-
-/// The output of a quantity of coin.
-pub fn output_of(word: &[u8]) -> Option<Output>
-    ensures { result ≡ option_map plain_output (quantity_of word.now) }
-{
-    let coin = quantity(word)?;
-    Some(Output::of_coin(coin))
+    pub paid: Vec<Coin, Memory>,
 }
 
 fn spends(names: &[Name], word: &[u8]) -> Option<Item>
@@ -46,11 +42,10 @@ fn spends(names: &[Name], word: &[u8]) -> Option<Item>
 }
 
 fn pays(word: &[u8]) -> Option<Item>
-    ensures { option_map to_item result
-        ≡ option_map (λ coin. Pays (plain_output coin)) (quantity_of word.now) }
+    ensures { option_map to_item result ≡ option_map Pays (quantity_of word.now) }
 {
-    let output = output_of(word)?;
-    Some(Item::Pays(output))
+    let coin = Coin::parse(word)?;
+    Some(Item::Pays(coin))
 }
 
 // in=REF or out=Q.
@@ -71,7 +66,7 @@ fn add(draft: &mut Draft, item: Item) -> Result<(), NoMemory>
 {
     match item {
         Item::Spends(reference) => insert_ref(&mut draft.spent, reference)?,
-        Item::Pays(output) => draft.paid.push(output)?,
+        Item::Pays(coin) => draft.paid.push(coin)?,
     }
     Ok(())
 }
@@ -103,29 +98,46 @@ fn inputs_of(memory: Memory, spent: &[OutRef]) -> Result<Vec<Input, Memory>, NoM
 {
     let mut inputs = Vec::new(memory);
     for reference in spent {
-        inputs.push(Input::plain(*reference))?;
+        inputs.push(plain_input(memory, *reference)?)?;
     }
     Ok(inputs)
 }
 
-/// The transaction of the draft.
-pub fn transaction_of(memory: Memory, draft: Draft) -> Result<Tx, LineFault>
-    ensures ok { IfOk result (λ t. t ≡ transaction_of (to_draft draft)) }
-    ensures fits { OnOk result (is_transaction (to_draft draft) ≡ true) }
-    ensures bad { IsErrOf result LineFault.Bad → is_transaction (to_draft draft) ≡ false }
+fn outputs_of(memory: Memory, paid: &[Coin]) -> Result<Vec<Output, Memory>, NoMemory>
+    ensures { IfOk result (λ v. v.items ≡ map plain_output paid.now) }
 {
-    let inputs = inputs_of(memory, &draft.spent)?;
-    let Draft { spent: _, paid } = draft;
-    let parts = TxParts {
-        inputs,
-        outputs: paid,
-    };
+    let mut outputs = Vec::new(memory);
+    for coin in paid {
+        outputs.push(plain_output(memory, coin)?)?;
+    }
+    Ok(outputs)
+}
+
+fn parts_of(memory: Memory, draft: &Draft) -> Result<TxParts, NoMemory>
+    ensures { IfOk result (λ p. parts_of p ≡ transaction_of (to_draft draft.now)) }
+{
+    Ok(TxParts {
+        inputs: inputs_of(memory, &draft.spent)?,
+        references: Vec::new(memory),
+        outputs: outputs_of(memory, &draft.paid)?,
+        from: 0,
+        to: u64::MAX,
+        forge: Bundle::empty(),
+        scripts: Vec::new(memory),
+        signatures: Vec::new(memory),
+    })
+}
+
+/// The transaction of the draft.
+pub fn transaction_of(memory: Memory, draft: &Draft) -> Result<Tx, LineFault>
+    ensures ok { IfOk result (λ t. t ≡ transaction_of (to_draft draft.now)) }
+    ensures fits { OnOk result (is_transaction (to_draft draft.now) ≡ true) }
+    ensures bad { IsErrOf result LineFault.Bad → is_transaction (to_draft draft.now) ≡ false }
+{
+    let parts = parts_of(memory, draft)?;
     match Tx::of_parts(memory, parts) {
         Ok(tx) => Ok(tx),
-        Err(fault) => match fault {
-            TxFault::NoMemory => Err(LineFault::NoMemory),
-            TxFault::NotRising => Err(LineFault::Bad),
-            TxFault::TooLarge => Err(LineFault::Bad),
-        },
+        Err(TxFault::NoMemory) => Err(LineFault::NoMemory),
+        Err(_) => Err(LineFault::Bad),
     }
 }

@@ -6,6 +6,7 @@ mod fault;
 mod items;
 mod names;
 mod openings;
+mod plain;
 mod play;
 mod references;
 mod scene;

@@ -16,7 +16,7 @@ pub struct Openings {
 impl Model for Openings {
     ghost use Rattle.std.specs.Prelude.{List};
     ghost use Rattle.mp_tx.specs.declared.reference.OutRef.{OutRef};
-    ghost use Rattle.mp_tx.specs.Output as told;
+    ghost use Rattle.mp_tx.specs.declared.output.Output as told;
     ghost use Rattle.mp_driver.specs.Inside.Openings.{AreNumbered};
 
     ghost Value = { List (OutRef × told.Output) };

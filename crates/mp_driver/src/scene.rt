@@ -14,17 +14,21 @@ ghost use Rattle.mp_driver.specs.Inside.Scene.{stage_of};
 
 use crate::answers::{answer_line, snapshot_line};
 use crate::fault::LineFault;
-use crate::items::{draft_of, output_of, transaction_of};
+use crate::items::{draft_of, transaction_of};
 use crate::names::{Binding, Name, binding_of, transaction_named};
 use crate::openings::Openings;
+use crate::plain::{Coin, plain_output};
 use mp_memory::{Memory, NoMemory};
 use mp_seqpool::{Command, Config, SeqPool};
 use mp_text::{first_word, is_clean, is_comment_or_blank, is_name};
-use mp_tx::{Ledger, LedgerFault, Tx};
+use mp_tx::{Ledger, LedgerFault, Salt, Tx};
 use std::mem;
 use std::sync::Arc;
 
 // The opening ledger state and the pool of every scenario.
+// Whoever runs a scenario has written it, so nobody is to be kept from choosing where outputs lie in the table.
+const SALT: u64 = 0;
+
 const TICK: u64 = 0;
 
 const BLOCK_BYTES: u64 = 500_000;
@@ -111,7 +115,7 @@ fn declare(
 fn pool_upon(memory: Memory, openings: Openings) -> Result<SeqPool, NoMemory>
     ensures { IfOk result (λ p. p ≡ pool_at (Before openings)) }
 {
-    let ledger = match Ledger::of_outputs(memory, TICK, BLOCK_BYTES, openings.into_entries()) {
+    let ledger = match Ledger::of_outputs(memory, Salt::new(SALT), TICK, BLOCK_BYTES, openings.into_entries()) {
         Ok(ledger) => ledger,
         Err(fault) => match fault {
             LedgerFault::NoMemory => return Err(NoMemory),
@@ -198,9 +202,10 @@ impl Scene {
                 if openings.len() >= MAX_OUTPUTS {
                     return Err(LineFault::Bad);
                 }
-                let Some(output) = output_of(word) else {
+                let Some(coin) = Coin::parse(word) else {
                     return Err(LineFault::Bad);
                 };
+                let output = plain_output(memory, &coin)?;
                 let reference = openings.next();
                 openings.push(output)?;
                 declare(memory, &mut self.names, name, Binding::Opening(reference))?;
@@ -228,7 +233,7 @@ impl Scene {
             return Err(LineFault::Bad);
         }
         let draft = draft_of(memory, &self.names, items)?;
-        let tx = transaction_of(memory, draft)?;
+        let tx = transaction_of(memory, &draft)?;
         let tx = Arc::new(memory, tx)?;
         declare(memory, &mut self.names, name, Binding::Made(tx))?;
         Ok(())

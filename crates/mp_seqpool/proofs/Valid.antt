@@ -3,6 +3,8 @@ use Rattle.std.proofs.Common.{◌≡◌, ◌≢◌, ℕ, zero, suc, ◌+◌, ◌
 use Rattle.std.specs.Prelude.{◌==◌, Option, None, Some, IsSome, is_none, is_some, option_map}
 use Rattle.std.specs.List.{position_from, range_with_len, AllByRecursion}
 use Rattle.std.specs.Option.{option_or}
+use Rattle.std.specs.Ordering.{int_eq}
+use Rattle.std.specs.Cmp.{signed_Decides}
 use Rattle.std.proofs.lemmas.Bool.{eqb-false}
 use Rattle.std.proofs.lemmas.List.Elements.{All-from_recursion}
 use Rattle.mp_tx.specs.Transaction.{Transaction}
@@ -57,5 +59,5 @@ valid u t e =
       spends_something = λ none. eqb-false (length t.inputs) 0 (missed (length t.inputs == 0) NoInputs None a.0).0 (ap length none);
       inputs_there = λ k d lt. there _ (All-from_recursion _ t.inputs (position_from-none (λ i. is_none (u i.from)) 0 t.inputs (unmapped InputMissing _ b.0)) k d lt);
       outputs_fresh = λ k lt. free _ (in_range (λ k. is_some (u (own_ref t k))) 0 0 (length t.outputs) (unmapped OutputTaken _ c.0) k (omega arith) (omega arith));
-      balanced = eqb-true (spent_coin u t) (paid_coin t) (held (spent_coin u t == paid_coin t) _ c.1);
+      balanced = (signed_Decides (spent_coin u t.inputs) (paid_coin t.outputs)).0 (held (int_eq (spent_coin u t.inputs) (paid_coin t.outputs)) _ c.1);
     }

@@ -5,8 +5,9 @@ use Rattle.std.specs.Option.{option_or}
 use Rattle.std.specs.Cmp.Lexicographic.{pointwise}
 use Rattle.mp_tx.specs.declared.reference.OutRef.{OutRef}
 use Rattle.mp_tx.specs.Reference.{same_ref}
-use Rattle.mp_tx.specs.Output.{Output}
-use Rattle.mp_tx.specs.Transaction.{Transaction, id_of}
+use Rattle.mp_tx.specs.declared.output.Output.{Output}
+use Rattle.mp_tx.specs.Transaction.{Transaction}
+use Rattle.mp_tx.specs.Spelling.{id_of}
 
 -- the outputs that may be spent, by their references
 abbrev pub Unspent : Type 0

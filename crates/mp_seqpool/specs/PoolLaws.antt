@@ -2,7 +2,7 @@
 use Rattle.std.specs.Prelude.{◌≡◌, ◌≢◌, ℕ, ◌+◌, ◌<◌, ◌≤◌, List, map, take, All, AllPairs, Contains, Ok}
 use Rattle.std.specs.List.Sorted.{IsStrictlyIncreasing}
 use Rattle.std.specs.FinMap.{get}
-use Rattle.mp_tx.specs.Transaction.{id_of}
+use Rattle.mp_tx.specs.Spelling.{id_of}
 use Rattle.mp_seqpool.specs.declared.command.Reply.TheVariants.{Accepted}
 use Rattle.mp_seqpool.specs.Validity.{Chain}
 use Rattle.mp_seqpool.specs.Command.{Command}

@@ -1,7 +1,7 @@
 //! Which rule a transaction breaks upon the pool.
 
-ghost use Rattle.std.specs.Prelude.{◌≡◌, ◌<◌, ◌≤◌, ◌^◌, length, is_some, sum_by};
-ghost use Rattle.mp_seqpool.specs.Validity.{coin_of, missing_place, taken_place, first_fault};
+ghost use Rattle.std.specs.Prelude.{◌≡◌, ◌≤◌, length, is_some};
+ghost use Rattle.mp_seqpool.specs.Validity.{coin_in, coin_of, spent_coin, paid_coin, missing_place, taken_place, first_fault};
 ghost use Rattle.mp_seqpool.specs.Inside.Item.{unspent_after};
 
 use crate::invalid::Invalid;
@@ -46,35 +46,39 @@ fn taken_place(ledger: &Ledger, items: &[Item], tx: &Tx) -> Option<usize>
     None
 }
 
-fn coin_at(ledger: &Ledger, items: &[Item], reference: &OutRef) -> u64
-    ensures same { result ≡ coin_of (unspent_after ledger.now items.now reference.now) }
-    ensures small { result < 2 ^ 63 }
+fn coin_in(output: &Output) -> i64
+    ensures { result ≡ coin_in output.now }
+{
+    output.value.quantity(&COIN, b"")
+}
+
+fn coin_at(ledger: &Ledger, items: &[Item], reference: &OutRef) -> i64
+    ensures { result ≡ coin_of (unspent_after ledger.now items.now reference.now) }
 {
     match find(ledger, items, reference) {
-        Some(output) => output.coin(),
+        Some(output) => coin_in(output),
         None => 0,
     }
 }
 
-fn spent_coin(ledger: &Ledger, items: &[Item], inputs: &[Input]) -> u128
+fn spent_coin(ledger: &Ledger, items: &[Item], inputs: &[Input]) -> i128
     requires { length inputs.now ≤ 256 }
-    ensures { result
-        ≡ sum_by (λ i. coin_of (unspent_after ledger.now items.now i.from)) inputs.now }
+    ensures { result ≡ spent_coin (unspent_after ledger.now items.now) inputs.now }
 {
     let mut total = 0;
     for input in inputs {
-        total += u128::from(coin_at(ledger, items, &input.from));
+        total += coin_at(ledger, items, &input.from) as i128;
     }
     total
 }
 
-fn paid_coin(outputs: &[Output]) -> u128
+fn paid_coin(outputs: &[Output]) -> i128
     requires { length outputs.now ≤ 256 }
-    ensures { result ≡ sum_by (λ o. o.coin) outputs.now }
+    ensures { result ≡ paid_coin outputs.now }
 {
     let mut total = 0;
     for output in outputs {
-        total += u128::from(output.coin());
+        total += coin_in(output) as i128;
     }
     total
 }

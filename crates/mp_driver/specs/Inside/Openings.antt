@@ -1,7 +1,7 @@
 -- What opening outputs keep beside their list.
 use Rattle.std.specs.Prelude.{◌≡◌, ℕ, ◌<◌, List, length, slice_index_or}
 use Rattle.mp_tx.specs.declared.reference.OutRef.{OutRef}
-use Rattle.mp_tx.specs.Output.{Output}
+use Rattle.mp_tx.specs.declared.output.Output.{Output}
 use Rattle.mp_driver.specs.References.{opening_ref}
 
 -- each output stands under the number of its place

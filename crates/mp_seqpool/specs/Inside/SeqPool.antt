@@ -1,6 +1,6 @@
 -- What a pool keeps beside the state that contracts see.
 use Rattle.std.specs.Prelude.{◌≡◌, ◌<◌, ◌≤◌, ◌^◌, sum_by, All}
-use Rattle.mp_tx.specs.Transaction.{size_of}
+use Rattle.mp_tx.specs.Spelling.{size_of}
 use Rattle.mp_seqpool.specs.declared.pool.SeqPool.TheInside.{Inside}
 use Rattle.mp_seqpool.specs.Inside.Item.{items_of}
 use Rattle.mp_seqpool.specs.Pool.{Pool, transactions, tickets}

@@ -1,6 +1,6 @@
 use Rattle.std.proofs.Common.{◌≡◌, take}
 use Rattle.std.specs.Prelude.{map}
-use Rattle.mp_driver.specs.Items.{plain_input}
+use Rattle.mp_driver.specs.Plain.{plain_input}
 use Rattle.mp_driver.proofs.items.inputs_of.Given as goal
 
 -- the inputs so far

@@ -1,12 +1,12 @@
-use Rattle.std.proofs.Common.{◌≡◌, ◌≤◌, ◌*◌, ◌^◌, take}
-use Rattle.std.specs.Prelude.{sum_by}
-use Rattle.std.specs.FinMap.{get}
-use Rattle.mp_seqpool.specs.Apply.{after}
-use Rattle.mp_seqpool.specs.Validity.{coin_of}
-use Rattle.mp_seqpool.specs.Inside.Item.{items_of}
-use Rattle.mp_seqpool.specs.Pool.{transactions}
+use Rattle.std.proofs.Common.{◌≡◌, ◌+ℤ◌, ◌*◌, ◌^◌, ◌≤◌, drop}
+use Rattle.std.specs.Prelude.{unsigned_abs}
+use Rattle.mp_seqpool.specs.Inside.Item.{unspent_after}
+use Rattle.mp_seqpool.specs.Validity.{spent_coin}
 use Rattle.mp_seqpool.proofs.rules.spent_coin.Given as goal
 
--- the coin so far, below 2^63 an input
+-- the coin so far and that of the inputs that are left make that of all
 abbrev pub invariant-loop-input : goal.invariant-loop-input
-invariant-loop-input l = (l.total ≡ sum_by (λ i. coin_of (after (get l.ledger.utxo) (transactions (items_of l.items)) i.from)) (take l.input-index l.inputs)) × (l.total ≤ l.input-index * 2 ^ 63)
+invariant-loop-input l = record {
+  sum : l.total +ℤ spent_coin (unspent_after l.ledger l.items) (drop l.input-index l.inputs) ≡ spent_coin (unspent_after l.ledger l.items) l.inputs;
+  small : unsigned_abs l.total ≤ l.input-index * 2 ^ 63;
+}

@@ -1,7 +1,7 @@
 use Rattle.std.proofs.Common.{◌<◌, List, length, subst, sym, ap, ◌∙◌}
 use Rattle.std.specs.Prelude.{is_some}
 use Rattle.std.specs.FinMap.{get}
-use Rattle.mp_tx.specs.Output.{Output}
+use Rattle.mp_tx.specs.declared.output.Output.{Output}
 use Rattle.mp_seqpool.specs.Apply.{Unspent, after}
 use Rattle.mp_seqpool.specs.Validity.{own_ref}
 use Rattle.mp_seqpool.specs.Inside.Item.{items_of}
