@@ -12,9 +12,11 @@ fn is_whole(memory: Memory, tx: &Tx, bytes: &[u8], wanted: &str) -> Result<bool>
         return Ok(false);
     };
     let (id, size) = words.split_once(' ').context("no number")?;
-    Ok(*tx.id() == pieces::hash(memory, id)?
-        && tx.size() == size.parse::<u64>()?
-        && *tx.encode(memory)? == *bytes)
+    Ok(
+        *tx.id() == pieces::hash(memory, id)?
+            && tx.size() == size.parse::<u64>()?
+            && *tx.encode(memory)? == *bytes,
+    )
 }
 
 fn comes_to(memory: Memory, bytes: &[u8], wanted: &str) -> Result<bool> {

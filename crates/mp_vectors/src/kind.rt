@@ -1,7 +1,9 @@
 //! The kinds of vectors.
 
 use crate::answer::{is_number, is_told};
-use crate::{bundle, datum, datum_ref, decode, faults, ledger, script, sum, text, transaction, value};
+use crate::{
+    bundle, datum, datum_ref, decode, faults, ledger, script, sum, text, transaction, value,
+};
 use anyhow::Result;
 use mp_memory::Memory;
 use mp_text::{is_name, number, quantity};
