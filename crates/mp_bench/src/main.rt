@@ -2,9 +2,11 @@
 //! each at several sizes, and prints a line for it: its name, the size, and the nanoseconds that one step took.
 #![tactic(auto)]
 
+mod ledger;
 mod measurement;
 mod ticket_list;
 mod timing;
+mod transaction;
 
 use anyhow::{Result, bail};
 use measurement::{Measurement, SIZES};

@@ -2,7 +2,7 @@
 
 use std::fmt;
 
-/// The sizes that each measurement is taken at.
+/// The sizes that each measurement is taken at: how many items there are, and how many steps are taken.
 pub const SIZES: [u64; 3] = [1_000, 10_000, 100_000];
 
 /// A measurement. A step is one call, or one item of an iteration.
@@ -16,15 +16,45 @@ pub enum Measurement {
     TicketUnlink,
     /// All items are gone over in order.
     TicketIterate,
+    /// Bytes are decoded: one input, one output, 181 bytes.
+    Decode181,
+    /// The digests alone that this takes.
+    Digests181,
+    /// Two inputs, two outputs and a signature, 431 bytes.
+    Decode431,
+    /// The digests alone that this takes.
+    Digests431,
+    /// The same with scripts of 101 and of 109 bytes, 642 bytes.
+    Decode642,
+    /// The digests alone that this takes.
+    Digests642,
+    /// A transaction is encoded.
+    Encode181,
+    /// A transaction is made of its parts.
+    OfParts181,
+    /// An output is looked up that is there, in no order.
+    LedgerHit,
+    /// An output is looked up that is not there.
+    LedgerMiss,
 }
 
 impl Measurement {
     /// Each of them, in the order in which they are taken.
-    pub const ALL: [Measurement; 4] = [
+    pub const ALL: [Measurement; 14] = [
         Measurement::TicketPush,
         Measurement::TicketGet,
         Measurement::TicketUnlink,
         Measurement::TicketIterate,
+        Measurement::Decode181,
+        Measurement::Digests181,
+        Measurement::Decode431,
+        Measurement::Digests431,
+        Measurement::Decode642,
+        Measurement::Digests642,
+        Measurement::Encode181,
+        Measurement::OfParts181,
+        Measurement::LedgerHit,
+        Measurement::LedgerMiss,
     ];
 }
 
@@ -40,6 +70,16 @@ impl fmt::Display for Measurement {
             Measurement::TicketGet => "ticket-get",
             Measurement::TicketUnlink => "ticket-unlink",
             Measurement::TicketIterate => "ticket-iterate",
+            Measurement::Decode181 => "decode-181",
+            Measurement::Digests181 => "digests-181",
+            Measurement::Decode431 => "decode-431",
+            Measurement::Digests431 => "digests-431",
+            Measurement::Decode642 => "decode-642",
+            Measurement::Digests642 => "digests-642",
+            Measurement::Encode181 => "encode-181",
+            Measurement::OfParts181 => "of-parts-181",
+            Measurement::LedgerHit => "ledger-hit",
+            Measurement::LedgerMiss => "ledger-miss",
         })
     }
 }

@@ -1,7 +1,9 @@
 //! The best of several rounds.
 
+use crate::ledger;
 use crate::measurement::Measurement;
 use crate::ticket_list;
+use crate::transaction::{self, Sample};
 use anyhow::Result;
 use mp_memory::Memory;
 use std::fmt;
@@ -33,6 +35,16 @@ fn round(
         Measurement::TicketGet => ticket_list::get(clock, memory, size),
         Measurement::TicketUnlink => ticket_list::unlink(clock, memory, size),
         Measurement::TicketIterate => ticket_list::iterate(clock, memory, size),
+        Measurement::Decode181 => transaction::decode(clock, memory, Sample::Plain, size),
+        Measurement::Digests181 => transaction::digest_all(clock, memory, Sample::Plain, size),
+        Measurement::Decode431 => transaction::decode(clock, memory, Sample::Signed, size),
+        Measurement::Digests431 => transaction::digest_all(clock, memory, Sample::Signed, size),
+        Measurement::Decode642 => transaction::decode(clock, memory, Sample::Scripted, size),
+        Measurement::Digests642 => transaction::digest_all(clock, memory, Sample::Scripted, size),
+        Measurement::Encode181 => transaction::encode(clock, memory, size),
+        Measurement::OfParts181 => transaction::of_parts(clock, memory, size),
+        Measurement::LedgerHit => ledger::hit(clock, memory, size),
+        Measurement::LedgerMiss => ledger::miss(clock, memory, size),
     }
 }
 

@@ -1,5 +1,5 @@
 //! Each call that takes memory, under every refused growth, and those that take none.
-use mp_memory::Memory;
+use mp_memory::{Memory, NoMemory};
 use mp_script::{Data, DataFault, Hash, Script, ScriptFault};
 use mp_testing::under_each_refusal;
 use std::test::Fail;
@@ -62,6 +62,29 @@ fn a_script_takes_one_growth(rt: HostRuntime) -> Result<(), Fail> {
         let length = done.answer.map(|(length, _hash)| length);
         assert_eq!(rt; (length, done.growths), (Ok(bytes.len()), 1));
     }
+    Ok(())
+}
+
+// Each answers once its one growth isn't refused.
+#[test]
+fn a_copy_takes_one_growth(rt: HostRuntime) -> Result<(), Fail> {
+    let memory = Memory::new(rt.alloc())?;
+    let datum = Data::decode(memory, LIST_OF_FIVE)?;
+    let script = Script::decode(memory, TRUE)?;
+    memory.refuse(1);
+    assert_eq!(rt; datum.copy(memory).err(), Some(NoMemory));
+    assert!(rt; !memory.waits());
+    memory.refuse(1);
+    assert_eq!(rt; script.copy(memory).err(), Some(NoMemory));
+    assert!(rt; !memory.waits());
+    memory.refuse(2);
+    let same_datum = datum.copy(memory)?;
+    assert!(rt; memory.waits());
+    memory.refuse(2);
+    let same_script = script.copy(memory)?;
+    assert!(rt; memory.waits());
+    memory.refuse(0);
+    assert_eq!(rt; (same_datum.bytes(), same_script.bytes()), (LIST_OF_FIVE, TRUE));
     Ok(())
 }
 

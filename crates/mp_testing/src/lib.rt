@@ -8,6 +8,8 @@ mod trial;
 mod writer;
 
 pub use reader::FailingReader;
-pub use samples::{ledger, opening, output_of, parts, transaction};
+pub use samples::{
+    COIN, coin, input, ledger, opening, output, output_of, parts, script, transaction, unit,
+};
 pub use trial::{MAX_GROWTHS, Refusals, TrialFault, Trialled, under_each_refusal};
 pub use writer::FailingWriter;

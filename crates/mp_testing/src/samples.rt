@@ -1,9 +1,24 @@
 //! Sample transactions and ledger states.
 ghost use Rattle.std.specs.Prelude.{◌≡◌, replicate, IfOk};
 
+use mp_bundle::{Bundle, PolicyId};
 use mp_memory::{Memory, NoMemory};
-use mp_tx::{Input, Ledger, LedgerFault, OutRef, Output, Tx, TxFault, TxId, TxParts};
+use mp_script::{Data, Script};
+use mp_tx::{Input, Ledger, LedgerFault, OutRef, Output, Salt, Tx, TxFault, TxId, TxParts};
 use std::sync::Arc;
+
+/// The policy of the coin, whose name is empty.
+pub const COIN: PolicyId = [0; 32];
+
+/// The script that lets everything pass.
+pub fn script(memory: Memory) -> Result<Script, NoMemory> {
+    Script::decode(memory, &[1]).map_err(|_| NoMemory)
+}
+
+/// The empty list.
+pub fn unit(memory: Memory) -> Result<Data, NoMemory> {
+    Data::decode(memory, &[3, 0, 0]).map_err(|_| NoMemory)
+}
 
 /// A reference to output `index` of a transaction.
 pub fn output_of(id: &TxId, index: u16) -> OutRef
@@ -21,20 +36,54 @@ pub fn opening(index: u16) -> OutRef
     output_of(&[0; 32], index)
 }
 
+/// An input that spends the reference by the plain script.
+pub fn input(memory: Memory, from: OutRef) -> Result<Input, NoMemory> {
+    Ok(Input {
+        from,
+        validator: script(memory)?,
+        datum: unit(memory)?,
+        redeemer: unit(memory)?,
+    })
+}
+
+/// A bundle of so much coin, and of no other token. A quantity below 1 is taken as 1.
+pub fn coin(memory: Memory, quantity: i64) -> Result<Bundle, NoMemory> {
+    let mut entries = Vec::new(memory);
+    entries.push((COIN, Vec::new(memory), quantity.max(1)))?;
+    Bundle::of_entries(memory, entries).map_err(|_| NoMemory)
+}
+
+/// An output of so much coin that the plain script locks, with the unit datum.
+pub fn output(memory: Memory, quantity: i64) -> Result<Output, NoMemory> {
+    Ok(Output {
+        address: *script(memory)?.hash(),
+        datum_hash: *unit(memory)?.hash(),
+        value: coin(memory, quantity)?,
+    })
+}
+
 /// Parts that spend these references in turn, and pay these quantities of coin. A quantity of 0 is taken as 1.
 pub fn parts(memory: Memory, spent: &[OutRef], paid: &[u32]) -> Result<TxParts, NoMemory> {
     let mut inputs = Vec::new(memory);
     for from in spent {
-        inputs.push(Input::plain(*from))?;
+        inputs.push(input(memory, *from)?)?;
     }
-    let outputs = outputs_of(memory, paid)?;
-    Ok(TxParts { inputs, outputs })
+    Ok(TxParts {
+        inputs,
+        references: Vec::new(memory),
+        outputs: outputs_of(memory, paid)?,
+        from: 0,
+        to: u64::MAX,
+        forge: Bundle::empty(),
+        scripts: Vec::new(memory),
+        signatures: Vec::new(memory),
+    })
 }
 
 fn outputs_of(memory: Memory, paid: &[u32]) -> Result<Vec<Output, Memory>, NoMemory> {
     let mut outputs = Vec::new(memory);
-    for coin in paid {
-        outputs.push(Output::of_coin(u64::from(*coin).max(1)))?;
+    for quantity in paid {
+        outputs.push(output(memory, i64::from(*quantity))?)?;
     }
     Ok(outputs)
 }
@@ -49,14 +98,19 @@ pub fn transaction(
     Arc::new(memory, tx).map_err(|_| TxFault::NoMemory)
 }
 
+fn openings_to(memory: Memory, end: u16) -> Result<Vec<(OutRef, Output), Memory>, NoMemory> {
+    let mut outputs = Vec::new(memory);
+    for index in 0..end {
+        outputs.push((opening(index), output(memory, 100)?))?;
+    }
+    Ok(outputs)
+}
+
 /// A ledger state at tick 0 with openings 0, 1, .. of 100 coin each.
 pub fn ledger(memory: Memory, openings: u16, block_bytes: u64) -> Result<Ledger, LedgerFault>
     ensures tick { IfOk result (λ ledger. ledger.tick ≡ 0) }
     ensures block_bytes { IfOk result (λ ledger. ledger.block_bytes ≡ block_bytes) }
 {
-    let mut outputs = Vec::new(memory);
-    for index in 0..openings {
-        outputs.push((opening(index), Output::of_coin(100)))?;
-    }
-    Ledger::of_outputs(memory, 0, block_bytes, outputs)
+    let outputs = openings_to(memory, openings).map_err(|_| LedgerFault::NoMemory)?;
+    Ledger::of_outputs(memory, Salt::new(7), 0, block_bytes, outputs)
 }

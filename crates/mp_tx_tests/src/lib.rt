@@ -2,6 +2,4 @@
 #![tactic(auto)]
 
 #[cfg(test)]
-mod ledgers;
-#[cfg(test)]
 mod out_of_memory;

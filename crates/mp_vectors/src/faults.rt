@@ -38,7 +38,21 @@ const SCRIPT_FAULTS: [ScriptFault; 7] = [
     ScriptFault::TooDeep,
 ];
 
-const TX_FAULTS: [TxFault; 3] = [TxFault::NoMemory, TxFault::NotRising, TxFault::TooLarge];
+/// Why bytes or parts make no transaction.
+pub const TX_FAULTS: [TxFault; 12] = [
+    TxFault::NoMemory,
+    TxFault::Truncated,
+    TxFault::Trailing,
+    TxFault::BadVersion,
+    TxFault::NotRising,
+    TxFault::BadBundle,
+    TxFault::BadScript,
+    TxFault::BadData,
+    TxFault::BadInterval,
+    TxFault::TooLarge,
+    TxFault::ReferenceSpent,
+    TxFault::NoReferences,
+];
 
 const LEDGER_FAULTS: [LedgerFault; 3] = [
     LedgerFault::NoMemory,

@@ -1,7 +1,9 @@
 //! The kinds of vectors.
 
 use crate::answer::{is_number, is_told};
-use crate::{bundle, datum, datum_ref, faults, ledger, script, sum, text, transaction, value};
+use crate::{
+    bundle, datum, datum_ref, decode, faults, ledger, script, sum, text, transaction, value,
+};
 use anyhow::Result;
 use mp_memory::Memory;
 use mp_text::{is_name, number, quantity};
@@ -16,6 +18,7 @@ pub enum Kind {
     Bundle,
     Sum,
     Transaction,
+    Decode,
     Ledger,
     Name,
     Number,
@@ -26,7 +29,7 @@ pub enum Kind {
 
 impl Kind {
     /// Each of them, in the order in which they are checked.
-    pub const ALL: [Kind; 13] = [
+    pub const ALL: [Kind; 14] = [
         Kind::Datum,
         Kind::DatumRef,
         Kind::Script,
@@ -34,6 +37,7 @@ impl Kind {
         Kind::Bundle,
         Kind::Sum,
         Kind::Transaction,
+        Kind::Decode,
         Kind::Ledger,
         Kind::Name,
         Kind::Number,
@@ -52,6 +56,7 @@ impl Kind {
             Kind::Bundle => "bundle.txt",
             Kind::Sum => "sum.txt",
             Kind::Transaction => "transaction.txt",
+            Kind::Decode => "decode.txt",
             Kind::Ledger => "ledger.txt",
             Kind::Name => "name.txt",
             Kind::Number => "number.txt",
@@ -71,6 +76,7 @@ impl Kind {
             Kind::Bundle => bundle::holds(memory, given, wanted),
             Kind::Sum => sum::holds(memory, given, wanted),
             Kind::Transaction => transaction::holds(memory, given, wanted),
+            Kind::Decode => decode::holds(memory, given, wanted),
             Kind::Ledger => ledger::holds(memory, given, wanted),
             Kind::Name => Ok(is_told(is_name(given.as_bytes()), wanted)),
             Kind::Number => is_number(number(given.as_bytes()), wanted),

@@ -1,15 +1,16 @@
 //! Ledger states.
 
 use crate::answer::is_fault;
-use crate::references::{output, reference};
+use crate::plain::output;
+use crate::references::reference;
 use anyhow::{Context, Result};
 use mp_memory::Memory;
-use mp_tx::{Ledger, LedgerFault, OutRef, Output};
+use mp_tx::{Ledger, LedgerFault, OutRef, Output, Salt};
 
 // The output of a word such as `32*00:7/5`: the reference, and then the coin.
 fn referred(memory: Memory, word: &str) -> Result<(OutRef, Output)> {
     let (place, coin) = word.split_once('/').context("no output")?;
-    Ok((reference(memory, place)?, output(coin)?))
+    Ok((reference(memory, place)?, output(memory, coin)?))
 }
 
 fn outputs(memory: Memory, words: &str) -> Result<Vec<(OutRef, Output), Memory>> {
@@ -27,6 +28,7 @@ fn made(memory: Memory, given: &str) -> Result<Result<Ledger, LedgerFault>> {
     let outputs = outputs(memory, words)?;
     Ok(Ledger::of_outputs(
         memory,
+        Salt::new(7),
         tick.parse::<u64>()?,
         block_bytes.parse::<u64>()?,
         outputs,
@@ -38,7 +40,8 @@ fn is_held(memory: Memory, ledger: &Ledger, word: &str) -> Result<bool> {
     let (place, coin) = word.split_once('/').context("no output")?;
     match ledger.get(&reference(memory, place)?) {
         None => Ok(coin == "none"),
-        Some(output) => Ok(output.coin() == coin.parse::<u64>()?),
+        Some(_) if coin == "none" => Ok(false),
+        Some(found) => Ok(*found == output(memory, coin)?),
     }
 }
 

@@ -1,6 +1,7 @@
 //! The lines of a file.
 
 use crate::kind::Kind;
+use crate::{decode, spoilt};
 use anyhow::{Context, Result, bail};
 use mp_memory::Memory;
 
@@ -21,16 +22,25 @@ fn check_case(memory: Memory, kind: Kind, given: &str, wanted: &str) -> Result<(
     }
 }
 
-/// How many cases a line has, where all hold: one, or as many as there are words after `each`.
-pub fn held(memory: Memory, kind: Kind, given: &str, wanted: &str) -> Result<u64> {
-    let Some(words) = given.strip_prefix("each ") else {
-        check_case(memory, kind, given, wanted)?;
-        return Ok(1);
-    };
+fn each_held(memory: Memory, kind: Kind, words: &str, wanted: &str) -> Result<u64> {
     let mut cases = 0u64;
     for word in words.split_whitespace() {
         check_case(memory, kind, word, wanted)?;
         cases = cases.wrapping_add(1);
     }
     Ok(cases)
+}
+
+/// How many cases a line has, where all hold: one, or as many as there are words after `each`, bytes after `prefixes`, or ways
+/// to spoil the bytes after `spoilt`.
+pub fn held(memory: Memory, kind: Kind, given: &str, wanted: &str) -> Result<u64> {
+    match given.split_once(' ') {
+        Some(("each", words)) => each_held(memory, kind, words, wanted),
+        Some(("prefixes", words)) => decode::prefixes_held(memory, words, wanted),
+        Some(("spoilt", words)) => spoilt::held(memory, words, wanted),
+        _ => {
+            check_case(memory, kind, given, wanted)?;
+            Ok(1)
+        }
+    }
 }

@@ -1,32 +1,20 @@
-//! Plain transactions.
+//! Transactions by their parts.
 
 use crate::answer::is_fault;
+use crate::bundle::bundle;
 use crate::pieces;
-use crate::references::{output, reference};
-use anyhow::{Context, Result};
+use crate::plain::{UNIT, input, output};
+use crate::references::references;
+use anyhow::{Context, Result, bail};
+use mp_bundle::Bundle;
 use mp_memory::Memory;
-use mp_tx::{Input, OutRef, Output, Tx, TxParts};
+use mp_tx::{Input, Output, Script, Signature, Tx, TxParts};
 
-// Adds the inputs of a word such as `32*00:7`, or `32*00:0-255`, where the index goes from the first to the last.
+// Adds the inputs of a word such as `32*00:7`, or `32*00:0-255`, or `32*00:7/0200021234`, where the datum is another.
 fn add_inputs(memory: Memory, inputs: &mut Vec<Input, Memory>, word: &str) -> Result<()> {
-    let (least, most) = word.split_once('-').unwrap_or((word, ""));
-    let OutRef { id, index: first } = reference(memory, least)?;
-    let last = if most.is_empty() {
-        first
-    } else {
-        most.parse::<u16>()?
-    };
-    for index in first..=last {
-        inputs.push(Input::plain(OutRef { id, index }))?;
-    }
-    Ok(())
-}
-
-// Adds the outputs of a word such as `100`, the coin, or `152*100`, as many times.
-fn add_outputs(outputs: &mut Vec<Output, Memory>, word: &str) -> Result<()> {
-    let (times, coin) = word.split_once('*').unwrap_or(("1", word));
-    for _ in 0..times.parse::<u16>()? {
-        outputs.push(output(coin)?)?;
+    let (spent, datum) = word.split_once('/').unwrap_or((word, UNIT));
+    for from in &references(memory, spent)? {
+        inputs.push(input(memory, *from, datum)?)?;
     }
     Ok(())
 }
@@ -39,20 +27,82 @@ fn inputs(memory: Memory, words: &str) -> Result<Vec<Input, Memory>> {
     Ok(inputs)
 }
 
+// Adds the outputs of a word such as `100`, the coin, or `152*100`, as many times.
+fn add_outputs(memory: Memory, outputs: &mut Vec<Output, Memory>, word: &str) -> Result<()> {
+    let (times, coin) = word.split_once('*').unwrap_or(("1", word));
+    for _ in 0..times.parse::<u16>()? {
+        outputs.push(output(memory, coin)?)?;
+    }
+    Ok(())
+}
+
 fn outputs(memory: Memory, words: &str) -> Result<Vec<Output, Memory>> {
     let mut outputs = Vec::new(memory);
     for word in words.split_whitespace() {
-        add_outputs(&mut outputs, word)?;
+        add_outputs(memory, &mut outputs, word)?;
     }
     Ok(outputs)
 }
 
+fn scripts(memory: Memory, words: &str) -> Result<Vec<Script, Memory>> {
+    let mut scripts = Vec::new(memory);
+    for word in words.split_whitespace() {
+        scripts.push(pieces::script(memory, word)?)?;
+    }
+    Ok(scripts)
+}
+
+// The signatures of words such as `32*05/64*00`: the key, and then the signature.
+fn signatures(memory: Memory, words: &str) -> Result<Vec<Signature, Memory>> {
+    let mut signatures = Vec::new(memory);
+    for word in words.split_whitespace() {
+        let (key, sig) = word.split_once('/').context("no signature")?;
+        signatures.push(Signature {
+            key: pieces::hash(memory, key)?,
+            sig: pieces::sig(memory, sig)?,
+        })?;
+    }
+    Ok(signatures)
+}
+
+fn no_parts(memory: Memory) -> TxParts {
+    TxParts {
+        inputs: Vec::new(memory),
+        references: Vec::new(memory),
+        outputs: Vec::new(memory),
+        from: 0,
+        to: u64::MAX,
+        forge: Bundle::empty(),
+        scripts: Vec::new(memory),
+        signatures: Vec::new(memory),
+    }
+}
+
+fn put_part(memory: Memory, parts: &mut TxParts, written: &str) -> Result<()> {
+    let (kind, words) = written.split_once(' ').unwrap_or((written, ""));
+    match kind {
+        "in" => parts.inputs = inputs(memory, words)?,
+        "see" => parts.references = references(memory, words)?,
+        "out" => parts.outputs = outputs(memory, words)?,
+        "from" => parts.from = words.parse::<u64>()?,
+        "to" => parts.to = words.parse::<u64>()?,
+        "forge" => parts.forge = bundle(memory, words)?,
+        "scripts" => parts.scripts = scripts(memory, words)?,
+        "signed" => parts.signatures = signatures(memory, words)?,
+        _ => bail!("no such word"),
+    }
+    Ok(())
+}
+
 fn parts(memory: Memory, given: &str) -> Result<TxParts> {
-    let (spent, paid) = given.split_once('>').context("no output")?;
-    Ok(TxParts {
-        inputs: inputs(memory, spent)?,
-        outputs: outputs(memory, paid)?,
-    })
+    let mut parts = no_parts(memory);
+    if given == "-" {
+        return Ok(parts);
+    }
+    for written in given.split('|') {
+        put_part(memory, &mut parts, written.trim())?;
+    }
+    Ok(parts)
 }
 
 // Whether a transaction has this size, this id or these bytes.

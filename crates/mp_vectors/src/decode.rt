@@ -1,0 +1,44 @@
+//! Transactions in bytes.
+
+use crate::answer::is_fault;
+use crate::pieces;
+use anyhow::{Context, Result, bail};
+use mp_memory::Memory;
+use mp_tx::Tx;
+
+// Whether a transaction has the id and the size that are wanted, and encodes to the bytes.
+fn is_whole(memory: Memory, tx: &Tx, bytes: &[u8], wanted: &str) -> Result<bool> {
+    let Some(words) = wanted.strip_prefix("ok ") else {
+        return Ok(false);
+    };
+    let (id, size) = words.split_once(' ').context("no number")?;
+    Ok(
+        *tx.id() == pieces::hash(memory, id)?
+            && tx.size() == size.parse::<u64>()?
+            && *tx.encode(memory)? == *bytes,
+    )
+}
+
+fn comes_to(memory: Memory, bytes: &[u8], wanted: &str) -> Result<bool> {
+    match Tx::decode(memory, bytes) {
+        Ok(tx) => is_whole(memory, &tx, bytes, wanted),
+        Err(fault) => is_fault(memory, &fault, wanted),
+    }
+}
+
+/// Whether bytes spell a transaction as it is wanted, or have a fault.
+pub fn holds(memory: Memory, given: &str, wanted: &str) -> Result<bool> {
+    let bytes = pieces::bytes(memory, given)?;
+    comes_to(memory, &bytes, wanted)
+}
+
+/// How many proper prefixes bytes have, where each comes to what is wanted.
+pub fn prefixes_held(memory: Memory, given: &str, wanted: &str) -> Result<u64> {
+    let bytes = pieces::bytes(memory, given)?;
+    for len in 0..bytes.len() {
+        if !comes_to(memory, &bytes[..len], wanted)? {
+            bail!("the first {len} bytes come to something else")
+        }
+    }
+    Ok(bytes.len() as u64)
+}
