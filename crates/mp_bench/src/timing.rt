@@ -1,9 +1,8 @@
 //! The best of several rounds.
 
-use crate::ledger;
 use crate::measurement::Measurement;
-use crate::ticket_list;
 use crate::transaction::{self, Sample};
+use crate::{ledger, ticket_list};
 use anyhow::Result;
 use mp_memory::Memory;
 use std::fmt;

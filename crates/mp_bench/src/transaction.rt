@@ -65,12 +65,7 @@ fn sample_parts(memory: Memory, sample: Sample) -> Result<TxParts, TxFault> {
 }
 
 /// Decodes the same bytes `count` times.
-pub fn decode(
-    clock: &impl Clock,
-    memory: Memory,
-    sample: Sample,
-    count: u64,
-) -> Result<Duration> {
+pub fn decode(clock: &impl Clock, memory: Memory, sample: Sample, count: u64) -> Result<Duration> {
     let tx = Tx::of_parts(memory, sample_parts(memory, sample)?)?;
     let bytes = tx.encode(memory)?;
     let start = Instant::now(clock)?;
@@ -90,7 +85,10 @@ fn digests(tx: &Tx, body: &[u8]) -> u64 {
         let validator = u64::from(digest(input.validator.bytes())[0]);
         let datum = u64::from(digest(input.datum.bytes())[0]);
         let redeemer = u64::from(digest(input.redeemer.bytes())[0]);
-        total = total.wrapping_add(validator).wrapping_add(datum).wrapping_add(redeemer);
+        total = total
+            .wrapping_add(validator)
+            .wrapping_add(datum)
+            .wrapping_add(redeemer);
     }
     for script in tx.scripts() {
         total = total.wrapping_add(u64::from(digest(script.bytes())[0]));

@@ -2,4 +2,6 @@
 #![tactic(auto)]
 
 #[cfg(test)]
+mod ledgers;
+#[cfg(test)]
 mod out_of_memory;

@@ -1,7 +1,7 @@
 //! Each call that takes memory, under every refused growth, and those that take none.
 use mp_memory::{Memory, NoMemory};
 use mp_testing::{coin, opening, output, parts, script, under_each_refusal};
-use mp_tx::{Ledger, LedgerFault, OutRef, Output, Salt, Signature, Tx, TxFault, TxParts};
+use mp_tx::{Signature, Tx, TxFault, TxParts};
 use std::test::Fail;
 
 // Parts of every kind: two inputs, a reference, an output, what is forged, a policy script and a signature.
@@ -87,54 +87,6 @@ fn a_fault_before_the_first_part_takes_no_growth(rt: HostRuntime) -> Result<(), 
     }
     assert!(rt; memory.waits());
     memory.refuse(0);
-    Ok(())
-}
-
-fn outputs(memory: Memory) -> Result<Vec<(OutRef, Output), Memory>, NoMemory> {
-    let mut outputs = Vec::new(memory);
-    outputs.push((opening(3), output(memory, 4)?))?;
-    Ok(outputs)
-}
-
-// How much coin the output of a reference has, if there is one.
-fn coin_at(ledger: &Ledger, reference: &OutRef) -> Option<i64> {
-    ledger
-        .get(reference)
-        .map(|found| found.value.quantity(&[0; 32], b""))
-}
-
-fn state(memory: Memory, outputs: Vec<(OutRef, Output), Memory>) -> Result<Ledger, LedgerFault> {
-    Ledger::of_outputs(memory, Salt::new(7), 6, 1, outputs)
-}
-
-// With each of them refused it says so, and with the sixth it answers. A ledger state of no outputs takes one.
-#[test]
-fn a_ledger_takes_five_growths_and_a_share_none(rt: HostRuntime) -> Result<(), Fail> {
-    let memory = Memory::new(rt.alloc())?;
-    for nth in 1..6 {
-        let refused = outputs(memory)?;
-        memory.refuse(nth);
-        let fault = state(memory, refused).err();
-        assert_eq!(rt; fault, Some(LedgerFault::NoMemory));
-        assert!(rt; !memory.waits());
-    }
-    let whole = outputs(memory)?;
-    memory.refuse(6);
-    let made = state(memory, whole)?;
-    assert!(rt; memory.waits());
-    memory.refuse(1);
-    let shared = made.share()?;
-    for ledger in [&made, &shared] {
-        assert_eq!(rt; (ledger.tick(), ledger.block_bytes()), (6, 1));
-        assert_eq!(rt; coin_at(ledger, &opening(3)), Some(4));
-        assert_eq!(rt; coin_at(ledger, &opening(1)), None);
-    }
-    assert!(rt; memory.waits());
-    memory.refuse(2);
-    let empty = state(memory, Vec::new(memory))?;
-    assert!(rt; memory.waits());
-    memory.refuse(0);
-    assert_eq!(rt; coin_at(&empty, &opening(3)), None);
     Ok(())
 }
 
