@@ -12,11 +12,14 @@ use Rattle.mp_bundle.proofs.Faults.{none_from_bundle}
 pub one_entry : (t : Token) (n : ℤ) → length t.name ≡ 0 → pos 0 <ℤ n → n ≤ℤ pos (2 ^ 63 - 1) → fault_of ((t, n) ∷ []) ≡ None
 one_entry t n short least greatest = none_from_bundle ((t, n) ∷ []) (record {
   rising = refl;
-  each = (record {
-    short = omega (arith, short);
-    nonzero = λ e. grind (arith, ints);
-    within = record { least = grind (arith, ints); greatest = greatest };
-  }, tt);
+  each = (
+    record {
+      short = omega (arith, short);
+      nonzero = λ e. grind (arith, ints);
+      within = record { least = grind (arith, ints); greatest = greatest };
+    },
+    tt,
+  );
 })
 
 fits : (n : ℤ) → pos 0 <ℤ n → n ≤ℤ pos (2 ^ 63 - 1) → FitsSigned w64 n

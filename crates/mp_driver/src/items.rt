@@ -15,8 +15,8 @@ use crate::fault::LineFault;
 use crate::names::Name;
 use crate::plain::{Coin, plain_input, plain_output};
 use crate::references::{insert_ref, ref_of};
-use mp_memory::{Memory, NoMemory};
 use mp_bundle::Bundle;
+use mp_memory::{Memory, NoMemory};
 use mp_text::first_word;
 use mp_tx::{Input, OutRef, Output, Tx, TxFault, TxParts};
 

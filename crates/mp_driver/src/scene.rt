@@ -115,7 +115,13 @@ fn declare(
 fn pool_upon(memory: Memory, openings: Openings) -> Result<SeqPool, NoMemory>
     ensures { IfOk result (λ p. p ≡ pool_at (Before openings)) }
 {
-    let ledger = match Ledger::of_outputs(memory, Salt::new(SALT), TICK, BLOCK_BYTES, openings.into_entries()) {
+    let ledger = match Ledger::of_outputs(
+        memory,
+        Salt::new(SALT),
+        TICK,
+        BLOCK_BYTES,
+        openings.into_entries(),
+    ) {
         Ok(ledger) => ledger,
         Err(fault) => match fault {
             LedgerFault::NoMemory => return Err(NoMemory),

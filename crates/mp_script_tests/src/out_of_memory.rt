@@ -84,7 +84,10 @@ fn a_copy_takes_one_growth(rt: HostRuntime) -> Result<(), Fail> {
     let same_script = script.copy(memory)?;
     assert!(rt; memory.waits());
     memory.refuse(0);
-    assert_eq!(rt; (same_datum.bytes(), same_script.bytes()), (LIST_OF_FIVE, TRUE));
+    assert_eq!(rt;
+        (same_datum.bytes(), same_script.bytes()),
+        (LIST_OF_FIVE, TRUE)
+    );
     Ok(())
 }
 
