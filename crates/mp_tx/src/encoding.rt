@@ -165,7 +165,8 @@ fn put_signature(out: &mut Vec<u8, Memory>, signature: &Signature) -> Result<(),
 
 /// Puts the signatures behind what is there.
 pub fn put_signatures(out: &mut Vec<u8, Memory>, signatures: &[Signature]) -> Result<(), NoMemory>
-    ensures { OnOk result (out.new.items ≡ out.old.items ++ counted signature_bytes signatures.now) }
+    ensures { OnOk result
+        (out.new.items ≡ out.old.items ++ counted signature_bytes signatures.now) }
 {
     put_count(out, signatures.len())?;
     for signature in signatures {

@@ -118,7 +118,8 @@ impl Tx {
     /// left. `NoMemory` may stand in place of each answer.
     pub fn decode(memory: Memory, bytes: &[u8]) -> Result<Tx, TxFault>
         ensures found { IfOk result (Spells bytes.now) }
-        ensures only { (t : Transaction) → Spells bytes.now t → IfErr result (λ e. e ≡ faults.NoMemory) }
+        ensures only { (t : Transaction) → Spells bytes.now t →
+            IfErr result (λ e. e ≡ faults.NoMemory) }
         ensures exact { IfErr result (IsBytesFault bytes.now) }
     {
         let (parts, body) = read_parts(memory, bytes)?;

@@ -62,7 +62,8 @@ fn put_inputs<'a>(
 
 /// At most 256 inputs.
 pub fn read_inputs(memory: Memory, bytes: &[u8]) -> Result<(Vec<Input, Memory>, &[u8]), TxFault>
-    ensures { Reads (λ x. (x.0.items, x.1.now)) result (few_read (λ i. i.from) input_read bytes.now) }
+    ensures { Reads (λ x. (x.0.items, x.1.now)) result
+        (few_read (λ i. i.from) input_read bytes.now) }
 {
     let (count, rest) = read_count(bytes)?;
     let mut inputs = Vec::with_capacity(memory, count as usize)?;

@@ -66,7 +66,8 @@ pub fn read_references<'a>(
     inputs: &[Input],
     bytes: &'a [u8],
 ) -> Result<(Vec<OutRef, Memory>, &'a [u8]), TxFault>
-    ensures { Reads (λ x. (x.0.items, x.1.now)) result (references_read version inputs.now bytes.now) }
+    ensures { Reads (λ x. (x.0.items, x.1.now)) result
+        (references_read version inputs.now bytes.now) }
 {
     if version == FORMAT_WITHOUT_REFERENCES {
         return Ok((Vec::new(memory), bytes));

@@ -58,7 +58,8 @@ pub fn read_signatures(
     memory: Memory,
     bytes: &[u8],
 ) -> Result<(Vec<Signature, Memory>, &[u8]), TxFault>
-    ensures { Reads (λ x. (x.0.items, x.1.now)) result (counted_read itself signature_read bytes.now) }
+    ensures { Reads (λ x. (x.0.items, x.1.now)) result
+        (counted_read itself signature_read bytes.now) }
 {
     let (count, rest) = split_count(bytes).ok_or(TxFault::Truncated)?;
     let most = rest.len() / SIGNATURE_BYTES;
