@@ -1,13 +1,15 @@
 //! Answers of the pool that no scenario can show yet, since its settings are fixed there. Each was worked out by hand.
 use mp_memory::Memory;
 use mp_seqpool::{Answer, Command, Config, Invalid, Refusal, Reply, SeqPool, play};
-use mp_testing::{ledger, opening, output_of, transaction};
-use mp_tx::{Ledger, Output, TxFault};
+use mp_testing::{ledger, opening, output, output_of, transaction};
+use mp_tx::{Ledger, Salt, TxFault};
 use std::test::Fail;
 
 const ROOMY: u64 = 500_000;
 
 const LONG: u32 = 1_000_000;
+
+const SALT: u64 = 0x5eed;
 
 // The first spends an opening output of 100 coin, the second what the first pays, the third another opening output. Each
 // has 181 bytes.
@@ -152,9 +154,9 @@ fn an_own_output_is_taken(rt: HostRuntime) -> Result<(), Fail> {
     let memory = Memory::new(rt.alloc())?;
     let maker = transaction(memory, &[opening(0)], &[60, 40])?;
     let mut outputs = Vec::new(memory);
-    outputs.push((opening(0), Output::of_coin(100)))?;
-    outputs.push((output_of(maker.id(), 1), Output::of_coin(7)))?;
-    let ledger = Ledger::of_outputs(memory, 0, ROOMY, outputs)?;
+    outputs.push((opening(0), output(memory, 100)?))?;
+    outputs.push((output_of(maker.id(), 1), output(memory, 7)?))?;
+    let ledger = Ledger::of_outputs(memory, Salt::new(SALT), 0, ROOMY, outputs)?;
     let mut pool = SeqPool::start(memory, config_of(LONG, 0), &ledger)?;
     let taken = Err(Refusal::Invalid(Invalid::OutputTaken(1)));
     assert_eq!(rt; pool.submit(&maker), taken);
