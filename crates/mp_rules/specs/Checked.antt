@@ -1,0 +1,28 @@
+-- What was found of a transaction's signatures and scripts before its other rules.
+use Rattle.std.specs.Prelude.{◌≡◌, [], ◌∷◌, Option}
+use Rattle.mp_tx.specs.Transaction.{Transaction}
+use Rattle.mp_rules.specs.declared.invalid.Invalid.{Invalid}
+use Rattle.mp_rules.specs.Verifier.{Accepts}
+use Rattle.mp_rules.specs.Resolved.{Resolved}
+use Rattle.mp_rules.specs.FirstFault.{bad_signature, validator_refused, policy_refused, first_of}
+
+pub record Checked : Type 0 where
+  -- the outputs that the scripts were run upon
+  pub resolved : Resolved
+  -- the first signature that isn't accepted
+  pub signature : Option Invalid
+  -- the first script that refuses
+  pub script : Option Invalid
+
+-- the first script that refuses upon these outputs: validators come first
+unfoldable pub script_refused : Transaction → Resolved → Option Invalid
+script_refused t r = first_of (validator_refused t r ∷ policy_refused t r ∷ [])
+
+-- it is of this transaction, signatures included, and of this verifier
+pub record IsChecked (accepts : Accepts) (t : Transaction) (c : Checked) : Type 0 where
+  pub signature : c.signature ≡ bad_signature accepts t
+  pub script : c.script ≡ script_refused t c.resolved
+
+-- what it found first
+abbrev pub first_found : Checked → Option Invalid
+first_found c = first_of (c.signature ∷ c.script ∷ [])

@@ -1,0 +1,124 @@
+-- Which rule fails first, at its least place.
+use Rattle.std.specs.Prelude.{◌≡◌, ℕ, nat_eq, nat_lt, ◌==◌, pos, int_lt, Bool, not, ◌||◌, List, [], ◌∷◌, ◌++◌, length, map, filter, Option, None, Some, is_none, is_some, option_map, if◌then◌else◌}
+use Rattle.std.specs.List.{find, list_any, position, range_with_len, flat_map}
+use Rattle.std.specs.Ordering.{int_eq, is_lt}
+use Rattle.std.specs.Cmp.Lexicographic.{pointwise}
+use Rattle.sha2.specs.Sha256.{sha256}
+use Rattle.mp_bundle.specs.declared.token.Token.{Token}
+use Rattle.mp_bundle.specs.Token.{token_cmp}
+use Rattle.mp_bundle.specs.Bundle.{Entry}
+use Rattle.mp_bundle.specs.Sum.{total_over}
+use Rattle.mp_tx.specs.Transaction.{Transaction}
+use Rattle.mp_tx.specs.Spelling.{id_of}
+use Rattle.mp_utxo.specs.Apply.{Unspent, own_ref}
+use Rattle.mp_rules.specs.declared.invalid.Invalid.{Invalid}
+use Rattle.mp_rules.specs.declared.invalid.Invalid.TheVariants as rule
+use Rattle.mp_rules.specs.Verifier.{Accepts}
+use Rattle.mp_rules.specs.Resolved.{Resolved, resolve, spendings, values}
+use Rattle.mp_rules.specs.Scripts.{validator_accepts, policy_accepts}
+
+abbrev pub same_bytes : List ℕ → List ℕ → Bool
+same_bytes a b = pointwise nat_eq a b
+
+unfoldable pub no_inputs : Transaction → Option Invalid
+no_inputs t = if length t.inputs == 0 then Some rule.NoInputs else None
+
+unfoldable pub outside_interval : ℕ → Transaction → Option Invalid
+outside_interval tick t = if nat_lt tick t.from || nat_lt t.to tick then Some rule.OutsideInterval else None
+
+-- whether a quantity is negative
+abbrev pub has_debt : List Entry → Bool
+has_debt entries = list_any (λ e. int_lt e.1 (pos 0)) entries
+
+unfoldable pub negative_output : Transaction → Option Invalid
+negative_output t = option_map rule.NegativeOutput (position (λ o. has_debt o.value) t.outputs)
+
+unfoldable pub input_missing : Unspent → Transaction → Option Invalid
+input_missing u t = option_map rule.InputMissing (position (λ i. is_none (u i.from)) t.inputs)
+
+unfoldable pub reference_missing : Unspent → Transaction → Option Invalid
+reference_missing u t = option_map rule.ReferenceMissing (position (λ r. is_none (u r)) t.references)
+
+unfoldable pub address_mismatch : Transaction → Resolved → Option Invalid
+address_mismatch t r =
+    option_map rule.AddressMismatch (position (λ p. not (same_bytes (sha256 p.0.validator) p.1.address)) (spendings t r))
+
+unfoldable pub datum_mismatch : Transaction → Resolved → Option Invalid
+datum_mismatch t r =
+    option_map rule.DatumMismatch (position (λ p. not (same_bytes (sha256 p.0.datum) p.1.datum_hash)) (spendings t r))
+
+unfoldable pub output_taken : Unspent → Transaction → Option Invalid
+output_taken u t =
+    option_map rule.OutputTaken (position (λ k. is_some (u (own_ref t k))) (range_with_len 0 (length t.outputs)))
+
+-- whether a script with this hash is among them
+abbrev pub is_carried : List (List ℕ) → List ℕ → Bool
+is_carried scripts policy = list_any (λ s. same_bytes (sha256 s) policy) scripts
+
+-- the tokens of a bundle rise, so the first whose policy isn't carried has the least such policy
+unfoldable pub forge_without_policy : Transaction → Option Invalid
+forge_without_policy t =
+    option_map (λ e. rule.ForgeWithoutPolicy e.0.policy) (find (λ e. not (is_carried t.scripts e.0.policy)) t.forge)
+
+abbrev pub lesser : Token → Option Token → Token
+lesser a None = a
+lesser a (Some b) = if is_lt (token_cmp b a) then b else a
+
+-- the least of tokens, if there is one
+abbrev pub least : List Token → Option Token
+least [] = None
+least (token ∷ tokens) = Some (lesser token (least tokens))
+
+-- the tokens that bundles have
+abbrev pub tokens : List (List Entry) → List Token
+tokens bundles = flat_map (map (λ e. e.0)) bundles
+
+-- the least token of which what is forged and spent isn't what is paid
+abbrev pub first_unbalanced : List (List Entry) → List (List Entry) → Option Token
+first_unbalanced taken paid =
+    least (filter (λ token. not (int_eq (total_over taken token) (total_over paid token))) (tokens (taken ++ paid)))
+
+unfoldable pub unbalanced : Transaction → Resolved → Option Invalid
+unbalanced t r =
+    option_map (λ token. rule.Unbalanced token.policy token.name) (first_unbalanced (t.forge ∷ values r.spent) (values t.outputs))
+
+unfoldable pub bad_signature : Accepts → Transaction → Option Invalid
+bad_signature accepts t =
+    option_map (λ s. rule.BadSignature s.key) (find (λ s. not (accepts s.key (id_of t) s.sig)) t.signatures)
+
+unfoldable pub validator_refused : Transaction → Resolved → Option Invalid
+validator_refused t r =
+    option_map rule.ValidatorRefused (position (λ p. not (validator_accepts t r p)) (spendings t r))
+
+unfoldable pub policy_refused : Transaction → Resolved → Option Invalid
+policy_refused t r = option_map rule.PolicyRefused (position (λ s. not (policy_accepts t r s)) t.scripts)
+
+-- the first that there is
+abbrev pub first_of : List (Option Invalid) → Option Invalid
+first_of [] = None
+first_of (None ∷ others) = first_of others
+first_of (Some fault ∷ others) = Some fault
+
+-- Rules are looked at in this order, each over all its places before the next.
+unfoldable pub first_fault : Accepts → Unspent → ℕ → Transaction → Option Invalid
+first_fault accepts u tick t = first_of (
+    no_inputs t
+    ∷ outside_interval tick t
+    ∷ negative_output t
+    ∷ input_missing u t
+    ∷ reference_missing u t
+    ∷ address_mismatch t (resolve u t)
+    ∷ datum_mismatch t (resolve u t)
+    ∷ output_taken u t
+    ∷ forge_without_policy t
+    ∷ unbalanced t (resolve u t)
+    ∷ bad_signature accepts t
+    ∷ validator_refused t (resolve u t)
+    ∷ policy_refused t (resolve u t)
+    ∷ []
+)
+
+-- a fault that a check tells; memory may be wanting for any transaction
+abbrev pub IsFaultOf : Accepts → Unspent → ℕ → Transaction → Invalid → Type 0
+IsFaultOf accepts u tick t rule.NoMemory = Unit {0}
+IsFaultOf accepts u tick t fault = first_fault accepts u tick t ≡ Some fault

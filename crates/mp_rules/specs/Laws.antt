@@ -1,0 +1,114 @@
+-- What ties validity to the first fault.
+use Rattle.std.specs.Prelude.{◌≡◌, ◌≢◌, ◌↔◌, ◌⊎◌, ℕ, ◌<◌, List, [], ◌∷◌, length, map, take, All, Contains, HoldsAt, None, Some, IsSome, IsTrue}
+use Rattle.std.specs.Cmp.Lexicographic.{slice_cmp}
+use Rattle.std.specs.Ordering.{nat_cmp}
+use Rattle.std.specs.declared.cmp.Ordering.TheVariants.{Less}
+use Rattle.sha2.specs.Sha256.{sha256}
+use Rattle.mp_bundle.specs.declared.token.Token.{Token}
+use Rattle.mp_bundle.specs.Token.{token, token_cmp}
+use Rattle.mp_bundle.specs.Bundle.{Entry, IsBundle}
+use Rattle.mp_bundle.specs.Sum.{total_over}
+use Rattle.mp_tx.specs.Transaction.{Transaction}
+use Rattle.mp_tx.specs.Spelling.{id_of}
+use Rattle.mp_utxo.specs.Apply.{Unspent, own_ref}
+use Rattle.mp_rules.specs.declared.invalid.Invalid.{Invalid}
+use Rattle.mp_rules.specs.declared.invalid.Invalid.TheVariants as rule
+use Rattle.mp_rules.specs.Verifier.{Accepts}
+use Rattle.mp_rules.specs.Resolved.{resolve, spendings, values}
+use Rattle.mp_rules.specs.Scripts.{validator_accepts, policy_accepts}
+use Rattle.mp_rules.specs.Validity.{Rule, HasInput, InInterval, PaysNoDebt, InputsThere, ReferencesThere, AddressesMatch, DataMatch, OutputsFresh, PoliciesCarried, Balanced, SignaturesAccepted, ValidatorsAccept, PoliciesAccept, IsNonnegative, Holds, IsValid}
+use Rattle.mp_rules.specs.FirstFault.{first_fault}
+
+-- the first item that isn't good stands at the place
+pub record IsFirstBad {X : Type 0} (Good : X → Type 0) (xs : List X) (place : ℕ) : Type 0 where
+  -- an item stands there
+  pub within : place < length xs
+  pub bad : HoldsAt (λ x. Good x → ⊥) xs place
+  -- all before it are good
+  pub before : All Good (take place xs)
+
+-- of a bundle's policies, the least without a script among these
+pub record IsLeastUncarried (scripts : List (List ℕ)) (forge : List Entry) (policy : List ℕ) : Type 0 where
+  pub forged : Contains (map (λ e. e.0.policy) forge) policy
+  pub absent : Contains (map sha256 scripts) policy → ⊥
+  pub least : All (λ e. slice_cmp nat_cmp e.0.policy policy ≡ Less → Contains (map sha256 scripts) e.0.policy) forge
+
+-- the least token whose totals differ
+pub record IsLeastUnbalanced (taken paid : List (List Entry)) (token : Token) : Type 0 where
+  pub differs : total_over taken token ≢ total_over paid token
+  pub least : (other : Token) → token_cmp other token ≡ Less → total_over taken other ≡ total_over paid other
+
+-- the place of a rule in the order
+abbrev pub turn : Rule → ℕ
+turn HasInput = 0
+turn InInterval = 1
+turn PaysNoDebt = 2
+turn InputsThere = 3
+turn ReferencesThere = 4
+turn AddressesMatch = 5
+turn DataMatch = 6
+turn OutputsFresh = 7
+turn PoliciesCarried = 8
+turn Balanced = 9
+turn SignaturesAccepted = 10
+turn ValidatorsAccept = 11
+turn PoliciesAccept = 12
+
+-- of the rule that a fault is of
+abbrev pub turn_of : Invalid → ℕ
+turn_of rule.NoMemory = 0
+turn_of rule.NoInputs = turn HasInput
+turn_of rule.OutsideInterval = turn InInterval
+turn_of (rule.NegativeOutput place) = turn PaysNoDebt
+turn_of (rule.InputMissing place) = turn InputsThere
+turn_of (rule.ReferenceMissing place) = turn ReferencesThere
+turn_of (rule.AddressMismatch place) = turn AddressesMatch
+turn_of (rule.DatumMismatch place) = turn DataMatch
+turn_of (rule.OutputTaken place) = turn OutputsFresh
+turn_of (rule.ForgeWithoutPolicy policy) = turn PoliciesCarried
+turn_of (rule.Unbalanced policy name) = turn Balanced
+turn_of (rule.BadSignature key) = turn SignaturesAccepted
+turn_of (rule.ValidatorRefused place) = turn ValidatorsAccept
+turn_of (rule.PolicyRefused place) = turn PoliciesAccept
+
+-- The rule that a fault is of is broken as the fault says, and nowhere before.
+abbrev pub IsBroken : Accepts → Unspent → ℕ → Transaction → Invalid → Type 0
+IsBroken accepts u tick t rule.NoMemory = ⊥
+IsBroken accepts u tick t rule.NoInputs = t.inputs ≡ []
+IsBroken accepts u tick t rule.OutsideInterval = (tick < t.from) ⊎ (t.to < tick)
+IsBroken accepts u tick t (rule.NegativeOutput k) = IsFirstBad IsNonnegative t.outputs k
+IsBroken accepts u tick t (rule.InputMissing i) = IsFirstBad (λ input. IsSome (u input.from)) t.inputs i
+IsBroken accepts u tick t (rule.ReferenceMissing r) = IsFirstBad (λ reference. IsSome (u reference)) t.references r
+IsBroken accepts u tick t (rule.AddressMismatch i) =
+    IsFirstBad (λ p. sha256 p.0.validator ≡ p.1.address) (spendings t (resolve u t)) i
+IsBroken accepts u tick t (rule.DatumMismatch i) =
+    IsFirstBad (λ p. sha256 p.0.datum ≡ p.1.datum_hash) (spendings t (resolve u t)) i
+IsBroken accepts u tick t (rule.OutputTaken k) =
+    (k < length t.outputs) × IsSome (u (own_ref t k)) × ((j : ℕ) → j < k → u (own_ref t j) ≡ None)
+IsBroken accepts u tick t (rule.ForgeWithoutPolicy policy) = IsLeastUncarried t.scripts t.forge policy
+IsBroken accepts u tick t (rule.Unbalanced policy name) =
+    IsLeastUnbalanced (t.forge ∷ values (resolve u t).spent) (values t.outputs) (token policy name)
+IsBroken accepts u tick t (rule.BadSignature key) =
+    (i : ℕ) × IsFirstBad (λ s. IsTrue (accepts s.key (id_of t) s.sig)) t.signatures i × HoldsAt (λ s. s.key ≡ key) t.signatures i
+IsBroken accepts u tick t (rule.ValidatorRefused i) =
+    IsFirstBad (λ p. IsTrue (validator_accepts t (resolve u t) p)) (spendings t (resolve u t)) i
+IsBroken accepts u tick t (rule.PolicyRefused j) =
+    IsFirstBad (λ s. IsTrue (policy_accepts t (resolve u t) s)) t.scripts j
+
+-- what a first fault says
+pub record IsFirstFault (accepts : Accepts) (u : Unspent) (tick : ℕ) (t : Transaction) (fault : Invalid) : Type 0 where
+  pub broken : IsBroken accepts u tick t fault
+  -- every rule before it holds
+  pub before : (r : Rule) → turn r < turn_of fault → Holds accepts u tick t r
+
+-- a transaction is valid exactly where it has no first fault
+abbrev pub ValidIsFaultless : Type 0
+ValidIsFaultless =
+    (accepts : Accepts) (u : Unspent) (tick : ℕ) (t : Transaction)
+    → IsValid accepts u tick t ↔ (first_fault accepts u tick t ≡ None)
+
+-- the first fault is what it says
+abbrev pub FirstFaultIsBroken : Type 0
+FirstFaultIsBroken =
+    (accepts : Accepts) (u : Unspent) (tick : ℕ) (t : Transaction) (fault : Invalid) → IsBundle t.forge
+    → first_fault accepts u tick t ≡ Some fault → IsFirstFault accepts u tick t fault

@@ -1,0 +1,9 @@
+pub mod Verifier
+pub mod Resolved
+pub mod Scripts
+pub mod Validity
+pub mod FirstFault
+pub mod Checked
+pub mod Invalid
+pub mod Laws
+pub mod Inside

@@ -1,0 +1,21 @@
+//! The rules of validity: whether a transaction may follow upon the outputs that may be spent, and which rule fails first
+//! (the EUTXO and native-token papers of Chakravarty et al., and CIP-31).
+#![tactic(auto)]
+
+mod balance;
+mod check;
+mod checked;
+mod invalid;
+pub mod laws;
+mod map;
+mod own;
+mod resolved;
+mod scripts;
+mod signatures;
+mod verifier;
+
+pub use check::{check, check_with};
+pub use checked::{Checked, precheck};
+pub use invalid::Invalid;
+pub use resolved::Resolved;
+pub use verifier::Verifier;

@@ -1,0 +1,67 @@
+//! Rules that a transaction keeps or breaks by itself, at a tick.
+
+ghost use Rattle.std.specs.Prelude.{◌≡◌, pos, int_lt};
+ghost use Rattle.std.specs.List.{list_any, position, find};
+ghost use Rattle.mp_rules.specs.FirstFault.{has_debt, is_carried, forge_without_policy};
+ghost use Rattle.mp_rules.specs.Inside.Groups.{own_fault};
+
+use crate::invalid::Invalid;
+use mp_bundle::{Bundle, Entry};
+use mp_tx::{Output, PolicyId, Script, Tx};
+
+fn has_debt(bundle: &Bundle) -> bool
+    ensures { result ≡ has_debt bundle.now }
+{
+    bundle.entries().iter().any(|entry| entry.1 < 0)
+}
+
+fn place_of_debt(outputs: &[Output]) -> Option<usize>
+    ensures { result ≡ position (λ o. has_debt o.value) outputs.now }
+{
+    outputs.iter().position(|output| has_debt(&output.value))
+}
+
+/// The first fault of those that no map is needed for: no input, a tick outside of the interval, a negative quantity.
+#[tactic(auto, unfolding(crate::specs::Inside::Groups::own_fault, crate::specs::FirstFault::no_inputs, crate::specs::FirstFault::outside_interval, crate::specs::FirstFault::negative_output))]
+pub fn own_fault(tx: &Tx, tick: u64) -> Option<Invalid>
+    ensures { result ≡ own_fault tick tx.now }
+{
+    if tx.inputs().is_empty() {
+        return Some(Invalid::NoInputs);
+    }
+    if tick < tx.from() || tx.to() < tick {
+        return Some(Invalid::OutsideInterval);
+    }
+    match place_of_debt(tx.outputs()) {
+        Some(place) => Some(Invalid::NegativeOutput(place)),
+        None => None,
+    }
+}
+
+fn is_carried(scripts: &[Script], policy: &PolicyId) -> bool
+    ensures { result ≡ is_carried scripts.now policy.now }
+{
+    scripts.iter().any(|script| *script.hash() == *policy)
+}
+
+fn uncarried<'a>(scripts: &[Script], forged: &'a [Entry]) -> Option<&'a Entry>
+    ensures { option_copied result ≡ find (λ e. not (is_carried scripts.now e.0.policy)) forged.now }
+{
+    for entry in forged {
+        if !is_carried(scripts, &entry.0.policy) {
+            return Some(entry);
+        }
+    }
+    None
+}
+
+/// The least policy of which tokens are forged and whose script isn't carried.
+#[tactic(auto, unfolding(crate::specs::FirstFault::forge_without_policy))]
+pub fn forge_without_policy(tx: &Tx) -> Option<Invalid>
+    ensures { result ≡ forge_without_policy tx.now }
+{
+    match uncarried(tx.scripts(), tx.forge().entries()) {
+        Some(entry) => Some(Invalid::ForgeWithoutPolicy(entry.0.policy)),
+        None => None,
+    }
+}

@@ -1,0 +1,48 @@
+//! The outputs that a transaction names.
+
+use mp_memory::Memory;
+use mp_tx::Output;
+use std::marker::Model;
+
+/// The outputs that a transaction names: those that its inputs spend, in their order, and those that its references lead to.
+/// Their bundles are shared with the map that they come from.
+#[derive(Debug, Drop)]
+pub struct Resolved {
+    spent: Vec<Output, Memory>,
+    referenced: Vec<Output, Memory>,
+}
+
+impl Model for Resolved {
+    ghost use Rattle.mp_rules.specs.Resolved as told;
+
+    ghost Value = { told.Resolved };
+
+    ghost use Rattle.mp_rules.specs.Inside.Resolved.{resolved};
+
+    ghost view = { resolved };
+}
+
+impl Resolved {
+    ghost use Rattle.std.specs.Prelude.{◌≡◌};
+    ghost use Rattle.mp_rules.specs.Resolved as told;
+
+    pub(crate) fn of(spent: Vec<Output, Memory>, referenced: Vec<Output, Memory>) -> Resolved
+        ensures { result ≡ record { spent = spent.items; referenced = referenced.items } }
+    {
+        Resolved { spent, referenced }
+    }
+
+    /// What the inputs spend, in their order.
+    pub fn spent(&self) -> &[Output]
+        ensures { result.now ≡ self.now.spent }
+    {
+        &self.spent
+    }
+
+    /// What the references lead to, in their order.
+    pub fn referenced(&self) -> &[Output]
+        ensures { result.now ≡ self.now.referenced }
+    {
+        &self.referenced
+    }
+}
