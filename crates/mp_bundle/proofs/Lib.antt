@@ -7,4 +7,4 @@ pub mod TotalsLemmas
 pub mod TokenOf
 pub mod SumLemmas
 pub mod Differences
-mod LawsLemmas
+pub mod LawsLemmas

@@ -3,19 +3,17 @@
 #![tactic(auto)]
 
 mod balance;
-mod check;
 mod checked;
 mod invalid;
-pub mod laws;
 mod map;
 mod own;
 mod resolved;
+mod scene;
 mod scripts;
 mod signatures;
 mod verifier;
 
-pub use check::{check, check_with};
-pub use checked::{Checked, precheck};
+pub use checked::Checked;
 pub use invalid::Invalid;
 pub use resolved::Resolved;
 pub use verifier::Verifier;

@@ -1,7 +1,7 @@
 //! Rules that a transaction keeps or breaks by itself, at a tick.
 
-ghost use Rattle.std.specs.Prelude.{◌≡◌, pos, int_lt};
-ghost use Rattle.std.specs.List.{list_any, position, find};
+ghost use Rattle.std.specs.Prelude.{◌≡◌, not, option_copied};
+ghost use Rattle.std.specs.List.{position, find};
 ghost use Rattle.mp_rules.specs.FirstFault.{has_debt, is_carried, forge_without_policy};
 ghost use Rattle.mp_rules.specs.Inside.Groups.{own_fault};
 
@@ -47,12 +47,7 @@ fn is_carried(scripts: &[Script], policy: &PolicyId) -> bool
 fn uncarried<'a>(scripts: &[Script], forged: &'a [Entry]) -> Option<&'a Entry>
     ensures { option_copied result ≡ find (λ e. not (is_carried scripts.now e.0.policy)) forged.now }
 {
-    for entry in forged {
-        if !is_carried(scripts, &entry.0.policy) {
-            return Some(entry);
-        }
-    }
-    None
+    forged.iter().find(|entry| !is_carried(scripts, &entry.0.policy))
 }
 
 /// The least policy of which tokens are forged and whose script isn't carried.

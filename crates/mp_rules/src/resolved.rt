@@ -17,16 +17,19 @@ impl Model for Resolved {
 
     ghost Value = { told.Resolved };
 
-    ghost use Rattle.mp_rules.specs.Inside.Resolved.{resolved};
+    ghost use Rattle.mp_rules.specs.Inside.Resolved.{resolved, IsFew};
 
     ghost view = { resolved };
+
+    ghost invariant = { IsFew };
 }
 
 impl Resolved {
-    ghost use Rattle.std.specs.Prelude.{◌≡◌};
-    ghost use Rattle.mp_rules.specs.Resolved as told;
+    ghost use Rattle.std.specs.Prelude.{◌≡◌, ◌≤◌, length};
 
     pub(crate) fn of(spent: Vec<Output, Memory>, referenced: Vec<Output, Memory>) -> Resolved
+        requires spent { length spent.items ≤ 256 }
+        requires referenced { length referenced.items ≤ 256 }
         ensures { result ≡ record { spent = spent.items; referenced = referenced.items } }
     {
         Resolved { spent, referenced }
@@ -34,14 +37,16 @@ impl Resolved {
 
     /// What the inputs spend, in their order.
     pub fn spent(&self) -> &[Output]
-        ensures { result.now ≡ self.now.spent }
+        ensures same { result.now ≡ self.now.spent }
+        ensures few { length result.now ≤ 256 }
     {
         &self.spent
     }
 
     /// What the references lead to, in their order.
     pub fn referenced(&self) -> &[Output]
-        ensures { result.now ≡ self.now.referenced }
+        ensures same { result.now ≡ self.now.referenced }
+        ensures few { length result.now ≤ 256 }
     {
         &self.referenced
     }

@@ -1,6 +1,7 @@
 //! The rule of signatures.
 
-ghost use Rattle.std.specs.Prelude.{◌≡◌};
+ghost use Rattle.std.specs.Prelude.{◌≡◌, not, option_copied};
+ghost use Rattle.std.specs.List.{find};
 ghost use Rattle.mp_rules.specs.FirstFault.{bad_signature};
 
 use crate::invalid::Invalid;
@@ -15,12 +16,7 @@ fn unaccepted<'a, V: Verifier>(
     ensures { option_copied result ≡
         find (λ s. not (V.accepts verifier.now s.key id.now s.sig)) signatures.now }
 {
-    for signature in signatures {
-        if !verifier.verify(&signature.key, id, &signature.sig) {
-            return Some(signature);
-        }
-    }
-    None
+    signatures.iter().find(|s| !verifier.verify(&s.key, id, &s.sig))
 }
 
 /// The first signature that the verifier doesn't accept.

@@ -1,3 +1,2 @@
 pub mod Apply
 pub mod Overlay
-pub mod Inside

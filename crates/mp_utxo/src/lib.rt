@@ -2,8 +2,6 @@
 //! Chakravarty et al.).
 #![tactic(auto)]
 
-mod overlay;
 mod utxo;
 
-pub use overlay::Overlay;
 pub use utxo::Utxo;

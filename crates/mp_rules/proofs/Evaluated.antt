@@ -1,0 +1,53 @@
+-- Whether a script accepts, and what its transaction shows it.
+use Rattle.std.proofs.Common.{◌≡◌, ℕ, List, map, sym, ap, ◌∙◌}
+use Rattle.std.specs.Prelude.{not}
+use Rattle.std.specs.List.{position, zip}
+use Rattle.mp_bundle.specs.declared.token.Token.{Token}
+use Rattle.mp_script.specs.Script.{Tree, Spells, IsScript}
+use Rattle.mp_script.specs.Value.{Value}
+use Rattle.mp_script.specs.View.{View}
+use Rattle.mp_script.specs.Meaning.{value}
+use Rattle.mp_script.proofs.LawsLemmas.{script_is_one}
+use Rattle.mp_tx.specs.declared.input.Input.{Input}
+use Rattle.mp_tx.specs.declared.output.Output.{Output}
+use Rattle.mp_tx.specs.Transaction.{Transaction}
+use Rattle.mp_rules.specs.declared.scene.Scene.{Scene}
+use Rattle.mp_rules.specs.Resolved.{Resolved, spendings}
+use Rattle.mp_rules.specs.Scripts.{is_true, tree_accepts, script_accepts, policy_view, validator_view, validator_accepts, policy_accepts}
+use Rattle.mp_rules.specs.Inside.Scene.{IsSceneOf, policy_scene, validator_scene}
+
+pub accepted : (view : View) (script : List ℕ) (v : Value) → IsScript script → ((tree : Tree) → Spells script tree → v ≡ value view tree) → is_true v ≡ script_accepts view script
+accepted view script v is values =
+    ap is_true (values is.0 is.1) ∙ ap (tree_accepts view) (sym (script_is_one.read script is.0 is.1))
+
+-- what is gathered shows a policy script what it is to see
+pub policy-seen : (s : Scene) (t : Transaction) (r : Resolved) → IsSceneOf s t r → (script : List ℕ) → policy_scene s script ≡ policy_view t r script
+policy-seen s t r is script i = record (policy_view t r script) {
+  from = is.from i;
+  to = is.to i;
+  keys = is.keys i;
+  spent = λ token. is.spent.totals token i;
+  forge = is.forge i;
+  outputs = is.outputs i;
+  references = is.references i;
+}
+
+-- and a validator
+pub validator-seen : (s : Scene) (t : Transaction) (r : Resolved) → IsSceneOf s t r → (i : Input) (o : Output) → validator_scene s i o ≡ validator_view t r i o
+validator-seen s t r is input o i = record (validator_view t r input o) {
+  from = is.from i;
+  to = is.to i;
+  keys = is.keys i;
+  spent = λ token. is.spent.totals token i;
+  forge = is.forge i;
+  outputs = is.outputs i;
+  references = is.references i;
+}
+
+pub validator-places : (s : Scene) (t : Transaction) (r : Resolved) → IsSceneOf s t r →
+    position (λ p. not (script_accepts (validator_scene s p.0 p.1) p.0.validator)) (zip t.inputs r.spent) ≡ position (λ p. not (validator_accepts t r p)) (spendings t r)
+validator-places s t r is = ap (λ (view : Input → Output → View). position (λ p. not (script_accepts (view p.0 p.1) p.0.validator)) (zip t.inputs r.spent)) (λ k i o. validator-seen s t r is i o k)
+
+pub policy-places : (s : Scene) (t : Transaction) (r : Resolved) → IsSceneOf s t r →
+    position (λ x. not (script_accepts (policy_scene s x) x)) t.scripts ≡ position (λ x. not (policy_accepts t r x)) t.scripts
+policy-places s t r is = ap (λ (view : List ℕ → View). position (λ x. not (script_accepts (view x) x)) t.scripts) (λ k x. policy-seen s t r is x k)
