@@ -1,3 +1,11 @@
 pub mod Positions
 pub mod Sums
 pub mod Evaluated
+pub mod Searching
+pub mod Totals
+pub mod Carried
+pub mod Faults
+pub mod Valid
+pub mod Differences
+pub mod SameOutputs
+pub mod Order

@@ -1,5 +1,6 @@
 -- What was found of a transaction's signatures and scripts before its other rules.
-use Rattle.std.specs.Prelude.{◌≡◌, [], ◌∷◌, Option}
+use Rattle.std.specs.Prelude.{◌≡◌, List, [], ◌∷◌, length, take, drop, Option}
+use Rattle.mp_tx.specs.declared.output.Output.{Output}
 use Rattle.mp_tx.specs.Transaction.{Transaction}
 use Rattle.mp_rules.specs.declared.invalid.Invalid.{Invalid}
 use Rattle.mp_rules.specs.Verifier.{Accepts}
@@ -22,6 +23,11 @@ script_refused t r = first_of (validator_refused t r ∷ policy_refused t r ∷ 
 pub record IsChecked (accepts : Accepts) (t : Transaction) (c : Checked) : Type 0 where
   pub signature : c.signature ≡ bad_signature accepts t
   pub script : c.script ≡ script_refused t c.resolved
+
+-- the scripts were run upon these outputs: one for each input, then one for each reference
+pub record IsUpon (t : Transaction) (outputs : List Output) (c : Checked) : Type 0 where
+  pub spent : c.resolved.spent ≡ take (length t.inputs) outputs
+  pub referenced : c.resolved.referenced ≡ drop (length t.inputs) outputs
 
 -- what it found first
 abbrev pub first_found : Checked → Option Invalid

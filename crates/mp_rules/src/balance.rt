@@ -1,14 +1,13 @@
 //! The rule of balance.
 
 ghost use Rattle.std.specs.Prelude.{◌≡◌, ◌+◌, ◌≤◌, ◌^◌, ◌∷◌, length, IfOk, OnOk, IfNone, IfSome};
-ghost use Rattle.mp_bundle.specs.Sum.{AddsAll, IsSumOf, AreAlike};
+ghost use Rattle.mp_bundle.specs.Sum.{AddsAll, IsSumOf, AreAlike, IsFirstDifference};
 ghost use Rattle.mp_rules.specs.Resolved.{values};
-ghost use Rattle.mp_rules.specs.FirstFault.{unbalanced};
-ghost use Rattle.mp_rules.specs.Inside.Difference.{IsDifference};
+ghost use Rattle.mp_rules.specs.FirstFault.{first_unbalanced, unbalanced};
 
 use crate::invalid::Invalid;
 use crate::resolved::Resolved;
-use mp_bundle::{Bundle, Sum};
+use mp_bundle::{Bundle, Sum, Token};
 use mp_memory::{Memory, NoMemory};
 use mp_tx::{Output, TokenName, Tx};
 
@@ -44,22 +43,37 @@ fn sum_with(memory: Memory, bundle: &Bundle, outputs: &[Output]) -> Result<Sum, 
     Ok(sum)
 }
 
-// The least token of which the totals differ, as a fault.
-fn difference<'a>(taken: &'a Sum, paid: &'a Sum) -> Option<Invalid>
+// The least token of which the totals differ.
+fn difference<'a>(taken: &'a Sum, paid: &'a Sum) -> Option<Token>
     ensures none { IfNone result (AreAlike taken.now paid.now) }
-    ensures first { IfSome result (IsDifference taken.now paid.now) }
+    ensures first { IfSome result (IsFirstDifference taken.now paid.now) }
 {
     match taken.first_difference(paid) {
-        Some(token) => {
-            let policy = token.0;
-            let name = TokenName::of(token.1);
-            Some(Invalid::Unbalanced(policy, name))
+        Some(found) => {
+            let policy = found.0;
+            let name = TokenName::of(found.1);
+            Some(Token { policy, name })
         }
         None => None,
     }
 }
 
-/// The least token of which what is forged and spent isn't what is paid.
+// The least token of which what is forged and spent isn't what is paid.
+fn first_unbalanced(
+    memory: Memory,
+    tx: &Tx,
+    resolved: &Resolved,
+) -> Result<Option<Token>, NoMemory>
+    ensures { IfOk result (λ token. token ≡
+        first_unbalanced (tx.now.forge ∷ values resolved.now.spent) (values tx.now.outputs)) }
+{
+    let taken = sum_with(memory, tx.forge(), resolved.spent())?;
+    let paid = sum_of(memory, tx.outputs())?;
+    Ok(difference(&taken, &paid))
+}
+
+/// The least token of which what is forged and spent isn't what is paid, as a fault.
+#[tactic(auto, unfolding(crate::specs::FirstFault::unbalanced))]
 pub fn unbalanced(
     memory: Memory,
     tx: &Tx,
@@ -67,7 +81,12 @@ pub fn unbalanced(
 ) -> Result<Option<Invalid>, NoMemory>
     ensures { IfOk result (λ fault. fault ≡ unbalanced tx.now resolved.now) }
 {
-    let taken = sum_with(memory, tx.forge(), resolved.spent())?;
-    let paid = sum_of(memory, tx.outputs())?;
-    Ok(difference(&taken, &paid))
+    match first_unbalanced(memory, tx, resolved)? {
+        Some(token) => {
+            let policy = token.policy;
+            let name = token.name;
+            Ok(Some(Invalid::Unbalanced(policy, name)))
+        }
+        None => Ok(None),
+    }
 }

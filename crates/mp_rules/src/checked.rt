@@ -1,10 +1,19 @@
-//! What is found of signatures and scripts before the other rules.
+//! What is found of a transaction's signatures and scripts before the other rules.
+
+ghost use Rattle.std.specs.Prelude.{◌≡◌, ◌+◌, ◌++◌, ◌≤◌, length, map, IfOk};
+ghost use Rattle.mp_rules.specs.Checked.{IsChecked, IsUpon};
 
 use crate::invalid::Invalid;
 use crate::resolved::Resolved;
+use crate::scripts::script_refused;
+use crate::signatures::bad_signature;
+use crate::verifier::Verifier;
+use mp_memory::{Memory, NoMemory};
+use mp_tx::{Output, Tx};
 use std::marker::Model;
 
-/// What was found of a transaction's signatures and scripts upon outputs that it was thought to name.
+/// What was found of a transaction's signatures and scripts upon outputs that it is thought to name. It serves as long as
+/// the transaction names these outputs; where it names others, scripts are run again.
 #[derive(Debug, Drop)]
 pub struct Checked {
     resolved: Resolved,
@@ -20,4 +29,72 @@ impl Model for Checked {
     ghost use Rattle.mp_rules.specs.Inside.Checked.{checked};
 
     ghost view = { checked };
+}
+
+impl Checked {
+    ghost use Rattle.std.specs.Prelude.{◌≡◌};
+    ghost use Rattle.mp_rules.specs.Checked.{first_found};
+
+    /// The outputs that the scripts were run upon.
+    pub fn resolved(&self) -> &Resolved
+        ensures { result.now ≡ self.now.resolved }
+    {
+        &self.resolved
+    }
+
+    /// What was found first: a signature that isn't accepted, else a validator that refuses, else a policy script.
+    pub fn fault(&self) -> Option<Invalid>
+        ensures { result ≡ first_found self.now }
+    {
+        match self.signature {
+            Some(fault) => Some(fault),
+            None => self.script,
+        }
+    }
+
+    pub(crate) fn signature(&self) -> Option<Invalid>
+        ensures { result ≡ self.now.signature }
+    {
+        self.signature
+    }
+
+    pub(crate) fn script(&self) -> Option<Invalid>
+        ensures { result ≡ self.now.script }
+    {
+        self.script
+    }
+}
+
+fn share_all(memory: Memory, outputs: &[&Output]) -> Result<Vec<Output, Memory>, NoMemory>
+    ensures { IfOk result (λ shared. shared.items ≡ map (λ o. o.now) outputs.now) }
+{
+    let mut shared = Vec::with_capacity(memory, outputs.len())?;
+    for output in outputs {
+        shared.push(output.share()?)?;
+    }
+    Ok(shared)
+}
+
+/// Looks at a transaction's signatures, and runs its scripts upon these outputs: one for each input, in their order, then one
+/// for each reference. So this can be done before the outputs are known to be there to be spent.
+pub fn precheck<V: Verifier>(
+    memory: Memory,
+    tx: &Tx,
+    outputs: &[&Output],
+    verifier: &V,
+) -> Result<Checked, NoMemory>
+    requires { length outputs.now ≡ length tx.now.inputs + length tx.now.references }
+    ensures checked { IfOk result (IsChecked (V.accepts verifier.now) tx.now) }
+    ensures upon { IfOk result (IsUpon tx.now (map (λ o. o.now) outputs.now)) }
+{
+    let count = tx.inputs().len();
+    let spent = share_all(memory, &outputs[..count])?;
+    let referenced = share_all(memory, &outputs[count..])?;
+    let resolved = Resolved::of(spent, referenced);
+    let script = script_refused(memory, tx, &resolved)?;
+    Ok(Checked {
+        resolved,
+        signature: bad_signature(tx, verifier),
+        script,
+    })
 }

@@ -4,7 +4,9 @@
 
 mod balance;
 mod checked;
+mod checking;
 mod invalid;
+pub mod laws;
 mod map;
 mod own;
 mod resolved;
@@ -13,7 +15,8 @@ mod scripts;
 mod signatures;
 mod verifier;
 
-pub use checked::Checked;
+pub use checked::{Checked, precheck};
+pub use checking::{check, check_with};
 pub use invalid::Invalid;
 pub use resolved::Resolved;
 pub use verifier::Verifier;

@@ -1,10 +1,7 @@
-pub mod Apply
-pub mod Validity
 pub mod Command
 pub mod Pool
 pub mod SlowPool
 pub mod PoolLaws
 pub mod Config
-pub mod Invalid
 pub mod Refusal
 pub mod Inside

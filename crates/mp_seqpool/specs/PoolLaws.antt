@@ -4,37 +4,40 @@ use Rattle.std.specs.List.Sorted.{IsStrictlyIncreasing}
 use Rattle.std.specs.FinMap.{get}
 use Rattle.mp_tx.specs.Spelling.{id_of}
 use Rattle.mp_seqpool.specs.declared.command.Reply.TheVariants.{Accepted}
-use Rattle.mp_seqpool.specs.Validity.{Chain}
+use Rattle.mp_rules.specs.Verifier.{Accepts}
+use Rattle.mp_rules.specs.Validity.{Chain}
 use Rattle.mp_seqpool.specs.Command.{Command}
 use Rattle.mp_seqpool.specs.Pool.{Pool, transactions, tickets}
 use Rattle.mp_seqpool.specs.SlowPool.{answer, next, pool_after}
-
--- One state.
-pub record IsLawful (p : Pool) : Type 0 where
-  -- each transaction is valid on the ledger after all before it
-  pub chained : Chain (get p.ledger.utxo) (transactions p.items)
-  -- tickets rise
-  pub rising : IsStrictlyIncreasing (tickets p.items)
-  -- no ticket is 0
-  pub above_zero : All (λ k. 0 < k) (tickets p.items)
-  -- no ticket is above the last one
-  pub given : All (λ k. k ≤ p.last) (tickets p.items)
-  -- ids differ
-  pub distinct : AllPairs (λ a b. a ≢ b) (map id_of (transactions p.items))
 
 -- Two states: what the later one has under a ticket of the earlier one stood there under that ticket.
 abbrev pub Lasts : Pool → Pool → Type 0
 Lasts p q = All (λ i. i.0 ≤ p.last → Contains p.items i) q.items
 
--- One command: a ticket that is given is one more than the last one, and is the last one then.
-abbrev pub GivesNext : Pool → Command → Type 0
-GivesNext p c = (k : ℕ) → answer p c ≡ Ok (Accepted k) → (k ≡ p.last + 1) × ((next p c).last ≡ k)
+-- The verifier decides which signatures are good.
+module _ (accepts : Accepts) where
+  -- One state.
+  pub record IsLawful (p : Pool) : Type 0 where
+    -- each transaction is valid on the ledger after all before it
+    pub chained : Chain accepts (get p.ledger.utxo) p.ledger.tick (transactions p.items)
+    -- tickets rise
+    pub rising : IsStrictlyIncreasing (tickets p.items)
+    -- no ticket is 0
+    pub above_zero : All (λ k. 0 < k) (tickets p.items)
+    -- no ticket is above the last one
+    pub given : All (λ k. k ≤ p.last) (tickets p.items)
+    -- ids differ
+    pub distinct : AllPairs (λ a b. a ≢ b) (map id_of (transactions p.items))
 
--- All states on the way through a list of commands.
-pub record ObeysLaws (p : Pool) (cs : List Command) : Type 0 where
-  -- each of them is lawful
-  pub lawful : (n : ℕ) → IsLawful (pool_after p (take n cs))
-  -- of each two of them, the later one has under the earlier one's tickets only what stood there
-  pub lasting : (m n : ℕ) → m ≤ n → Lasts (pool_after p (take m cs)) (pool_after p (take n cs))
-  -- whatever is asked there, a ticket that is given is the next one
-  pub next_ticket : (n : ℕ) (c : Command) → GivesNext (pool_after p (take n cs)) c
+  -- One command: a ticket that is given is one more than the last one, and is the last one then.
+  abbrev pub GivesNext : Pool → Command → Type 0
+  GivesNext p c = (k : ℕ) → answer accepts p c ≡ Ok (Accepted k) → (k ≡ p.last + 1) × ((next accepts p c).last ≡ k)
+
+  -- All states on the way through a list of commands.
+  pub record ObeysLaws (p : Pool) (cs : List Command) : Type 0 where
+    -- each of them is lawful
+    pub lawful : (n : ℕ) → IsLawful (pool_after accepts p (take n cs))
+    -- of each two of them, the later one has under the earlier one's tickets only what stood there
+    pub lasting : (m n : ℕ) → m ≤ n → Lasts (pool_after accepts p (take m cs)) (pool_after accepts p (take n cs))
+    -- whatever is asked there, a ticket that is given is the next one
+    pub next_ticket : (n : ℕ) (c : Command) → GivesNext (pool_after accepts p (take n cs)) c

@@ -6,13 +6,14 @@ use Rattle.std.specs.FinMap.{get}
 use Rattle.mp_tx.specs.Transaction.{Transaction}
 use Rattle.mp_tx.specs.Spelling.{id_of, size_of}
 use Rattle.mp_tx.specs.Ledger.{LedgerState}
+use Rattle.mp_utxo.specs.Apply.{Unspent, after}
+use Rattle.mp_rules.specs.declared.invalid.Invalid.{Invalid}
+use Rattle.mp_rules.specs.Verifier.{Accepts}
+use Rattle.mp_rules.specs.FirstFault.{first_fault}
 use Rattle.mp_seqpool.specs.declared.refusal.Refusal.{Refusal}
 use Rattle.mp_seqpool.specs.declared.refusal.Refusal.TheVariants as refusals
-use Rattle.mp_seqpool.specs.declared.invalid.Invalid.{Invalid}
 use Rattle.mp_seqpool.specs.declared.command.Reply.{Reply}
 use Rattle.mp_seqpool.specs.declared.command.Reply.TheVariants.{Accepted}
-use Rattle.mp_seqpool.specs.Apply.{Unspent, after}
-use Rattle.mp_seqpool.specs.Validity.{first_fault}
 use Rattle.mp_seqpool.specs.Command.{Command, Submit}
 use Rattle.mp_seqpool.specs.Pool.{Pool, transactions}
 
@@ -36,26 +37,9 @@ abbrev pub answer_rules : Pool → Transaction → Option Invalid → Result Rep
 answer_rules p t None = Ok (Accepted (p.last + 1))
 answer_rules p t (Some fault) = Err (refusals.Invalid fault)
 
-abbrev pub answer_new : Pool → Transaction → Option ℕ → Result Reply Refusal
-answer_new p t None =
-    if nat_lt (free_bytes p) (size_of t) then Err (refusals.Full (size_of t) (free_bytes p))
-    else answer_rules p t (first_fault (unspent p) t)
-answer_new p t (Some ticket) = Err (refusals.AlreadyInPool ticket)
-
--- the reply to a command, or the first refusal that holds
-unfoldable pub answer : Pool → Command → Result Reply Refusal
-answer p (Submit t) =
-    if nat_le p.limit p.changes then Err refusals.HistoryFull
-    else if nat_le (2 ^ 64 - 1) p.last then Err refusals.TicketsSpent
-    else answer_new p t (ticket_of (id_of t) p.items)
-
 -- the transaction last, under the next ticket
 abbrev pub pool_with : Pool → Transaction → Pool
 pool_with p t = record p { items = p.items ++ (p.last + 1, t) ∷ []; last = p.last + 1; changes = p.changes + 1 }
-
--- the state after a command: a refusal changes nothing
-unfoldable pub next : Pool → Command → Pool
-next p (Submit t) = if is_ok (answer p (Submit t)) then pool_with p t else p
 
 -- the pool can count one more transaction
 pub record HasRoom (p : Pool) (t : Transaction) : Type 0 where
@@ -71,20 +55,39 @@ abbrev pub refusal_in : Result Reply Refusal → Option Refusal
 refusal_in (Ok reply) = None
 refusal_in (Err refusal) = Some refusal
 
--- A refusal that a call gives is the slow pool's. Memory may be wanting at any command.
-abbrev pub IsRefused : Pool → Command → Refusal → Type 0
-IsRefused p c refusals.NoMemory = Unit {0}
-IsRefused p c refusal = answer p c ≡ Err refusal
-
 -- a pool with no transaction
 abbrev pub empty_pool : ℕ → ℕ → LedgerState → Pool
 empty_pool limit last ledger = record { ledger = ledger; items = []; last = last; changes = 0; limit = limit; opening_ticket = last }
 
--- the answers to commands in order, and the state after them
-abbrev pub answers : Pool → List Command → List (Result Reply Refusal)
-answers p [] = []
-answers p (c ∷ cs) = answer p c ∷ answers (next p c) cs
+-- The verifier decides which signatures are good.
+module _ (accepts : Accepts) where
+  abbrev pub answer_new : Pool → Transaction → Option ℕ → Result Reply Refusal
+  answer_new p t None =
+      if nat_lt (free_bytes p) (size_of t) then Err (refusals.Full (size_of t) (free_bytes p))
+      else answer_rules p t (first_fault accepts (unspent p) p.ledger.tick t)
+  answer_new p t (Some ticket) = Err (refusals.AlreadyInPool ticket)
 
-abbrev pub pool_after : Pool → List Command → Pool
-pool_after p [] = p
-pool_after p (c ∷ cs) = pool_after (next p c) cs
+  -- the reply to a command, or the first refusal that holds
+  unfoldable pub answer : Pool → Command → Result Reply Refusal
+  answer p (Submit t) =
+      if nat_le p.limit p.changes then Err refusals.HistoryFull
+      else if nat_le (2 ^ 64 - 1) p.last then Err refusals.TicketsSpent
+      else answer_new p t (ticket_of (id_of t) p.items)
+
+  -- the state after a command: a refusal changes nothing
+  unfoldable pub next : Pool → Command → Pool
+  next p (Submit t) = if is_ok (answer p (Submit t)) then pool_with p t else p
+
+  -- A refusal that a call gives is the slow pool's. Memory may be wanting at any command.
+  abbrev pub IsRefused : Pool → Command → Refusal → Type 0
+  IsRefused p c refusals.NoMemory = Unit {0}
+  IsRefused p c refusal = answer p c ≡ Err refusal
+
+  -- the answers to commands in order, and the state after them
+  abbrev pub answers : Pool → List Command → List (Result Reply Refusal)
+  answers p [] = []
+  answers p (c ∷ cs) = answer p c ∷ answers (next p c) cs
+
+  abbrev pub pool_after : Pool → List Command → Pool
+  pool_after p [] = p
+  pool_after p (c ∷ cs) = pool_after (next p c) cs

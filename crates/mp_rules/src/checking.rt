@@ -1,0 +1,151 @@
+//! Whether a transaction may follow.
+
+ghost use Rattle.std.specs.Prelude.{◌≡◌, None, IfOk, OnOk, IfErr, IsTrue};
+ghost use Rattle.mp_rules.specs.Resolved.{resolve};
+ghost use Rattle.mp_rules.specs.Validity.{IsValid};
+ghost use Rattle.mp_rules.specs.FirstFault.{first_fault, IsFaultOf};
+ghost use Rattle.mp_rules.specs.Checked.{IsChecked, script_refused};
+ghost use Rattle.mp_rules.specs.Inside.Groups.{payment_fault, fault_on_map, Passes};
+
+use crate::balance::unbalanced;
+use crate::checked::Checked;
+use crate::invalid::Invalid;
+use crate::map::{mismatch, output_taken, resolve};
+use crate::own::{forge_without_policy, own_fault};
+use crate::resolved::Resolved;
+use crate::scripts::script_refused;
+use crate::signatures::bad_signature;
+use crate::verifier::Verifier;
+use mp_memory::{Memory, NoMemory};
+use mp_tx::{Output, Tx};
+use mp_utxo::Utxo;
+
+// The rules on what it makes and pays.
+#[tactic(auto, unfolding(crate::specs::Inside::Groups::payment_fault))]
+fn payment_fault<U: Utxo>(
+    memory: Memory,
+    tx: &Tx,
+    resolved: &Resolved,
+    utxo: &U,
+) -> Result<Option<Invalid>, NoMemory>
+    ensures { IfOk result (λ fault. fault ≡ payment_fault (U.map utxo.now) tx.now resolved.now) }
+{
+    if let Some(fault) = output_taken(tx, utxo) {
+        return Ok(Some(fault));
+    }
+    if let Some(fault) = forge_without_policy(tx) {
+        return Ok(Some(fault));
+    }
+    unbalanced(memory, tx, resolved)
+}
+
+// All rules that need neither signatures nor scripts.
+#[tactic(auto, unfolding(crate::specs::Inside::Groups::fault_on_map))]
+fn check_on_map<U: Utxo>(
+    memory: Memory,
+    tx: &Tx,
+    utxo: &U,
+    tick: u64,
+) -> Result<Resolved, Invalid>
+    ensures { Passes (λ r. r ≡ resolve (U.map utxo.now) tx.now)
+        (fault_on_map (U.map utxo.now) tick tx.now) result }
+{
+    if let Some(fault) = own_fault(tx, tick) {
+        return Err(fault);
+    }
+    let resolved = resolve(memory, tx, utxo)?;
+    if let Some(fault) = mismatch(tx, &resolved) {
+        return Err(fault);
+    }
+    if let Some(fault) = payment_fault(memory, tx, &resolved, utxo)? {
+        return Err(fault);
+    }
+    Ok(resolved)
+}
+
+/// Whether the transaction is valid upon the outputs that may be spent, at a tick. Where it is, it gives the outputs that the
+/// transaction names.
+///
+/// # Errors
+/// The first rule that fails, in the order of `Invalid`, at its least place. `NoMemory` may stand in place of any answer.
+pub fn check<U: Utxo, V: Verifier>(
+    memory: Memory,
+    tx: &Tx,
+    utxo: &U,
+    tick: u64,
+    verifier: &V,
+) -> Result<Resolved, Invalid>
+    ensures resolved { IfOk result (λ r. r ≡ resolve (U.map utxo.now) tx.now) }
+    ensures valid { OnOk result (IsValid (V.accepts verifier.now) (U.map utxo.now) tick tx.now) }
+    ensures clear { OnOk result
+        (first_fault (V.accepts verifier.now) (U.map utxo.now) tick tx.now ≡ None) }
+    ensures fault { IfErr result
+        (IsFaultOf (V.accepts verifier.now) (U.map utxo.now) tick tx.now) }
+{
+    let resolved = check_on_map(memory, tx, utxo, tick)?;
+    if let Some(fault) = bad_signature(tx, verifier) {
+        return Err(fault);
+    }
+    if let Some(fault) = script_refused(memory, tx, &resolved)? {
+        return Err(fault);
+    }
+    Ok(resolved)
+}
+
+fn same_outputs<'a>(a: &'a [Output], b: &'a [Output]) -> bool
+    ensures { IsTrue result → a.now ≡ b.now }
+{
+    a == b
+}
+
+// The first script that refuses, from what was found before where the outputs are the same.
+fn refused_again(
+    memory: Memory,
+    tx: &Tx,
+    resolved: &Resolved,
+    checked: &Checked,
+) -> Result<Option<Invalid>, NoMemory>
+    requires { checked.now.script ≡ script_refused tx.now checked.now.resolved }
+    ensures { IfOk result (λ fault. fault ≡ script_refused tx.now resolved.now) }
+{
+    let before = checked.resolved();
+    if same_outputs(resolved.spent(), before.spent())
+        && same_outputs(resolved.referenced(), before.referenced())
+    {
+        Ok(checked.script())
+    } else {
+        script_refused(memory, tx, resolved)
+    }
+}
+
+/// Whether the transaction is valid, as `check` says it, with what was found of its signatures and scripts before. All other
+/// rules are looked at anew. Scripts are run again only where the transaction names other outputs than those that they were
+/// run upon.
+///
+/// # Errors
+/// As `check`.
+pub fn check_with<U: Utxo, V: Verifier>(
+    memory: Memory,
+    tx: &Tx,
+    utxo: &U,
+    tick: u64,
+    checked: &Checked,
+    _verifier: &V,
+) -> Result<Resolved, Invalid>
+    requires { IsChecked (V.accepts _verifier.now) tx.now checked.now }
+    ensures resolved { IfOk result (λ r. r ≡ resolve (U.map utxo.now) tx.now) }
+    ensures valid { OnOk result (IsValid (V.accepts _verifier.now) (U.map utxo.now) tick tx.now) }
+    ensures clear { OnOk result
+        (first_fault (V.accepts _verifier.now) (U.map utxo.now) tick tx.now ≡ None) }
+    ensures fault { IfErr result
+        (IsFaultOf (V.accepts _verifier.now) (U.map utxo.now) tick tx.now) }
+{
+    let resolved = check_on_map(memory, tx, utxo, tick)?;
+    if let Some(fault) = checked.signature() {
+        return Err(fault);
+    }
+    if let Some(fault) = refused_again(memory, tx, &resolved, checked)? {
+        return Err(fault);
+    }
+    Ok(resolved)
+}

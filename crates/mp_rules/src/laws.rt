@@ -1,0 +1,13 @@
+//! Laws of the rules. Each is the contract of a function that does nothing.
+
+ghost use Rattle.mp_rules.specs.Laws.{ValidIsFaultless, FirstFaultIsBroken};
+
+/// A transaction is valid exactly where it has no first fault.
+pub fn valid_is_faultless()
+    ensures { ValidIsFaultless }
+{}
+
+/// The first fault names a rule that is broken, at its least place, and every rule before it holds.
+pub fn first_fault_is_broken()
+    ensures { FirstFaultIsBroken }
+{}
