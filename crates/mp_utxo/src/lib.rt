@@ -2,6 +2,8 @@
 //! Chakravarty et al.).
 #![tactic(auto)]
 
+mod overlay;
 mod utxo;
 
+pub use overlay::Overlay;
 pub use utxo::Utxo;
