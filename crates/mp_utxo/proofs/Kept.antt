@@ -84,7 +84,7 @@ last-both : (t : Transaction) (place : ℕ) (old mid new : Noted) → Spends old
 last-both t place old mid new spent made r = made r ∙ ap (λ o. if pointwise nat_eq r.id (id_of t) && nat_lt r.index (length t.outputs) then Some (Made place) else o) (spent r)
 
 -- the changes tell what may be spent after the transaction too
-pub keeps : (ts : List Transaction) (t : Transaction) (u : Unspent) (old mid new : Noted) → Spends old t.inputs mid → Makes mid t (length ts) new → AreKept ts u old → AreKept (ts ++ t ∷ []) u new
+keeps : (ts : List Transaction) (t : Transaction) (u : Unspent) (old mid new : Noted) → Spends old t.inputs mid → Makes mid t (length ts) new → AreKept ts u old → AreKept (ts ++ t ∷ []) u new
 keeps ts t u old mid new spent made kept = record {
   tell = λ r. ap (changed (ts ++ t ∷ []) u r) (last-both t (length ts) old mid new spent made r)
       ∙ tells-both ts t u r (pointwise nat_eq r.id (id_of t)) (nat_lt r.index (length t.outputs)) (spends t.inputs r) (last_change old r) (after u ts r) refl (kept.first r) (kept.tell r)
