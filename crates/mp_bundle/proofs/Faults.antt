@@ -36,7 +36,7 @@ both true b p q = q
 both false b p q = p
 
 -- a token that is less than one below all is itself below all
-below_from_less : (a b : Token) (es : List Entry) → token_cmp a b ≡ Less → below_all token_cmp b es ≡ true → below_all token_cmp a es ≡ true
+pub below_from_less : (a b : Token) (es : List Entry) → token_cmp a b ≡ Less → below_all token_cmp b es ≡ true → below_all token_cmp a es ≡ true
 below_from_less a b [] h below = refl
 below_from_less a b (e ∷ es) h below =
     both _ _ (ap is_lt (token_total.trans a b e.0 h (less _ (first_so _ _ below)))) (below_from_less a b es h (second_so _ _ below))
