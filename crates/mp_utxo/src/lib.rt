@@ -2,6 +2,7 @@
 //! Chakravarty et al.).
 #![tactic(auto)]
 
+mod changes;
 mod overlay;
 mod utxo;
 

@@ -1,11 +1,12 @@
 //! Overlays.
 
-ghost use Rattle.std.specs.Prelude.{◌≡◌, ◌<◌, OnOk};
-ghost use Rattle.indexmap.specs.IndexMap.{spare};
+ghost use Rattle.std.specs.Prelude.{◌≡◌, option_copied};
+ghost use Rattle.mp_utxo.specs.Inside.Applied.{output_at};
 
+use crate::changes::{Change, Changes, make, spend};
 use indexmap::IndexMap;
 use mp_memory::{Memory, NoMemory};
-use mp_tx::{Ledger, OutRef, Output, Salt, Tx};
+use mp_tx::{Ledger, OutRef, Output, Tx};
 use std::marker::Model;
 use std::sync::Arc;
 
@@ -14,16 +15,6 @@ use std::sync::Arc;
 struct Applied {
     tx: Arc<Tx, Memory>,
 }
-
-// What became of a reference last.
-#[derive(Clone, Copy)]
-enum Change {
-    Spent,
-    // By the transaction at this place among those that were applied.
-    Made(usize),
-}
-
-type Changes = IndexMap<OutRef, Change, Salt, Memory>;
 
 /// A ledger state with transactions applied upon it, seen as one map of the outputs that may be spent.
 ///
@@ -51,6 +42,16 @@ impl Model for Overlay {
     ghost view = { overlay };
 
     ghost invariant = { IsKept };
+}
+
+// The output of this index that the transaction at the place makes.
+fn output_at(applied: &[Applied], place: usize, index: u16) -> Option<&Output>
+    ensures { option_copied result ≡ output_at applied.now place index }
+{
+    match applied.get(place) {
+        Some(maker) => maker.tx.outputs().get(index as usize),
+        None => None,
+    }
 }
 
 impl Overlay {
@@ -85,7 +86,7 @@ impl Overlay {
         match self.changes.get(reference) {
             None => self.ledger.get(reference),
             Some(Change::Spent) => None,
-            Some(Change::Made(place)) => self.applied[*place].tx.outputs().get(reference.index as usize),
+            Some(Change::Made(place)) => output_at(&self.applied, *place, reference.index),
         }
     }
 
@@ -97,7 +98,8 @@ impl Overlay {
         ensures same { IsSame self.old self.new }
         ensures room { OnOk result (HasRoomFor self.new tx.now) }
     {
-        self.changes.reserve(tx.inputs().len() + tx.outputs().len())?;
+        self.changes
+            .reserve(tx.inputs().len() + tx.outputs().len())?;
         self.applied.reserve(1)?;
         Ok(())
     }
