@@ -12,7 +12,7 @@ use crate::refusal::Refusal;
 use crate::tickets::{Tickets, note, ticket_under};
 use indexmap::IndexMap;
 use mp_memory::{Memory, NoMemory};
-use mp_rules::{Invalid, Verifier, check};
+use mp_rules::{Verifier, check};
 use mp_tx::{Ledger, Tx};
 use mp_utxo::Overlay;
 use std::marker::Model;
@@ -130,11 +130,8 @@ impl SeqPool {
         ensures fault { IfErr result (IsBrokenRule (V.accepts verifier.now) self.now tx.now) }
     {
         let tick = self.overlay.ledger().tick();
-        match check(self.memory, tx, &self.overlay, tick, verifier) {
-            Ok(_) => Ok(()),
-            Err(Invalid::NoMemory) => Err(Refusal::NoMemory),
-            Err(fault) => Err(Refusal::Invalid(fault)),
-        }
+        let _resolved = check(self.memory, tx, &self.overlay, tick, verifier)?;
+        Ok(())
     }
 
     /// Takes the transaction in under the next ticket, as one change. It takes all the room before anything changes.
