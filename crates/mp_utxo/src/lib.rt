@@ -2,6 +2,9 @@
 //! Chakravarty et al.).
 #![tactic(auto)]
 
+mod changes;
+mod overlay;
 mod utxo;
 
+pub use overlay::Overlay;
 pub use utxo::Utxo;

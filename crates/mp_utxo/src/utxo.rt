@@ -3,6 +3,7 @@
 ghost use Rattle.std.specs.Prelude.{◌≡◌, option_copied};
 ghost use Rattle.mp_utxo.specs.Apply.{Unspent};
 
+use crate::overlay::Overlay;
 use mp_tx::{Ledger, OutRef, Output};
 
 /// A finite map from references to the outputs that may be spent.
@@ -21,5 +22,15 @@ impl Utxo for Ledger {
 
     fn get(&self, reference: &OutRef) -> Option<&Output> {
         Ledger::get(self, reference)
+    }
+}
+
+impl Utxo for Overlay {
+    ghost use Rattle.mp_utxo.specs.Overlay.{unspent};
+
+    ghost map = { unspent };
+
+    fn get(&self, reference: &OutRef) -> Option<&Output> {
+        self.find(reference)
     }
 }
