@@ -1,5 +1,5 @@
 -- The least token whose totals differ is the lesser of the first that each side doesn't share.
-use Rattle.std.proofs.Common.{◌≡◌, ◌≢◌, ◌⊎◌, inl, inr, pos, true, false, cond, not, ◌&&◌, List, [], ◌∷◌, refl, sym, ap, subst, ◌∙◌}
+use Rattle.std.proofs.Common.{◌≡◌, ◌≢◌, ◌⊎◌, inl, inr, ℤ, pos, true, false, cond, not, ◌&&◌, List, [], ◌∷◌, refl, sym, ap, subst, ◌∙◌}
 use Rattle.std.specs.Prelude.{Option, Some, None, MatchOption}
 use Rattle.std.specs.Option.{unwrap_or}
 use Rattle.std.specs.Ordering.{is_lt, is_eq, eq_by_cmp, int_eq, ordering_reverse}
@@ -8,14 +8,17 @@ use Rattle.std.specs.FinMap.{find, is_sorted}
 use Rattle.std.specs.FinMap.Entries.{below_all}
 use Rattle.std.specs.declared.cmp.Ordering.{Ordering}
 use Rattle.std.specs.declared.cmp.Ordering.TheVariants.{Less, Equal, Greater}
+use Rattle.mp_bundle.specs.declared.sum.Sum.TheInside.{Inside}
 use Rattle.mp_bundle.specs.declared.token.Token.{Token}
-use Rattle.mp_bundle.specs.Token.{token_cmp}
+use Rattle.mp_bundle.specs.Token.{coin, token_cmp}
 use Rattle.mp_bundle.specs.Bundle.{Entry, quantity_of}
 use Rattle.mp_bundle.specs.Inside.Totals.{first_unlike, lesser}
+use Rattle.mp_bundle.specs.Inside.Sum.{totals_of, sum_of, IsHeld}
 use Rattle.mp_bundle.specs.Sum.{Sum, total_of, AreAlike, IsFirstDifference}
 use Rattle.mp_bundle.proofs.Tokens.{token_total, token_exact}
 use Rattle.mp_bundle.proofs.Search.{equal, less}
-use Rattle.mp_bundle.proofs.TotalsLemmas.{find_below}
+use Rattle.mp_bundle.proofs.Coin.{at_coin, past_coin, same_beside, tied_not_above}
+use Rattle.mp_bundle.proofs.TotalsLemmas.{find_below, total-nonzero}
 
 -- the entries have the token with the quantity that the others have, or not at all
 abbrev Agree : List Entry → List Entry → Token → Type 0
@@ -106,8 +109,12 @@ join es fs (Some a) (Some b) f g =
       | false ↦ λ e. record { differs = f.differs; least = λ q lt. alike es fs q (f.before q lt) (g.before q (not_above a b q e lt)) }
     ] refl
 
+-- what the totals come to, from the first token at which they differ
+abbrev Least : List Entry → List Entry → Option Token → Type 0
+Least es fs found = MatchOption found ((q : Token) → quantity_of es q ≡ quantity_of fs q) (IsLeast es fs)
+
 module _ (a b : Sum) (es fs : List Entry) (is_a : (q : Token) → total_of a q ≡ quantity_of es q) (is_b : (q : Token) → total_of b q ≡ quantity_of fs q) where
-  seen : (found : Option Token) → MatchOption found ((q : Token) → quantity_of es q ≡ quantity_of fs q) (IsLeast es fs) → MatchOption found (AreAlike a b) (IsFirstDifference a b)
+  seen : (found : Option Token) → Least es fs found → MatchOption found (AreAlike a b) (IsFirstDifference a b)
   seen None all = λ q. is_a q ∙ all q ∙ sym (is_b q)
   seen (Some k) first = record {
     differs = λ same. first.differs (sym (is_a k) ∙ same ∙ is_b k);
@@ -116,3 +123,46 @@ module _ (a b : Sum) (es fs : List Entry) (is_a : (q : Token) → total_of a q �
 
   pub difference : is_sorted token_cmp es ≡ true → is_sorted token_cmp fs ≡ true → MatchOption (lesser (first_unlike es fs) (first_unlike fs es)) (AreAlike a b) (IsFirstDifference a b)
   difference rise_es rise_fs = seen _ (join es fs (first_unlike es fs) (first_unlike fs es) (found_first es fs rise_es) (found_first fs es rise_fs))
+
+-- where coin stands beside entries that are all above it
+abbrev AreAbove : List Entry → Type 0
+AreAbove es = (q : Token) → is_lt (token_cmp coin q) ≡ false → quantity_of es q ≡ pos 0
+
+module _ (es fs : List Entry) (above_es : AreAbove es) (above_fs : AreAbove fs) where
+  neither : (q : Token) → is_lt (token_cmp coin q) ≡ false → quantity_of es q ≡ quantity_of fs q
+  neither q low = above_es q low ∙ sym (above_fs q low)
+
+  below_coin : (c d : ℤ) (q : Token) → token_cmp q coin ≡ Less → quantity_of ((coin, c) ∷ es) q ≡ quantity_of ((coin, d) ∷ fs) q
+  below_coin c d q lt =
+      past_coin c es q (ap is_eq lt) ∙ neither q (ap is_lt (token_total.antisymm coin q) ∙ ap (λ o. is_lt (ordering_reverse o)) lt) ∙ sym (past_coin d fs q (ap is_eq lt))
+
+  least_at_coin : (c d : ℤ) → (c ≢ d) → IsLeast ((coin, c) ∷ es) ((coin, d) ∷ fs) coin
+  least_at_coin c d differs = record { differs = λ same. differs (sym (at_coin c es) ∙ same ∙ at_coin d fs); least = below_coin c d }
+
+  same_past : (c : ℤ) (k : Token) → quantity_of ((coin, c) ∷ es) k ≡ quantity_of ((coin, c) ∷ fs) k → quantity_of es k ≡ quantity_of fs k
+  same_past c k same = elim (eq_by_cmp token_cmp k coin) as (λ b. eq_by_cmp token_cmp k coin ≡ b → quantity_of es k ≡ quantity_of fs k) [
+    | true ↦ λ e. neither k (tied_not_above k e)
+    | false ↦ λ e. sym (past_coin c es k e) ∙ same ∙ past_coin c fs k e
+  ] refl
+
+  beside : (c : ℤ) (found : Option Token) → Least es fs found → Least ((coin, c) ∷ es) ((coin, c) ∷ fs) found
+  beside c None all = λ q. same_beside c es fs q (all q)
+  beside c (Some k) first = record { differs = λ same. first.differs (same_past c k same); least = λ q lt. same_beside c es fs q (first.least q lt) }
+
+  least_past : (c : ℤ) → is_sorted token_cmp es ≡ true → is_sorted token_cmp fs ≡ true → Least ((coin, c) ∷ es) ((coin, c) ∷ fs) (lesser (first_unlike es fs) (first_unlike fs es))
+  least_past c rise_es rise_fs = beside c _ (join es fs (first_unlike es fs) (first_unlike fs es) (found_first es fs rise_es) (found_first fs es rise_fs))
+
+module _ (s t : Inside) (held_s : IsHeld s) (held_t : IsHeld t) where
+  seen_of : (found : Option Token) → Least (totals_of s) (totals_of t) found → MatchOption found (AreAlike (sum_of s) (sum_of t)) (IsFirstDifference (sum_of s) (sum_of t))
+  seen_of found least = seen (sum_of s) (sum_of t) (totals_of s) (totals_of t) (total-nonzero (totals_of s)) (total-nonzero (totals_of t)) found least
+
+  -- coin comes before all others
+  pub coin_differs : (s.coin ≢ t.coin) → IsFirstDifference (sum_of s) (sum_of t) coin
+  coin_differs differs = seen_of (Some coin) (least_at_coin s.totals.entries t.totals.entries held_s.above held_t.above s.coin t.coin differs)
+
+  -- where there is as much coin
+  pub difference_past : s.coin ≡ t.coin → is_sorted token_cmp s.totals.entries ≡ true → is_sorted token_cmp t.totals.entries ≡ true
+      → (found : Option Token) → lesser (first_unlike s.totals.entries t.totals.entries) (first_unlike t.totals.entries s.totals.entries) ≡ found → MatchOption found (AreAlike (sum_of s) (sum_of t)) (IsFirstDifference (sum_of s) (sum_of t))
+  difference_past same rise_s rise_t found is =
+      let least = least_past s.totals.entries t.totals.entries held_s.above held_t.above s.coin rise_s rise_t in
+      seen_of found (subst (Least (totals_of s) (totals_of t)) is (subst (λ n. Least (totals_of s) ((coin, n) ∷ t.totals.entries) (lesser (first_unlike s.totals.entries t.totals.entries) (first_unlike t.totals.entries s.totals.entries))) same least))

@@ -1,13 +1,13 @@
 -- Entries without a fault make a bundle, and those of a bundle have none.
-use Rattle.std.proofs.Common.{◌≡◌, ◌≢◌, ◌^◌, ◌-◌, ◌≤◌, ℤ, pos, Bool, true, false, cond, not, ◌&&◌, List, [], ◌∷◌, length, All, refl, ap, ◌∙◌, arith}
+use Rattle.std.proofs.Common.{◌≡◌, ◌≢◌, ◌^◌, ◌-◌, ◌≤◌, ℤ, pos, Bool, true, false, cond, not, List, [], ◌∷◌, length, All, refl, ap, ◌∙◌, arith}
 use Rattle.std.specs.Prelude.{Option, Some, None, nat_lt}
 use Rattle.std.specs.Option.{option_or}
 use Rattle.std.specs.Ordering.{is_lt, int_eq}
 use Rattle.std.specs.Cmp.{signed_Decides, first_so, second_so}
+use Rattle.std.specs.Cmp.Derive.{both_true}
 use Rattle.std.specs.List.{AllByRecursion}
 use Rattle.std.specs.FinMap.Entries.{below_all}
-use Rattle.std.specs.declared.cmp.Ordering.{Ordering}
-use Rattle.std.specs.declared.cmp.Ordering.TheVariants.{Less, Equal, Greater}
+use Rattle.std.specs.declared.cmp.Ordering.TheVariants.{Less}
 use Rattle.std.proofs.lemmas.Int.{ints}
 use Rattle.std.proofs.lemmas.Bool.Decides.{nat_tests}
 use Rattle.std.proofs.lemmas.List.Elements.{All-from_recursion}
@@ -18,6 +18,7 @@ use Rattle.mp_bundle.specs.Token.{token_cmp}
 use Rattle.mp_bundle.specs.Bundle.{Entry, IsWithin, IsEntry, IsBundle}
 use Rattle.mp_bundle.specs.BundleFault.{Given, entries_of, follows, is_out_of_range, entry_fault, fault_after, fault_of, IsFaultOf}
 use Rattle.mp_bundle.proofs.Tokens.{token_total}
+use Rattle.mp_bundle.proofs.Search.{less}
 
 pub is_fault : (entries : List Entry) (fault : BundleFault) → fault_of entries ≡ Some fault → IsFaultOf entries fault
 is_fault entries NoMemory e = tt
@@ -26,20 +27,11 @@ is_fault entries ZeroQuantity e = e
 is_fault entries NameTooLong e = e
 is_fault entries QuantityRange e = e
 
-less : (o : Ordering) → is_lt o ≡ true → o ≡ Less
-less Less e = refl
-less Equal e = Prim.cc
-less Greater e = Prim.cc
-
-both : (a b : Bool) → a ≡ true → b ≡ true → (a && b) ≡ true
-both true b p q = q
-both false b p q = p
-
 -- a token that is less than one below all is itself below all
-below_from_less : (a b : Token) (es : List Entry) → token_cmp a b ≡ Less → below_all token_cmp b es ≡ true → below_all token_cmp a es ≡ true
+pub below_from_less : (a b : Token) (es : List Entry) → token_cmp a b ≡ Less → below_all token_cmp b es ≡ true → below_all token_cmp a es ≡ true
 below_from_less a b [] h below = refl
 below_from_less a b (e ∷ es) h below =
-    both _ _ (ap is_lt (token_total.trans a b e.0 h (less _ (first_so _ _ below)))) (below_from_less a b es h (second_so _ _ below))
+    both_true (ap is_lt (token_total.trans a b e.0 h (less _ (first_so _ _ below)))) (below_from_less a b es h (second_so _ _ below))
 
 -- a chain of tests that comes to nothing failed each
 no_test : (a b c d : Bool) → cond (not a) (Some NotRising) (cond b (Some ZeroQuantity) (cond c (Some NameTooLong) (cond d (Some QuantityRange) None))) ≡ None → (a ≡ true) × (b ≡ false) × (c ≡ false) × (d ≡ false)
@@ -83,7 +75,7 @@ record IsClean (before : Option Token) (es : List Entry) : Type 0 where
 
 all_after : (before : Option Token) (e : Entry) (es : List Entry) → follows before e.0 ≡ true → below_all token_cmp e.0 es ≡ true → all_follow before (e ∷ es) ≡ true
 all_after None e es h below = refl
-all_after (Some b) e es h below = both _ _ h (below_from_less b e.0 es (less _ h) below)
+all_after (Some b) e es h below = both_true h (below_from_less b e.0 es (less _ h) below)
 
 clean : (before : Option Token) (es : List Entry) → fault_after before es ≡ None → IsClean before es
 clean None [] h = record { after = refl; bundle = record { rising = refl; each = tt } }
@@ -94,7 +86,7 @@ clean before (e ∷ es) h =
     let rest = clean (Some e.0) es split.1 in
     record {
       after = all_after before e es here.follows rest.after;
-      bundle = record { rising = both _ _ rest.after rest.bundle.rising; each = (here.entry, rest.bundle.each) };
+      bundle = record { rising = both_true rest.after rest.bundle.rising; each = (here.entry, rest.bundle.each) };
     }
 
 pub bundle_from_none : (es : List Entry) → fault_of es ≡ None → IsBundle es

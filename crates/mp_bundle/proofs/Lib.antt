@@ -3,6 +3,7 @@ pub mod Search
 pub mod Tokens
 pub mod Same
 pub mod Faults
+pub mod Coin
 pub mod TotalsLemmas
 pub mod TokenOf
 pub mod SumLemmas

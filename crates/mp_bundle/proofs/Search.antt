@@ -82,7 +82,7 @@ equal Less e = Prim.cc
 equal Equal e = refl
 equal Greater e = Prim.cc
 
-not_tied : (a b : Token) → (a ≢ b) → is_eq (token_cmp a b) ≡ false
+pub not_tied : (a b : Token) → (a ≢ b) → is_eq (token_cmp a b) ≡ false
 not_tied a b apart = elim (is_eq (token_cmp a b)) as (λ v. is_eq (token_cmp a b) ≡ v → v ≡ false) [ true ↦ λ e. absurd (apart (token_exact a b (equal _ e))) | false ↦ λ e. refl ] refl
 
 -- a token with a long name is none of a bundle's

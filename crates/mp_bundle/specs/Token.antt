@@ -1,5 +1,5 @@
 -- Tokens, and their order.
-use Rattle.std.specs.Prelude.{ℕ, Bool, ◌&&◌, List, length, nat_eq, nat_le, Option, Some, None, if◌then◌else◌}
+use Rattle.std.specs.Prelude.{ℕ, Bool, ◌&&◌, List, [], length, replicate, nat_eq, nat_le, Option, Some, None, if◌then◌else◌}
 use Rattle.std.specs.Ordering.{nat_cmp, ordering_then}
 use Rattle.std.specs.Cmp.Lexicographic.{slice_cmp, pointwise}
 use Rattle.std.specs.declared.cmp.Ordering.{Ordering}
@@ -8,6 +8,10 @@ use Rattle.mp_bundle.specs.declared.token.Token.{Token}
 -- the token of a policy and a name
 abbrev pub token : List ℕ → List ℕ → Token
 token policy name = record { policy = policy; name = name }
+
+-- coin is the token whose policy is zeros and whose name is empty
+abbrev pub coin : Token
+coin = token (replicate 32 0) []
 
 -- the token of a policy and a name of at most 32 bytes
 abbrev pub short_token : List ℕ → List ℕ → Option Token

@@ -15,5 +15,5 @@ pub use bundle::Bundle;
 pub use entry::{Entry, Given, may_follow};
 pub use fault::BundleFault;
 pub use sum::Sum;
-pub use token::{PolicyId, Token};
-pub use token_name::TokenName;
+pub use token::{COIN, PolicyId, Token};
+pub use token_name::{MAX_NAME_BYTES, TokenName};

@@ -1,7 +1,8 @@
 //! Sums of bundles.
 
 use crate::bundle::Bundle;
-use crate::token::{PolicyId, Token};
+use crate::entry::split_coin;
+use crate::token::{COIN, PolicyId, Token};
 use crate::totals::{Totals, first_unlike, lesser, make_room, raise_all, total_at};
 use mp_memory::{Memory, NoMemory};
 use std::collections::BTreeMap;
@@ -9,12 +10,14 @@ use std::marker::Model;
 
 /// The sum of bundles: how many were added, and the total of each token. Contracts see the totals that aren't zero.
 ///
-/// The totals are a map in the order of their tokens. Adding a bundle of m tokens to totals of n takes about m log n steps,
-/// and no pass over all n, whichever tokens a stranger picks. First each token without a total gets one of zero, which no
-/// reader can tell from none. Only this takes memory, and a refusal half way leaves each total as it was. Then each quantity
-/// is added to a total that is there, which can't fail.
+/// The total of coin stands apart, so that a bundle of coin alone is added without memory. The others are a map in the order
+/// of their tokens. Adding a bundle of m tokens to totals of n takes about m log n steps, and no pass over all n, whichever
+/// tokens a stranger picks. First each token without a total gets one of zero, which no reader can tell from none. Only this
+/// takes memory, and a refusal half way leaves each total as it was. Then each quantity is added to a total that is there,
+/// which can't fail.
 #[derive(Drop)]
 pub struct Sum {
+    coin: i128,
     totals: Totals,
     added: u64,
 }
@@ -45,12 +48,13 @@ impl Sum {
         ensures { result ≡ nothing }
     {
         Sum {
+            coin: 0,
             totals: BTreeMap::new(memory),
             added: 0,
         }
     }
 
-    /// Adds a bundle. At most 2^32 may be added.
+    /// Adds a bundle. At most 2^32 may be added. Only tokens other than coin take memory.
     ///
     /// # Errors
     /// `NoMemory`, which leaves the sum as it was.
@@ -59,9 +63,10 @@ impl Sum {
         ensures ok { OnOk result (Adds self.old bundle.now self.new) }
         ensures err { OnErr result (self.new ≡ self.old) }
     {
-        let entries = bundle.entries();
-        make_room(&mut self.totals, entries)?;
-        raise_all(&mut self.totals, entries);
+        let (coin, others) = split_coin(bundle.entries());
+        make_room(&mut self.totals, others)?;
+        raise_all(&mut self.totals, others);
+        self.coin += i128::from(coin);
         self.added += 1;
         Ok(())
     }
@@ -71,6 +76,7 @@ impl Sum {
         ensures { result ≡ total_of self.now (token policy.now name.now) }
     {
         match Token::of(policy, name) {
+            Some(token) if token.is_coin() => self.coin,
             Some(token) => total_at(&self.totals, &token),
             None => 0,
         }
@@ -91,6 +97,9 @@ impl Sum {
             (λ d. IsFirstDifference self.now other.now (token d.0 d.1.now)) }
         ensures short { IfSome result (λ d. length d.1.now ≤ 32) }
     {
+        if self.coin != other.coin {
+            return Some((COIN, &[]));
+        }
         let missed = first_unlike(&self.totals, &other.totals);
         match lesser(missed, first_unlike(&other.totals, &self.totals)) {
             Some(token) => Some((token.policy, token.name.as_slice())),

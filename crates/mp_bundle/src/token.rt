@@ -14,8 +14,19 @@ pub struct Token {
     pub name: TokenName,
 }
 
+/// The policy of coin. Coin is the token under it whose name is empty.
+pub const COIN: PolicyId = [0; 32];
+
 impl Token {
-    ghost use Rattle.mp_bundle.specs.Token.{short_token};
+    ghost use Rattle.std.specs.Prelude.{false};
+    ghost use Rattle.std.specs.Ordering.{is_lt};
+    ghost use Rattle.mp_bundle.specs.Token.{coin, token_cmp, same_token, short_token};
+
+    /// Coin.
+    pub const COIN: Token = Token {
+        policy: COIN,
+        name: TokenName::EMPTY,
+    };
 
     /// The token of this policy and this name, if there is one.
     pub fn of(policy: &PolicyId, name: &[u8]) -> Option<Token>
@@ -28,5 +39,13 @@ impl Token {
             policy: *policy,
             name: TokenName::of(name),
         })
+    }
+
+    /// Whether it is coin, which no token is less than.
+    pub fn is_coin(&self) -> bool
+        ensures same { result ≡ same_token self.now coin }
+        ensures least { is_lt (token_cmp self.now coin) ≡ false }
+    {
+        *self == Token::COIN
     }
 }

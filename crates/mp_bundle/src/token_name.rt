@@ -36,6 +36,12 @@ impl Model for TokenName {
 }
 
 impl TokenName {
+    /// The name of no byte.
+    pub const EMPTY: TokenName = TokenName {
+        bytes: [0; 32],
+        len: 0,
+    };
+
     /// The name of these bytes, at most 32.
     pub fn of(name: &[u8]) -> TokenName
         requires { length name.now ≤ 32 }

@@ -1,14 +1,15 @@
 //! Each call that takes memory, under every refused growth.
-use mp_bundle::{Bundle, BundleFault, Given, PolicyId, Sum};
+use mp_bundle::{Bundle, BundleFault, COIN, Given, PolicyId, Sum};
 use mp_memory::{Memory, NoMemory};
 use mp_testing::under_each_refusal;
 use std::test::Fail;
 
 const POLICY: PolicyId = [3; 32];
 
-// Entries of as many tokens under one policy: of the token named by the byte n there are n + 1.
+// Three of coin, and entries of as many tokens under one policy: of the token named by the byte n there are n + 1.
 fn entries_of(memory: Memory, tokens: u8) -> Result<Vec<Given, Memory>, NoMemory> {
     let mut given = Vec::new(memory);
+    given.push((COIN, Vec::new(memory), 3))?;
     for token in 0..tokens {
         given.push((POLICY, [token].to_vec(memory)?, i64::from(token) + 1))?;
     }
@@ -28,6 +29,7 @@ fn sum_of_two_tokens(memory: Memory) -> Option<Sum> {
 
 fn is_of_two_tokens(sum: &Sum) -> bool {
     sum.added() == 1
+        && sum.total(&COIN, b"") == 3
         && sum.total(&POLICY, b"\0") == 1
         && sum.total(&POLICY, b"\x01") == 2
         && sum.total(&POLICY, b"\x02") == 0
@@ -59,7 +61,7 @@ fn a_bundle_takes_two_growths(rt: HostRuntime) -> Result<(), Fail> {
     memory.refuse(1);
     let shared = bundle.share()?;
     assert!(rt; memory.waits());
-    assert_eq!(rt; shared.entries().len(), 9);
+    assert_eq!(rt; shared.entries().len(), 10);
     assert_eq!(rt; shared.quantity(&POLICY, b"\x08"), 9);
     Ok(())
 }
@@ -77,5 +79,18 @@ fn a_sum_stands_each_refusal(rt: HostRuntime) -> Result<(), Fail> {
     )?;
     assert!(rt; done.growths > 1);
     assert_eq!(rt; done.answer, Ok(()));
+    Ok(())
+}
+
+#[test]
+fn a_sum_of_coin_takes_no_memory(rt: HostRuntime) -> Result<(), Fail> {
+    let memory = Memory::new(rt.alloc())?;
+    let bundle = bundle_of_tokens(memory, 0)?;
+    let mut sum = Sum::new(memory);
+    memory.refuse(1);
+    assert_eq!(rt; add(&mut sum, &bundle), Ok(()));
+    assert_eq!(rt; add(&mut sum, &bundle), Ok(()));
+    assert!(rt; memory.waits());
+    assert_eq!(rt; sum.total(&COIN, b""), 6);
     Ok(())
 }

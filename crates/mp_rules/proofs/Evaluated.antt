@@ -1,8 +1,7 @@
 -- Whether a script accepts, and what its transaction shows it.
-use Rattle.std.proofs.Common.{◌≡◌, ℕ, List, map, sym, ap, ◌∙◌}
-use Rattle.std.specs.Prelude.{not}
+use Rattle.std.proofs.Common.{◌≡◌, ℕ, List, [], ◌∷◌, sym, ap, ◌∙◌}
+use Rattle.std.specs.Prelude.{not, Option, option_map}
 use Rattle.std.specs.List.{position, zip}
-use Rattle.mp_bundle.specs.declared.token.Token.{Token}
 use Rattle.mp_script.specs.Script.{Tree, Spells, IsScript}
 use Rattle.mp_script.specs.Value.{Value}
 use Rattle.mp_script.specs.View.{View}
@@ -13,7 +12,10 @@ use Rattle.mp_tx.specs.declared.output.Output.{Output}
 use Rattle.mp_tx.specs.Transaction.{Transaction}
 use Rattle.mp_rules.specs.declared.scene.Scene.{Scene}
 use Rattle.mp_rules.specs.Resolved.{Resolved, spendings}
-use Rattle.mp_rules.specs.Scripts.{is_true, tree_accepts, script_accepts, policy_view, validator_view, validator_accepts, policy_accepts}
+use Rattle.mp_rules.specs.Scripts.{is_true, tree_accepts, script_accepts, policy_view, validator_view, validator_accepts}
+use Rattle.mp_rules.specs.declared.invalid.Invalid.TheVariants.{ValidatorRefused, PolicyRefused}
+use Rattle.mp_rules.specs.FirstFault.{first_of, validator_refused, policy_refused}
+use Rattle.mp_rules.specs.Checked.{script_refused}
 use Rattle.mp_rules.specs.Inside.Scene.{IsSceneOf, policy_scene, validator_scene}
 
 pub accepted : (view : View) (script : List ℕ) (v : Value) → IsScript script → ((tree : Tree) → Spells script tree → v ≡ value view tree) → is_true v ≡ script_accepts view script
@@ -44,10 +46,19 @@ validator-seen s t r is input o i = record (validator_view t r input o) {
   references = is.references i;
 }
 
-pub validator-places : (s : Scene) (t : Transaction) (r : Resolved) → IsSceneOf s t r →
-    position (λ p. not (script_accepts (validator_scene s p.0 p.1) p.0.validator)) (zip t.inputs r.spent) ≡ position (λ p. not (validator_accepts t r p)) (spendings t r)
-validator-places s t r is = ap (λ (view : Input → Output → View). position (λ p. not (script_accepts (view p.0 p.1) p.0.validator)) (zip t.inputs r.spent)) (λ k i o. validator-seen s t r is i o k)
+-- the first input of these whose validator refuses, and the first policy script that does
+abbrev pub refusing_input : Scene → List Input → List Output → Option ℕ
+refusing_input s inputs spent = position (λ p. not (script_accepts (validator_scene s p.0 p.1) p.0.validator)) (zip inputs spent)
 
-pub policy-places : (s : Scene) (t : Transaction) (r : Resolved) → IsSceneOf s t r →
-    position (λ x. not (script_accepts (policy_scene s x) x)) t.scripts ≡ position (λ x. not (policy_accepts t r x)) t.scripts
-policy-places s t r is = ap (λ (view : List ℕ → View). position (λ x. not (script_accepts (view x) x)) t.scripts) (λ k x. policy-seen s t r is x k)
+abbrev pub refusing_policy : Scene → List (List ℕ) → Option ℕ
+refusing_policy s scripts = position (λ x. not (script_accepts (policy_scene s x) x)) scripts
+
+-- what was found is told
+pub told : (s : Scene) (t : Transaction) (r : Resolved) (a b : Option ℕ) → IsSceneOf s t r → a ≡ refusing_input s t.inputs r.spent → b ≡ refusing_policy s t.scripts
+    → first_of (option_map ValidatorRefused a ∷ option_map PolicyRefused b ∷ []) ≡ script_refused t r
+unfolding script_refused validator_refused policy_refused
+told s t r a b is inputs policies =
+    ap (λ o. first_of (option_map ValidatorRefused o ∷ option_map PolicyRefused b ∷ []))
+    (inputs ∙ ap (λ (view : Input → Output → View). position (λ p. not (script_accepts (view p.0 p.1) p.0.validator)) (zip t.inputs r.spent)) (λ k i o. validator-seen s t r is i o k))
+    ∙ ap (λ o. first_of (option_map ValidatorRefused (position (λ p. not (validator_accepts t r p)) (spendings t r)) ∷ option_map PolicyRefused o ∷ []))
+    (policies ∙ ap (λ (view : List ℕ → View). position (λ x. not (script_accepts (view x) x)) t.scripts) (λ k x. policy-seen s t r is x k))

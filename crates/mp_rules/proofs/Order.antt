@@ -1,16 +1,15 @@
 -- The rules one after the other are the groups one after the other.
-use Rattle.std.proofs.Common.{◌≡◌, ◌≢◌, ℕ, List, [], ◌∷◌, ◌++◌, refl, sym, ap, ◌∙◌}
-use Rattle.std.specs.Prelude.{Option, None, Some}
+use Rattle.std.proofs.Common.{◌≡◌, ◌≢◌, ℕ, List, [], ◌∷◌, ◌++◌, refl, sym, ap, subst, ◌∙◌}
+use Rattle.std.specs.Prelude.{Option, None, Some, Result, Ok, Err, IfErr, IsErrAnd}
 use Rattle.mp_tx.specs.Transaction.{Transaction}
 use Rattle.mp_utxo.specs.Apply.{Unspent}
 use Rattle.mp_rules.specs.declared.invalid.Invalid.{Invalid}
 use Rattle.mp_rules.specs.declared.invalid.Invalid.TheVariants as rule
 use Rattle.mp_rules.specs.Verifier.{Accepts}
-use Rattle.mp_rules.specs.Resolved.{resolve}
+use Rattle.mp_rules.specs.Resolved.{Resolved, resolve}
 use Rattle.mp_rules.specs.FirstFault.{no_inputs, outside_interval, negative_output, input_missing, reference_missing, address_mismatch, datum_mismatch, output_taken, forge_without_policy, unbalanced, bad_signature, validator_refused, policy_refused, first_of, first_fault, IsFaultOf}
 use Rattle.mp_rules.specs.Checked.{script_refused}
 use Rattle.mp_rules.specs.Inside.Groups.{own_fault, missing, mismatch, payment_fault, fault_on_map}
-
 
 -- a group stands for what is in it
 opened : (xs ys : List (Option Invalid)) → first_of (first_of xs ∷ ys) ≡ first_of (xs ++ ys)
@@ -36,40 +35,45 @@ grouped accepts u tick t =
     opened (first_of own ∷ first_of there ∷ first_of fit ∷ first_of paid ∷ []) (signature ∷ first_of scripts ∷ [])
     ∙ opened own (first_of there ∷ first_of fit ∷ first_of paid ∷ signature ∷ first_of scripts ∷ [])
     ∙ behind own _ _ (
-        opened there (first_of fit ∷ first_of paid ∷ signature ∷ first_of scripts ∷ [])
-        ∙ behind there _ _ (
-            opened fit (first_of paid ∷ signature ∷ first_of scripts ∷ [])
-            ∙ behind fit _ _ (opened paid (signature ∷ first_of scripts ∷ []) ∙ behind (paid ++ signature ∷ []) (first_of scripts ∷ []) scripts (opened scripts []))
-        )
+    opened there (first_of fit ∷ first_of paid ∷ signature ∷ first_of scripts ∷ [])
+    ∙ behind there _ _ (
+    opened fit (first_of paid ∷ signature ∷ first_of scripts ∷ [])
+    ∙ behind fit _ _ (opened paid (signature ∷ first_of scripts ∷ []) ∙ behind (paid ++ signature ∷ []) (first_of scripts ∷ []) scripts (opened scripts []))
+    )
     )
 
--- what each group tells, behind those before it that tell nothing
-pub by_map : (accepts : Accepts) (u : Unspent) (tick : ℕ) (t : Transaction) (fault : Invalid) → fault_on_map u tick t ≡ Some fault → first_fault accepts u tick t ≡ Some fault
-by_map accepts u tick t fault e = sym (grouped accepts u tick t) ∙ ap (λ o. first_of (o ∷ bad_signature accepts t ∷ script_refused t (resolve u t) ∷ [])) e
-
-pub by_signature : (accepts : Accepts) (u : Unspent) (tick : ℕ) (t : Transaction) (fault : Invalid) → fault_on_map u tick t ≡ None → bad_signature accepts t ≡ Some fault → first_fault accepts u tick t ≡ Some fault
-by_signature accepts u tick t fault none e =
-    sym (grouped accepts u tick t) ∙ ap (λ o. first_of (o ∷ bad_signature accepts t ∷ script_refused t (resolve u t) ∷ [])) none
-    ∙ ap (λ o. first_of (o ∷ script_refused t (resolve u t) ∷ [])) e
-
-pub by_script : (accepts : Accepts) (u : Unspent) (tick : ℕ) (t : Transaction) (o : Option Invalid) → fault_on_map u tick t ≡ None → bad_signature accepts t ≡ None → script_refused t (resolve u t) ≡ o → first_fault accepts u tick t ≡ first_of (o ∷ [])
-by_script accepts u tick t o none signed e =
-    sym (grouped accepts u tick t) ∙ ap (λ x. first_of (x ∷ bad_signature accepts t ∷ script_refused t (resolve u t) ∷ [])) none
-    ∙ ap (λ x. first_of (x ∷ script_refused t (resolve u t) ∷ [])) signed ∙ ap (λ x. first_of (x ∷ [])) e
-
 -- a fault other than want of memory is told where it is the first
-pub is_fault : (accepts : Accepts) (u : Unspent) (tick : ℕ) (t : Transaction) (fault : Invalid) → (fault ≢ rule.NoMemory → first_fault accepts u tick t ≡ Some fault) → IsFaultOf accepts u tick t fault
-is_fault accepts u tick t rule.NoMemory told = tt
-is_fault accepts u tick t rule.NoInputs told = told (λ e. Prim.cc)
-is_fault accepts u tick t rule.OutsideInterval told = told (λ e. Prim.cc)
-is_fault accepts u tick t (rule.NegativeOutput place) told = told (λ e. Prim.cc)
-is_fault accepts u tick t (rule.InputMissing place) told = told (λ e. Prim.cc)
-is_fault accepts u tick t (rule.ReferenceMissing place) told = told (λ e. Prim.cc)
-is_fault accepts u tick t (rule.AddressMismatch place) told = told (λ e. Prim.cc)
-is_fault accepts u tick t (rule.DatumMismatch place) told = told (λ e. Prim.cc)
-is_fault accepts u tick t (rule.OutputTaken place) told = told (λ e. Prim.cc)
-is_fault accepts u tick t (rule.ForgeWithoutPolicy policy) told = told (λ e. Prim.cc)
-is_fault accepts u tick t (rule.Unbalanced policy name) told = told (λ e. Prim.cc)
-is_fault accepts u tick t (rule.BadSignature key) told = told (λ e. Prim.cc)
-is_fault accepts u tick t (rule.ValidatorRefused place) told = told (λ e. Prim.cc)
-is_fault accepts u tick t (rule.PolicyRefused place) told = told (λ e. Prim.cc)
+is_fault : (accepts : Accepts) (u : Unspent) (tick : ℕ) (t : Transaction) (fault : Invalid) → (fault ≢ rule.NoMemory → first_fault accepts u tick t ≡ Some fault) → IsFaultOf accepts u tick t fault
+is_fault accepts u tick t rule.NoMemory first = tt
+is_fault accepts u tick t _ first = first (λ e. Prim.cc)
+
+-- what is so of the fault that is passed on
+passed_on : {A : Type 0} (P : Invalid → Type 0) (r : Result A Invalid) (fault : Invalid) → IsErrAnd r (λ e. e ≡ fault) → P fault → IfErr r P
+passed_on P (Ok a) fault is one = tt
+passed_on P (Err e) fault is one = subst P (sym is) one
+
+-- What is told of a transaction upon a map, where its signatures are found to have such a fault, and its scripts such a one.
+module _ (accepts : Accepts) (u : Unspent) (tick : ℕ) (t : Transaction) where
+  -- of the map
+  pub told_by_map : {A : Type 0} (r : Result A Invalid) (fault : Invalid) → IsErrAnd r (λ e. e ≡ fault) → (fault ≢ rule.NoMemory → fault_on_map u tick t ≡ Some fault) → IfErr r (IsFaultOf accepts u tick t)
+  told_by_map r fault is first =
+      passed_on (IsFaultOf accepts u tick t) r fault is
+      (is_fault accepts u tick t fault (λ other. sym (grouped accepts u tick t) ∙ ap (λ o. first_of (o ∷ bad_signature accepts t ∷ script_refused t (resolve u t) ∷ [])) (first other)))
+
+  module _ (r : Resolved) (passed : (r ≡ resolve u t) × (fault_on_map u tick t ≡ None)) where
+    behind_map : first_of (bad_signature accepts t ∷ script_refused t r ∷ []) ≡ first_fault accepts u tick t
+    behind_map =
+        ap (λ x. first_of (bad_signature accepts t ∷ script_refused t x ∷ [])) passed.0
+        ∙ ap (λ o. first_of (o ∷ bad_signature accepts t ∷ script_refused t (resolve u t) ∷ [])) (sym passed.1) ∙ grouped accepts u tick t
+
+    pub told_by_signature : (fault : Invalid) → bad_signature accepts t ≡ Some fault → IsFaultOf accepts u tick t fault
+    told_by_signature fault e = is_fault accepts u tick t fault (λ _. sym behind_map ∙ ap (λ o. first_of (o ∷ script_refused t r ∷ [])) e)
+
+    -- no signature is bad
+    module _ (signed : bad_signature accepts t ≡ None) where
+      pub told_by_script : (fault : Invalid) → script_refused t r ≡ Some fault → IsFaultOf accepts u tick t fault
+      told_by_script fault e =
+          is_fault accepts u tick t fault (λ _. sym behind_map ∙ ap (λ o. first_of (o ∷ script_refused t r ∷ [])) signed ∙ ap (λ o. first_of (o ∷ [])) e)
+
+      pub clear : script_refused t r ≡ None → first_fault accepts u tick t ≡ None
+      clear e = sym behind_map ∙ ap (λ o. first_of (o ∷ script_refused t r ∷ [])) signed ∙ ap (λ o. first_of (o ∷ [])) e

@@ -116,7 +116,7 @@ first_fault accepts u tick t = first_of (
     ∷ validator_refused t (resolve u t)
     ∷ policy_refused t (resolve u t)
     ∷ []
-)
+    )
 
 -- a fault that a check tells; memory may be wanting for any transaction
 abbrev pub IsFaultOf : Accepts → Unspent → ℕ → Transaction → Invalid → Type 0

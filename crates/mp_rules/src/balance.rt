@@ -59,11 +59,7 @@ fn difference<'a>(taken: &'a Sum, paid: &'a Sum) -> Option<Token>
 }
 
 // The least token of which what is forged and spent isn't what is paid.
-fn first_unbalanced(
-    memory: Memory,
-    tx: &Tx,
-    resolved: &Resolved,
-) -> Result<Option<Token>, NoMemory>
+fn first_unbalanced(memory: Memory, tx: &Tx, resolved: &Resolved) -> Result<Option<Token>, NoMemory>
     ensures { IfOk result (λ token. token ≡
         first_unbalanced (tx.now.forge ∷ values resolved.now.spent) (values tx.now.outputs)) }
 {
@@ -74,11 +70,7 @@ fn first_unbalanced(
 
 /// The least token of which what is forged and spent isn't what is paid, as a fault.
 #[tactic(auto, unfolding(crate::specs::FirstFault::unbalanced))]
-pub fn unbalanced(
-    memory: Memory,
-    tx: &Tx,
-    resolved: &Resolved,
-) -> Result<Option<Invalid>, NoMemory>
+pub fn unbalanced(memory: Memory, tx: &Tx, resolved: &Resolved) -> Result<Option<Invalid>, NoMemory>
     ensures { IfOk result (λ fault. fault ≡ unbalanced tx.now resolved.now) }
 {
     match first_unbalanced(memory, tx, resolved)? {

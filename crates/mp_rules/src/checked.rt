@@ -65,14 +65,28 @@ impl Checked {
     }
 }
 
-fn share_all(memory: Memory, outputs: &[&Output]) -> Result<Vec<Output, Memory>, NoMemory>
-    ensures { IfOk result (λ shared. shared.items ≡ map (λ o. o.now) outputs.now) }
+// Looks at the signatures, and runs the scripts upon these outputs.
+fn look_upon<V: Verifier>(
+    memory: Memory,
+    tx: &Tx,
+    outputs: Vec<Output, Memory>,
+    verifier: &V,
+) -> Result<Checked, NoMemory>
+    requires { length outputs.items ≡ length tx.now.inputs + length tx.now.references }
+    ensures checked { IfOk result (IsChecked (V.accepts verifier.now) tx.now) }
+    ensures upon { IfOk result (IsUpon tx.now outputs.items) }
 {
-    let mut shared = Vec::with_capacity(memory, outputs.len())?;
-    for output in outputs {
-        shared.push(output.share()?)?;
-    }
-    Ok(shared)
+    let mut spent = outputs;
+    let count = tx.inputs().len();
+    let _ = tx.references();
+    let referenced = spent.split_off(count)?;
+    let resolved = Resolved::of(spent, referenced);
+    let script = script_refused(memory, tx, &resolved)?;
+    Ok(Checked {
+        resolved,
+        signature: bad_signature(tx, verifier),
+        script,
+    })
 }
 
 /// Looks at a transaction's signatures, and runs its scripts upon these outputs: one for each input, in their order, then one
@@ -87,14 +101,9 @@ pub fn precheck<V: Verifier>(
     ensures checked { IfOk result (IsChecked (V.accepts verifier.now) tx.now) }
     ensures upon { IfOk result (IsUpon tx.now (map (λ o. o.now) outputs.now)) }
 {
-    let count = tx.inputs().len();
-    let spent = share_all(memory, &outputs[..count])?;
-    let referenced = share_all(memory, &outputs[count..])?;
-    let resolved = Resolved::of(spent, referenced);
-    let script = script_refused(memory, tx, &resolved)?;
-    Ok(Checked {
-        resolved,
-        signature: bad_signature(tx, verifier),
-        script,
-    })
+    let mut shared = Vec::with_capacity(memory, outputs.len())?;
+    for output in outputs {
+        shared.push(output.share()?)?;
+    }
+    look_upon(memory, tx, shared, verifier)
 }

@@ -41,12 +41,7 @@ fn payment_fault<U: Utxo>(
 
 // All rules that need neither signatures nor scripts.
 #[tactic(auto, unfolding(crate::specs::Inside::Groups::fault_on_map))]
-fn check_on_map<U: Utxo>(
-    memory: Memory,
-    tx: &Tx,
-    utxo: &U,
-    tick: u64,
-) -> Result<Resolved, Invalid>
+fn check_on_map<U: Utxo>(memory: Memory, tx: &Tx, utxo: &U, tick: u64) -> Result<Resolved, Invalid>
     ensures { Passes (λ r. r ≡ resolve (U.map utxo.now) tx.now)
         (fault_on_map (U.map utxo.now) tick tx.now) result }
 {
@@ -95,7 +90,15 @@ pub fn check<U: Utxo, V: Verifier>(
 fn same_outputs<'a>(a: &'a [Output], b: &'a [Output]) -> bool
     ensures { IsTrue result → a.now ≡ b.now }
 {
-    a == b
+    if a.len() != b.len() {
+        return false;
+    }
+    for place in 0..a.len() {
+        if a[place] != b[place] {
+            return false;
+        }
+    }
+    true
 }
 
 // The first script that refuses, from what was found before where the outputs are the same.

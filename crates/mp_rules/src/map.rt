@@ -77,7 +77,10 @@ fn place_of_datum(inputs: &[Input], spent: &[Output]) -> Option<usize>
     ensures { result ≡ position (λ p. not (same_bytes (sha256 p.0.datum) p.1.datum_hash))
         (zip inputs.now spent.now) }
 {
-    inputs.iter().zip(spent).position(|(input, output)| *input.datum.hash() != output.datum_hash)
+    inputs
+        .iter()
+        .zip(spent)
+        .position(|(input, output)| *input.datum.hash() != output.datum_hash)
 }
 
 /// The first input whose validator isn't its output's, else the first whose datum isn't.

@@ -47,7 +47,9 @@ fn is_carried(scripts: &[Script], policy: &PolicyId) -> bool
 fn uncarried<'a>(scripts: &[Script], forged: &'a [Entry]) -> Option<&'a Entry>
     ensures { option_copied result ≡ find (λ e. not (is_carried scripts.now e.0.policy)) forged.now }
 {
-    forged.iter().find(|entry| !is_carried(scripts, &entry.0.policy))
+    forged
+        .iter()
+        .find(|entry| !is_carried(scripts, &entry.0.policy))
 }
 
 /// The least policy of which tokens are forged and whose script isn't carried.

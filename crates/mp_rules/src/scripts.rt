@@ -26,10 +26,7 @@ fn keys_of(memory: Memory, signatures: &[Signature]) -> Result<Vec<Key, Memory>,
     Ok(keys)
 }
 
-fn paid_to<'a>(
-    memory: Memory,
-    outputs: &'a [Output],
-) -> Result<Vec<PaidTo<'a>, Memory>, NoMemory>
+fn paid_to<'a>(memory: Memory, outputs: &'a [Output]) -> Result<Vec<PaidTo<'a>, Memory>, NoMemory>
     ensures { IfOk result (λ seen. map paid_to_of seen.items ≡ map paid_to outputs.now) }
 {
     let mut seen = Vec::with_capacity(memory, outputs.len())?;
@@ -59,11 +56,7 @@ fn referred<'a>(
     Ok(seen)
 }
 
-fn scene_of<'a>(
-    memory: Memory,
-    tx: &'a Tx,
-    resolved: &'a Resolved,
-) -> Result<Scene<'a>, NoMemory>
+fn scene_of<'a>(memory: Memory, tx: &'a Tx, resolved: &'a Resolved) -> Result<Scene<'a>, NoMemory>
     ensures { IfOk result (λ scene. IsSceneOf scene tx.now resolved.now) }
 {
     Ok(Scene {
@@ -155,7 +148,9 @@ fn refusing_policy<'a>(scene: &'a Scene<'a>, scripts: &'a [Script]) -> Option<us
     ensures { result ≡
         position (λ s. not (script_accepts (policy_scene scene.now s) s)) scripts.now }
 {
-    scripts.iter().position(|script| !policy_accepts(scene, script))
+    scripts
+        .iter()
+        .position(|script| !policy_accepts(scene, script))
 }
 
 /// The first validator that refuses, else the first policy script that does.

@@ -16,7 +16,9 @@ fn unaccepted<'a, V: Verifier>(
     ensures { option_copied result ≡
         find (λ s. not (V.accepts verifier.now s.key id.now s.sig)) signatures.now }
 {
-    signatures.iter().find(|s| !verifier.verify(&s.key, id, &s.sig))
+    signatures
+        .iter()
+        .find(|s| !verifier.verify(&s.key, id, &s.sig))
 }
 
 /// The first signature that the verifier doesn't accept.

@@ -1,9 +1,11 @@
 -- What holds of each item that is read, and of the order in which they stand.
-use Rattle.std.proofs.Common.{◌≡◌, ℕ, zero, suc, ◌<◌, ◌^◌, arith, Bool, true, false, ◌&&◌, List, [], ◌∷◌, ◌++◌, length, Option, None, Some, Ok, refl, sym, ap, subst, ◌∙◌, append_assoc, nat_lt}
+use Rattle.std.proofs.Common.{◌≡◌, ℕ, zero, suc, ◌<◌, ◌^◌, arith, Bool, true, List, [], ◌∷◌, ◌++◌, length, Option, None, Some, Ok, refl, sym, ap, subst, ◌∙◌, append_assoc, nat_lt}
 use Rattle.std.specs.Prelude.{flat_map, map, not}
 use Rattle.std.specs.Int.{w16, to_be_bytes}
 use Rattle.std.specs.List.{AllByRecursion}
 use Rattle.std.specs.declared.cmp.Ordering.{Ordering}
+use Rattle.std.specs.Cmp.{first_so, second_so}
+use Rattle.std.specs.Cmp.Derive.{both_true}
 use Rattle.mp_bytes.specs.Spelling.{counted}
 use Rattle.mp_bytes.specs.Fields.{count_at}
 use Rattle.mp_bytes.specs.Reading.{◌>>=◌}
@@ -79,10 +81,10 @@ counted_were key read spelled Good sound bytes x fits e =
     let c = count_takes bytes n.0.0 n.0.1 fits (or_fault_ok Truncated (count_at bytes) n.0 n.1) in
     with_count key spelled Good (2 ^ 16) bytes n.0.0 n.0.1 x c.0 c.1 (items_were key read spelled Good sound n.0.0 None n.0.1 x c.0.rest_fits n.2)
 
-at_most : (n : ℕ) → not (nat_lt 256 n) ≡ true → n < 257
+pub at_most : (n : ℕ) → not (nat_lt 256 n) ≡ true → n < 257
 at_most n e = grind (arith)
 
-is_few : (n : ℕ) → n < 257 → not (nat_lt 256 n) ≡ true
+pub is_few : (n : ℕ) → n < 257 → not (nat_lt 256 n) ≡ true
 is_few n lt = grind (arith)
 
 -- a count of at most 256 that was read
@@ -122,21 +124,9 @@ few_again {K} {X} key read spelled Good complete xs rest few good =
 abbrev pub Comes : {K X : Type 0} → (K → K → Ordering) → (X → K) → (X → Type 0) → Option K → X → Type 0
 Comes cmp key Is before x = (follows cmp before (key x) ≡ true) × Is x
 
-both : (a b : Bool) → a ≡ true → b ≡ true → (a && b) ≡ true
-both true b p q = q
-both false b p q = p
-
-first_true : (a b : Bool) → (a && b) ≡ true → a ≡ true
-first_true true b e = refl
-first_true false b e = e
-
-second_true : (a b : Bool) → (a && b) ≡ true → b ≡ true
-second_true true b e = e
-second_true false b e = absurd Prim.cc
-
 pub each_rises : {K X : Type 0} (cmp : K → K → Ordering) (key : X → K) (Is : X → Type 0) (before : Option K) (xs : List X) → EachAfter key (Comes cmp key Is) before xs → rises_after cmp before (map key xs) ≡ true
 each_rises cmp key Is before [] each = refl
-each_rises cmp key Is before (x ∷ xs) each = both _ _ each.0.0 (each_rises cmp key Is (Some (key x)) xs each.1)
+each_rises cmp key Is before (x ∷ xs) each = both_true each.0.0 (each_rises cmp key Is (Some (key x)) xs each.1)
 
 pub each_is : {K X : Type 0} (cmp : K → K → Ordering) (key : X → K) (Is : X → Type 0) (before : Option K) (xs : List X) → EachAfter key (Comes cmp key Is) before xs → AllByRecursion Is xs
 each_is cmp key Is before [] each = tt
@@ -144,4 +134,4 @@ each_is cmp key Is before (x ∷ xs) each = (each.0.1, each_is cmp key Is (Some 
 
 pub each_comes : {K X : Type 0} (cmp : K → K → Ordering) (key : X → K) (Is : X → Type 0) (before : Option K) (xs : List X) → rises_after cmp before (map key xs) ≡ true → AllByRecursion Is xs → EachAfter key (Comes cmp key Is) before xs
 each_comes cmp key Is before [] rising all = tt
-each_comes cmp key Is before (x ∷ xs) rising all = ((first_true _ _ rising, all.0), each_comes cmp key Is (Some (key x)) xs (second_true _ _ rising) all.1)
+each_comes cmp key Is before (x ∷ xs) rising all = ((first_so _ _ rising, all.0), each_comes cmp key Is (Some (key x)) xs (second_so _ _ rising) all.1)

@@ -2,6 +2,8 @@
 use Rattle.std.proofs.Common.{◌≡◌, ◌≢◌, ℕ, ◌≤◌, arith, Bool, true, false, ◌&&◌, length, Option, None, Some, refl, ap, subst, ◌∙◌, nat_lt, cond, ◌<◌}
 use Rattle.std.specs.Prelude.{not, nat_le}
 use Rattle.std.specs.Option.{option_or}
+use Rattle.std.specs.Cmp.{first_so, second_so}
+use Rattle.std.specs.Cmp.Derive.{both_true}
 use Rattle.mp_tx.specs.declared.fault.TxFault.{TxFault}
 use Rattle.mp_tx.specs.declared.fault.TxFault.TheVariants.{NoMemory, Truncated, Trailing, BadVersion, NotRising, BadBundle, BadScript, BadData, BadInterval, TooLarge, ReferenceSpent, NoReferences}
 use Rattle.mp_tx.specs.Transaction.{Transaction, spends_none}
@@ -10,18 +12,6 @@ use Rattle.mp_tx.specs.Parts.{IsTransaction}
 use Rattle.mp_tx.specs.TxFault.{all_rise, is_small, order_fault, parts_fault}
 
 -- ---- tests
-
-pub first_true : (a b : Bool) → (a && b) ≡ true → a ≡ true
-first_true true b e = refl
-first_true false b e = e
-
-pub second_true : (a b : Bool) → (a && b) ≡ true → b ≡ true
-second_true true b e = e
-second_true false b e = absurd Prim.cc
-
-pub both : (a b : Bool) → a ≡ true → b ≡ true → (a && b) ≡ true
-both true b p q = q
-both false b p q = p
 
 no_test : (a b c : Bool) → cond (not a) (Some NotRising) (cond (not b) (Some ReferenceSpent) (cond c (Some BadInterval) None)) ≡ None → (a ≡ true) × (b ≡ true) × (c ≡ false)
 no_test true true false e = (refl, refl, refl)
@@ -54,16 +44,16 @@ faultless t none small =
     let n = no_test (all_rise t) (spends_none t.inputs t.references) (nat_lt t.to t.from) none in
     let r = n.0 in
     record {
-      inputs_rise = first_true _ _ (first_true _ _ (first_true _ _ r));
-      references_rise = second_true _ _ (first_true _ _ (first_true _ _ r));
-      scripts_rise = second_true _ _ (first_true _ _ r);
-      signatures_rise = second_true _ _ r;
+      inputs_rise = first_so _ _ (first_so _ _ (first_so _ _ r));
+      references_rise = second_so _ _ (first_so _ _ (first_so _ _ r));
+      scripts_rise = second_so _ _ (first_so _ _ r);
+      signatures_rise = second_so _ _ r;
       unspent = n.1;
       interval = not_below t.from t.to n.2;
-      few_inputs = at_most _ _ (first_true _ _ (first_true _ _ (first_true _ _ small)));
-      few_references = at_most _ _ (second_true _ _ (first_true _ _ (first_true _ _ small)));
-      few_outputs = at_most _ _ (second_true _ _ (first_true _ _ small));
-      small = at_most _ _ (second_true _ _ small);
+      few_inputs = at_most _ _ (first_so _ _ (first_so _ _ (first_so _ _ small)));
+      few_references = at_most _ _ (second_so _ _ (first_so _ _ (first_so _ _ small)));
+      few_outputs = at_most _ _ (second_so _ _ (first_so _ _ small));
+      small = at_most _ _ (second_so _ _ small);
     }
 
 none_first : {X : Type 0} (a b : Option X) → option_or a b ≡ None → (a ≡ None) × (b ≡ None)
@@ -81,8 +71,8 @@ faultless_is_transaction t none =
 
 pub transaction_is_faultless : (t : Transaction) → IsTransaction t → parts_fault t ≡ None
 transaction_is_faultless t h =
-    let rise = both _ _ (both _ _ (both _ _ h.inputs_rise h.references_rise) h.scripts_rise) h.signatures_rise in
-    let small = both _ _ (both _ _ (both _ _ (is_at_most _ _ h.few_inputs) (is_at_most _ _ h.few_references)) (is_at_most _ _ h.few_outputs)) (is_at_most _ _ h.small) in
+    let rise = both_true (both_true (both_true h.inputs_rise h.references_rise) h.scripts_rise) h.signatures_rise in
+    let small = both_true (both_true (both_true (is_at_most _ _ h.few_inputs) (is_at_most _ _ h.few_references)) (is_at_most _ _ h.few_outputs)) (is_at_most _ _ h.small) in
     ap (λ (f : Option TxFault). option_or f (cond (is_small t) None (Some TooLarge))) (all_tests (all_rise t) (spends_none t.inputs t.references) (nat_lt t.to t.from) rise h.unspent (is_not_below t.from t.to h.interval))
     ∙ ap (λ (b : Bool). cond b None (Some TooLarge)) small
 
@@ -119,4 +109,4 @@ pub not_small : (t : Transaction) (n : ℕ) → n ≡ size_of t → 16384 < n �
 not_small t n e lt = few_but_long _ _ (above (size_of t) (subst (λ (k : ℕ). 16384 < k) e lt))
 
 pub small_enough : (t : Transaction) (n : ℕ) → n ≡ size_of t → n ≤ 16384 → (nat_le (length t.inputs) 256 && nat_le (length t.references) 256 && nat_le (length t.outputs) 256) ≡ true → is_small t ≡ true
-small_enough t n e le few = both _ _ few (is_at_most (size_of t) 16384 (subst (λ (k : ℕ). k ≤ 16384) e le))
+small_enough t n e le few = both_true few (is_at_most (size_of t) 16384 (subst (λ (k : ℕ). k ≤ 16384) e le))

@@ -1,7 +1,9 @@
 -- Inputs, references, outputs, policy scripts and signatures: what is read was spelled so, and what is spelled is read.
-use Rattle.std.proofs.Common.{◌≡◌, ℕ, Bool, true, false, ◌&&◌, List, [], ◌∷◌, ◌++◌, Option, Some, refl, ap, subst, ◌∙◌, append_assoc}
+use Rattle.std.proofs.Common.{◌≡◌, ℕ, true, List, [], ◌∷◌, ◌++◌, Option, Some, refl, ap, subst, ◌∙◌, append_assoc}
 use Rattle.std.specs.Prelude.{not}
 use Rattle.std.specs.List.{AllByRecursion}
+use Rattle.std.specs.Cmp.{first_so, second_so}
+use Rattle.std.specs.Cmp.Derive.{both_true}
 use Rattle.mp_bytes.specs.Spelling.{sized}
 use Rattle.mp_bytes.specs.Fields.{run_at}
 use Rattle.mp_bytes.proofs.Bytes.{Takes, Takes-then, bind_ok, ok_is, or_fault_ok}
@@ -84,21 +86,9 @@ reference_again inputs before r rest good =
     (require_step (follows ref_cmp before r) NotRising (r, rest) _ _ good.0
     (required (not (spends inputs r)) ReferenceSpent (r, rest) good.1.0))
 
-both : (a b : Bool) → a ≡ true → b ≡ true → (a && b) ≡ true
-both true b p q = q
-both false b p q = p
-
-first_true : (a b : Bool) → (a && b) ≡ true → a ≡ true
-first_true true b e = refl
-first_true false b e = e
-
-second_true : (a b : Bool) → (a && b) ≡ true → b ≡ true
-second_true true b e = e
-second_true false b e = absurd Prim.cc
-
 pub none_spent : (inputs : List Input) (refs : List OutRef) → AllByRecursion (IsLookedAt inputs) refs → spends_none inputs refs ≡ true
 none_spent inputs [] all = refl
-none_spent inputs (r ∷ rs) all = both _ _ all.0.0 (none_spent inputs rs all.1)
+none_spent inputs (r ∷ rs) all = both_true all.0.0 (none_spent inputs rs all.1)
 
 pub are_refs : (inputs : List Input) (refs : List OutRef) → AllByRecursion (IsLookedAt inputs) refs → AllByRecursion IsRef refs
 are_refs inputs [] all = tt
@@ -106,7 +96,7 @@ are_refs inputs (r ∷ rs) all = (all.0.1, are_refs inputs rs all.1)
 
 pub are_looked_at : (inputs : List Input) (refs : List OutRef) → spends_none inputs refs ≡ true → AllByRecursion IsRef refs → AllByRecursion (IsLookedAt inputs) refs
 are_looked_at inputs [] none all = tt
-are_looked_at inputs (r ∷ rs) none all = ((first_true _ _ none, all.0), are_looked_at inputs rs (second_true _ _ none) all.1)
+are_looked_at inputs (r ∷ rs) none all = ((first_so _ _ none, all.0), are_looked_at inputs rs (second_so _ _ none) all.1)
 
 -- ---- outputs
 

@@ -25,7 +25,7 @@ use Rattle.mp_tx.specs.Spelling.{ref_bytes, input_bytes, output_bytes, signature
 use Rattle.mp_tx.specs.Parts.{IsSized, IsInput, IsOutput, IsSignature, IsValue, AreParts, IsTransaction, Spells}
 use Rattle.mp_tx.specs.Reading.{field, require, itself, byte_read, version_read, few_read, counted_read, input_read, reference_read, references_read, output_read, interval_read, bundle_read, policy_read, signature_read, body_read, transaction_of, whole}
 use Rattle.mp_tx.proofs.Entries.{require_ok}
-use Rattle.mp_tx.proofs.Each.{EachAfter, Comes, CountedWere, WereRead, counted_were, counted_again, few_were, few_again, items_were, items_again, each_rises, each_is, each_comes}
+use Rattle.mp_tx.proofs.Each.{EachAfter, Comes, CountedWere, WereRead, at_most, is_few, counted_were, counted_again, few_were, few_again, items_were, items_again, each_rises, each_is, each_comes}
 use Rattle.mp_tx.proofs.Fields.{IsInterval, interval_was, interval_again}
 use Rattle.mp_tx.proofs.Bundles.{step, field_step, require_step, byte_was, byte_again, bundle_was, bundle_again}
 use Rattle.mp_tx.proofs.PartsRead.{IsLookedAt, IsAny, input_was, input_again, reference_was, reference_again, output_was, output_again, policy_was, policy_again, signature_was, signature_again, none_spent, are_refs, are_looked_at, each_output, any_output}
@@ -83,12 +83,6 @@ above n e = grind (arith)
 
 is_above : (n : ℕ) → 0 < n → nat_lt 0 n ≡ true
 is_above n lt = grind (arith)
-
-at_most : (n : ℕ) → not (nat_lt 256 n) ≡ true → n < 257
-at_most n e = grind (arith)
-
-is_few : (n : ℕ) → n < 257 → not (nat_lt 256 n) ≡ true
-is_few n lt = grind (arith)
 
 pub references_were : (version : ℕ) (inputs : List Input) (bytes : List ℕ) (x : List OutRef × List ℕ) → IsBytes bytes → IsVersion version → references_read version inputs bytes ≡ Ok x → ReferencesWere inputs version bytes x
 unfolding references_read

@@ -1,17 +1,26 @@
 -- What a sum keeps, and how it is seen.
-use Rattle.std.specs.Prelude.{◌≡◌, ◌-◌, ◌*◌, ◌^◌, ◌<◌, ◌≤◌, pos, length}
+use Rattle.std.specs.Prelude.{◌≡◌, ◌-◌, ◌*◌, ◌^◌, ◌<◌, ◌≤◌, false, pos, List, ◌∷◌, length}
+use Rattle.std.specs.Ordering.{is_lt}
 use Rattle.mp_bundle.specs.declared.sum.Sum.TheInside.{Inside}
 use Rattle.mp_bundle.specs.declared.token.Token.{Token}
-use Rattle.mp_bundle.specs.Bundle.{IsWithin, quantity_of}
+use Rattle.mp_bundle.specs.Token.{coin, token_cmp}
+use Rattle.mp_bundle.specs.Bundle.{Entry, IsWithin, quantity_of}
 use Rattle.mp_bundle.specs.Sum.{Sum}
 use Rattle.mp_bundle.specs.Inside.Totals.{nonzero_of}
 
-abbrev pub sum_of : Inside → Sum
-sum_of s = record { added = s.added; nonzero = nonzero_of s.totals.entries }
+-- the total of coin, and the others
+abbrev pub totals_of : Inside → List Entry
+totals_of s = (coin, s.coin) ∷ s.totals.entries
 
--- totals of at most 2^32 bundles: each fits, and a token with a long name has none
+abbrev pub sum_of : Inside → Sum
+sum_of s = record { added = s.added; nonzero = nonzero_of (totals_of s) }
+
+-- totals of at most 2^32 bundles: each fits, and a token with a long name has none. The others are
+-- above coin
 pub record IsHeld (s : Inside) : Type 0 where
   pub few : s.added ≤ 2 ^ 32
   pub within : (token : Token)
-      → IsWithin (s.added * (2 ^ 63 - 1)) (quantity_of s.totals.entries token)
-  pub short : (token : Token) → 32 < length token.name → quantity_of s.totals.entries token ≡ pos 0
+      → IsWithin (s.added * (2 ^ 63 - 1)) (quantity_of (totals_of s) token)
+  pub short : (token : Token) → 32 < length token.name → quantity_of (totals_of s) token ≡ pos 0
+  pub above : (token : Token)
+      → is_lt (token_cmp coin token) ≡ false → quantity_of s.totals.entries token ≡ pos 0

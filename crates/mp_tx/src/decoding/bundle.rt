@@ -6,11 +6,9 @@ ghost use Rattle.mp_tx.specs.Reading.{Reads, items_read, entry_read, bundle_read
 
 use super::field::read_byte;
 use crate::fault::TxFault;
-use mp_bundle::{Bundle, Entry, Token, may_follow};
+use mp_bundle::{Bundle, Entry, MAX_NAME_BYTES, Token, may_follow};
 use mp_bytes::{split_array, split_count, split_number, split_run};
 use mp_memory::Memory;
-
-const MAX_NAME_BYTES: u8 = 32;
 
 // The bytes that an entry has at the least.
 const LEAST_ENTRY_BYTES: usize = 41;
@@ -21,7 +19,7 @@ fn read_entry(before: Option<Token>, bytes: &[u8]) -> Result<(Entry, &[u8]), TxF
 {
     let (policy, rest) = split_array::<32>(bytes).ok_or(TxFault::Truncated)?;
     let (len, rest) = read_byte(rest)?;
-    if len > MAX_NAME_BYTES {
+    if len as usize > MAX_NAME_BYTES {
         return Err(TxFault::BadBundle);
     }
     let (name, rest) = split_run(rest, len as usize).ok_or(TxFault::Truncated)?;

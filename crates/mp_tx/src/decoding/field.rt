@@ -6,12 +6,10 @@ ghost use Rattle.mp_tx.specs.Reading.{Reads, ref_read, byte_read, few_count_read
 
 use crate::fault::TxFault;
 use crate::reference::OutRef;
+use crate::tx::MAX_PARTS;
 use mp_bytes::{split_array, split_count, split_sized, split_unsigned};
 use mp_memory::Memory;
 use mp_script::{Data, DataFault, Script, ScriptFault};
-
-/// The most inputs, references and outputs.
-pub const MAX_COUNT: u16 = 256;
 
 /// One byte.
 #[tactic(auto, unfolding(crate::specs::Reading::byte_read))]
@@ -37,7 +35,7 @@ pub fn read_count(bytes: &[u8]) -> Result<(u16, &[u8]), TxFault>
     ensures { seen (λ x. (x.0, x.1.now)) result ≡ few_count_read bytes.now }
 {
     let (count, rest) = split_count(bytes).ok_or(TxFault::Truncated)?;
-    if count > MAX_COUNT {
+    if count as usize > MAX_PARTS {
         return Err(TxFault::TooLarge);
     }
     Ok((count, rest))

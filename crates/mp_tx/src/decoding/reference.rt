@@ -4,11 +4,12 @@ ghost use Rattle.std.specs.Prelude.{◌≡◌, [], None};
 ghost use Rattle.mp_bytes.specs.Reading.{seen};
 ghost use Rattle.mp_tx.specs.Reading.{Reads, items_read, itself, reference_read, references_read};
 
-use super::field::{MAX_COUNT, read_ref};
+use super::field::read_ref;
 use crate::fault::TxFault;
 use crate::input::Input;
 use crate::order::{ref_follows, spends};
 use crate::reference::OutRef;
+use crate::tx::MAX_PARTS;
 use mp_bytes::split_count;
 use mp_memory::Memory;
 
@@ -76,7 +77,7 @@ pub fn read_references<'a>(
     if count == 0 {
         return Err(TxFault::NoReferences);
     }
-    if count > MAX_COUNT {
+    if count as usize > MAX_PARTS {
         return Err(TxFault::TooLarge);
     }
     let mut references = Vec::with_capacity(memory, count as usize)?;

@@ -1,6 +1,0 @@
-use Rattle.std.proofs.Common.{◌≡◌, ◌++◌, drop, map}
-use Rattle.mp_rules.proofs.checked.share_all.Given as goal
-
--- the outputs so far and those that are left are all
-abbrev pub invariant-loop-output : goal.invariant-loop-output
-invariant-loop-output l = l.shared.items ++ map (λ o. o.now) (drop l.output-index l.outputs) ≡ map (λ o. o.now) l.outputs
