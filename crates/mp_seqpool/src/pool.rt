@@ -12,7 +12,7 @@ use crate::refusal::Refusal;
 use crate::tickets::{Tickets, note, ticket_under};
 use indexmap::IndexMap;
 use mp_memory::{Memory, NoMemory};
-use mp_rules::{Invalid, Verifier, check};
+use mp_rules::{Verifier, check};
 use mp_tx::{Ledger, Tx};
 use mp_utxo::Overlay;
 use std::marker::Model;
@@ -75,13 +75,15 @@ fn reserve(
 impl SeqPool {
     ghost use Rattle.std.specs.Prelude.{◌≡◌, ◌+◌, ◌≤◌, ◌^◌, None, IfNone, IfOk, IfErr, OnOk, OnErr, Ok};
     ghost use Rattle.std.specs.Arc.{arc_value};
+    ghost use Rattle.mp_tx.specs.Spelling.{id_of};
     ghost use Rattle.mp_rules.specs.FirstFault.{first_fault};
     ghost use Rattle.mp_seqpool.specs.Inside.Item.{items_of};
     ghost use Rattle.mp_seqpool.specs.Inside.Place.{misplaced};
     ghost use Rattle.mp_seqpool.specs.Inside.Rules.{IsBrokenRule};
     ghost use Rattle.mp_seqpool.specs.Command.{Submit};
     ghost use Rattle.mp_seqpool.specs.Config.{fresh_pool};
-    ghost use Rattle.mp_seqpool.specs.SlowPool.{answer, next, IsRefused, bytes_held, unspent, HasRoom};
+    ghost use Rattle.mp_seqpool.specs.SlowPool.{answer, next, IsRefused, bytes_held, unspent, ticket_of, HasRoom};
+    ghost use Rattle.mp_seqpool.specs.declared.command.Reply.TheVariants.{Accepted};
     ghost use Rattle.mp_seqpool.specs.Inside.Command.{command_of};
 
     /// A pool with no transaction upon the ledger state.
@@ -130,11 +132,25 @@ impl SeqPool {
         ensures fault { IfErr result (IsBrokenRule (V.accepts verifier.now) self.now tx.now) }
     {
         let tick = self.overlay.ledger().tick();
-        match check(self.memory, tx, &self.overlay, tick, verifier) {
-            Ok(_) => Ok(()),
-            Err(Invalid::NoMemory) => Err(Refusal::NoMemory),
-            Err(fault) => Err(Refusal::Invalid(fault)),
+        let _resolved = check(self.memory, tx, &self.overlay, tick, verifier)?;
+        Ok(())
+    }
+
+    // The ticket that the transaction gets, or why it is refused.
+    fn ticket_for<V: Verifier>(&self, tx: &Tx, verifier: &V) -> Result<u64, Refusal>
+        ensures ok { IfOk result (λ ticket. answer (V.accepts verifier.now)
+            self.now (Submit tx.now) ≡ Ok (Accepted ticket)) }
+        ensures next { IfOk result (λ ticket. ticket ≡ self.now.last + 1) }
+        ensures new { OnOk result (ticket_of (id_of tx.now) self.now.items ≡ None) }
+        ensures room { OnOk result (HasRoom self.now tx.now) }
+        ensures refused { IfErr result
+            (IsRefused (V.accepts verifier.now) self.now (Submit tx.now)) }
+    {
+        if let Some(refusal) = self.misplaced(tx) {
+            return Err(refusal);
         }
+        self.check_rules(tx, verifier)?;
+        Ok(self.last + 1)
     }
 
     /// Takes the transaction in under the next ticket, as one change. It takes all the room before anything changes.
@@ -151,11 +167,7 @@ impl SeqPool {
             self.old (Submit (arc_value tx.now))) }
         ensures err { OnErr result (self.new ≡ self.old) }
     {
-        if let Some(refusal) = self.misplaced(tx) {
-            return Err(refusal);
-        }
-        self.check_rules(tx, verifier)?;
-        let ticket = self.last + 1;
+        let ticket = self.ticket_for(tx, verifier)?;
         let item = Item {
             ticket,
             tx: Arc::try_clone(tx)?,
@@ -191,11 +203,7 @@ impl SeqPool {
     }
 
     /// Does what the command asks, and answers with the reply or the refusal.
-    pub fn step<V: Verifier>(
-        &mut self,
-        command: &Command,
-        verifier: &V,
-    ) -> Result<Answer, NoMemory>
+    pub fn step<V: Verifier>(&mut self, command: &Command, verifier: &V) -> Result<Answer, NoMemory>
         ensures answer { IfOk result (λ a. a ≡ answer (V.accepts verifier.now)
             self.old (command_of command.now)) }
         ensures next { OnOk result (self.new ≡ next (V.accepts verifier.now)

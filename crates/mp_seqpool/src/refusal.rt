@@ -48,6 +48,19 @@ impl Refusal {
     }
 }
 
+impl From<Invalid> for Refusal {
+    ghost use Rattle.mp_seqpool.specs.Inside.Rules.{refusal_for};
+
+    ghost from_gives = { λ fault e. e ≡ refusal_for fault };
+
+    fn from(fault: Invalid) -> Refusal {
+        match fault {
+            Invalid::NoMemory => Refusal::NoMemory,
+            fault => Refusal::Invalid(fault),
+        }
+    }
+}
+
 impl From<NoMemory> for Refusal {
     ghost from_gives = { λ _ e. e ≡ refusals.NoMemory };
 

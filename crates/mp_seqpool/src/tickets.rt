@@ -2,7 +2,7 @@
 
 ghost use Rattle.std.specs.Prelude.{◌≡◌, ◌<◌};
 ghost use Rattle.indexmap.specs.IndexMap.{spare};
-ghost use Rattle.mp_seqpool.specs.Inside.Tickets.{key_of, noted_for, Notes};
+ghost use Rattle.mp_seqpool.specs.Inside.Tickets.{noted_at, key_of, Notes};
 
 use indexmap::IndexMap;
 use mp_memory::Memory;
@@ -21,7 +21,7 @@ fn key_of(id: &TxId) -> OutRef
 
 /// The ticket that is noted for the id.
 pub fn ticket_under(tickets: &Tickets, id: &TxId) -> Option<u64>
-    ensures { result ≡ noted_for id.now tickets.now.entries }
+    ensures { result ≡ noted_at tickets.now.entries (key_of id.now) }
 {
     tickets.get(&key_of(id)).copied()
 }
