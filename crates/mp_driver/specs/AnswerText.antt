@@ -1,9 +1,11 @@
 -- The line that a command writes.
-use Rattle.std.specs.Prelude.{ℕ, List, [], ◌∷◌, ◌++◌, length, flat_map, decimal, codes, Result, Ok, Err}
+use Rattle.std.specs.Prelude.{ℕ, nat_eq, List, [], ◌∷◌, ◌++◌, length, flat_map, replicate, slice_index, decimal, codes, Result, Ok, Err, if◌then◌else◌}
+use Rattle.std.specs.Cmp.Lexicographic.{pointwise}
+use Rattle.hex.specs.Hex.{encode_lower}
 use Rattle.mp_tx.specs.Transaction.{Transaction}
 use Rattle.mp_tx.specs.Spelling.{id_of}
-use Rattle.mp_seqpool.specs.declared.invalid.Invalid.{Invalid}
-use Rattle.mp_seqpool.specs.declared.invalid.Invalid.TheVariants.{NoInputs, InputMissing, OutputTaken, Unbalanced}
+use Rattle.mp_rules.specs.declared.invalid.Invalid.{Invalid}
+use Rattle.mp_rules.specs.declared.invalid.Invalid.TheVariants as rules
 use Rattle.mp_seqpool.specs.declared.refusal.Refusal.{Refusal}
 use Rattle.mp_seqpool.specs.declared.refusal.Refusal.TheVariants as refusals
 use Rattle.mp_seqpool.specs.declared.command.Reply.{Reply}
@@ -16,12 +18,31 @@ use Rattle.mp_driver.specs.Names.{Names, name_of}
 abbrev pub number_text : ℕ → List ℕ
 number_text n = 32 ∷ decimal n
 
--- the only token is coin
+-- the policy of coin is zeros; any other has no name, and is written in hexadecimal digits
+abbrev pub policy_text : List ℕ → List ℕ
+policy_text policy = if pointwise nat_eq policy (replicate 32 0) then codes "coin" else encode_lower policy
+
+-- the policy, and then a dot and the name, where it isn't empty
+abbrev pub token_text : List ℕ → List ℕ → List ℕ
+token_text policy [] = policy_text policy
+token_text policy (byte ∷ bytes) = policy_text policy ++ 46 ∷ byte ∷ bytes
+
+-- a key is told by its first byte
 abbrev pub invalid_text : Invalid → List ℕ
-invalid_text NoInputs = codes "no-inputs"
-invalid_text (InputMissing place) = codes "missing" ++ number_text place
-invalid_text (OutputTaken place) = codes "taken" ++ number_text place
-invalid_text (Unbalanced policy name) = codes "unbalanced coin"
+invalid_text rules.NoMemory = codes "memory"
+invalid_text rules.NoInputs = codes "no-inputs"
+invalid_text rules.OutsideInterval = codes "interval"
+invalid_text (rules.NegativeOutput place) = codes "negative" ++ number_text place
+invalid_text (rules.InputMissing place) = codes "missing" ++ number_text place
+invalid_text (rules.ReferenceMissing place) = codes "reference" ++ number_text place
+invalid_text (rules.AddressMismatch place) = codes "address" ++ number_text place
+invalid_text (rules.DatumMismatch place) = codes "datum" ++ number_text place
+invalid_text (rules.OutputTaken place) = codes "taken" ++ number_text place
+invalid_text (rules.ForgeWithoutPolicy policy) = codes "no-policy " ++ policy_text policy
+invalid_text (rules.Unbalanced policy name) = codes "unbalanced " ++ token_text policy name
+invalid_text (rules.BadSignature key) = codes "signature" ++ number_text (slice_index key 0)
+invalid_text (rules.ValidatorRefused place) = codes "validator" ++ number_text place
+invalid_text (rules.PolicyRefused place) = codes "policy-script" ++ number_text place
 
 abbrev pub refusal_text : Refusal → List ℕ
 refusal_text refusals.NoMemory = codes "memory"

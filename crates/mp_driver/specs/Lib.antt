@@ -1,4 +1,5 @@
 pub mod Names
+pub mod Verifier
 pub mod AnswerText
 pub mod References
 pub mod Plain

@@ -16,6 +16,7 @@ use Rattle.mp_driver.specs.Names.{Binding, Opening, Made, Names, binding_of, tra
 use Rattle.mp_driver.specs.References.{opening_ref}
 use Rattle.mp_driver.specs.Items.{empty_draft, draft_of, transaction_of, is_transaction}
 use Rattle.mp_driver.specs.Plain.{plain_output}
+use Rattle.mp_driver.specs.Verifier.{accepts_nothing}
 use Rattle.mp_driver.specs.AnswerText.{answer_text, snapshot_text}
 
 -- the opening outputs before the first command, and the pool from it on
@@ -80,8 +81,8 @@ transaction_line s (name ∷ word ∷ words) =
 -- submit NAME
 abbrev pub submit_to : Scene → Transaction → Scene × List ℕ
 submit_to s t = (
-  record s { stage = Open (next (pool_at s.stage) (Submit t)) },
-  answer_text (answer (pool_at s.stage) (Submit t)),
+  record s { stage = Open (next accepts_nothing (pool_at s.stage) (Submit t)) },
+  answer_text (answer accepts_nothing (pool_at s.stage) (Submit t)),
 )
 
 abbrev pub submit_line : Scene → List (List ℕ) → Step

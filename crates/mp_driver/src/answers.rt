@@ -3,63 +3,15 @@
 ghost use Rattle.std.specs.Prelude.{◌≡◌, ℕ, List, [], ◌∷◌, ◌++◌, length, flat_map, IfOk, OnOk, codes};
 ghost use Rattle.std.specs.Arc.{arc_value};
 ghost use Rattle.mp_seqpool.specs.Inside.Item.{items_of};
-ghost use Rattle.mp_driver.specs.AnswerText.{number_text, invalid_text, refusal_text, answer_text, item_text, snapshot_text};
+ghost use Rattle.mp_driver.specs.AnswerText.{answer_text, item_text, snapshot_text};
 ghost use Rattle.mp_driver.specs.Inside.Name.{names_of};
 
 use crate::names::{Name, name_of};
+use crate::refusals::{put_number, put_refusal};
 use mp_memory::{Memory, NoMemory};
-use mp_seqpool::{Answer, Invalid, Item, Refusal, Reply, SeqPool};
+use mp_seqpool::{Answer, Item, Reply, SeqPool};
 
 type Text = Vec<u8, Memory>;
-
-// A space and the number.
-fn put_number(memory: Memory, text: &mut Text, number: u64) -> Result<(), NoMemory>
-    ensures { OnOk result (text.new.items ≡ text.old.items ++ number_text number) }
-{
-    text.push(b' ')?;
-    let digits = number.to_string(memory)?;
-    text.extend_from_slice(digits.as_bytes())?;
-    Ok(())
-}
-
-fn put_invalid(memory: Memory, text: &mut Text, fault: &Invalid) -> Result<(), NoMemory>
-    ensures { OnOk result (text.new.items ≡ text.old.items ++ invalid_text fault.now) }
-{
-    match fault {
-        Invalid::NoInputs => text.extend_from_slice(b"no-inputs")?,
-        Invalid::InputMissing(place) => {
-            text.extend_from_slice(b"missing")?;
-            put_number(memory, text, *place as u64)?;
-        }
-        Invalid::OutputTaken(place) => {
-            text.extend_from_slice(b"taken")?;
-            put_number(memory, text, *place as u64)?;
-        }
-        Invalid::Unbalanced(_, _) => text.extend_from_slice(b"unbalanced coin")?,
-    }
-    Ok(())
-}
-
-fn put_refusal(memory: Memory, text: &mut Text, refusal: &Refusal) -> Result<(), NoMemory>
-    ensures { OnOk result (text.new.items ≡ text.old.items ++ refusal_text refusal.now) }
-{
-    match refusal {
-        Refusal::NoMemory => text.extend_from_slice(b"memory")?,
-        Refusal::HistoryFull => text.extend_from_slice(b"history")?,
-        Refusal::TicketsSpent => text.extend_from_slice(b"tickets")?,
-        Refusal::AlreadyInPool(ticket) => {
-            text.extend_from_slice(b"already")?;
-            put_number(memory, text, *ticket)?;
-        }
-        Refusal::Full { need, free } => {
-            text.extend_from_slice(b"full")?;
-            put_number(memory, text, *need)?;
-            put_number(memory, text, *free)?;
-        }
-        Refusal::Invalid(fault) => put_invalid(memory, text, fault)?,
-    }
-    Ok(())
-}
 
 /// The line of a pool's answer.
 #[tactic(auto, unfolding(crate::specs::AnswerText::answer_text))]

@@ -9,7 +9,9 @@ mod openings;
 mod plain;
 mod play;
 mod references;
+mod refusals;
 mod scene;
+mod verifier;
 
 pub use fault::Fault;
 pub use play::run;

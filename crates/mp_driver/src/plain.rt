@@ -19,7 +19,8 @@ const ACCEPTING: [u8; 1] = [0x01];
 // A list of no data.
 const UNIT: [u8; 3] = [0x03, 0x00, 0x00];
 
-const COIN_POLICY: PolicyId = [0; 32];
+/// The policy of coin.
+pub const COIN_POLICY: PolicyId = [0; 32];
 
 /// A quantity of coin, from 1 to 2^63 - 1.
 #[derive(Debug, Drop)]

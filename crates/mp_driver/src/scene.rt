@@ -8,6 +8,7 @@ ghost use Rattle.mp_text.specs.Names.{is_name};
 ghost use Rattle.mp_text.specs.Words.{words_of};
 ghost use Rattle.mp_driver.specs.Names.{binding_of};
 ghost use Rattle.mp_driver.specs.AnswerText.{answer_text};
+ghost use Rattle.mp_driver.specs.Verifier.{accepts_nothing};
 ghost use Rattle.mp_driver.specs.Scene.{Before, Open, Scene as Told, pool_at, output_line, submit_line};
 ghost use Rattle.mp_driver.specs.Inside.Name.{names_of, to_binding};
 ghost use Rattle.mp_driver.specs.Inside.Scene.{stage_of};
@@ -18,6 +19,7 @@ use crate::items::{draft_of, transaction_of};
 use crate::names::{Binding, Name, binding_of, transaction_named};
 use crate::openings::Openings;
 use crate::plain::{Coin, plain_output};
+use crate::verifier::RefusesAll;
 use mp_memory::{Memory, NoMemory};
 use mp_seqpool::{Command, Config, SeqPool};
 use mp_text::{first_word, is_clean, is_comment_or_blank, is_name};
@@ -145,9 +147,9 @@ fn open_pool(memory: Memory, stage: &mut Stage) -> Result<(), NoMemory>
 
 fn submit_to(memory: Memory, stage: &mut Stage, tx: &Arc<Tx, Memory>) -> Result<Text, NoMemory>
     ensures answer { IfOk result (λ text. text.items
-        ≡ answer_text (answer (pool_at (stage_of stage.old)) (Submit (arc_value tx.now)))) }
+        ≡ answer_text (answer accepts_nothing (pool_at (stage_of stage.old)) (Submit (arc_value tx.now)))) }
     ensures next { OnOk result (stage_of stage.new
-        ≡ Open (next (pool_at (stage_of stage.old)) (Submit (arc_value tx.now)))) }
+        ≡ Open (next accepts_nothing (pool_at (stage_of stage.old)) (Submit (arc_value tx.now)))) }
 {
     open_pool(memory, stage)?;
     match stage {
@@ -162,11 +164,12 @@ fn submit_to_pool(
     tx: &Arc<Tx, Memory>,
 ) -> Result<Text, NoMemory>
     ensures answer { IfOk result (λ text. text.items
-        ≡ answer_text (answer pool.old (Submit (arc_value tx.now)))) }
-    ensures next { OnOk result (pool.new ≡ next pool.old (Submit (arc_value tx.now))) }
+        ≡ answer_text (answer accepts_nothing pool.old (Submit (arc_value tx.now)))) }
+    ensures next { OnOk result
+        (pool.new ≡ next accepts_nothing pool.old (Submit (arc_value tx.now))) }
 {
     let command = Command::Submit(Arc::try_clone(tx)?);
-    match pool.step(&command) {
+    match pool.step(&command, &RefusesAll) {
         Ok(answer) => answer_line(memory, &answer),
         Err(error) => Err(error),
     }

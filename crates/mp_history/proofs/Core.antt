@@ -6,6 +6,7 @@ use Rattle.std.proofs.lemmas.Bool.{ltb-true}
 use Rattle.std.proofs.lemmas.List.{append_assoc, append-nil, take-append-le}
 use Rattle.std.proofs.lemmas.List.Elements.{All-append, All-from_recursion}
 use Rattle.std.proofs.lemmas.Option.{IfSome_then}
+use Rattle.mp_rules.specs.Verifier.{Accepts}
 use Rattle.mp_seqpool.specs.declared.command.Reply.{Reply}
 use Rattle.mp_seqpool.specs.declared.refusal.Refusal.{Refusal}
 use Rattle.mp_seqpool.specs.Command.{Command}
@@ -50,13 +51,7 @@ one P [] k all = tt
 one P (x ∷ xs) zero all = all 0 x (omega arith)
 one P (x ∷ xs) (suc k) all = one P xs k (λ j d lt. all (suc j) d (omega arith))
 
--- Versions and last places, one entry later.
-
-pub later : (p : Pool) (log : List Entry) (d : Entry) (v : Version) → IsTrueVersion p log v → IsTrueVersion p (log ++ d ∷ []) v
-later p log d v true_one = record {
-  within = subst (λ n. v.number ≤ n) (sym (push-length log d)) (up v.number (length log) true_one.within);
-  same = true_one.same ∙ ap (pool_of p) (sym (take-append-le v.number log (d ∷ []) true_one.within));
-}
+-- Last places.
 
 last-put : (f : ℕ → Option ℕ) (caller : ℕ) (log : List Entry) (d : Entry) → f caller ≡ last_of caller log → put f d.caller (Some (length log)) caller ≡ last_of caller (log ++ d ∷ [])
 last-put f caller log d was =
@@ -65,102 +60,7 @@ last-put f caller log d was =
       | false ↦ λ e. was ∙ sym (last_of-other caller log d e)
     ] refl
 
--- What is so of every world.
-pub record IsSound (callers : ℕ) (p : Pool) (w : World) : Type 0 where
-  pub locked : w.locked ≡ pool_of p w.log
-  pub legal : IsLegal callers p w.log
-  pub held : (caller : ℕ) → IsTrueVersion p w.log (w.held caller)
-  pub waiting : IfSome w.waiting (IsTrueVersion p w.log)
-  pub board : All (IsTrueVersion p w.log) w.board
-  pub ever : All (IsTrueVersion p w.log) w.ever
-  pub last : (caller : ℕ) → w.last caller ≡ last_of caller w.log
-
-pub sound-opens : (callers : ℕ) (p : Pool) → IsSound callers p (opens p)
-sound-opens callers p =
-    let first : IsTrueVersion p [] (first_version p) = record { within = omega arith; same = refl } in
-    record {
-      locked = refl;
-      legal = tt;
-      held = λ _. first;
-      waiting = tt;
-      board = All-from_recursion (IsTrueVersion p []) (first_version p ∷ []) (first, tt);
-      ever = All-from_recursion (IsTrueVersion p []) (first_version p ∷ []) (first, tt);
-      last = λ _. refl;
-    }
-
-pub sound-present : (callers : ℕ) (p : Pool) (w : World) → IsSound callers p w → IsTrueVersion p w.log (present w)
-sound-present callers p w s = record { within = itself (length w.log); same = s.locked ∙ ap (pool_of p) (sym (take-length w.log)) }
-
-sound-holding : (callers : ℕ) (p : Pool) (w : World) (caller : ℕ) (v : Version) → IsSound callers p w → IsTrueVersion p w.log v → IsSound callers p (with_held w caller v)
-sound-holding callers p w caller v s true_one = record {
-  locked = s.locked;
-  legal = s.legal;
-  held = λ c. kept_if (IsTrueVersion p w.log) (c == caller) v (w.held c) (λ _. true_one) (s.held c);
-  waiting = s.waiting;
-  board = s.board;
-  ever = push-All (IsTrueVersion p w.log) w.ever v s.ever true_one;
-  last = s.last;
-}
-
-sound-entered : (callers : ℕ) (p : Pool) (w : World) (d : Entry) → IsSound callers p w → IsRight callers (pool_of p w.log) d → IsSound callers p (with_entry w d)
-sound-entered callers p w d s right = record {
-  locked = ap (λ q. next q d.command) s.locked ∙ sym (pool_of-append p w.log d);
-  legal = legal-append callers p w.log d s.legal right;
-  held = λ c. later p w.log d (w.held c) (s.held c);
-  waiting = IfSome_then w.waiting s.waiting (later p w.log d);
-  board = λ k v lt. later p w.log d _ (s.board k v lt);
-  ever = λ k v lt. later p w.log d _ (s.ever k v lt);
-  last = λ c. last-put w.last c w.log d (s.last c);
-}
-
-sound-waits : (callers : ℕ) (p : Pool) (w : World) (v : Version) → IsSound callers p w → IsTrueVersion p w.log v → IsSound callers p (record w { waiting = Some v })
-sound-waits callers p w v s true_one = record { locked = s.locked; legal = s.legal; held = s.held; waiting = true_one; board = s.board; ever = s.ever; last = s.last }
-
-sound-committed : (callers : ℕ) (p : Pool) (w : World) (caller : ℕ) (command : Command) (a : Result Reply Refusal) → caller < callers → answer w.locked command ≡ a → IsSound callers p w → IsSound callers p (after_commit w caller command a)
-sound-committed callers p w caller command (Ok reply) known e s =
-    let d : Entry = record { caller = caller; command = command; reply = reply } in
-    let v : World = with_entry w d in
-    let now : IsSound callers p v = sound-entered callers p w d s (record { known = known; true_reply = ap (λ q. answer q command) (sym s.locked) ∙ e }) in
-    let there : IsTrueVersion p v.log (present v) = sound-present callers p v now in
-    sound-waits callers p (with_held v caller (present v)) (present v) (sound-holding callers p v caller (present v) now there) there
-sound-committed callers p w caller command (Err refusal) known e s = s
-
-sound-answered : (callers : ℕ) (p : Pool) (w : World) (caller : ℕ) (a : Result Reply Refusal) → IsSound callers p w → IsSound callers p (after_answer w caller a)
-sound-answered callers p w caller (Ok reply) s = s
-sound-answered callers p w caller (Err refusal) s = sound-holding callers p w caller (present w) s (sound-present callers p w s)
-
-sound-shown : (callers : ℕ) (p : Pool) (w : World) (o : Option Version) → IfSome o (IsTrueVersion p w.log) → IsSound callers p w → IsSound callers p (after_show w o)
-sound-shown callers p w None true_one s = s
-sound-shown callers p w (Some v) true_one s = record { locked = s.locked; legal = s.legal; held = s.held; waiting = tt; board = push-All (IsTrueVersion p w.log) w.board v s.board true_one; ever = s.ever; last = s.last }
-
-sound-adopt : (callers : ℕ) (p : Pool) (w : World) (caller : ℕ) (o : Option Version) → IfSome o (IsTrueVersion p w.log) → IsSound callers p w → IsSound callers p (adopt w caller o)
-sound-adopt callers p w caller None true_one s = s
-sound-adopt callers p w caller (Some v) true_one s = kept_if (IsSound callers p) (nat_lt (w.held caller).number v.number) (with_held w caller v) w (λ _. sound-holding callers p w caller v s true_one) s
-
-sound-holder : (callers : ℕ) (p : Pool) (w : World) (h : Option ℕ) → IsSound callers p w → IsSound callers p (record w { holder = h })
-sound-holder callers p w h s = record { locked = s.locked; legal = s.legal; held = s.held; waiting = s.waiting; board = s.board; ever = s.ever; last = s.last }
-
-pub sound-step : (callers : ℕ) (p : Pool) (w : World) (e : Event) → IsSound callers p w → IsSound callers p (step callers w e)
-sound-step callers p w (Take caller) s = kept_if (IsSound callers p) (nat_lt caller callers && is_none w.holder) (record w { holder = Some caller }) w (λ _. sound-holder callers p w (Some caller) s) s
-sound-step callers p w (Commit caller command) s =
-    kept_if (IsSound callers p) (has_lock callers w caller) (after_commit w caller command (answer w.locked command)) w
-    (λ e. sound-committed callers p w caller command (answer w.locked command) (ltb-true caller callers (both (nat_lt caller callers) (is_holder w.holder caller) e).0) refl s) s
-sound-step callers p w (Answer caller command) s = kept_if (IsSound callers p) (has_lock callers w caller) (after_answer w caller (answer w.locked command)) w (λ _. sound-answered callers p w caller (answer w.locked command) s) s
-sound-step callers p w (Show caller) s = kept_if (IsSound callers p) (has_lock callers w caller) (after_show w w.waiting) w (λ _. sound-shown callers p w w.waiting s.waiting s) s
-sound-step callers p w (ShowRefused caller) s = s
-sound-step callers p w (Release caller) s = kept_if (IsSound callers p) (has_lock callers w caller) (record w { holder = None }) w (λ _. sound-holder callers p w None s) s
-sound-step callers p w (Read caller which) s = kept_if (IsSound callers p) (nat_lt caller callers) (adopt w caller (slice_get w.board which)) w (λ _. sound-adopt callers p w caller (slice_get w.board which) (one (IsTrueVersion p w.log) w.board which s.board) s) s
-sound-step callers p w (Learn caller which) s = kept_if (IsSound callers p) (nat_lt caller callers) (adopt w caller (slice_get w.ever which)) w (λ _. sound-adopt callers p w caller (slice_get w.ever which) (one (IsTrueVersion p w.log) w.ever which s.ever) s) s
-
-pub sound-run : (callers : ℕ) (p : Pool) (w : World) (es : List Event) → IsSound callers p w → IsSound callers p (run callers w es)
-sound-run callers p w [] s = s
-sound-run callers p w (e ∷ es) s = sound-run callers p (step callers w e) es (sound-step callers p w e s)
-
--- What an event enters goes last into the log.
-
-log-committed : (w : World) (caller : ℕ) (command : Command) (a : Result Reply Refusal) → (after_commit w caller command a).log ≡ w.log ++ entries_by caller command a
-log-committed w caller command (Ok reply) = refl
-log-committed w caller command (Err refusal) = sym (append-nil w.log)
+-- What events that enter nothing leave of the log.
 
 log-answered : (w : World) (caller : ℕ) (a : Result Reply Refusal) → (after_answer w caller a).log ≡ w.log
 log-answered w caller (Ok reply) = refl
@@ -182,23 +82,6 @@ log-adopt : (w : World) (caller : ℕ) (o : Option Version) → (adopt w caller 
 log-adopt w caller None = refl
 log-adopt w caller (Some v) = kept_if (λ (u : World). u.log ≡ w.log) (nat_lt (w.held caller).number v.number) (with_held w caller v) w (λ _. refl) refl
 
-pub log-step : (callers : ℕ) (w : World) (e : Event) → (step callers w e).log ≡ w.log ++ enters callers w e
-log-step callers w (Take caller) = log_same (nat_lt caller callers && is_none w.holder) (record w { holder = Some caller }) w refl
-log-step callers w (Commit caller command) = log_if (has_lock callers w caller) (after_commit w caller command (answer w.locked command)) w (entries_by caller command (answer w.locked command)) (log-committed w caller command (answer w.locked command))
-log-step callers w (Answer caller command) = log_same (has_lock callers w caller) (after_answer w caller (answer w.locked command)) w (log-answered w caller (answer w.locked command))
-log-step callers w (Show caller) = log_same (has_lock callers w caller) (after_show w w.waiting) w (log-shown w w.waiting)
-log-step callers w (ShowRefused caller) = sym (append-nil w.log)
-log-step callers w (Release caller) = log_same (has_lock callers w caller) (record w { holder = None }) w refl
-log-step callers w (Read caller which) = log_same (nat_lt caller callers) (adopt w caller (slice_get w.board which)) w (log-adopt w caller (slice_get w.board which))
-log-step callers w (Learn caller which) = log_same (nat_lt caller callers) (adopt w caller (slice_get w.ever which)) w (log-adopt w caller (slice_get w.ever which))
-
-pub log-run : (callers : ℕ) (w : World) (es : List Event) → (run callers w es).log ≡ w.log ++ commits callers w es
-log-run callers w [] = sym (append-nil w.log)
-log-run callers w (e ∷ es) =
-    log-run callers (step callers w e) es
-    ∙ ap (λ l. l ++ commits callers (step callers w e) es) (log-step callers w e)
-    ∙ append_assoc w.log (enters callers w e) (commits callers (step callers w e) es)
-
 -- The number of a version that is held never shrinks.
 
 abbrev pub IsLater : World → World → Type 0
@@ -206,16 +89,6 @@ IsLater w v = (caller : ℕ) → (w.held caller).number ≤ (v.held caller).numb
 
 later-put : (w : World) (caller : ℕ) (v : Version) → (w.held caller).number ≤ v.number → (c : ℕ) → (w.held c).number ≤ (put w.held caller v c).number
 later-put w caller v le c = kept_if (λ (u : Version). (w.held c).number ≤ u.number) (c == caller) v (w.held c) (λ e. subst (λ k. (w.held k).number ≤ v.number) (sym (eqb-true c caller e)) le) (itself (w.held c).number)
-
-later-committed : (callers : ℕ) (p : Pool) (w : World) (caller : ℕ) (command : Command) (a : Result Reply Refusal) → IsSound callers p w → IsLater w (after_commit w caller command a)
-later-committed callers p w caller command (Ok reply) s =
-    let d : Entry = record { caller = caller; command = command; reply = reply } in
-    later-put w caller (present (with_entry w d)) (subst (λ n. (w.held caller).number ≤ n) (sym (push-length w.log d)) (up (w.held caller).number (length w.log) (s.held caller).within))
-later-committed callers p w caller command (Err refusal) s = λ c. itself (w.held c).number
-
-later-answered : (callers : ℕ) (p : Pool) (w : World) (caller : ℕ) (a : Result Reply Refusal) → IsSound callers p w → IsLater w (after_answer w caller a)
-later-answered callers p w caller (Ok reply) s = λ c. itself (w.held c).number
-later-answered callers p w caller (Err refusal) s = later-put w caller (present w) (s.held caller).within
 
 later-shown : (w : World) (o : Option Version) → IsLater w (after_show w o)
 later-shown w None = λ c. itself (w.held c).number
@@ -233,24 +106,8 @@ later-adopt w caller (Some v) =
 later-if : (b : Bool) (v w : World) → IsLater w v → IsLater w (cond b v w)
 later-if b v w is = kept_if (IsLater w) b v w (λ _. is) (λ c. itself (w.held c).number)
 
-later-step : (callers : ℕ) (p : Pool) (w : World) (e : Event) → IsSound callers p w → IsLater w (step callers w e)
-later-step callers p w (Take caller) s = later-if (nat_lt caller callers && is_none w.holder) (record w { holder = Some caller }) w (λ c. itself (w.held c).number)
-later-step callers p w (Commit caller command) s = later-if (has_lock callers w caller) (after_commit w caller command (answer w.locked command)) w (later-committed callers p w caller command (answer w.locked command) s)
-later-step callers p w (Answer caller command) s = later-if (has_lock callers w caller) (after_answer w caller (answer w.locked command)) w (later-answered callers p w caller (answer w.locked command) s)
-later-step callers p w (Show caller) s = later-if (has_lock callers w caller) (after_show w w.waiting) w (later-shown w w.waiting)
-later-step callers p w (ShowRefused caller) s = λ c. itself (w.held c).number
-later-step callers p w (Release caller) s = later-if (has_lock callers w caller) (record w { holder = None }) w (λ c. itself (w.held c).number)
-later-step callers p w (Read caller which) s = later-if (nat_lt caller callers) (adopt w caller (slice_get w.board which)) w (later-adopt w caller (slice_get w.board which))
-later-step callers p w (Learn caller which) s = later-if (nat_lt caller callers) (adopt w caller (slice_get w.ever which)) w (later-adopt w caller (slice_get w.ever which))
-
 chain : (a b c : ℕ) → a ≤ b → b ≤ c → a ≤ c
 chain a b c x y = omega arith
-
-pub later-run : (callers : ℕ) (p : Pool) (w : World) (es : List Event) → IsSound callers p w → IsLater w (run callers w es)
-later-run callers p w [] s c = itself (w.held c).number
-later-run callers p w (e ∷ es) s c =
-    chain (w.held c).number ((step callers w e).held c).number ((run callers w (e ∷ es)).held c).number
-    (later-step callers p w e s c) (later-run callers p (step callers w e) es (sound-step callers p w e s) c)
 
 -- The version that a caller holds has all of the caller's own entries.
 
@@ -285,28 +142,182 @@ last-if false v w e = refl
 longer : (n m : ℕ) → m ≡ n + 1 → n < m
 longer n m e = omega arith
 
-own-committed : (callers : ℕ) (p : Pool) (w : World) (caller : ℕ) (command : Command) (a : Result Reply Refusal) (c : ℕ) → IsSound callers p w → HasOwn w c → HasOwn (after_commit w caller command a) c
-own-committed callers p w caller command (Ok reply) c s own =
-    let d : Entry = record { caller = caller; command = command; reply = reply } in
-    let v : Version = present (with_entry w d) in
-    record {
-      has = elim (c == caller) as (λ b. (c == caller) ≡ b → IfSome (cond b (Some (length w.log)) (w.last c)) (λ place. place < (cond b v (w.held c)).number)) [
-        | true ↦ λ _. longer (length w.log) v.number (push-length w.log d)
-        | false ↦ λ _. own.has
-      ] refl;
-    }
-own-committed callers p w caller command (Err refusal) c s own = own
+-- The events, where a verifier decides which signatures are good.
+module _ (accepts : Accepts) where
+  -- Versions, one entry later.
 
-own-step : (callers : ℕ) (p : Pool) (w : World) (e : Event) (c : ℕ) → IsSound callers p w → HasOwn w c → HasOwn (step callers w e) c
-own-step callers p w (Take caller) c s own = own-later w (step callers w (Take caller)) c own (later-step callers p w (Take caller) s c) (ap (λ (f : ℕ → Option ℕ). f c) (last-if (nat_lt caller callers && is_none w.holder) (record w { holder = Some caller }) w refl))
-own-step callers p w (Commit caller command) c s own = kept_if (λ u. HasOwn u c) (has_lock callers w caller) (after_commit w caller command (answer w.locked command)) w (λ _. own-committed callers p w caller command (answer w.locked command) c s own) own
-own-step callers p w (Answer caller command) c s own = own-later w (step callers w (Answer caller command)) c own (later-step callers p w (Answer caller command) s c) (ap (λ (f : ℕ → Option ℕ). f c) (last-if (has_lock callers w caller) (after_answer w caller (answer w.locked command)) w (last-answered w caller (answer w.locked command))))
-own-step callers p w (Show caller) c s own = own-later w (step callers w (Show caller)) c own (later-step callers p w (Show caller) s c) (ap (λ (f : ℕ → Option ℕ). f c) (last-if (has_lock callers w caller) (after_show w w.waiting) w (last-shown w w.waiting)))
-own-step callers p w (ShowRefused caller) c s own = own
-own-step callers p w (Release caller) c s own = own-later w (step callers w (Release caller)) c own (later-step callers p w (Release caller) s c) (ap (λ (f : ℕ → Option ℕ). f c) (last-if (has_lock callers w caller) (record w { holder = None }) w refl))
-own-step callers p w (Read caller which) c s own = own-later w (step callers w (Read caller which)) c own (later-step callers p w (Read caller which) s c) (ap (λ (f : ℕ → Option ℕ). f c) (last-if (nat_lt caller callers) (adopt w caller (slice_get w.board which)) w (last-adopt w caller (slice_get w.board which))))
-own-step callers p w (Learn caller which) c s own = own-later w (step callers w (Learn caller which)) c own (later-step callers p w (Learn caller which) s c) (ap (λ (f : ℕ → Option ℕ). f c) (last-if (nat_lt caller callers) (adopt w caller (slice_get w.ever which)) w (last-adopt w caller (slice_get w.ever which))))
+  pub later : (p : Pool) (log : List Entry) (d : Entry) (v : Version) → IsTrueVersion accepts p log v → IsTrueVersion accepts p (log ++ d ∷ []) v
+  later p log d v true_one = record {
+    within = subst (λ n. v.number ≤ n) (sym (push-length log d)) (up v.number (length log) true_one.within);
+    same = true_one.same ∙ ap (pool_of accepts p) (sym (take-append-le v.number log (d ∷ []) true_one.within));
+  }
 
-pub own-run : (callers : ℕ) (p : Pool) (w : World) (es : List Event) (c : ℕ) → IsSound callers p w → HasOwn w c → HasOwn (run callers w es) c
-own-run callers p w [] c s own = own
-own-run callers p w (e ∷ es) c s own = own-run callers p (step callers w e) es c (sound-step callers p w e s) (own-step callers p w e c s own)
+  -- What is so of every world.
+  pub record IsSound (callers : ℕ) (p : Pool) (w : World) : Type 0 where
+    pub locked : w.locked ≡ pool_of accepts p w.log
+    pub legal : IsLegal accepts callers p w.log
+    pub held : (caller : ℕ) → IsTrueVersion accepts p w.log (w.held caller)
+    pub waiting : IfSome w.waiting (IsTrueVersion accepts p w.log)
+    pub board : All (IsTrueVersion accepts p w.log) w.board
+    pub ever : All (IsTrueVersion accepts p w.log) w.ever
+    pub last : (caller : ℕ) → w.last caller ≡ last_of caller w.log
+
+  pub sound-opens : (callers : ℕ) (p : Pool) → IsSound callers p (opens p)
+  sound-opens callers p =
+      let first : IsTrueVersion accepts p [] (first_version p) = record { within = omega arith; same = refl } in
+      record {
+        locked = refl;
+        legal = tt;
+        held = λ _. first;
+        waiting = tt;
+        board = All-from_recursion (IsTrueVersion accepts p []) (first_version p ∷ []) (first, tt);
+        ever = All-from_recursion (IsTrueVersion accepts p []) (first_version p ∷ []) (first, tt);
+        last = λ _. refl;
+      }
+
+  pub sound-present : (callers : ℕ) (p : Pool) (w : World) → IsSound callers p w → IsTrueVersion accepts p w.log (present w)
+  sound-present callers p w s = record { within = itself (length w.log); same = s.locked ∙ ap (pool_of accepts p) (sym (take-length w.log)) }
+
+  sound-holding : (callers : ℕ) (p : Pool) (w : World) (caller : ℕ) (v : Version) → IsSound callers p w → IsTrueVersion accepts p w.log v → IsSound callers p (with_held w caller v)
+  sound-holding callers p w caller v s true_one = record {
+    locked = s.locked;
+    legal = s.legal;
+    held = λ c. kept_if (IsTrueVersion accepts p w.log) (c == caller) v (w.held c) (λ _. true_one) (s.held c);
+    waiting = s.waiting;
+    board = s.board;
+    ever = push-All (IsTrueVersion accepts p w.log) w.ever v s.ever true_one;
+    last = s.last;
+  }
+
+  sound-entered : (callers : ℕ) (p : Pool) (w : World) (d : Entry) → IsSound callers p w → IsRight accepts callers (pool_of accepts p w.log) d → IsSound callers p (with_entry accepts w d)
+  sound-entered callers p w d s right = record {
+    locked = ap (λ q. next accepts q d.command) s.locked ∙ sym (pool_of-append accepts p w.log d);
+    legal = legal-append accepts callers p w.log d s.legal right;
+    held = λ c. later p w.log d (w.held c) (s.held c);
+    waiting = IfSome_then w.waiting s.waiting (later p w.log d);
+    board = λ k v lt. later p w.log d _ (s.board k v lt);
+    ever = λ k v lt. later p w.log d _ (s.ever k v lt);
+    last = λ c. last-put w.last c w.log d (s.last c);
+  }
+
+  sound-waits : (callers : ℕ) (p : Pool) (w : World) (v : Version) → IsSound callers p w → IsTrueVersion accepts p w.log v → IsSound callers p (record w { waiting = Some v })
+  sound-waits callers p w v s true_one = record { locked = s.locked; legal = s.legal; held = s.held; waiting = true_one; board = s.board; ever = s.ever; last = s.last }
+
+  sound-committed : (callers : ℕ) (p : Pool) (w : World) (caller : ℕ) (command : Command) (a : Result Reply Refusal) → caller < callers → answer accepts w.locked command ≡ a → IsSound callers p w → IsSound callers p (after_commit accepts w caller command a)
+  sound-committed callers p w caller command (Ok reply) known e s =
+      let d : Entry = record { caller = caller; command = command; reply = reply } in
+      let v : World = with_entry accepts w d in
+      let now : IsSound callers p v = sound-entered callers p w d s (record { known = known; true_reply = ap (λ q. answer accepts q command) (sym s.locked) ∙ e }) in
+      let there : IsTrueVersion accepts p v.log (present v) = sound-present callers p v now in
+      sound-waits callers p (with_held v caller (present v)) (present v) (sound-holding callers p v caller (present v) now there) there
+  sound-committed callers p w caller command (Err refusal) known e s = s
+
+  sound-answered : (callers : ℕ) (p : Pool) (w : World) (caller : ℕ) (a : Result Reply Refusal) → IsSound callers p w → IsSound callers p (after_answer w caller a)
+  sound-answered callers p w caller (Ok reply) s = s
+  sound-answered callers p w caller (Err refusal) s = sound-holding callers p w caller (present w) s (sound-present callers p w s)
+
+  sound-shown : (callers : ℕ) (p : Pool) (w : World) (o : Option Version) → IfSome o (IsTrueVersion accepts p w.log) → IsSound callers p w → IsSound callers p (after_show w o)
+  sound-shown callers p w None true_one s = s
+  sound-shown callers p w (Some v) true_one s = record { locked = s.locked; legal = s.legal; held = s.held; waiting = tt; board = push-All (IsTrueVersion accepts p w.log) w.board v s.board true_one; ever = s.ever; last = s.last }
+
+  sound-adopt : (callers : ℕ) (p : Pool) (w : World) (caller : ℕ) (o : Option Version) → IfSome o (IsTrueVersion accepts p w.log) → IsSound callers p w → IsSound callers p (adopt w caller o)
+  sound-adopt callers p w caller None true_one s = s
+  sound-adopt callers p w caller (Some v) true_one s = kept_if (IsSound callers p) (nat_lt (w.held caller).number v.number) (with_held w caller v) w (λ _. sound-holding callers p w caller v s true_one) s
+
+  sound-holder : (callers : ℕ) (p : Pool) (w : World) (h : Option ℕ) → IsSound callers p w → IsSound callers p (record w { holder = h })
+  sound-holder callers p w h s = record { locked = s.locked; legal = s.legal; held = s.held; waiting = s.waiting; board = s.board; ever = s.ever; last = s.last }
+
+  pub sound-step : (callers : ℕ) (p : Pool) (w : World) (e : Event) → IsSound callers p w → IsSound callers p (step accepts callers w e)
+  sound-step callers p w (Take caller) s = kept_if (IsSound callers p) (nat_lt caller callers && is_none w.holder) (record w { holder = Some caller }) w (λ _. sound-holder callers p w (Some caller) s) s
+  sound-step callers p w (Commit caller command) s =
+      kept_if (IsSound callers p) (has_lock callers w caller) (after_commit accepts w caller command (answer accepts w.locked command)) w
+      (λ e. sound-committed callers p w caller command (answer accepts w.locked command) (ltb-true caller callers (both (nat_lt caller callers) (is_holder w.holder caller) e).0) refl s) s
+  sound-step callers p w (Answer caller command) s = kept_if (IsSound callers p) (has_lock callers w caller) (after_answer w caller (answer accepts w.locked command)) w (λ _. sound-answered callers p w caller (answer accepts w.locked command) s) s
+  sound-step callers p w (Show caller) s = kept_if (IsSound callers p) (has_lock callers w caller) (after_show w w.waiting) w (λ _. sound-shown callers p w w.waiting s.waiting s) s
+  sound-step callers p w (ShowRefused caller) s = s
+  sound-step callers p w (Release caller) s = kept_if (IsSound callers p) (has_lock callers w caller) (record w { holder = None }) w (λ _. sound-holder callers p w None s) s
+  sound-step callers p w (Read caller which) s = kept_if (IsSound callers p) (nat_lt caller callers) (adopt w caller (slice_get w.board which)) w (λ _. sound-adopt callers p w caller (slice_get w.board which) (one (IsTrueVersion accepts p w.log) w.board which s.board) s) s
+  sound-step callers p w (Learn caller which) s = kept_if (IsSound callers p) (nat_lt caller callers) (adopt w caller (slice_get w.ever which)) w (λ _. sound-adopt callers p w caller (slice_get w.ever which) (one (IsTrueVersion accepts p w.log) w.ever which s.ever) s) s
+
+  pub sound-run : (callers : ℕ) (p : Pool) (w : World) (es : List Event) → IsSound callers p w → IsSound callers p (run accepts callers w es)
+  sound-run callers p w [] s = s
+  sound-run callers p w (e ∷ es) s = sound-run callers p (step accepts callers w e) es (sound-step callers p w e s)
+
+  -- What an event enters goes last into the log.
+
+  log-committed : (w : World) (caller : ℕ) (command : Command) (a : Result Reply Refusal) → (after_commit accepts w caller command a).log ≡ w.log ++ entries_by caller command a
+  log-committed w caller command (Ok reply) = refl
+  log-committed w caller command (Err refusal) = sym (append-nil w.log)
+
+  pub log-step : (callers : ℕ) (w : World) (e : Event) → (step accepts callers w e).log ≡ w.log ++ enters accepts callers w e
+  log-step callers w (Take caller) = log_same (nat_lt caller callers && is_none w.holder) (record w { holder = Some caller }) w refl
+  log-step callers w (Commit caller command) = log_if (has_lock callers w caller) (after_commit accepts w caller command (answer accepts w.locked command)) w (entries_by caller command (answer accepts w.locked command)) (log-committed w caller command (answer accepts w.locked command))
+  log-step callers w (Answer caller command) = log_same (has_lock callers w caller) (after_answer w caller (answer accepts w.locked command)) w (log-answered w caller (answer accepts w.locked command))
+  log-step callers w (Show caller) = log_same (has_lock callers w caller) (after_show w w.waiting) w (log-shown w w.waiting)
+  log-step callers w (ShowRefused caller) = sym (append-nil w.log)
+  log-step callers w (Release caller) = log_same (has_lock callers w caller) (record w { holder = None }) w refl
+  log-step callers w (Read caller which) = log_same (nat_lt caller callers) (adopt w caller (slice_get w.board which)) w (log-adopt w caller (slice_get w.board which))
+  log-step callers w (Learn caller which) = log_same (nat_lt caller callers) (adopt w caller (slice_get w.ever which)) w (log-adopt w caller (slice_get w.ever which))
+
+  pub log-run : (callers : ℕ) (w : World) (es : List Event) → (run accepts callers w es).log ≡ w.log ++ commits accepts callers w es
+  log-run callers w [] = sym (append-nil w.log)
+  log-run callers w (e ∷ es) =
+      log-run callers (step accepts callers w e) es
+      ∙ ap (λ l. l ++ commits accepts callers (step accepts callers w e) es) (log-step callers w e)
+      ∙ append_assoc w.log (enters accepts callers w e) (commits accepts callers (step accepts callers w e) es)
+
+  -- Later versions.
+
+  later-committed : (callers : ℕ) (p : Pool) (w : World) (caller : ℕ) (command : Command) (a : Result Reply Refusal) → IsSound callers p w → IsLater w (after_commit accepts w caller command a)
+  later-committed callers p w caller command (Ok reply) s =
+      let d : Entry = record { caller = caller; command = command; reply = reply } in
+      later-put w caller (present (with_entry accepts w d)) (subst (λ n. (w.held caller).number ≤ n) (sym (push-length w.log d)) (up (w.held caller).number (length w.log) (s.held caller).within))
+  later-committed callers p w caller command (Err refusal) s = λ c. itself (w.held c).number
+
+  later-answered : (callers : ℕ) (p : Pool) (w : World) (caller : ℕ) (a : Result Reply Refusal) → IsSound callers p w → IsLater w (after_answer w caller a)
+  later-answered callers p w caller (Ok reply) s = λ c. itself (w.held c).number
+  later-answered callers p w caller (Err refusal) s = later-put w caller (present w) (s.held caller).within
+
+  later-step : (callers : ℕ) (p : Pool) (w : World) (e : Event) → IsSound callers p w → IsLater w (step accepts callers w e)
+  later-step callers p w (Take caller) s = later-if (nat_lt caller callers && is_none w.holder) (record w { holder = Some caller }) w (λ c. itself (w.held c).number)
+  later-step callers p w (Commit caller command) s = later-if (has_lock callers w caller) (after_commit accepts w caller command (answer accepts w.locked command)) w (later-committed callers p w caller command (answer accepts w.locked command) s)
+  later-step callers p w (Answer caller command) s = later-if (has_lock callers w caller) (after_answer w caller (answer accepts w.locked command)) w (later-answered callers p w caller (answer accepts w.locked command) s)
+  later-step callers p w (Show caller) s = later-if (has_lock callers w caller) (after_show w w.waiting) w (later-shown w w.waiting)
+  later-step callers p w (ShowRefused caller) s = λ c. itself (w.held c).number
+  later-step callers p w (Release caller) s = later-if (has_lock callers w caller) (record w { holder = None }) w (λ c. itself (w.held c).number)
+  later-step callers p w (Read caller which) s = later-if (nat_lt caller callers) (adopt w caller (slice_get w.board which)) w (later-adopt w caller (slice_get w.board which))
+  later-step callers p w (Learn caller which) s = later-if (nat_lt caller callers) (adopt w caller (slice_get w.ever which)) w (later-adopt w caller (slice_get w.ever which))
+
+  pub later-run : (callers : ℕ) (p : Pool) (w : World) (es : List Event) → IsSound callers p w → IsLater w (run accepts callers w es)
+  later-run callers p w [] s c = itself (w.held c).number
+  later-run callers p w (e ∷ es) s c =
+      chain (w.held c).number ((step accepts callers w e).held c).number ((run accepts callers w (e ∷ es)).held c).number
+      (later-step callers p w e s c) (later-run callers p (step accepts callers w e) es (sound-step callers p w e s) c)
+
+  -- Own entries.
+
+  own-committed : (callers : ℕ) (p : Pool) (w : World) (caller : ℕ) (command : Command) (a : Result Reply Refusal) (c : ℕ) → IsSound callers p w → HasOwn w c → HasOwn (after_commit accepts w caller command a) c
+  own-committed callers p w caller command (Ok reply) c s own =
+      let d : Entry = record { caller = caller; command = command; reply = reply } in
+      let v : Version = present (with_entry accepts w d) in
+      record {
+        has = elim (c == caller) as (λ b. (c == caller) ≡ b → IfSome (cond b (Some (length w.log)) (w.last c)) (λ place. place < (cond b v (w.held c)).number)) [
+          | true ↦ λ _. longer (length w.log) v.number (push-length w.log d)
+          | false ↦ λ _. own.has
+        ] refl;
+      }
+  own-committed callers p w caller command (Err refusal) c s own = own
+
+  own-step : (callers : ℕ) (p : Pool) (w : World) (e : Event) (c : ℕ) → IsSound callers p w → HasOwn w c → HasOwn (step accepts callers w e) c
+  own-step callers p w (Take caller) c s own = own-later w (step accepts callers w (Take caller)) c own (later-step callers p w (Take caller) s c) (ap (λ (f : ℕ → Option ℕ). f c) (last-if (nat_lt caller callers && is_none w.holder) (record w { holder = Some caller }) w refl))
+  own-step callers p w (Commit caller command) c s own = kept_if (λ u. HasOwn u c) (has_lock callers w caller) (after_commit accepts w caller command (answer accepts w.locked command)) w (λ _. own-committed callers p w caller command (answer accepts w.locked command) c s own) own
+  own-step callers p w (Answer caller command) c s own = own-later w (step accepts callers w (Answer caller command)) c own (later-step callers p w (Answer caller command) s c) (ap (λ (f : ℕ → Option ℕ). f c) (last-if (has_lock callers w caller) (after_answer w caller (answer accepts w.locked command)) w (last-answered w caller (answer accepts w.locked command))))
+  own-step callers p w (Show caller) c s own = own-later w (step accepts callers w (Show caller)) c own (later-step callers p w (Show caller) s c) (ap (λ (f : ℕ → Option ℕ). f c) (last-if (has_lock callers w caller) (after_show w w.waiting) w (last-shown w w.waiting)))
+  own-step callers p w (ShowRefused caller) c s own = own
+  own-step callers p w (Release caller) c s own = own-later w (step accepts callers w (Release caller)) c own (later-step callers p w (Release caller) s c) (ap (λ (f : ℕ → Option ℕ). f c) (last-if (has_lock callers w caller) (record w { holder = None }) w refl))
+  own-step callers p w (Read caller which) c s own = own-later w (step accepts callers w (Read caller which)) c own (later-step callers p w (Read caller which) s c) (ap (λ (f : ℕ → Option ℕ). f c) (last-if (nat_lt caller callers) (adopt w caller (slice_get w.board which)) w (last-adopt w caller (slice_get w.board which))))
+  own-step callers p w (Learn caller which) c s own = own-later w (step accepts callers w (Learn caller which)) c own (later-step callers p w (Learn caller which) s c) (ap (λ (f : ℕ → Option ℕ). f c) (last-if (nat_lt caller callers) (adopt w caller (slice_get w.ever which)) w (last-adopt w caller (slice_get w.ever which))))
+
+  pub own-run : (callers : ℕ) (p : Pool) (w : World) (es : List Event) (c : ℕ) → IsSound callers p w → HasOwn w c → HasOwn (run accepts callers w es) c
+  own-run callers p w [] c s own = own
+  own-run callers p w (e ∷ es) c s own = own-run callers p (step accepts callers w e) es c (sound-step callers p w e s) (own-step callers p w e c s own)

@@ -4,6 +4,7 @@ use Rattle.std.specs.Prelude.{◌==◌, Ok, Err}
 use Rattle.std.specs.Cmp.Derive.{both_true}
 use Rattle.std.proofs.Math.Seq.{take-length, take-append_seam}
 use Rattle.std.proofs.lemmas.Bool.{lt-ltb, eqb-false}
+use Rattle.mp_rules.specs.Verifier.{Accepts}
 use Rattle.mp_seqpool.specs.declared.command.Reply.{Reply}
 use Rattle.mp_seqpool.specs.declared.refusal.Refusal.{Refusal}
 use Rattle.mp_seqpool.specs.Command.{Command}
@@ -42,48 +43,49 @@ all_of log n is = ap (λ k. take k log) is ∙ take-length log
 put-own : (f : ℕ → Version) (caller : ℕ) (v : Version) → put f caller v caller ≡ v
 put-own f caller v = ap (λ b. cond b v (f caller)) (eqb-refl caller)
 
-commit-is : (callers : ℕ) (p : Pool) (w : World) (caller : ℕ) (command : Command) (reply : Reply) → IsSound callers p w → answer w.locked command ≡ Ok reply → IsCommit p w (after_commit w caller command (Ok reply)) caller command reply
-commit-is callers p w caller command reply s e =
-    let d : Entry = record { caller = caller; command = command; reply = reply } in
-    let v : Version = present (with_entry w d) in
-    let n = ap (λ (u : Version). u.number) (put-own w.held caller v) in
-    record {
-      entry = refl;
-      number = n;
-      before = ap (λ log. answer (pool_of p log) command) (without_last w.log d (put w.held caller v caller).number n) ∙ ap (λ q. answer q command) (sym s.locked) ∙ e;
-    }
+module _ (accepts : Accepts) where
+  commit-is : (callers : ℕ) (p : Pool) (w : World) (caller : ℕ) (command : Command) (reply : Reply) → IsSound accepts callers p w → answer accepts w.locked command ≡ Ok reply → IsCommit accepts p w (after_commit accepts w caller command (Ok reply)) caller command reply
+  commit-is callers p w caller command reply s e =
+      let d : Entry = record { caller = caller; command = command; reply = reply } in
+      let v : Version = present (with_entry accepts w d) in
+      let n = ap (λ (u : Version). u.number) (put-own w.held caller v) in
+      record {
+        entry = refl;
+        number = n;
+        before = ap (λ log. answer accepts (pool_of accepts p log) command) (without_last w.log d (put w.held caller v caller).number n) ∙ ap (λ q. answer accepts q command) (sym s.locked) ∙ e;
+      }
 
-answer-is : (callers : ℕ) (p : Pool) (w : World) (caller : ℕ) (command : Command) (refusal : Refusal) → IsSound callers p w → answer w.locked command ≡ Err refusal → IsAnswer p w (after_answer w caller (Err refusal)) caller command refusal
-answer-is callers p w caller command refusal s e =
-    let n = ap (λ (u : Version). u.number) (put-own w.held caller (present w)) in
-    record {
-      entry = refl;
-      number = n;
-      same = ap (λ (u : Version). answer u.state command) (put-own w.held caller (present w)) ∙ e;
-      after = ap (λ log. answer (pool_of p log) command) (all_of w.log (put w.held caller (present w) caller).number n) ∙ ap (λ q. answer q command) (sym s.locked) ∙ e;
-    }
+  answer-is : (callers : ℕ) (p : Pool) (w : World) (caller : ℕ) (command : Command) (refusal : Refusal) → IsSound accepts callers p w → answer accepts w.locked command ≡ Err refusal → IsAnswer accepts p w (after_answer w caller (Err refusal)) caller command refusal
+  answer-is callers p w caller command refusal s e =
+      let n = ap (λ (u : Version). u.number) (put-own w.held caller (present w)) in
+      record {
+        entry = refl;
+        number = n;
+        same = ap (λ (u : Version). answer accepts u.state command) (put-own w.held caller (present w)) ∙ e;
+        after = ap (λ log. answer accepts (pool_of accepts p log) command) (all_of w.log (put w.held caller (present w) caller).number n) ∙ ap (λ q. answer accepts q command) (sym s.locked) ∙ e;
+      }
 
-pub core_law : (callers : ℕ) (p : Pool) (es : List Event) → IsLawful p → CoreLaw callers p es (run callers (opens p) es)
-core_law callers p es law =
-    let w : World = run callers (opens p) es in
-    let s : IsSound callers p w = sound-run callers p (opens p) es (sound-opens callers p) in
-    record {
-      legal = s.legal;
-      lawful = obeys p (commands w.log) law;
-      locked = s.locked;
-      held = s.held;
-      waiting = s.waiting;
-      board = s.board;
-      ever = s.ever;
-      entries = log-run callers (opens p) es;
-      last = s.last;
-      own = λ caller. (own-run callers p (opens p) es caller (sound-opens callers p) (record { has = tt })).has;
-      growing = λ further. later-run callers p w further s;
-      later = log-run callers w;
-      commit = λ caller command reply has e. subst (λ v. IsCommit p w v caller command reply)
-          (ap (after_commit w caller command) (sym e) ∙ done_if (has_lock callers w caller) (after_commit w caller command (answer w.locked command)) w (locked_by callers w caller has))
-          (commit-is callers p w caller command reply s e);
-      answer_told = λ caller command refusal has e. subst (λ v. IsAnswer p w v caller command refusal)
-          (ap (after_answer w caller) (sym e) ∙ done_if (has_lock callers w caller) (after_answer w caller (answer w.locked command)) w (locked_by callers w caller has))
-          (answer-is callers p w caller command refusal s e);
-    }
+  pub core_law : (callers : ℕ) (p : Pool) (es : List Event) → IsLawful accepts p → CoreLaw accepts callers p es (run accepts callers (opens p) es)
+  core_law callers p es law =
+      let w : World = run accepts callers (opens p) es in
+      let s : IsSound accepts callers p w = sound-run accepts callers p (opens p) es (sound-opens accepts callers p) in
+      record {
+        legal = s.legal;
+        lawful = obeys accepts p (commands w.log) law;
+        locked = s.locked;
+        held = s.held;
+        waiting = s.waiting;
+        board = s.board;
+        ever = s.ever;
+        entries = log-run accepts callers (opens p) es;
+        last = s.last;
+        own = λ caller. (own-run accepts callers p (opens p) es caller (sound-opens accepts callers p) (record { has = tt })).has;
+        growing = λ further. later-run accepts callers p w further s;
+        later = log-run accepts callers w;
+        commit = λ caller command reply has e. subst (λ v. IsCommit accepts p w v caller command reply)
+            (ap (after_commit accepts w caller command) (sym e) ∙ done_if (has_lock callers w caller) (after_commit accepts w caller command (answer accepts w.locked command)) w (locked_by callers w caller has))
+            (commit-is callers p w caller command reply s e);
+        answer_told = λ caller command refusal has e. subst (λ v. IsAnswer accepts p w v caller command refusal)
+            (ap (after_answer w caller) (sym e) ∙ done_if (has_lock callers w caller) (after_answer w caller (answer accepts w.locked command)) w (locked_by callers w caller has))
+            (answer-is callers p w caller command refusal s e);
+      }

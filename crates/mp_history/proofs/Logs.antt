@@ -3,18 +3,11 @@ use Rattle.std.proofs.Common.{◌≡◌, ℕ, suc, ◌+◌, ◌<◌, true, false
 use Rattle.std.specs.Prelude.{◌==◌, None, Some, option_map}
 use Rattle.std.specs.Option.{option_or}
 use Rattle.std.proofs.lemmas.List.{take_more}
+use Rattle.mp_rules.specs.Verifier.{Accepts}
 use Rattle.mp_seqpool.specs.Pool.{Pool}
 use Rattle.mp_seqpool.specs.SlowPool.{next}
 use Rattle.mp_history.specs.Entry.{Entry}
 use Rattle.mp_history.specs.Log.{IsRight, IsLegal, pool_of, last_of}
-
-pub pool_of-append : (p : Pool) (log : List Entry) (d : Entry) → pool_of p (log ++ d ∷ []) ≡ next (pool_of p log) d.command
-pool_of-append p [] d = refl
-pool_of-append p (x ∷ log) d = pool_of-append (next p x.command) log d
-
-pub legal-append : (callers : ℕ) (p : Pool) (log : List Entry) (d : Entry) → IsLegal callers p log → IsRight callers (pool_of p log) d → IsLegal callers p (log ++ d ∷ [])
-legal-append callers p [] d legal right = (right, tt)
-legal-append callers p (x ∷ log) d legal right = (legal.0, legal-append callers (next p x.command) log d legal.1 right)
 
 -- where the log ends with the caller's entry, that is its last one
 pub last_of-own : (caller : ℕ) (log : List Entry) (d : Entry) → (caller == d.caller) ≡ true → last_of caller (log ++ d ∷ []) ≡ Some (length log)
@@ -28,11 +21,20 @@ pub last_of-other : (caller : ℕ) (log : List Entry) (d : Entry) → (caller ==
 last_of-other caller [] d e = ap (λ b. cond b (Some 0) None) e
 last_of-other caller (x ∷ log) d e = ap (λ o. option_or (option_map (λ place. place + 1) o) (cond (caller == x.caller) (Some 0) None)) (last_of-other caller log d e)
 
--- a right entry more
-pub legal-more : (callers : ℕ) (p q r : Pool) (log : List Entry) (place : ℕ) (d : Entry) → place < length log → get_or log place d ≡ d → IsLegal callers p (take place log) × (q ≡ pool_of p (take place log)) → IsRight callers q d → r ≡ next q d.command
-    → IsLegal callers p (take (place + 1) log) × (r ≡ pool_of p (take (place + 1) log))
-legal-more callers p q r log place d within at so_far right is =
-    let more : take (place + 1) log ≡ take place log ++ d ∷ [] = take_more log place d within ∙ ap (λ x. take place log ++ x ∷ []) at in (
-      subst (IsLegal callers p) (sym more) (legal-append callers p (take place log) d so_far.0 (subst (λ s. IsRight callers s d) so_far.1 right)),
-      is ∙ ap (λ s. next s d.command) so_far.1 ∙ sym (pool_of-append p (take place log) d) ∙ ap (pool_of p) (sym more),
-    )
+module _ (accepts : Accepts) where
+  pub pool_of-append : (p : Pool) (log : List Entry) (d : Entry) → pool_of accepts p (log ++ d ∷ []) ≡ next accepts (pool_of accepts p log) d.command
+  pool_of-append p [] d = refl
+  pool_of-append p (x ∷ log) d = pool_of-append (next accepts p x.command) log d
+
+  pub legal-append : (callers : ℕ) (p : Pool) (log : List Entry) (d : Entry) → IsLegal accepts callers p log → IsRight accepts callers (pool_of accepts p log) d → IsLegal accepts callers p (log ++ d ∷ [])
+  legal-append callers p [] d legal right = (right, tt)
+  legal-append callers p (x ∷ log) d legal right = (legal.0, legal-append callers (next accepts p x.command) log d legal.1 right)
+
+  -- a right entry more
+  pub legal-more : (callers : ℕ) (p q r : Pool) (log : List Entry) (place : ℕ) (d : Entry) → place < length log → get_or log place d ≡ d → IsLegal accepts callers p (take place log) × (q ≡ pool_of accepts p (take place log)) → IsRight accepts callers q d → r ≡ next accepts q d.command
+      → IsLegal accepts callers p (take (place + 1) log) × (r ≡ pool_of accepts p (take (place + 1) log))
+  legal-more callers p q r log place d within at so_far right is =
+      let more : take (place + 1) log ≡ take place log ++ d ∷ [] = take_more log place d within ∙ ap (λ x. take place log ++ x ∷ []) at in (
+        subst (IsLegal accepts callers p) (sym more) (legal-append callers p (take place log) d so_far.0 (subst (λ s. IsRight accepts callers s d) so_far.1 right)),
+        is ∙ ap (λ s. next accepts s d.command) so_far.1 ∙ sym (pool_of-append p (take place log) d) ∙ ap (pool_of accepts p) (sym more),
+      )

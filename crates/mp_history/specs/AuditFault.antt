@@ -1,6 +1,7 @@
 -- Which fault an audit finds in a history.
 use Rattle.std.specs.Prelude.{◌≡◌, ◌≢◌, ℕ, ◌+◌, ◌<◌, ◌≤◌, ◌==◌, nat_le, Bool, false, List, [], ◌∷◌, length, take, Option, None, Some, IfSome, slice_get, Result, Ok, Err, if◌then◌else◌}
 use Rattle.std.specs.Option.{option_or}
+use Rattle.mp_rules.specs.Verifier.{Accepts}
 use Rattle.mp_seqpool.specs.declared.command.Reply.{Reply}
 use Rattle.mp_seqpool.specs.declared.command.Reply.TheVariants.{Accepted}
 use Rattle.mp_seqpool.specs.declared.refusal.Refusal.{Refusal}
@@ -19,56 +20,58 @@ abbrev pub is_reply : Result Reply Refusal → Reply → Bool
 is_reply (Ok given) reply = same_reply given reply
 is_reply (Err refusal) reply = false
 
--- the fault of the entry at this place, upon the state after those before it
-abbrev pub entry_fault : ℕ → Pool → ℕ → Entry → Option AuditFault
-entry_fault callers p place e =
-    if nat_le callers e.caller then Some (StrangeCaller place)
-    else if is_reply (answer p e.command) e.reply then None
-    else Some (WrongReply place)
-
--- the fault of the first entry that has one, where the first of them stands at this place
-abbrev pub fault_from : ℕ → Pool → ℕ → List Entry → Option AuditFault
-fault_from callers p place [] = None
-fault_from callers p place (e ∷ es) =
-    option_or (entry_fault callers p place e) (fault_from callers (next p e.command) (place + 1) es)
-
-abbrev pub first_fault : ℕ → Pool → List Entry → Option AuditFault
-first_fault callers p log = fault_from callers p 0 log
-
--- a fault that an audit tells of a history. Memory may be wanting for any
-abbrev pub IsFaultOf : ℕ → Pool → List Entry → AuditFault → Type 0
-IsFaultOf callers p log NoMemory = Unit {0}
-IsFaultOf callers p log fault = first_fault callers p log ≡ Some fault
-
--- What the first fault says.
-
--- the caller is one of them, and the reply isn't the slow pool's
-pub record IsWrongReply (callers : ℕ) (p : Pool) (e : Entry) : Type 0 where
-  pub known : e.caller < callers
-  pub wrong : answer p e.command ≢ Ok e.reply
+abbrev pub number : AuditFault → ℕ
+number NoMemory = 1
+number (WrongReply place) = 2
+number (StrangeCaller place) = 3
 
 -- the caller is none of them
 abbrev pub IsStrangeCaller : ℕ → Pool → Entry → Type 0
 IsStrangeCaller callers p e = callers ≤ e.caller
 
--- the first entry that is bad stands at this place
-pub record IsFirstAt (callers : ℕ) (p : Pool) (log : List Entry) (place : ℕ) (Bad : Pool → Entry → Type 0) : Type 0 where
-  -- an entry stands there
-  pub there : place < length log
-  -- the entries before it are legal
-  pub before : IsLegal callers p (take place log)
-  -- it is bad upon the state after them
-  pub bad : IfSome (slice_get log place) (Bad (pool_of p (take place log)))
+-- The verifier decides which signatures are good.
+module _ (accepts : Accepts) where
+  -- the fault of the entry at this place, upon the state after those before it
+  abbrev pub entry_fault : ℕ → Pool → ℕ → Entry → Option AuditFault
+  entry_fault callers p place e =
+      if nat_le callers e.caller then Some (StrangeCaller place)
+      else if is_reply (answer accepts p e.command) e.reply then None
+      else Some (WrongReply place)
 
-abbrev pub IsFirstFault : ℕ → Pool → List Entry → AuditFault → Type 0
-IsFirstFault callers p log NoMemory = ⊥
-IsFirstFault callers p log (WrongReply place) = IsFirstAt callers p log place (IsWrongReply callers)
-IsFirstFault callers p log (StrangeCaller place) = IsFirstAt callers p log place (IsStrangeCaller callers)
+  -- the fault of the first entry that has one, where the first of them stands at this place
+  abbrev pub fault_from : ℕ → Pool → ℕ → List Entry → Option AuditFault
+  fault_from callers p place [] = None
+  fault_from callers p place (e ∷ es) =
+      option_or (entry_fault callers p place e) (fault_from callers (next accepts p e.command) (place + 1) es)
 
-abbrev pub IsIllegal : ℕ → Pool → List Entry → Type 0
-IsIllegal callers p log = IsLegal callers p log → ⊥
+  abbrev pub first_fault : ℕ → Pool → List Entry → Option AuditFault
+  first_fault callers p log = fault_from callers p 0 log
 
-abbrev pub number : AuditFault → ℕ
-number NoMemory = 1
-number (WrongReply place) = 2
-number (StrangeCaller place) = 3
+  -- a fault that an audit tells of a history. Memory may be wanting for any
+  abbrev pub IsFaultOf : ℕ → Pool → List Entry → AuditFault → Type 0
+  IsFaultOf callers p log NoMemory = Unit {0}
+  IsFaultOf callers p log fault = first_fault callers p log ≡ Some fault
+
+  -- What the first fault says.
+
+  -- the caller is one of them, and the reply isn't the slow pool's
+  pub record IsWrongReply (callers : ℕ) (p : Pool) (e : Entry) : Type 0 where
+    pub known : e.caller < callers
+    pub wrong : answer accepts p e.command ≢ Ok e.reply
+
+  -- the first entry that is bad stands at this place
+  pub record IsFirstAt (callers : ℕ) (p : Pool) (log : List Entry) (place : ℕ) (Bad : Pool → Entry → Type 0) : Type 0 where
+    -- an entry stands there
+    pub there : place < length log
+    -- the entries before it are legal
+    pub before : IsLegal accepts callers p (take place log)
+    -- it is bad upon the state after them
+    pub bad : IfSome (slice_get log place) (Bad (pool_of accepts p (take place log)))
+
+  abbrev pub IsFirstFault : ℕ → Pool → List Entry → AuditFault → Type 0
+  IsFirstFault callers p log NoMemory = ⊥
+  IsFirstFault callers p log (WrongReply place) = IsFirstAt callers p log place (IsWrongReply callers)
+  IsFirstFault callers p log (StrangeCaller place) = IsFirstAt callers p log place (IsStrangeCaller callers)
+
+  abbrev pub IsIllegal : ℕ → Pool → List Entry → Type 0
+  IsIllegal callers p log = IsLegal accepts callers p log → ⊥

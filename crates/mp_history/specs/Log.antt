@@ -1,32 +1,35 @@
 -- Histories that a pool may have had.
 use Rattle.std.specs.Prelude.{◌≡◌, ℕ, ◌+◌, ◌<◌, ◌==◌, List, [], ◌∷◌, map, Option, None, Some, option_map, Ok, if◌then◌else◌}
 use Rattle.std.specs.Option.{option_or}
+use Rattle.mp_rules.specs.Verifier.{Accepts}
 use Rattle.mp_seqpool.specs.Command.{Command}
 use Rattle.mp_seqpool.specs.Pool.{Pool}
 use Rattle.mp_seqpool.specs.SlowPool.{answer, next, pool_after}
 use Rattle.mp_history.specs.Entry.{Entry}
 
--- an entry that may come upon a state
-pub record IsRight (callers : ℕ) (p : Pool) (e : Entry) : Type 0 where
-  -- its caller is one of them
-  pub known : e.caller < callers
-  -- its reply is the slow pool's
-  pub true_reply : answer p e.command ≡ Ok e.reply
-
--- each entry is right upon the state after all before it
-abbrev pub IsLegal : ℕ → Pool → List Entry → Type 0
-IsLegal callers p [] = Unit {0}
-IsLegal callers p (e ∷ es) = IsRight callers p e × IsLegal callers (next p e.command) es
-
 abbrev pub commands : List Entry → List Command
 commands log = map (λ e. e.command) log
-
--- the state after all entries
-abbrev pub pool_of : Pool → List Entry → Pool
-pool_of p log = pool_after p (commands log)
 
 -- the place of the caller's last entry
 abbrev pub last_of : ℕ → List Entry → Option ℕ
 last_of caller [] = None
 last_of caller (e ∷ es) =
     option_or (option_map (λ place. place + 1) (last_of caller es)) (if caller == e.caller then Some 0 else None)
+
+-- The verifier decides which signatures are good.
+module _ (accepts : Accepts) where
+  -- an entry that may come upon a state
+  pub record IsRight (callers : ℕ) (p : Pool) (e : Entry) : Type 0 where
+    -- its caller is one of them
+    pub known : e.caller < callers
+    -- its reply is the slow pool's
+    pub true_reply : answer accepts p e.command ≡ Ok e.reply
+
+  -- each entry is right upon the state after all before it
+  abbrev pub IsLegal : ℕ → Pool → List Entry → Type 0
+  IsLegal callers p [] = Unit {0}
+  IsLegal callers p (e ∷ es) = IsRight callers p e × IsLegal callers (next accepts p e.command) es
+
+  -- the state after all entries
+  abbrev pub pool_of : Pool → List Entry → Pool
+  pool_of p log = pool_after accepts p (commands log)

@@ -1,6 +1,7 @@
 -- The core of a pool that many callers share: what may happen, one event at a time.
 -- One caller at a time holds the lock, and it alone changes the state. Each change makes a version, which every caller may come to hold.
 use Rattle.std.specs.Prelude.{ℕ, ◌==◌, nat_lt, Bool, false, ◌&&◌, List, [], ◌∷◌, ◌++◌, length, Option, None, Some, is_none, Result, Ok, Err, slice_get, if◌then◌else◌}
+use Rattle.mp_rules.specs.Verifier.{Accepts}
 use Rattle.mp_seqpool.specs.declared.command.Reply.{Reply}
 use Rattle.mp_seqpool.specs.declared.refusal.Refusal.{Refusal}
 use Rattle.mp_seqpool.specs.Command.{Command}
@@ -89,24 +90,9 @@ put f caller x c = if c == caller then x else f c
 abbrev pub with_held : World → ℕ → Version → World
 with_held w caller v = record w { held = put w.held caller v; ever = w.ever ++ v ∷ [] }
 
--- the entry last, and done
-abbrev pub with_entry : World → Entry → World
-with_entry w e = record w {
-  log = w.log ++ e ∷ [];
-  locked = next w.locked e.command;
-  last = put w.last e.caller (Some (length w.log));
-}
-
 -- the version of the locked state waits to be shown
 abbrev pub with_waiting : World → World
 with_waiting w = record w { waiting = Some (present w) }
-
--- where the state doesn't refuse: the entry goes last into the log, and the caller holds the version after it, which also waits
-abbrev pub after_commit : World → ℕ → Command → Result Reply Refusal → World
-after_commit w caller command (Ok reply) =
-    let v = with_entry w (record { caller = caller; command = command; reply = reply }) in
-    with_waiting (with_held v caller (present v))
-after_commit w caller command (Err refusal) = w
 
 -- where the state refuses: the caller holds the version of the locked state
 abbrev pub after_answer : World → ℕ → Result Reply Refusal → World
@@ -123,33 +109,50 @@ abbrev pub adopt : World → ℕ → Option Version → World
 adopt w caller None = w
 adopt w caller (Some v) = if nat_lt (w.held caller).number v.number then with_held w caller v else w
 
--- The world after an event. One that isn't permitted changes nothing.
-abbrev pub step : ℕ → World → Event → World
-step callers w (Take caller) = if nat_lt caller callers && is_none w.holder then record w { holder = Some caller } else w
-step callers w (Commit caller command) = if has_lock callers w caller then after_commit w caller command (answer w.locked command) else w
-step callers w (Answer caller command) = if has_lock callers w caller then after_answer w caller (answer w.locked command) else w
-step callers w (Show caller) = if has_lock callers w caller then after_show w w.waiting else w
-step callers w (ShowRefused caller) = w
-step callers w (Release caller) = if has_lock callers w caller then record w { holder = None } else w
-step callers w (Read caller which) = if nat_lt caller callers then adopt w caller (slice_get w.board which) else w
-step callers w (Learn caller which) = if nat_lt caller callers then adopt w caller (slice_get w.ever which) else w
-
--- after all events, in order
-abbrev pub run : ℕ → World → List Event → World
-run callers w [] = w
-run callers w (e ∷ es) = run callers (step callers w e) es
-
 -- the entry of a commit
 abbrev pub entries_by : ℕ → Command → Result Reply Refusal → List Entry
 entries_by caller command (Ok reply) = record { caller = caller; command = command; reply = reply } ∷ []
 entries_by caller command (Err refusal) = []
 
--- what an event enters: a commit that is permitted, and nothing else
-abbrev pub enters : ℕ → World → Event → List Entry
-enters callers w (Commit caller command) = if has_lock callers w caller then entries_by caller command (answer w.locked command) else []
-enters callers w _ = []
+-- The verifier decides which signatures are good.
+module _ (accepts : Accepts) where
+  -- the entry last, and done
+  abbrev pub with_entry : World → Entry → World
+  with_entry w e = record w {
+    log = w.log ++ e ∷ [];
+    locked = next accepts w.locked e.command;
+    last = put w.last e.caller (Some (length w.log));
+  }
 
--- the entries of all commits that are permitted, in order
-abbrev pub commits : ℕ → World → List Event → List Entry
-commits callers w [] = []
-commits callers w (e ∷ es) = enters callers w e ++ commits callers (step callers w e) es
+  -- where the state doesn't refuse: the entry goes last into the log, and the caller holds the version after it, which also waits
+  abbrev pub after_commit : World → ℕ → Command → Result Reply Refusal → World
+  after_commit w caller command (Ok reply) =
+      let v = with_entry w (record { caller = caller; command = command; reply = reply }) in
+      with_waiting (with_held v caller (present v))
+  after_commit w caller command (Err refusal) = w
+
+  -- The world after an event. One that isn't permitted changes nothing.
+  abbrev pub step : ℕ → World → Event → World
+  step callers w (Take caller) = if nat_lt caller callers && is_none w.holder then record w { holder = Some caller } else w
+  step callers w (Commit caller command) = if has_lock callers w caller then after_commit w caller command (answer accepts w.locked command) else w
+  step callers w (Answer caller command) = if has_lock callers w caller then after_answer w caller (answer accepts w.locked command) else w
+  step callers w (Show caller) = if has_lock callers w caller then after_show w w.waiting else w
+  step callers w (ShowRefused caller) = w
+  step callers w (Release caller) = if has_lock callers w caller then record w { holder = None } else w
+  step callers w (Read caller which) = if nat_lt caller callers then adopt w caller (slice_get w.board which) else w
+  step callers w (Learn caller which) = if nat_lt caller callers then adopt w caller (slice_get w.ever which) else w
+
+  -- after all events, in order
+  abbrev pub run : ℕ → World → List Event → World
+  run callers w [] = w
+  run callers w (e ∷ es) = run callers (step callers w e) es
+
+  -- what an event enters: a commit that is permitted, and nothing else
+  abbrev pub enters : ℕ → World → Event → List Entry
+  enters callers w (Commit caller command) = if has_lock callers w caller then entries_by caller command (answer accepts w.locked command) else []
+  enters callers w _ = []
+
+  -- the entries of all commits that are permitted, in order
+  abbrev pub commits : ℕ → World → List Event → List Entry
+  commits callers w [] = []
+  commits callers w (e ∷ es) = enters callers w e ++ commits callers (step callers w e) es

@@ -10,20 +10,27 @@ ghost use Rattle.mp_history.specs.declared.fault.AuditFault.TheVariants as fault
 use crate::entry::Entry;
 use crate::fault::AuditFault;
 use mp_memory::{Memory, NoMemory};
-use mp_seqpool::{Config, SeqPool};
+use mp_seqpool::{Config, SeqPool, Verifier};
 use mp_tx::Ledger;
 
 // Does what one entry asks, where the entry is right.
-fn replay(pool: &mut SeqPool, callers: u32, place: usize, entry: &Entry) -> Result<(), AuditFault>
-    ensures right { OnOk result (IsRight callers pool.old entry.now) }
-    ensures next { OnOk result (pool.new ≡ next pool.old entry.now.command) }
+fn replay<V: Verifier>(
+    pool: &mut SeqPool,
+    callers: u32,
+    place: usize,
+    entry: &Entry,
+    verifier: &V,
+) -> Result<(), AuditFault>
+    ensures right { OnOk result (IsRight (V.accepts verifier.now) callers pool.old entry.now) }
+    ensures next { OnOk result
+        (pool.new ≡ next (V.accepts verifier.now) pool.old entry.now.command) }
     ensures fault { IfErr result (λ fault. fault ≢ faults.NoMemory
-        → entry_fault callers pool.old place entry.now ≡ Some fault) }
+        → entry_fault (V.accepts verifier.now) callers pool.old place entry.now ≡ Some fault) }
 {
     if entry.caller >= callers {
         return Err(AuditFault::StrangeCaller(place));
     }
-    match pool.step(&entry.command) {
+    match pool.step(&entry.command, verifier) {
         Ok(Ok(reply)) => {
             if reply == entry.reply {
                 Ok(())
@@ -36,26 +43,31 @@ fn replay(pool: &mut SeqPool, callers: u32, place: usize, entry: &Entry) -> Resu
     }
 }
 
-/// Runs a history of so many callers anew on a pool that opens upon the ledger state. Where the
-/// history is legal, it gives the pool after all entries: each entry's caller is below `callers`, and
-/// its reply is the slow pool's after the entries before it. Otherwise it gives the first place where
-/// that fails, and the caller is looked at first there.
-pub fn audit(
+/// Runs a history of so many callers anew on a pool that opens upon the ledger state, where the
+/// verifier decides which signatures are good. Where the history is legal, it gives the pool after
+/// all entries: each entry's caller is below `callers`, and its reply is the slow pool's after the
+/// entries before it. Otherwise it gives the first place where that fails, and the caller is looked
+/// at first there.
+pub fn audit<V: Verifier>(
     memory: Memory,
     config: Config,
     ledger: &Ledger,
     callers: u32,
     entries: &[Entry],
+    verifier: &V,
 ) -> Result<SeqPool, AuditFault>
-    ensures legal { OnOk result (IsLegal callers (fresh_pool config ledger.now) entries.now) }
-    ensures pool { IfOk result (λ pool. pool ≡ pool_of (fresh_pool config ledger.now) entries.now) }
-    ensures fault { IfErr result (IsFaultOf callers (fresh_pool config ledger.now) entries.now) }
+    ensures legal { OnOk result
+        (IsLegal (V.accepts verifier.now) callers (fresh_pool config ledger.now) entries.now) }
+    ensures pool { IfOk result (λ pool. pool
+        ≡ pool_of (V.accepts verifier.now) (fresh_pool config ledger.now) entries.now) }
+    ensures fault { IfErr result
+        (IsFaultOf (V.accepts verifier.now) callers (fresh_pool config ledger.now) entries.now) }
     ensures illegal { IfErr result (λ fault. fault ≢ faults.NoMemory
-        → IsIllegal callers (fresh_pool config ledger.now) entries.now) }
+        → IsIllegal (V.accepts verifier.now) callers (fresh_pool config ledger.now) entries.now) }
 {
     let mut pool = SeqPool::start(memory, config, ledger)?;
     for (place, entry) in entries.iter().enumerate() {
-        replay(&mut pool, callers, place, entry)?;
+        replay(&mut pool, callers, place, entry, verifier)?;
     }
     Ok(pool)
 }

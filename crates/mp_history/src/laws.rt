@@ -1,6 +1,7 @@
 //! What holds of every history of a pool that many callers share, and of every audit.
 
 ghost use Rattle.std.specs.Prelude.{◌≡◌, ℕ, List, None, Some};
+ghost use Rattle.mp_rules.specs.Verifier.{Accepts};
 ghost use Rattle.mp_seqpool.specs.Pool.{Pool};
 ghost use Rattle.mp_seqpool.specs.PoolLaws.{IsLawful};
 ghost use Rattle.mp_history.specs.declared.fault.AuditFault.{AuditFault};
@@ -10,17 +11,18 @@ ghost use Rattle.mp_history.specs.AuditFault.{first_fault, IsFirstFault};
 ghost use Rattle.mp_history.specs.World.{Event, opens, run};
 ghost use Rattle.mp_history.specs.CoreLaw.{CoreLaw};
 
-/// However the callers' events interleave, the history stays legal, and whoever holds a version
-/// holds a true one.
+/// Whatever the verifier accepts and however the callers' events interleave, the history stays
+/// legal, and whoever holds a version holds a true one.
 pub fn interleavings()
-    ensures { (callers : ℕ) (p : Pool) (es : List Event) → IsLawful p
-        → CoreLaw callers p es (run callers (opens p) es) }
+    ensures { (accepts : Accepts) (callers : ℕ) (p : Pool) (es : List Event) → IsLawful accepts p
+        → CoreLaw accepts callers p es (run accepts callers (opens p) es) }
 {}
 
 /// The first fault of a history tells of its first bad entry, and a history without one is legal.
 pub fn audit_faults()
-    ensures first { (callers : ℕ) (p : Pool) (log : List Entry) (fault : AuditFault)
-        → first_fault callers p log ≡ Some fault → IsFirstFault callers p log fault }
-    ensures legal { (callers : ℕ) (p : Pool) (log : List Entry)
-        → first_fault callers p log ≡ None → IsLegal callers p log }
+    ensures first { (accepts : Accepts) (callers : ℕ) (p : Pool) (log : List Entry)
+        → (fault : AuditFault) → first_fault accepts callers p log ≡ Some fault
+        → IsFirstFault accepts callers p log fault }
+    ensures legal { (accepts : Accepts) (callers : ℕ) (p : Pool) (log : List Entry)
+        → first_fault accepts callers p log ≡ None → IsLegal accepts callers p log }
 {}

@@ -1,9 +1,9 @@
 //! Histories of two submits: the first spends an opening output, the second what the first pays.
 use mp_history::{AuditFault, Entry, audit};
 use mp_memory::Memory;
-use mp_seqpool::{Command, Config, Reply};
-use mp_testing::{ledger, opening, output_of, transaction};
-use mp_tx::{Tx, TxFault};
+use mp_seqpool::{Command, Config, Reply, Verifier};
+use mp_testing::{ledger, opening, output_of, transaction, under_each_refusal};
+use mp_tx::{Key, Ledger, Sig, Tx, TxFault, TxId};
 use std::sync::Arc;
 use std::test::Fail;
 
@@ -11,6 +11,19 @@ const CONFIG: Config = Config {
     limit: 1_000_000,
     last: 0,
 };
+
+// Nobody has signed here.
+struct RefusesAll;
+
+impl Verifier for RefusesAll {
+    ghost use Rattle.std.specs.Prelude.{false};
+
+    ghost accepts = { λ _ _ _ _. false };
+
+    fn verify(&self, _key: &Key, _id: &TxId, _sig: &Sig) -> bool {
+        false
+    }
+}
 
 fn entry_of(caller: u32, tx: Arc<Tx, Memory>, ticket: u64) -> Entry {
     Entry {
@@ -41,7 +54,8 @@ fn outcome(
     entries: &[Entry],
 ) -> Result<Result<u64, AuditFault>, Fail> {
     let ledger = ledger(memory, 1, 500_000)?;
-    Ok(audit(memory, config, &ledger, callers, entries).map(|pool| pool.last_ticket()))
+    let audited = audit(memory, config, &ledger, callers, entries, &RefusesAll);
+    Ok(audited.map(|pool| pool.last_ticket()))
 }
 
 #[test]
@@ -89,18 +103,27 @@ fn a_history_may_be_short_or_too_long(rt: HostRuntime) -> Result<(), Fail> {
     Ok(())
 }
 
+// How many transactions stand in the pool that an audit gives, and its last ticket.
+fn counts(memory: Memory, ledger: &Ledger, entries: &[Entry]) -> Result<(usize, u64), AuditFault> {
+    let pool = audit(memory, CONFIG, ledger, 1, entries, &RefusesAll)?;
+    Ok((pool.contents().len(), pool.last_ticket()))
+}
+
 #[test]
-fn an_audit_takes_the_growth_of_its_submits(rt: HostRuntime) -> Result<(), Fail> {
+fn an_audit_says_no_memory_at_each_refused_growth(rt: HostRuntime) -> Result<(), Fail> {
     let memory = Memory::new(rt.alloc())?;
     let ledger = ledger(memory, 1, 500_000)?;
     let entries = two_submits(memory, [0, 0], [1, 2])?;
-    memory.refuse(1);
-    let refused = audit(memory, CONFIG, &ledger, 1, &entries);
-    assert_eq!(rt; refused.err(), Some(AuditFault::NoMemory));
-    assert!(rt; !memory.waits());
-    memory.refuse(2);
-    let pool = audit(memory, CONFIG, &ledger, 1, &entries)?;
-    assert!(rt; memory.waits());
-    assert_eq!(rt; (pool.contents().len(), pool.last_ticket()), (2, 2));
+    let done = under_each_refusal(
+        &memory,
+        || Some(()),
+        |_| counts(memory, &ledger, &entries),
+        |answer| *answer == Err(AuditFault::NoMemory),
+        |_| true,
+    );
+    assert_eq!(rt;
+        done.map(|d| (d.answer, d.growths > 1)),
+        Ok((Ok((2, 2)), true))
+    );
     Ok(())
 }

@@ -77,12 +77,22 @@ const AUDIT_FAULTS: [AuditFault; 3] = [
 
 const INPUT_FAULTS: [InputFault; 2] = [InputFault::NoMemory, InputFault::Read];
 
-fn invalids() -> [Invalid; 4] {
+fn invalids() -> [Invalid; 14] {
     [
+        Invalid::NoMemory,
         Invalid::NoInputs,
+        Invalid::OutsideInterval,
+        Invalid::NegativeOutput(5),
         Invalid::InputMissing(3),
+        Invalid::ReferenceMissing(6),
+        Invalid::AddressMismatch(8),
+        Invalid::DatumMismatch(9),
         Invalid::OutputTaken(2),
+        Invalid::ForgeWithoutPolicy([1; 32]),
         Invalid::Unbalanced([0; 32], TokenName::of(b"")),
+        Invalid::BadSignature([2; 32]),
+        Invalid::ValidatorRefused(10),
+        Invalid::PolicyRefused(11),
     ]
 }
 

@@ -5,15 +5,15 @@ use Rattle.mp_history.proofs.FirstFaults.{fault_told, illegal_told}
 use Rattle.mp_history.proofs.history.audit.Goals as goal
 
 pub loop-place-preserved : goal.loop-place-preserved
-loop-place-preserved c =
-    legal-more c.args.callers (empty_pool c.args.config.limit c.args.config.last c.args.ledger.now) c.loop-place.pool c.replay.new.pool c.args.entries.now c.loop-place.place c.index-entries-place.result c.loop-place-test.true (sym c.index-entries-place.is) c.loop-place.invariant c.in_ok-replay.ensures.right c.in_ok-replay.ensures.next
+loop-place-preserved g c =
+    legal-more (g.V.Verifier.accepts c.args.verifier.now) c.args.callers (empty_pool c.args.config.limit c.args.config.last c.args.ledger.now) c.loop-place.pool c.replay.new.pool c.args.entries.now c.loop-place.place c.index-entries-place.result c.loop-place-test.true (sym c.index-entries-place.is) c.loop-place.invariant c.in_ok-replay.ensures.right c.in_ok-replay.ensures.next
 
 pub returns-in_err-replay-clause-fault : goal.returns-in_err-replay-clause-fault
-returns-in_err-replay-clause-fault c =
-    fault_told c.args.callers (empty_pool c.args.config.limit c.args.config.last c.args.ledger.now) c.loop-place.pool c.args.entries.now c.loop-place.place c.index-entries-place.result c.in_err-replay.field-0.0
+returns-in_err-replay-clause-fault g c =
+    fault_told (g.V.Verifier.accepts c.args.verifier.now) c.args.callers (empty_pool c.args.config.limit c.args.config.last c.args.ledger.now) c.loop-place.pool c.args.entries.now c.loop-place.place c.index-entries-place.result c.in_err-replay.field-0.0
     c.loop-place-test.true c.index-entries-place.is c.loop-place.invariant c.in_err-replay.ensures.fault c.from_residual-in_err-replay.result c.from_residual-in_err-replay.ensures.1
 
 pub returns-in_err-replay-clause-illegal : goal.returns-in_err-replay-clause-illegal
-returns-in_err-replay-clause-illegal c =
-    illegal_told c.args.callers (empty_pool c.args.config.limit c.args.config.last c.args.ledger.now) c.loop-place.pool c.args.entries.now c.loop-place.place c.index-entries-place.result c.in_err-replay.field-0.0
+returns-in_err-replay-clause-illegal g c =
+    illegal_told (g.V.Verifier.accepts c.args.verifier.now) c.args.callers (empty_pool c.args.config.limit c.args.config.last c.args.ledger.now) c.loop-place.pool c.args.entries.now c.loop-place.place c.index-entries-place.result c.in_err-replay.field-0.0
     c.loop-place-test.true c.index-entries-place.is c.loop-place.invariant c.in_err-replay.ensures.fault c.from_residual-in_err-replay.result c.from_residual-in_err-replay.ensures.1

@@ -1,0 +1,108 @@
+//! The names of refusals, and what is told with them.
+
+ghost use Rattle.std.specs.Prelude.{◌≡◌, ◌++◌, OnOk};
+ghost use Rattle.mp_driver.specs.AnswerText.{number_text, policy_text, token_text, invalid_text, refusal_text};
+
+use crate::plain::COIN_POLICY;
+use mp_bundle::{PolicyId, TokenName};
+use mp_memory::{Memory, NoMemory};
+use mp_seqpool::{Invalid, Refusal};
+
+type Text = Vec<u8, Memory>;
+
+/// A space and the number.
+pub fn put_number(memory: Memory, text: &mut Text, number: u64) -> Result<(), NoMemory>
+    ensures { OnOk result (text.new.items ≡ text.old.items ++ number_text number) }
+{
+    text.push(b' ')?;
+    let digits = number.to_string(memory)?;
+    text.extend_from_slice(digits.as_bytes())?;
+    Ok(())
+}
+
+// The word and the place.
+fn put_place(memory: Memory, text: &mut Text, word: &[u8], place: usize) -> Result<(), NoMemory>
+    ensures { OnOk result (text.new.items ≡ text.old.items ++ (word.now ++ number_text place)) }
+{
+    text.extend_from_slice(word)?;
+    put_number(memory, text, place as u64)
+}
+
+fn put_policy(memory: Memory, text: &mut Text, policy: &PolicyId) -> Result<(), NoMemory>
+    ensures { OnOk result (text.new.items ≡ text.old.items ++ policy_text policy.now) }
+{
+    if *policy == COIN_POLICY {
+        text.extend_from_slice(b"coin")?;
+    } else {
+        let digits = hex::encode(memory, policy)?;
+        text.extend_from_slice(digits.as_bytes())?;
+    }
+    Ok(())
+}
+
+fn put_token(
+    memory: Memory,
+    text: &mut Text,
+    policy: &PolicyId,
+    name: &TokenName,
+) -> Result<(), NoMemory>
+    ensures { OnOk result (text.new.items ≡ text.old.items ++ token_text policy.now name.now) }
+{
+    put_policy(memory, text, policy)?;
+    let name = name.as_slice();
+    if !name.is_empty() {
+        text.push(b'.')?;
+        text.extend_from_slice(name)?;
+    }
+    Ok(())
+}
+
+fn put_invalid(memory: Memory, text: &mut Text, fault: &Invalid) -> Result<(), NoMemory>
+    ensures { OnOk result (text.new.items ≡ text.old.items ++ invalid_text fault.now) }
+{
+    match fault {
+        Invalid::NoMemory => text.extend_from_slice(b"memory")?,
+        Invalid::NoInputs => text.extend_from_slice(b"no-inputs")?,
+        Invalid::OutsideInterval => text.extend_from_slice(b"interval")?,
+        Invalid::NegativeOutput(place) => put_place(memory, text, b"negative", *place)?,
+        Invalid::InputMissing(place) => put_place(memory, text, b"missing", *place)?,
+        Invalid::ReferenceMissing(place) => put_place(memory, text, b"reference", *place)?,
+        Invalid::AddressMismatch(place) => put_place(memory, text, b"address", *place)?,
+        Invalid::DatumMismatch(place) => put_place(memory, text, b"datum", *place)?,
+        Invalid::OutputTaken(place) => put_place(memory, text, b"taken", *place)?,
+        Invalid::ForgeWithoutPolicy(policy) => {
+            text.extend_from_slice(b"no-policy ")?;
+            put_policy(memory, text, policy)?;
+        }
+        Invalid::Unbalanced(policy, name) => {
+            text.extend_from_slice(b"unbalanced ")?;
+            put_token(memory, text, policy, name)?;
+        }
+        Invalid::BadSignature(key) => put_place(memory, text, b"signature", key[0] as usize)?,
+        Invalid::ValidatorRefused(place) => put_place(memory, text, b"validator", *place)?,
+        Invalid::PolicyRefused(place) => put_place(memory, text, b"policy-script", *place)?,
+    }
+    Ok(())
+}
+
+/// The name of the refusal, and what is told with it.
+pub fn put_refusal(memory: Memory, text: &mut Text, refusal: &Refusal) -> Result<(), NoMemory>
+    ensures { OnOk result (text.new.items ≡ text.old.items ++ refusal_text refusal.now) }
+{
+    match refusal {
+        Refusal::NoMemory => text.extend_from_slice(b"memory")?,
+        Refusal::HistoryFull => text.extend_from_slice(b"history")?,
+        Refusal::TicketsSpent => text.extend_from_slice(b"tickets")?,
+        Refusal::AlreadyInPool(ticket) => {
+            text.extend_from_slice(b"already")?;
+            put_number(memory, text, *ticket)?;
+        }
+        Refusal::Full { need, free } => {
+            text.extend_from_slice(b"full")?;
+            put_number(memory, text, *need)?;
+            put_number(memory, text, *free)?;
+        }
+        Refusal::Invalid(fault) => put_invalid(memory, text, fault)?,
+    }
+    Ok(())
+}
