@@ -153,7 +153,11 @@ impl SeqPool {
         Ok(self.last + 1)
     }
 
-    /// Takes the transaction in under the next ticket, as one change. It takes all the room before anything changes.
+    /// Takes the transaction in under the next ticket, as one change. All room is taken before anything changes.
+    ///
+    /// # Errors
+    /// The first refusal that holds, in the order of `Refusal`. Of the rules it is the first that fails, and never
+    /// `Refusal::Invalid(Invalid::NoMemory)`: want of memory is `Refusal::NoMemory`.
     pub fn submit<V: Verifier>(
         &mut self,
         tx: &Arc<Tx, Memory>,

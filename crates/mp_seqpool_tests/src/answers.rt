@@ -1,4 +1,5 @@
 //! Answers of the pool that no scenario can show yet, since its settings are fixed there. Each was worked out by hand.
+use crate::refuses_all::RefusesAll;
 use mp_memory::Memory;
 use mp_seqpool::{Answer, Command, Config, Invalid, Refusal, Reply, SeqPool, play};
 use mp_testing::{ledger, opening, output, output_of, transaction};
@@ -69,6 +70,7 @@ fn outcome(
         &ledger,
         &commands,
         &mut answers,
+        &RefusesAll,
     )?;
     let found = [read(&answers[0]), read(&answers[1]), read(&answers[2])];
     Ok((found, pool.bytes()))
@@ -159,6 +161,6 @@ fn an_own_output_is_taken(rt: HostRuntime) -> Result<(), Fail> {
     let ledger = Ledger::of_outputs(memory, Salt::new(SALT), 0, ROOMY, outputs)?;
     let mut pool = SeqPool::start(memory, config_of(LONG, 0), &ledger)?;
     let taken = Err(Refusal::Invalid(Invalid::OutputTaken(1)));
-    assert_eq!(rt; pool.submit(&maker), taken);
+    assert_eq!(rt; pool.submit(&maker, &RefusesAll), taken);
     Ok(())
 }

@@ -5,3 +5,5 @@
 mod answers;
 #[cfg(test)]
 mod out_of_memory;
+#[cfg(test)]
+mod refuses_all;

@@ -1,10 +1,10 @@
-//! Each call that may want memory. A submit takes one growth: refused, it says so and leaves the pool, and with the next growth
-//! refused it answers. Starting, sharing and copying take none.
+//! Each call that may want memory: at each refused growth it says so and leaves the pool, and then the same call answers. Starting,
+//! sharing and copying take none.
+use crate::refuses_all::RefusesAll;
 use mp_memory::{Memory, NoMemory};
 use mp_seqpool::{Answer, Command, Config, Refusal, Reply, SeqPool, play};
-use mp_testing::{ledger, opening, transaction};
-use mp_tx::{Ledger, Tx, TxId};
-use std::sync::Arc;
+use mp_testing::{ledger, opening, transaction, under_each_refusal};
+use mp_tx::{Ledger, TxId};
 use std::test::Fail;
 
 const CONFIG: Config = Config {
@@ -37,96 +37,79 @@ fn ticket_of(answer: Answer) -> Option<u64> {
     }
 }
 
-// Submits under the refusal of a growth. Gives the ticket, whether that growth didn't come, and what stands then.
-fn submit_under(
-    memory: Memory,
-    nth: u64,
-    pool: &mut SeqPool,
-    tx: &Arc<Tx, Memory>,
-) -> (Option<u64>, bool, Counts) {
-    memory.refuse(nth);
-    let ticket = ticket_of(pool.submit(tx));
-    (ticket, memory.waits(), counts(pool))
+// The ways in which a command is asked for.
+#[derive(Clone, Copy, Debug)]
+enum Way {
+    Submit,
+    Execute,
+    Step,
 }
 
-// Does the same by a command.
-fn execute_under(
-    memory: Memory,
-    nth: u64,
-    pool: &mut SeqPool,
-    command: &Command,
-) -> (Option<u64>, bool, Counts) {
-    memory.refuse(nth);
-    let ticket = ticket_of(pool.execute(command));
-    (ticket, memory.waits(), counts(pool))
+fn ask(pool: &mut SeqPool, way: Way, command: &Command) -> Option<u64> {
+    let Command::Submit(tx) = command;
+    match way {
+        Way::Submit => ticket_of(pool.submit(tx, &RefusesAll)),
+        Way::Execute => ticket_of(pool.execute(command, &RefusesAll)),
+        Way::Step => match pool.step(command, &RefusesAll) {
+            Ok(answer) => ticket_of(answer),
+            Err(NoMemory) => Some(0),
+        },
+    }
 }
 
-// Does the same in one step.
-fn step_under(
-    memory: Memory,
-    nth: u64,
-    pool: &mut SeqPool,
-    command: &Command,
-) -> (Option<u64>, bool, Counts) {
-    memory.refuse(nth);
-    let ticket = match pool.step(command) {
-        Ok(answer) => ticket_of(answer),
-        Err(NoMemory) => Some(0),
-    };
-    (ticket, memory.waits(), counts(pool))
+// How many growths the first submit makes: those of its rules, and then all the room that the pool needs for it.
+const GROWTHS: u64 = 12;
+
+#[test]
+fn a_submit_is_refused_at_each_growth(rt: HostRuntime) -> Result<(), Fail> {
+    let memory = Memory::new(rt.alloc())?;
+    let ledger = ledger(memory, 1, 500_000)?;
+    let command = Command::Submit(transaction(memory, &[opening(0)], &[100])?);
+    for way in [Way::Submit, Way::Execute, Way::Step] {
+        let done = under_each_refusal(
+            &memory,
+            || SeqPool::start(memory, CONFIG, &ledger).ok(),
+            |pool| ask(pool, way, &command),
+            |ticket| *ticket == Some(0),
+            |pool| counts(pool) == NEW,
+        )?;
+        assert_eq!(rt; (done.answer, done.growths), (Some(9), GROWTHS), "{way:?}");
+    }
+    Ok(())
 }
 
-// Plays the command on a new pool under the refusal of a growth.
-fn play_under(
-    memory: Memory,
-    nth: u64,
-    ledger: &Ledger,
-    commands: &[Command; 1],
-) -> (Option<Counts>, bool) {
+// What stands after the command is played on a new pool.
+fn played(memory: Memory, ledger: &Ledger, commands: &[Command; 1]) -> Option<Counts> {
     let mut answers = [Err(Refusal::NoMemory)];
-    memory.refuse(nth);
-    let pool = play(memory, CONFIG, ledger, commands, &mut answers);
-    (pool.ok().map(|pool| counts(&pool)), memory.waits())
-}
-
-fn start_under(memory: Memory, nth: u64, ledger: &Ledger) -> Result<(SeqPool, bool), NoMemory> {
-    memory.refuse(nth);
-    let pool = SeqPool::start(memory, CONFIG, ledger)?;
-    Ok((pool, memory.waits()))
+    let pool = play(memory, CONFIG, ledger, commands, &mut answers, &RefusesAll).ok()?;
+    Some(counts(&pool))
 }
 
 #[test]
-fn a_submit_takes_one_growth(rt: HostRuntime) -> Result<(), Fail> {
+fn a_play_is_refused_at_each_growth(rt: HostRuntime) -> Result<(), Fail> {
     let memory = Memory::new(rt.alloc())?;
-    let tx = transaction(memory, &[opening(0)], &[100])?;
-    let (mut pool, starts_freely) = start_under(memory, 1, &ledger(memory, 1, 500_000)?)?;
-    let refused = submit_under(memory, 1, &mut pool, &tx);
-    let submitted = submit_under(memory, 2, &mut pool, &tx);
-    assert!(rt; starts_freely);
-    assert_eq!(rt; refused, (Some(0), false, NEW));
-    assert_eq!(rt; submitted, (Some(9), true, OF_ONE));
+    let ledger = ledger(memory, 1, 500_000)?;
+    let commands = [Command::Submit(transaction(memory, &[opening(0)], &[100])?)];
+    for nth in 1..=GROWTHS {
+        memory.refuse(nth);
+        let refused = played(memory, &ledger, &commands);
+        assert!(rt; refused.is_none(), "growth {nth}");
+        assert!(rt; !memory.waits(), "growth {nth}");
+    }
+    memory.refuse(GROWTHS + 1);
+    assert_eq!(rt; played(memory, &ledger, &commands), Some(OF_ONE));
+    assert!(rt; memory.waits());
     Ok(())
 }
 
 #[test]
-fn a_command_takes_the_growth_of_its_submit(rt: HostRuntime) -> Result<(), Fail> {
+fn a_start_takes_no_growth(rt: HostRuntime) -> Result<(), Fail> {
     let memory = Memory::new(rt.alloc())?;
     let ledger = ledger(memory, 1, 500_000)?;
-    let commands = [Command::Submit(transaction(memory, &[opening(0)], &[100])?)];
-    let mut pool = SeqPool::start(memory, CONFIG, &ledger)?;
-    let refused = execute_under(memory, 1, &mut pool, &commands[0]);
-    let applied = execute_under(memory, 2, &mut pool, &commands[0]);
-    let mut pool = SeqPool::start(memory, CONFIG, &ledger)?;
-    let unstepped = step_under(memory, 1, &mut pool, &commands[0]);
-    let stepped = step_under(memory, 2, &mut pool, &commands[0]);
-    let unplayed = play_under(memory, 1, &ledger, &commands);
-    let played = play_under(memory, 2, &ledger, &commands);
-    assert_eq!(rt; refused, (Some(0), false, NEW));
-    assert_eq!(rt; applied, (Some(9), true, OF_ONE));
-    assert_eq!(rt; unstepped, (Some(0), false, NEW));
-    assert_eq!(rt; stepped, (Some(9), true, OF_ONE));
-    assert_eq!(rt; unplayed, (None, false));
-    assert_eq!(rt; played, (Some(OF_ONE), true));
+    memory.refuse(1);
+    let pool = SeqPool::start(memory, CONFIG, &ledger)?;
+    assert!(rt; memory.waits());
+    assert_eq!(rt; counts(&pool), NEW);
     Ok(())
 }
 
