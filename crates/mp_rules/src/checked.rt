@@ -1,6 +1,6 @@
 //! What is found of a transaction's signatures and scripts before the other rules.
 
-ghost use Rattle.std.specs.Prelude.{◌≡◌, ◌+◌, ◌++◌, ◌≤◌, length, map, IfOk};
+ghost use Rattle.std.specs.Prelude.{◌≡◌, ◌+◌, ◌++◌, ◌≤◌, length, IfOk};
 ghost use Rattle.mp_rules.specs.Checked.{IsChecked, IsUpon};
 
 use crate::invalid::Invalid;
@@ -94,12 +94,12 @@ fn look_upon<V: Verifier>(
 pub fn precheck<V: Verifier>(
     memory: Memory,
     tx: &Tx,
-    outputs: &[&Output],
+    outputs: &[Output],
     verifier: &V,
 ) -> Result<Checked, NoMemory>
     requires { length outputs.now ≡ length tx.now.inputs + length tx.now.references }
     ensures checked { IfOk result (IsChecked (V.accepts verifier.now) tx.now) }
-    ensures upon { IfOk result (IsUpon tx.now (map (λ o. o.now) outputs.now)) }
+    ensures upon { IfOk result (IsUpon tx.now outputs.now) }
 {
     let mut shared = Vec::with_capacity(memory, outputs.len())?;
     for output in outputs {

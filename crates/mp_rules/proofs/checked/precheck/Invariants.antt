@@ -1,6 +1,6 @@
-use Rattle.std.proofs.Common.{◌≡◌, ◌++◌, drop, map}
+use Rattle.std.proofs.Common.{◌≡◌, ◌++◌, drop}
 use Rattle.mp_rules.proofs.checked.precheck.Given as goal
 
 -- the outputs so far and those that are left are all
 abbrev pub invariant-loop-output : goal.invariant-loop-output
-invariant-loop-output g l = l.shared.items ++ map (λ o. o.now) (drop l.output-index l.outputs) ≡ map (λ o. o.now) l.outputs
+invariant-loop-output g l = l.shared.items ++ drop l.output-index l.outputs ≡ l.outputs
