@@ -7,6 +7,7 @@ use mp_rules::Verifier;
 use mp_tx::{Key, Sig, TxId};
 
 /// It accepts the key followed by the id, and nothing else.
+#[derive(Clone, Copy)]
 pub struct KeyThenId;
 
 impl Verifier for KeyThenId {
