@@ -7,7 +7,7 @@ use crate::transaction::transaction;
 use crate::verifier::KeyThenId;
 use anyhow::{Context, Result, bail};
 use mp_memory::Memory;
-use mp_rules::{Invalid, Resolved, check, check_with, precheck};
+use mp_rules::{Invalid, Resolved, check, check_with, precheck_upon};
 use mp_tx::{Ledger, Output, Tx};
 
 // What was found first before, and what is answered now.
@@ -17,26 +17,21 @@ struct Answered {
     answer: Result<Resolved, Invalid>,
 }
 
-fn look_twice(memory: Memory, tx: &Tx, lent: &[&Output], ledger: &Ledger) -> Result<Answered> {
-    if lent.len() != tx.inputs().len() + tx.references().len() {
+fn look_twice(
+    memory: Memory,
+    tx: &Tx,
+    outputs: Vec<Output, Memory>,
+    ledger: &Ledger,
+) -> Result<Answered> {
+    if outputs.len() != tx.inputs().len() + tx.references().len() {
         bail!("another number of outputs before")
     }
-    let checked = precheck(memory, tx, lent, &KeyThenId)?;
+    let checked = precheck_upon(memory, tx, outputs, &KeyThenId)?;
     let answer = check_with(memory, tx, ledger, ledger.tick(), &checked, &KeyThenId);
     Ok(Answered {
         before: checked.fault(),
         answer,
     })
-}
-
-// As many outputs as the cases have.
-fn look_upon(memory: Memory, tx: &Tx, outputs: &[Output], ledger: &Ledger) -> Result<Answered> {
-    match outputs {
-        [a] => look_twice(memory, tx, &[a], ledger),
-        [a, b] => look_twice(memory, tx, &[a, b], ledger),
-        [a, b, c] => look_twice(memory, tx, &[a, b, c], ledger),
-        _ => bail!("too many outputs before"),
-    }
 }
 
 fn check_before(names: &Names, before: Option<Invalid>, wanted: &str) -> Result<()> {
@@ -53,7 +48,7 @@ pub fn check_case(names: &Names, given: &str, wanted: &str) -> Result<()> {
     let tx = transaction(names, given)?;
     let ledger = case::ledger(names, Some(*tx.id()), given)?;
     let outputs = case::upon(names, given)?;
-    let told = look_upon(names.memory(), &tx, &outputs, &ledger)?;
+    let told = look_twice(names.memory(), &tx, outputs, &ledger)?;
     check_before(names, told.before, first.trim())?;
     check_answer(names, &ledger, &tx, &told.answer, second.trim())?;
     let anew = check(names.memory(), &tx, &ledger, ledger.tick(), &KeyThenId);
