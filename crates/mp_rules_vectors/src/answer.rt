@@ -1,7 +1,7 @@
 //! What is answered of a transaction, and what is wanted.
 
 use crate::names::Names;
-use crate::{pieces, plain};
+use crate::plain;
 use anyhow::{Result, bail};
 use mp_rules::{Invalid, Resolved};
 use mp_tx::{Ledger, OutRef, Output, TokenName, Tx};
@@ -37,7 +37,8 @@ pub fn fault(names: &Names, words: &str) -> Result<Invalid> {
         None if words == "OutsideInterval" => Ok(Invalid::OutsideInterval),
         None => bail!("no such word"),
         Some(("ForgeWithoutPolicy", word)) => {
-            Ok(Invalid::ForgeWithoutPolicy(pieces::script_hash(names, word)?))
+            let (policy, _) = plain::token(names, word)?;
+            Ok(Invalid::ForgeWithoutPolicy(policy))
         }
         Some(("Unbalanced", word)) => unbalanced(names, word),
         Some(("BadSignature", word)) => Ok(Invalid::BadSignature([word.parse::<u8>()?; 32])),
