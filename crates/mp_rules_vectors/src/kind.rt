@@ -1,0 +1,36 @@
+//! The kinds of cases.
+
+use crate::names::Names;
+use crate::{again, check, overlay};
+use anyhow::Result;
+
+/// What the lines of a file are about.
+#[derive(Clone, Copy)]
+pub enum Kind {
+    Check,
+    Again,
+    Overlay,
+}
+
+impl Kind {
+    /// Each of them, in the order in which they are checked.
+    pub const ALL: [Kind; 3] = [Kind::Check, Kind::Again, Kind::Overlay];
+
+    /// The name of its file.
+    pub fn file_name(self) -> &'static str {
+        match self {
+            Kind::Check => "check.txt",
+            Kind::Again => "again.txt",
+            Kind::Overlay => "overlay.txt",
+        }
+    }
+
+    /// Fails unless what is given comes to what is wanted.
+    pub fn check(self, names: &Names, given: &str, wanted: &str) -> Result<()> {
+        match self {
+            Kind::Check => check::check_case(names, given, wanted),
+            Kind::Again => again::check_case(names, given, wanted),
+            Kind::Overlay => overlay::check_case(names, given, wanted),
+        }
+    }
+}
