@@ -65,8 +65,8 @@ impl Checked {
     }
 }
 
-/// As `precheck`, upon outputs that are handed over.
-pub fn precheck_upon<V: Verifier>(
+// Looks at the signatures, and runs the scripts upon these outputs.
+fn look_upon<V: Verifier>(
     memory: Memory,
     tx: &Tx,
     outputs: Vec<Output, Memory>,
@@ -105,5 +105,5 @@ pub fn precheck<V: Verifier>(
     for output in outputs {
         shared.push(output.share()?)?;
     }
-    precheck_upon(memory, tx, shared, verifier)
+    look_upon(memory, tx, shared, verifier)
 }

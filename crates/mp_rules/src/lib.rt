@@ -15,7 +15,7 @@ mod scripts;
 mod signatures;
 mod verifier;
 
-pub use checked::{Checked, precheck, precheck_upon};
+pub use checked::{Checked, precheck};
 pub use checking::{check, check_with};
 pub use invalid::Invalid;
 pub use resolved::Resolved;

@@ -7,7 +7,7 @@ use crate::transaction::transaction;
 use crate::verifier::KeyThenId;
 use anyhow::{Context, Result, bail};
 use mp_memory::Memory;
-use mp_rules::{Invalid, Resolved, check, check_with, precheck_upon};
+use mp_rules::{Invalid, Resolved, check, check_with, precheck};
 use mp_tx::{Ledger, Output, Tx};
 
 // What was found first before, and what is answered now.
@@ -20,13 +20,13 @@ struct Answered {
 fn look_twice(
     memory: Memory,
     tx: &Tx,
-    outputs: Vec<Output, Memory>,
+    outputs: &[Output],
     ledger: &Ledger,
 ) -> Result<Answered> {
     if outputs.len() != tx.inputs().len() + tx.references().len() {
         bail!("another number of outputs before")
     }
-    let checked = precheck_upon(memory, tx, outputs, &KeyThenId)?;
+    let checked = precheck(memory, tx, outputs, &KeyThenId)?;
     let answer = check_with(memory, tx, ledger, ledger.tick(), &checked, &KeyThenId);
     Ok(Answered {
         before: checked.fault(),
@@ -48,7 +48,7 @@ pub fn check_case(names: &Names, given: &str, wanted: &str) -> Result<()> {
     let tx = transaction(names, given)?;
     let ledger = case::ledger(names, Some(*tx.id()), given)?;
     let outputs = case::upon(names, given)?;
-    let told = look_twice(names.memory(), &tx, outputs, &ledger)?;
+    let told = look_twice(names.memory(), &tx, &outputs, &ledger)?;
     check_before(names, told.before, first.trim())?;
     check_answer(names, &ledger, &tx, &told.answer, second.trim())?;
     let anew = check(names.memory(), &tx, &ledger, ledger.tick(), &KeyThenId);
