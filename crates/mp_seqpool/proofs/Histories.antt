@@ -10,44 +10,27 @@ use Rattle.std.proofs.lemmas.List.Quantifiers.{all_pairs_push}
 use Rattle.std.proofs.lemmas.Grind.{common_steps}
 use Rattle.mp_tx.specs.Transaction.{Transaction}
 use Rattle.mp_tx.specs.Spelling.{id_of}
-use Rattle.mp_seqpool.specs.declared.invalid.Invalid.{Invalid}
+use Rattle.mp_tx.specs.Ledger.{LedgerState}
+use Rattle.mp_utxo.specs.Apply.{Unspent, apply, after}
+use Rattle.mp_rules.specs.declared.invalid.Invalid.{Invalid}
+use Rattle.mp_rules.specs.Verifier.{Accepts}
+use Rattle.mp_rules.specs.Validity.{IsValid, Chain}
+use Rattle.mp_rules.specs.FirstFault.{first_fault}
+use Rattle.mp_rules.proofs.Valid.{valid}
 use Rattle.mp_seqpool.specs.declared.refusal.Refusal.{Refusal}
 use Rattle.mp_seqpool.specs.declared.refusal.Refusal.TheVariants as refusals
 use Rattle.mp_seqpool.specs.declared.command.Reply.{Reply}
 use Rattle.mp_seqpool.specs.declared.command.Reply.TheVariants.{Accepted}
-use Rattle.mp_seqpool.specs.Apply.{Unspent, apply, after}
-use Rattle.mp_seqpool.specs.Validity.{IsValid, Chain, first_fault}
 use Rattle.mp_seqpool.specs.Command.{Command, Submit}
 use Rattle.mp_seqpool.specs.Pool.{Pool, transactions, tickets}
-use Rattle.mp_tx.specs.Ledger.{LedgerState}
-use Rattle.mp_seqpool.specs.SlowPool.{IsRefused}
-use Rattle.mp_seqpool.specs.SlowPool.{empty_pool, unspent, ticket_of, answer_rules, answer_new, answer, pool_with, next, pool_after}
+use Rattle.mp_seqpool.specs.SlowPool.{IsRefused, empty_pool, unspent, ticket_of, answer_rules, answer_new, answer, pool_with, next, pool_after}
 use Rattle.mp_seqpool.specs.PoolLaws.{IsLawful, Lasts, GivesNext, ObeysLaws}
-use Rattle.mp_seqpool.proofs.Valid.{valid}
 
--- What an accepted submit says.
+-- ---- numbers, lists and tests
 
 not_refused : {A E : Type 0} (b : Bool) (e : E) (r : Result A E) (x : A) → cond b (Err e) r ≡ Ok x → r ≡ Ok x
 not_refused true e r x h = Prim.cc
 not_refused false e r x h = h
-
-by_rules : (p : Pool) (t : Transaction) (o : Option Invalid) (r : Reply) → answer_rules p t o ≡ Ok r → (o ≡ None) × (r ≡ Accepted (p.last + 1))
-by_rules p t None r h = (refl, Prim.cc)
-by_rules p t (Some f) r h = Prim.cc
-
-new : (p : Pool) (t : Transaction) (o : Option ℕ) (r : Reply) → answer_new p t o ≡ Ok r → (o ≡ None) × (first_fault (unspent p) t ≡ None) × (r ≡ Accepted (p.last + 1))
-new p t None r h = let k = by_rules p t _ r (not_refused _ _ _ r h) in (refl, k.0, k.1)
-new p t (Some k) r h = Prim.cc
-
-taken : (p : Pool) (t : Transaction) (r : Reply) → answer p (Submit t) ≡ Ok r → (ticket_of (id_of t) p.items ≡ None) × (first_fault (unspent p) t ≡ None) × (r ≡ Accepted (p.last + 1))
-unfolding answer
-taken p t r h = new p t _ r (not_refused (nat_le (2 ^ 64 - 1) p.last) refusals.TicketsSpent _ r (not_refused (nat_le p.limit p.changes) refusals.HistoryFull _ r h))
-
--- Each part of the law after one more transaction.
-
-Chain-append : (u : Unspent) (ts : List Transaction) (t : Transaction) → Chain u ts → IsValid (after u ts) t → Chain u (ts ++ t ∷ [])
-Chain-append u [] t c v = (v, tt)
-Chain-append u (x ∷ ts) t c v = (c.0, Chain-append (apply x u) ts t c.1 v)
 
 rising-append : (ks : List ℕ) (n : ℕ) → IsStrictlyIncreasing ks → All (λ k. k < n) ks → IsStrictlyIncreasing (ks ++ n ∷ [])
 rising-append ks n rise below = λ k lt. Prim.grind (arith, common_steps)
@@ -77,66 +60,8 @@ over_zero a = omega arith
 higher : (a b : ℕ) → a ≤ b → a ≤ b + 1
 higher a b le = omega arith
 
-lawful-accepted : (p : Pool) (t : Transaction) (r : Reply) → IsLawful p → answer p (Submit t) ≡ Ok r → IsLawful (pool_with p t)
-lawful-accepted p t r law h =
-    let is = taken p t r h in
-    let ids : map id_of (transactions (p.items ++ (p.last + 1, t) ∷ [])) ≡ map id_of (transactions p.items) ++ id_of t ∷ [] =
-    ap (map id_of) (map-append (λ (i : ℕ × Transaction). i.1) p.items ((p.last + 1, t) ∷ [])) ∙ map-append id_of (transactions p.items) (t ∷ []) in
-    record {
-      chained = subst (Chain (get p.ledger.utxo)) (sym (map-append (λ (i : ℕ × Transaction). i.1) p.items ((p.last + 1, t) ∷ [])))
-          (Chain-append (get p.ledger.utxo) (transactions p.items) t law.chained (valid (unspent p) t is.1));
-      rising = subst IsStrictlyIncreasing (sym (map-append (λ (i : ℕ × Transaction). i.0) p.items ((p.last + 1, t) ∷ [])))
-          (rising-append (tickets p.items) (p.last + 1) law.rising (λ k d lt. below_next _ p.last (law.given k d lt)));
-      above_zero = subst (All (λ k. 0 < k)) (sym (map-append (λ (i : ℕ × Transaction). i.0) p.items ((p.last + 1, t) ∷ [])))
-          (All-push (λ k. 0 < k) (tickets p.items) (p.last + 1) law.above_zero (over_zero p.last));
-      given = subst (All (λ k. k ≤ p.last + 1)) (sym (map-append (λ (i : ℕ × Transaction). i.0) p.items ((p.last + 1, t) ∷ [])))
-          (All-push (λ k. k ≤ p.last + 1) (tickets p.items) (p.last + 1) (λ k d lt. higher _ p.last (law.given k d lt)) (itself (p.last + 1)));
-      distinct = subst (AllPairs (λ a b. a ≢ b)) (sym ids)
-          (all_pairs_push (λ a b. a ≢ b) (map id_of (transactions p.items)) (id_of t) law.distinct (absent (id_of t) p.items is.0));
-    }
-
--- The laws along a history.
-
-unfold_next : (p : Pool) (t : Transaction) → next p (Submit t) ≡ cond (is_ok (answer p (Submit t))) (pool_with p t) p
-unfolding next
-unfold_next p t = refl
-
-next_is : (p : Pool) (t : Transaction) (a : Result Reply Refusal) → answer p (Submit t) ≡ a → next p (Submit t) ≡ cond (is_ok a) (pool_with p t) p
-next_is p t a e = unfold_next p t ∙ ap (λ b. cond (is_ok b) (pool_with p t) p) e
-
--- a fact of a state that refusals keep and accepted submits keep
-kept : (P : Pool → Type 0) (p : Pool) (t : Transaction) (a : Result Reply Refusal) → answer p (Submit t) ≡ a → P p → ((r : Reply) → answer p (Submit t) ≡ Ok r → P (pool_with p t)) → P (next p (Submit t))
-kept P p t (Ok r) e old new = subst P (sym (next_is p t (Ok r) e)) (new r e)
-kept P p t (Err f) e old new = subst P (sym (next_is p t (Err f) e)) old
-
-pub lawful-next : (p : Pool) (c : Command) → IsLawful p → IsLawful (next p c)
-lawful-next p (Submit t) law = kept IsLawful p t _ refl law (λ r e. lawful-accepted p t r law e)
-
-lawful-after : (p : Pool) (cs : List Command) → IsLawful p → IsLawful (pool_after p cs)
-lawful-after p [] law = law
-lawful-after p (c ∷ cs) law = lawful-after (next p c) cs (lawful-next p c law)
-
 too_late : (a b : ℕ) → a ≤ b → b + 1 ≤ a → ⊥
 too_late a b le ge = omega arith
-
-Follows : Pool → Pool → Type 0
-Follows p q = (p.last ≤ q.last) × Lasts p q
-
-follows-next : (p q : Pool) (c : Command) → Follows p q → Follows p (next q c)
-unfolding Follows
-follows-next p q (Submit t) f = kept (Follows p) q t _ refl f (λ r e. (higher p.last q.last f.0, All-push (λ i. i.0 ≤ p.last → Contains p.items i) q.items (q.last + 1, t) f.1 (λ le. absurd (too_late p.last q.last f.0 le))))
-
-follows-after : (p q : Pool) (cs : List Command) → Follows p q → Follows p (pool_after q cs)
-follows-after p q [] f = f
-follows-after p q (c ∷ cs) f = follows-after p (next q c) cs (follows-next p q c f)
-
-pool_after-append : (p : Pool) (xs ys : List Command) → pool_after p (xs ++ ys) ≡ pool_after (pool_after p xs) ys
-pool_after-append p [] ys = refl
-pool_after-append p (x ∷ xs) ys = pool_after-append (next p x) xs ys
-
-follows_itself : (p : Pool) → Follows p p
-unfolding Follows
-follows_itself p = (itself p.last, λ k d lt le. (k, lt, get_or_default p.items k _ d lt))
 
 take-within : (m n : ℕ) (cs : List Command) → m ≤ n → take m (take n cs) ≡ take m cs
 take-within zero n cs le = refl
@@ -144,39 +69,123 @@ take-within (suc m) zero cs le = absurd (omega arith)
 take-within (suc m) (suc n) [] le = refl
 take-within (suc m) (suc n) (c ∷ cs) le = ap (λ r. c ∷ r) (take-within m n cs (omega arith))
 
-lasting : (p : Pool) (cs : List Command) (m n : ℕ) → m ≤ n → Lasts (pool_after p (take m cs)) (pool_after p (take n cs))
+-- ---- states, whatever the verifier accepts
+
+Follows : Pool → Pool → Type 0
+Follows p q = (p.last ≤ q.last) × Lasts p q
+
+follows_itself : (p : Pool) → Follows p p
 unfolding Follows
-lasting p cs m n le =
-    let q = pool_after p (take m cs) in
-    subst (Lasts q) (sym (ap (pool_after p) (sym (take-append-drop m (take n cs)) ∙ ap (λ r. r ++ drop m (take n cs)) (take-within m n cs le)) ∙ pool_after-append p (take m cs) (drop m (take n cs)))) (follows-after q q (drop m (take n cs)) (follows_itself q)).1
+follows_itself p = (itself p.last, λ k d lt le. (k, lt, get_or_default p.items k _ d lt))
+
+by_rules : (p : Pool) (t : Transaction) (o : Option Invalid) (r : Reply) → answer_rules p t o ≡ Ok r → (o ≡ None) × (r ≡ Accepted (p.last + 1))
+by_rules p t None r h = (refl, Prim.cc)
+by_rules p t (Some f) r h = Prim.cc
 
 abbrev ticket_in : Reply → ℕ
 ticket_in (Accepted k) = k
 
-gives_next : (p : Pool) (c : Command) → GivesNext p c
-gives_next p (Submit t) k e =
-    let is : k ≡ p.last + 1 = ap ticket_in (taken p t (Accepted k) e).2 in
-    (is, ap (λ (q : Pool). q.last) (next_is p t (Ok (Accepted k)) e) ∙ sym is)
+module _ (accepts : Accepts) where
+  -- ---- what an accepted submit says
 
-pub obeys : (p : Pool) (cs : List Command) → IsLawful p → ObeysLaws p cs
-obeys p cs law = record {
-  lawful = λ n. lawful-after p (take n cs) law;
-  lasting = lasting p cs;
-  next_ticket = λ n c. gives_next (pool_after p (take n cs)) c;
-}
+  abbrev IsClear : Pool → Transaction → Type 0
+  IsClear p t = first_fault accepts (unspent p) p.ledger.tick t ≡ None
 
-pub lawful-empty : (limit last : ℕ) (ledger : LedgerState) → IsLawful (empty_pool limit last ledger)
-lawful-empty limit last ledger = record { chained = tt; rising = λ k lt. absurd (omega arith); above_zero = λ k d lt. absurd (omega arith); given = λ k d lt. absurd (omega arith); distinct = λ i j d ij lt. absurd (omega arith) }
+  new : (p : Pool) (t : Transaction) (o : Option ℕ) (r : Reply) → answer_new accepts p t o ≡ Ok r → (o ≡ None) × IsClear p t × (r ≡ Accepted (p.last + 1))
+  new p t None r h = let k = by_rules p t _ r (not_refused _ _ _ r h) in (refl, k.0, k.1)
+  new p t (Some k) r h = Prim.cc
 
--- a refusal that doesn't want memory is the slow pool's
-pub told : (p : Pool) (c : Command) (f : Refusal) → IsRefused p c f → f ≢ refusals.NoMemory → answer p c ≡ Err f
-told p c refusals.NoMemory h is = absurd (is refl)
-told p c _ h is = h
+  taken : (p : Pool) (t : Transaction) (r : Reply) → answer accepts p (Submit t) ≡ Ok r → (ticket_of (id_of t) p.items ≡ None) × IsClear p t × (r ≡ Accepted (p.last + 1))
+  unfolding answer
+  taken p t r h = new p t _ r (not_refused (nat_le (2 ^ 64 - 1) p.last) refusals.TicketsSpent _ r (not_refused (nat_le p.limit p.changes) refusals.HistoryFull _ r h))
 
--- a refusal changes nothing
-pub next-refused : (p : Pool) (c : Command) (f : Refusal) → answer p c ≡ Err f → next p c ≡ p
-next-refused p (Submit t) f e = next_is p t (Err f) e
+  -- ---- each part of the law after one more transaction
 
--- every history from an opening with no transaction
-pub obeys-empty : (limit last : ℕ) (ledger : LedgerState) (cs : List Command) → ObeysLaws (empty_pool limit last ledger) cs
-obeys-empty limit last ledger cs = obeys (empty_pool limit last ledger) cs (lawful-empty limit last ledger)
+  Chain-append : (u : Unspent) (tick : ℕ) (ts : List Transaction) (t : Transaction) → Chain accepts u tick ts → IsValid accepts (after u ts) tick t → Chain accepts u tick (ts ++ t ∷ [])
+  Chain-append u tick [] t c v = (v, tt)
+  Chain-append u tick (x ∷ ts) t c v = (c.0, Chain-append (apply x u) tick ts t c.1 v)
+
+  lawful-accepted : (p : Pool) (t : Transaction) (r : Reply) → IsLawful accepts p → answer accepts p (Submit t) ≡ Ok r → IsLawful accepts (pool_with p t)
+  lawful-accepted p t r law h =
+      let is = taken p t r h in
+      let ids : map id_of (transactions (p.items ++ (p.last + 1, t) ∷ [])) ≡ map id_of (transactions p.items) ++ id_of t ∷ [] =
+      ap (map id_of) (map-append (λ (i : ℕ × Transaction). i.1) p.items ((p.last + 1, t) ∷ [])) ∙ map-append id_of (transactions p.items) (t ∷ []) in
+      record {
+        chained = subst (Chain accepts (get p.ledger.utxo) p.ledger.tick) (sym (map-append (λ (i : ℕ × Transaction). i.1) p.items ((p.last + 1, t) ∷ [])))
+            (Chain-append (get p.ledger.utxo) p.ledger.tick (transactions p.items) t law.chained (valid accepts (unspent p) p.ledger.tick t is.1));
+        rising = subst IsStrictlyIncreasing (sym (map-append (λ (i : ℕ × Transaction). i.0) p.items ((p.last + 1, t) ∷ [])))
+            (rising-append (tickets p.items) (p.last + 1) law.rising (λ k d lt. below_next _ p.last (law.given k d lt)));
+        above_zero = subst (All (λ k. 0 < k)) (sym (map-append (λ (i : ℕ × Transaction). i.0) p.items ((p.last + 1, t) ∷ [])))
+            (All-push (λ k. 0 < k) (tickets p.items) (p.last + 1) law.above_zero (over_zero p.last));
+        given = subst (All (λ k. k ≤ p.last + 1)) (sym (map-append (λ (i : ℕ × Transaction). i.0) p.items ((p.last + 1, t) ∷ [])))
+            (All-push (λ k. k ≤ p.last + 1) (tickets p.items) (p.last + 1) (λ k d lt. higher _ p.last (law.given k d lt)) (itself (p.last + 1)));
+        distinct = subst (AllPairs (λ a b. a ≢ b)) (sym ids)
+            (all_pairs_push (λ a b. a ≢ b) (map id_of (transactions p.items)) (id_of t) law.distinct (absent (id_of t) p.items is.0));
+      }
+
+  -- ---- the laws along a history
+
+  unfold_next : (p : Pool) (t : Transaction) → next accepts p (Submit t) ≡ cond (is_ok (answer accepts p (Submit t))) (pool_with p t) p
+  unfolding next
+  unfold_next p t = refl
+
+  next_is : (p : Pool) (t : Transaction) (a : Result Reply Refusal) → answer accepts p (Submit t) ≡ a → next accepts p (Submit t) ≡ cond (is_ok a) (pool_with p t) p
+  next_is p t a e = unfold_next p t ∙ ap (λ b. cond (is_ok b) (pool_with p t) p) e
+
+  -- a fact of a state that refusals keep and accepted submits keep
+  kept : (P : Pool → Type 0) (p : Pool) (t : Transaction) (a : Result Reply Refusal) → answer accepts p (Submit t) ≡ a → P p → ((r : Reply) → answer accepts p (Submit t) ≡ Ok r → P (pool_with p t)) → P (next accepts p (Submit t))
+  kept P p t (Ok r) e old new = subst P (sym (next_is p t (Ok r) e)) (new r e)
+  kept P p t (Err f) e old new = subst P (sym (next_is p t (Err f) e)) old
+
+  pub lawful-next : (p : Pool) (c : Command) → IsLawful accepts p → IsLawful accepts (next accepts p c)
+  lawful-next p (Submit t) law = kept (IsLawful accepts) p t _ refl law (λ r e. lawful-accepted p t r law e)
+
+  lawful-after : (p : Pool) (cs : List Command) → IsLawful accepts p → IsLawful accepts (pool_after accepts p cs)
+  lawful-after p [] law = law
+  lawful-after p (c ∷ cs) law = lawful-after (next accepts p c) cs (lawful-next p c law)
+
+  follows-next : (p q : Pool) (c : Command) → Follows p q → Follows p (next accepts q c)
+  unfolding Follows
+  follows-next p q (Submit t) f = kept (Follows p) q t _ refl f (λ r e. (higher p.last q.last f.0, All-push (λ i. i.0 ≤ p.last → Contains p.items i) q.items (q.last + 1, t) f.1 (λ le. absurd (too_late p.last q.last f.0 le))))
+
+  follows-after : (p q : Pool) (cs : List Command) → Follows p q → Follows p (pool_after accepts q cs)
+  follows-after p q [] f = f
+  follows-after p q (c ∷ cs) f = follows-after p (next accepts q c) cs (follows-next p q c f)
+
+  pool_after-append : (p : Pool) (xs ys : List Command) → pool_after accepts p (xs ++ ys) ≡ pool_after accepts (pool_after accepts p xs) ys
+  pool_after-append p [] ys = refl
+  pool_after-append p (x ∷ xs) ys = pool_after-append (next accepts p x) xs ys
+
+  lasting : (p : Pool) (cs : List Command) (m n : ℕ) → m ≤ n → Lasts (pool_after accepts p (take m cs)) (pool_after accepts p (take n cs))
+  unfolding Follows
+  lasting p cs m n le =
+      let q = pool_after accepts p (take m cs) in
+      subst (Lasts q) (sym (ap (pool_after accepts p) (sym (take-append-drop m (take n cs)) ∙ ap (λ r. r ++ drop m (take n cs)) (take-within m n cs le)) ∙ pool_after-append p (take m cs) (drop m (take n cs)))) (follows-after q q (drop m (take n cs)) (follows_itself q)).1
+
+  gives_next : (p : Pool) (c : Command) → GivesNext accepts p c
+  gives_next p (Submit t) k e =
+      let is : k ≡ p.last + 1 = ap ticket_in (taken p t (Accepted k) e).2 in
+      (is, ap (λ (q : Pool). q.last) (next_is p t (Ok (Accepted k)) e) ∙ sym is)
+
+  pub obeys : (p : Pool) (cs : List Command) → IsLawful accepts p → ObeysLaws accepts p cs
+  obeys p cs law = record {
+    lawful = λ n. lawful-after p (take n cs) law;
+    lasting = lasting p cs;
+    next_ticket = λ n c. gives_next (pool_after accepts p (take n cs)) c;
+  }
+
+  pub lawful-empty : (limit last : ℕ) (ledger : LedgerState) → IsLawful accepts (empty_pool limit last ledger)
+  lawful-empty limit last ledger = record { chained = tt; rising = λ k lt. absurd (omega arith); above_zero = λ k d lt. absurd (omega arith); given = λ k d lt. absurd (omega arith); distinct = λ i j d ij lt. absurd (omega arith) }
+
+  -- a refusal that doesn't want memory is the slow pool's
+  pub told : (p : Pool) (c : Command) (f : Refusal) → IsRefused accepts p c f → f ≢ refusals.NoMemory → answer accepts p c ≡ Err f
+  told p c refusals.NoMemory h is = absurd (is refl)
+  told p c _ h is = h
+
+  -- a refusal changes nothing
+  pub next-refused : (p : Pool) (c : Command) (f : Refusal) → answer accepts p c ≡ Err f → next accepts p c ≡ p
+  next-refused p (Submit t) f e = next_is p t (Err f) e
+
+  -- every history from an opening with no transaction
+  pub obeys-empty : (limit last : ℕ) (ledger : LedgerState) (cs : List Command) → ObeysLaws accepts (empty_pool limit last ledger) cs
+  obeys-empty limit last ledger cs = obeys (empty_pool limit last ledger) cs (lawful-empty limit last ledger)

@@ -1,5 +1,3 @@
-pub mod After
-pub mod Positions
 pub mod Submits
-pub mod Valid
+pub mod Noting
 pub mod Histories

@@ -3,19 +3,17 @@
 
 mod command;
 mod config;
-mod invalid;
 mod item;
 pub mod laws;
 mod playing;
 mod pool;
 mod refusal;
-mod rules;
-mod unspent;
+mod tickets;
 
 pub use command::{Answer, Command, Reply};
 pub use config::Config;
-pub use invalid::Invalid;
 pub use item::Item;
+pub use mp_rules::{Invalid, Verifier};
 pub use playing::play;
 pub use pool::SeqPool;
 pub use refusal::Refusal;

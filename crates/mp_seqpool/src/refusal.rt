@@ -4,8 +4,8 @@ ghost use Rattle.std.specs.Prelude.{◌≡◌};
 ghost use Rattle.mp_seqpool.specs.declared.refusal.Refusal.TheVariants as refusals;
 ghost use Rattle.mp_seqpool.specs.Refusal as told;
 
-use crate::invalid::Invalid;
 use mp_memory::NoMemory;
+use mp_rules::Invalid;
 use std::alloc::{AllocError, AllocFailed};
 use thiserror::Error;
 
@@ -27,7 +27,7 @@ pub enum Refusal {
     /// The transaction's size, and how many bytes are left of twice the ledger's block bytes.
     #[error("the pool is full: {need} bytes are needed and {free} are free")]
     Full { need: u64, free: u64 },
-    /// The rule that the transaction breaks.
+    /// The rule that the transaction breaks. It never holds `Invalid::NoMemory`: want of memory is `NoMemory` above.
     #[error("the transaction is invalid: {0}")]
     Invalid(Invalid),
 }
@@ -44,6 +44,19 @@ impl Refusal {
             Refusal::AlreadyInPool(_) => 4,
             Refusal::Full { .. } => 5,
             Refusal::Invalid(_) => 6,
+        }
+    }
+}
+
+impl From<Invalid> for Refusal {
+    ghost use Rattle.mp_seqpool.specs.Inside.Rules.{refusal_for};
+
+    ghost from_gives = { λ fault e. e ≡ refusal_for fault };
+
+    fn from(fault: Invalid) -> Refusal {
+        match fault {
+            Invalid::NoMemory => Refusal::NoMemory,
+            fault => Refusal::Invalid(fault),
         }
     }
 }

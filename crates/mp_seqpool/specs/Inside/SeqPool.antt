@@ -3,11 +3,12 @@ use Rattle.std.specs.Prelude.{◌≡◌, ◌<◌, ◌≤◌, ◌^◌, sum_by, Al
 use Rattle.mp_tx.specs.Spelling.{size_of}
 use Rattle.mp_seqpool.specs.declared.pool.SeqPool.TheInside.{Inside}
 use Rattle.mp_seqpool.specs.Inside.Item.{items_of}
+use Rattle.mp_seqpool.specs.Inside.Tickets.{AreNoted}
 use Rattle.mp_seqpool.specs.Pool.{Pool, transactions, tickets}
 
 abbrev pub state : Inside → Pool
 state p = record {
-  ledger = p.ledger;
+  ledger = p.overlay.ledger;
   items = items_of p.items.items;
   last = p.last;
   changes = p.changes;
@@ -15,8 +16,12 @@ state p = record {
   opening_ticket = p.config.last;
 }
 
--- What is counted along the way is right, and tickets are what a ticket may be.
+-- What is kept along the way is right, and tickets are what a ticket may be.
 pub record IsCounted (p : Inside) : Type 0 where
+  -- all its transactions were applied upon the ledger, in order
+  pub applied : p.overlay.applied ≡ transactions (items_of p.items.items)
+  -- each is found by its id
+  pub noted : AreNoted (items_of p.items.items) p.tickets.entries
   -- the bytes are those of all its transactions together
   pub bytes : p.bytes ≡ sum_by size_of (transactions (items_of p.items.items))
   -- no pool can hold more

@@ -2,7 +2,7 @@ use Rattle.mp_seqpool.proofs.Histories.{obeys, lawful-empty}
 use Rattle.mp_seqpool.proofs.laws.pool_laws.Goals as goal
 
 pub returns-clause-histories : goal.returns-clause-histories
-returns-clause-histories c p cs law = obeys p cs law
+returns-clause-histories c accepts p cs law = obeys accepts p cs law
 
 pub returns-clause-openings : goal.returns-clause-openings
-returns-clause-openings c limit last ledger = lawful-empty limit last ledger
+returns-clause-openings c accepts limit last ledger = lawful-empty accepts limit last ledger
