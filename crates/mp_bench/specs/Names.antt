@@ -1,7 +1,7 @@
 -- What a measurement is called.
 use Rattle.std.specs.Prelude.{ℕ, List, codes}
 use Rattle.mp_bench.specs.declared.measurement.Measurement.{Measurement}
-use Rattle.mp_bench.specs.declared.measurement.Measurement.TheVariants.{TicketPush, TicketGet, TicketUnlink, TicketIterate, Decode181, Digests181, Decode431, Digests431, Decode642, Digests642, Encode181, OfParts181, LedgerHit, LedgerMiss}
+use Rattle.mp_bench.specs.declared.measurement.Measurement.TheVariants.{TicketPush, TicketGet, TicketUnlink, TicketIterate, Decode181, Digests181, Decode431, Digests431, Decode642, Digests642, Encode181, OfParts181, LedgerHit, LedgerMiss, Check181, Check277, Check281, OverlayApply, PoolSubmit}
 
 abbrev pub name_of : Measurement → List ℕ
 name_of TicketPush = codes "ticket-push"
@@ -18,3 +18,8 @@ name_of Encode181 = codes "encode-181"
 name_of OfParts181 = codes "of-parts-181"
 name_of LedgerHit = codes "ledger-hit"
 name_of LedgerMiss = codes "ledger-miss"
+name_of Check181 = codes "check-181"
+name_of Check277 = codes "check-277"
+name_of Check281 = codes "check-281"
+name_of OverlayApply = codes "overlay-apply"
+name_of PoolSubmit = codes "pool-submit"

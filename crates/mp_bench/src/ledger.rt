@@ -11,7 +11,8 @@ use std::time::{Duration, Instant};
 // It divides no size, so its multiples go through all outputs, and no two in a row were put in one after the other.
 const STRIDE: u64 = 7919;
 
-fn reference(number: u64, index: u16) -> OutRef {
+/// The reference to output `index` of the transaction with this number.
+pub fn reference(number: u64, index: u16) -> OutRef {
     OutRef {
         id: digest(&number.to_be_bytes()),
         index,
@@ -26,8 +27,8 @@ fn outputs(memory: Memory, size: u64) -> Result<Vec<(OutRef, Output), Memory>, N
     Ok(outputs)
 }
 
-// References in no order: they are all there at index 0, and none is at index 1.
-fn references(memory: Memory, size: u64, index: u16) -> Result<Vec<OutRef, Memory>, NoMemory> {
+/// References in no order: of the outputs of a ledger state all are there at index 0, and none is at index 1.
+pub fn references(memory: Memory, size: u64, index: u16) -> Result<Vec<OutRef, Memory>, NoMemory> {
     let mut references = Vec::new(memory);
     for step in 0..size {
         references.push(reference(step.wrapping_mul(STRIDE) % size.max(1), index))?;

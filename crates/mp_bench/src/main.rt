@@ -4,6 +4,8 @@
 
 mod ledger;
 mod measurement;
+mod pool;
+mod rules;
 mod ticket_list;
 mod timing;
 mod transaction;

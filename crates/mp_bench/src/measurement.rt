@@ -36,11 +36,21 @@ pub enum Measurement {
     LedgerHit,
     /// An output is looked up that is not there.
     LedgerMiss,
+    /// A transaction of 181 bytes is checked upon a ledger state of so many outputs.
+    Check181,
+    /// The same with a signature, by a verifier that answers at once.
+    Check277,
+    /// The same as the first with a validator of 101 operators.
+    Check281,
+    /// Room is made in an overlay for a transaction of 181 bytes, and it is applied.
+    OverlayApply,
+    /// A transaction of 181 bytes is submitted to a pool, until so many are in it.
+    PoolSubmit,
 }
 
 impl Measurement {
     /// Each of them, in the order in which they are taken.
-    pub const ALL: [Measurement; 14] = [
+    pub const ALL: [Measurement; 19] = [
         Measurement::TicketPush,
         Measurement::TicketGet,
         Measurement::TicketUnlink,
@@ -55,6 +65,11 @@ impl Measurement {
         Measurement::OfParts181,
         Measurement::LedgerHit,
         Measurement::LedgerMiss,
+        Measurement::Check181,
+        Measurement::Check277,
+        Measurement::Check281,
+        Measurement::OverlayApply,
+        Measurement::PoolSubmit,
     ];
 }
 
@@ -80,6 +95,11 @@ impl fmt::Display for Measurement {
             Measurement::OfParts181 => "of-parts-181",
             Measurement::LedgerHit => "ledger-hit",
             Measurement::LedgerMiss => "ledger-miss",
+            Measurement::Check181 => "check-181",
+            Measurement::Check277 => "check-277",
+            Measurement::Check281 => "check-281",
+            Measurement::OverlayApply => "overlay-apply",
+            Measurement::PoolSubmit => "pool-submit",
         })
     }
 }

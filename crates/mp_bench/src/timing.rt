@@ -1,8 +1,9 @@
 //! The best of several rounds.
 
 use crate::measurement::Measurement;
+use crate::rules::Kind;
 use crate::transaction::{self, Sample};
-use crate::{ledger, ticket_list};
+use crate::{ledger, pool, rules, ticket_list};
 use anyhow::Result;
 use mp_memory::Memory;
 use std::fmt;
@@ -44,6 +45,11 @@ fn round(
         Measurement::OfParts181 => transaction::of_parts(clock, memory, size),
         Measurement::LedgerHit => ledger::hit(clock, memory, size),
         Measurement::LedgerMiss => ledger::miss(clock, memory, size),
+        Measurement::Check181 => rules::check_all(clock, memory, Kind::Plain, size),
+        Measurement::Check277 => rules::check_all(clock, memory, Kind::Signed, size),
+        Measurement::Check281 => rules::check_all(clock, memory, Kind::Scripted, size),
+        Measurement::OverlayApply => pool::apply_all(clock, memory, size),
+        Measurement::PoolSubmit => pool::submit_all(clock, memory, size),
     }
 }
 

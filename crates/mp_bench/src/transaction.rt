@@ -25,8 +25,8 @@ pub enum Sample {
     Scripted,
 }
 
-// True, and then so many times true and `And`: an expression as deep as it is long.
-fn script(memory: Memory, ands: u16) -> Result<Script, TxFault> {
+/// True, and then so many times true and `And`: an expression as deep as it is long.
+pub fn script(memory: Memory, ands: u16) -> Result<Script, TxFault> {
     let mut text = Vec::new(memory);
     text.push(0x01)?;
     for _ in 0..ands {
