@@ -17,12 +17,7 @@ struct Answered {
     answer: Result<Resolved, Invalid>,
 }
 
-fn look_twice(
-    memory: Memory,
-    tx: &Tx,
-    outputs: &[Output],
-    ledger: &Ledger,
-) -> Result<Answered> {
+fn look_twice(memory: Memory, tx: &Tx, outputs: &[Output], ledger: &Ledger) -> Result<Answered> {
     if outputs.len() != tx.inputs().len() + tx.references().len() {
         bail!("another number of outputs before")
     }
