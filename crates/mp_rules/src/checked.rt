@@ -52,12 +52,14 @@ impl Checked {
         }
     }
 
+    /// The first signature that isn't accepted, as a fault.
     pub(crate) fn signature(&self) -> Option<Invalid>
         ensures { result ≡ self.now.signature }
     {
         self.signature
     }
 
+    /// The first script that refuses, as a fault.
     pub(crate) fn script(&self) -> Option<Invalid>
         ensures { result ≡ self.now.script }
     {

@@ -45,7 +45,8 @@ fn is_carried(scripts: &[Script], policy: &PolicyId) -> bool
 }
 
 fn uncarried<'a>(scripts: &[Script], forged: &'a [Entry]) -> Option<&'a Entry>
-    ensures { option_copied result ≡ find (λ e. not (is_carried scripts.now e.0.policy)) forged.now }
+    ensures { option_copied result ≡
+        find (λ e. not (is_carried scripts.now e.0.policy)) forged.now }
 {
     forged
         .iter()

@@ -27,6 +27,7 @@ impl Model for Resolved {
 impl Resolved {
     ghost use Rattle.std.specs.Prelude.{◌≡◌, ◌≤◌, length};
 
+    /// These outputs, at most 256 of each.
     pub(crate) fn of(spent: Vec<Output, Memory>, referenced: Vec<Output, Memory>) -> Resolved
         requires spent { length spent.items ≤ 256 }
         requires referenced { length referenced.items ≤ 256 }

@@ -79,7 +79,7 @@ impl Overlay {
         &self.ledger
     }
 
-    // The output that may be spent under the reference.
+    /// The output that may be spent under the reference.
     pub(crate) fn find(&self, reference: &OutRef) -> Option<&Output>
         ensures { option_copied result ≡ unspent self.now reference.now }
     {
