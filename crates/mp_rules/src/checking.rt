@@ -123,7 +123,7 @@ fn refused_again(
 
 /// Whether the transaction is valid, as `check` says it, with what was found of its signatures and scripts before. All other
 /// rules are looked at anew. Scripts are run again only where the transaction names other outputs than those that they were
-/// run upon.
+/// run upon. The verifier isn't asked: it is named for whose signatures these are.
 ///
 /// # Errors
 /// As `check`.
