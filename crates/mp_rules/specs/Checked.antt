@@ -1,5 +1,5 @@
 -- What was found of a transaction's signatures and scripts before its other rules.
-use Rattle.std.specs.Prelude.{◌≡◌, List, [], ◌∷◌, length, take, drop, Option}
+use Rattle.std.specs.Prelude.{◌≡◌, List, [], ◌∷◌, length, take, drop, Option, None}
 use Rattle.mp_tx.specs.declared.output.Output.{Output}
 use Rattle.mp_tx.specs.Transaction.{Transaction}
 use Rattle.mp_rules.specs.declared.invalid.Invalid.{Invalid}
@@ -18,6 +18,14 @@ pub record Checked : Type 0 where
 -- the first script that refuses upon these outputs: validators come first
 unfoldable pub script_refused : Transaction → Resolved → Option Invalid
 script_refused t r = first_of (validator_refused t r ∷ policy_refused t r ∷ [])
+
+-- the verifier accepts all signatures
+abbrev pub IsSigned : Accepts → Transaction → Type 0
+IsSigned accepts t = bad_signature accepts t ≡ None
+
+-- all scripts accept upon these outputs
+abbrev pub ScriptsAccept : Transaction → Resolved → Type 0
+ScriptsAccept t r = script_refused t r ≡ None
 
 -- it is of this transaction, signatures included, and of this verifier
 pub record IsChecked (accepts : Accepts) (t : Transaction) (c : Checked) : Type 0 where

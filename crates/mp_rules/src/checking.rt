@@ -4,7 +4,7 @@ ghost use Rattle.std.specs.Prelude.{◌≡◌, None, IfOk, OnOk, IfErr, IsTrue};
 ghost use Rattle.mp_rules.specs.Resolved.{resolve};
 ghost use Rattle.mp_rules.specs.Validity.{IsValid};
 ghost use Rattle.mp_rules.specs.FirstFault.{first_fault, IsFaultOf};
-ghost use Rattle.mp_rules.specs.Checked.{IsChecked, script_refused};
+ghost use Rattle.mp_rules.specs.Checked.{IsChecked, IsSigned, ScriptsAccept, script_refused};
 ghost use Rattle.mp_rules.specs.Inside.Groups.{payment_fault, fault_on_map, Passes};
 
 use crate::balance::unbalanced;
@@ -74,6 +74,7 @@ pub fn check<U: Utxo, V: Verifier>(
     ensures valid { OnOk result (IsValid (V.accepts verifier.now) (U.map utxo.now) tick tx.now) }
     ensures clear { OnOk result
         (first_fault (V.accepts verifier.now) (U.map utxo.now) tick tx.now ≡ None) }
+    ensures scripts { IfOk result (ScriptsAccept tx.now) }
     ensures fault { IfErr result
         (IsFaultOf (V.accepts verifier.now) (U.map utxo.now) tick tx.now) }
 {
@@ -101,21 +102,21 @@ fn same_outputs<'a>(a: &'a [Output], b: &'a [Output]) -> bool
     true
 }
 
-// The first script that refuses, from what was found before where the outputs are the same.
+// The first script that refuses: the one that was found before, where the outputs are the same.
 fn refused_again(
     memory: Memory,
     tx: &Tx,
     resolved: &Resolved,
-    checked: &Checked,
+    before: &Resolved,
+    found: Option<Invalid>,
 ) -> Result<Option<Invalid>, NoMemory>
-    requires { checked.now.script ≡ script_refused tx.now checked.now.resolved }
+    requires { found ≡ script_refused tx.now before.now }
     ensures { IfOk result (λ fault. fault ≡ script_refused tx.now resolved.now) }
 {
-    let before = checked.resolved();
     if same_outputs(resolved.spent(), before.spent())
         && same_outputs(resolved.referenced(), before.referenced())
     {
-        Ok(checked.script())
+        Ok(found)
     } else {
         script_refused(memory, tx, resolved)
     }
@@ -140,6 +141,7 @@ pub fn check_with<U: Utxo, V: Verifier>(
     ensures valid { OnOk result (IsValid (V.accepts _verifier.now) (U.map utxo.now) tick tx.now) }
     ensures clear { OnOk result
         (first_fault (V.accepts _verifier.now) (U.map utxo.now) tick tx.now ≡ None) }
+    ensures scripts { IfOk result (ScriptsAccept tx.now) }
     ensures fault { IfErr result
         (IsFaultOf (V.accepts _verifier.now) (U.map utxo.now) tick tx.now) }
 {
@@ -147,7 +149,38 @@ pub fn check_with<U: Utxo, V: Verifier>(
     if let Some(fault) = checked.signature() {
         return Err(fault);
     }
-    if let Some(fault) = refused_again(memory, tx, &resolved, checked)? {
+    if let Some(fault) = refused_again(memory, tx, &resolved, checked.resolved(), checked.script())? {
+        return Err(fault);
+    }
+    Ok(resolved)
+}
+
+/// Whether the transaction, which was found valid before, still is, as `check` says it. No signature is looked at again, and
+/// scripts are run again only where it names other outputs than `before`, upon which they accepted. All other rules are looked
+/// at anew. The verifier isn't asked: it is named for whose signatures these are.
+///
+/// # Errors
+/// As `check`.
+pub fn recheck<U: Utxo, V: Verifier>(
+    memory: Memory,
+    tx: &Tx,
+    utxo: &U,
+    tick: u64,
+    before: &Resolved,
+    _verifier: &V,
+) -> Result<Resolved, Invalid>
+    requires signed { IsSigned (V.accepts _verifier.now) tx.now }
+    requires accepted { ScriptsAccept tx.now before.now }
+    ensures resolved { IfOk result (λ r. r ≡ resolve (U.map utxo.now) tx.now) }
+    ensures valid { OnOk result (IsValid (V.accepts _verifier.now) (U.map utxo.now) tick tx.now) }
+    ensures clear { OnOk result
+        (first_fault (V.accepts _verifier.now) (U.map utxo.now) tick tx.now ≡ None) }
+    ensures scripts { IfOk result (ScriptsAccept tx.now) }
+    ensures fault { IfErr result
+        (IsFaultOf (V.accepts _verifier.now) (U.map utxo.now) tick tx.now) }
+{
+    let resolved = check_on_map(memory, tx, utxo, tick)?;
+    if let Some(fault) = refused_again(memory, tx, &resolved, before, None)? {
         return Err(fault);
     }
     Ok(resolved)

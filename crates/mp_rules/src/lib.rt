@@ -16,7 +16,7 @@ mod signatures;
 mod verifier;
 
 pub use checked::{Checked, precheck};
-pub use checking::{check, check_with};
+pub use checking::{check, check_with, recheck};
 pub use invalid::Invalid;
 pub use resolved::Resolved;
 pub use verifier::Verifier;

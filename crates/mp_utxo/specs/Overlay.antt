@@ -28,9 +28,9 @@ pub record IsOver (ledger : LedgerState) (o : Overlay) : Type 0 where
   pub nothing : o.applied ≡ []
 
 -- the transaction can be applied without memory
-pub record HasRoomFor (o : Overlay) (t : Transaction) : Type 0 where
-  pub references : length t.inputs + length t.outputs ≤ o.room.references
-  pub transaction : 0 < o.room.transactions
+pub record HasRoomFor (room : Room) (t : Transaction) : Type 0 where
+  pub references : length t.inputs + length t.outputs ≤ room.references
+  pub transaction : 0 < room.transactions
 
 -- they differ in room alone
 pub record IsSame (old new : Overlay) : Type 0 where

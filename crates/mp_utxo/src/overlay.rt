@@ -96,7 +96,7 @@ impl Overlay {
     /// `NoMemory`, and then less room was taken, or none.
     pub fn reserve_for(&mut self, tx: &Tx) -> Result<(), NoMemory>
         ensures same { IsSame self.old self.new }
-        ensures room { OnOk result (HasRoomFor self.new tx.now) }
+        ensures room { OnOk result (HasRoomFor self.new.room tx.now) }
     {
         self.changes
             .reserve(tx.inputs().len() + tx.outputs().len())?;
@@ -107,7 +107,7 @@ impl Overlay {
     /// Takes out what the transaction spends, and puts in what it makes: its output k under its id and k. What it only looks
     /// at stays. It takes no memory and can't fail, as room for it was reserved.
     pub fn apply(&mut self, tx: Arc<Tx, Memory>)
-        requires { HasRoomFor self.old (arc_value tx) }
+        requires { HasRoomFor self.old.room (arc_value tx) }
         ensures { Applies self.old (arc_value tx) self.new }
     {
         let place = self.applied.len();

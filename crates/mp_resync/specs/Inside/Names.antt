@@ -1,0 +1,13 @@
+-- The table of the ids that are to be taken out.
+use Rattle.std.specs.Prelude.{◌≡◌, ℕ, nat_eq, List, is_some}
+use Rattle.std.specs.List.{list_any}
+use Rattle.std.specs.Cmp.Lexicographic.{pointwise}
+use Rattle.std.specs.Map.{lookup}
+use Rattle.mp_tx.specs.declared.reference.OutRef.{OutRef}
+use Rattle.mp_tx.specs.Reference.{same_ref}
+use Rattle.mp_resync.specs.ById.{key_of}
+
+-- an id stands in the table where it is one of these
+abbrev pub AreNamed : List (List ℕ) → List (OutRef × Unit {0}) → Type 0
+AreNamed ids named =
+    (id : List ℕ) → is_some (lookup (same_ref (key_of id)) named) ≡ list_any (λ n. pointwise nat_eq id n) ids

@@ -1,0 +1,20 @@
+-- What stands in a pool under a ticket.
+use Rattle.std.specs.Prelude.{ℕ, List, map}
+use Rattle.mp_tx.specs.Transaction.{Transaction}
+use Rattle.mp_rules.specs.Resolved.{Resolved}
+use Rattle.mp_rules.specs.Verifier.{Accepts}
+use Rattle.mp_rules.specs.Checked.{IsSigned, ScriptsAccept}
+
+pub record Item : Type 0 where
+  pub tx : Transaction
+  -- outputs that its scripts were run upon
+  pub resolved : Resolved
+
+-- what needn't be looked at again: its signatures, and its scripts as long as it names these outputs
+pub record IsVouched (accepts : Accepts) (i : Item) : Type 0 where
+  pub signed : IsSigned accepts i.tx
+  pub accepted : ScriptsAccept i.tx i.resolved
+
+-- each ticket with its transaction
+abbrev pub ticketed : List (ℕ × Item) → List (ℕ × Transaction)
+ticketed items = map (λ e. (e.0, e.1.tx)) items

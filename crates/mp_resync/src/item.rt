@@ -1,0 +1,24 @@
+//! What stands in a pool under a ticket.
+
+use mp_memory::Memory;
+use mp_rules::Resolved;
+use mp_tx::Tx;
+use std::marker::Model;
+use std::sync::Arc;
+
+/// A transaction that was found valid, and the outputs that it named then: upon them its scripts accepted.
+#[derive(Debug, Drop)]
+pub struct Item {
+    pub tx: Arc<Tx, Memory>,
+    pub resolved: Resolved,
+}
+
+impl Model for Item {
+    ghost use Rattle.mp_resync.specs.Item as told;
+
+    ghost Value = { told.Item };
+
+    ghost use Rattle.mp_resync.specs.Inside.Item.{item};
+
+    ghost view = { item };
+}

@@ -1,0 +1,13 @@
+//! What of a pool stays valid: when transactions are taken out by their ids, or upon another ledger state.
+#![tactic(auto)]
+
+mod by_id;
+mod item;
+mod kept;
+mod names;
+mod revalidation;
+
+pub use by_id::{ById, key_of};
+pub use item::Item;
+pub use kept::Kept;
+pub use revalidation::revalidate;

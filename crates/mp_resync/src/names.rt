@@ -1,0 +1,33 @@
+//! The ids of what is to be taken out.
+
+ghost use Rattle.std.specs.Prelude.{◌≡◌, IfOk, is_some};
+ghost use Rattle.std.specs.Map.{lookup};
+ghost use Rattle.mp_tx.specs.Reference.{same_ref};
+ghost use Rattle.mp_resync.specs.ById.{key_of};
+ghost use Rattle.mp_resync.specs.Inside.Names.{AreNamed};
+
+use crate::by_id::{ById, key_of};
+use indexmap::IndexMap;
+use mp_memory::{Memory, NoMemory};
+use mp_tx::{Salt, TxId};
+
+/// Ids in a table, so that none is looked for by a walk over them.
+pub type Names = ById<()>;
+
+/// A table of these ids.
+pub fn names_of(memory: Memory, salt: Salt, ids: &[TxId]) -> Result<Names, NoMemory>
+    ensures { IfOk result (λ names. AreNamed ids.now names.entries) }
+{
+    let mut names = IndexMap::with_capacity_and_hasher(memory, ids.len(), salt)?;
+    for id in ids {
+        names.insert(key_of(id), ())?;
+    }
+    Ok(names)
+}
+
+/// Whether the id is one of them.
+pub fn is_named(names: &Names, id: &TxId) -> bool
+    ensures { result ≡ is_some (lookup (same_ref (key_of id.now)) names.now.entries) }
+{
+    names.contains_key(&key_of(id))
+}
