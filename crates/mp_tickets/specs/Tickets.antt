@@ -1,8 +1,12 @@
 -- A ticket list: items under tickets that rise.
-use Rattle.std.specs.Prelude.{ℕ, ◌<◌, nat_lt, not, ◌==◌, List, [], ◌∷◌, Option}
-use Rattle.std.specs.List.{filter}
+use Rattle.std.specs.Prelude.{ℕ, ◌<◌, nat_lt, Bool, not, ◌==◌, List, [], ◌∷◌, Option}
+use Rattle.std.specs.List.{filter, list_any}
 use Rattle.std.specs.Map.{lookup}
 use Rattle.std.specs.Borrow.{Bor}
+
+-- whether the ticket is one of these
+abbrev pub has_ticket : List ℕ → ℕ → Bool
+has_ticket tickets ticket = list_any (λ t. t == ticket) tickets
 
 module _ {T : Type 0} where
   -- each ticket is greater than the one before, and the first than low
@@ -29,3 +33,7 @@ module _ {T : Type 0} where
   -- what a ticket and a `&` to its item show
   abbrev pub shown : ℕ × Bor T → ℕ × T
   shown e = (e.0, e.1.now)
+
+  -- the part of the list with these tickets
+  abbrev pub among : List ℕ → List (ℕ × T) → List (ℕ × T)
+  among tickets list = filter (λ e. has_ticket tickets e.0) list

@@ -8,7 +8,9 @@ mod list;
 mod node;
 mod node_store;
 mod raw_box;
+mod tickets;
 
 pub use iter::Iter;
 pub use list::TicketList;
 pub use node::{Node, make_node};
+pub use tickets::Tickets;
