@@ -1,3 +1,4 @@
+pub mod Distinct
 pub mod Submits
 pub mod Noting
 pub mod Histories

@@ -8,7 +8,8 @@ use Rattle.mp_tx.specs.Transaction.{Transaction}
 use Rattle.mp_tx.specs.Spelling.{id_of}
 use Rattle.mp_tx.specs.Reference.{same_ref}
 use Rattle.mp_seqpool.specs.SlowPool.{ticket_of}
-use Rattle.mp_seqpool.specs.Inside.Tickets.{Noted, noted_at, key_of, Notes, AreNoted}
+use Rattle.mp_resync.specs.ById.{key_of}
+use Rattle.mp_seqpool.specs.Inside.TicketsById.{Noted, noted_at, Notes, AreNoted}
 
 and_true : (b : Bool) → (b && true) ≡ b
 and_true true = refl

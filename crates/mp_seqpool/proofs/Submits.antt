@@ -1,48 +1,54 @@
 -- A submit, step by step.
-use Rattle.std.proofs.Common.{◌≡◌, ℕ, ◌+◌, ◌^◌, ◌-◌, ◌<◌, ◌≤◌, Bool, nat_le, nat_lt, true, false, cond, List, [], ◌∷◌, ◌++◌, refl, sym, ap, subst, ◌∙◌, arith}
-use Rattle.std.specs.Prelude.{Option, None, Some, Result, Ok, Err, is_ok, sum_by, All}
-use Rattle.std.specs.Arc.{arc_value}
+use Rattle.std.proofs.Common.{◌≡◌, ℕ, ◌+◌, ◌^◌, ◌-◌, ◌<◌, ◌≤◌, ◌≢◌, Bool, nat_le, nat_lt, true, false, cond, List, [], ◌∷◌, ◌++◌, refl, sym, ap, subst, ◌∙◌, arith}
+use Rattle.std.specs.Prelude.{Option, None, Some, Result, Ok, Err, is_ok, sum_by, map, All, AllPairs}
 use Rattle.std.proofs.lemmas.List.{map-append}
 use Rattle.std.proofs.lemmas.Grind.{common_steps}
-use Rattle.std.proofs.lemmas.List.Elements.{All-append, All-from_recursion}
+use Rattle.std.proofs.lemmas.List.Elements.{All-append, All-from_recursion, recursion_from_All, All-nil, All-cons, All-head, All-tail}
+use Rattle.std.proofs.lemmas.List.Quantifiers.{all_pairs_push}
 use Rattle.mp_tx.specs.Transaction.{Transaction}
 use Rattle.mp_tx.specs.Spelling.{id_of, size_of}
 use Rattle.mp_rules.specs.Verifier.{Accepts}
 use Rattle.mp_rules.specs.FirstFault.{first_fault}
-use Rattle.mp_seqpool.specs.declared.item.Item.{Item}
+use Rattle.mp_resync.specs.Item.{Item, ticketed}
+use Rattle.mp_resync.specs.Keep.{transactions, tickets}
 use Rattle.mp_seqpool.specs.declared.refusal.Refusal.{Refusal}
 use Rattle.mp_seqpool.specs.declared.refusal.Refusal.TheVariants as refusals
 use Rattle.mp_seqpool.specs.declared.command.Reply.{Reply}
 use Rattle.mp_seqpool.specs.declared.command.Reply.TheVariants.{Accepted}
 use Rattle.mp_seqpool.specs.declared.pool.SeqPool.TheInside.{Inside}
-use Rattle.mp_seqpool.specs.Inside.Item.{items_of}
-use Rattle.mp_seqpool.specs.Inside.Tickets.{Notes}
+use Rattle.mp_seqpool.specs.Inside.TicketsById.{Notes}
 use Rattle.mp_seqpool.specs.Inside.Place.{new_misplaced, misplaced}
 use Rattle.mp_seqpool.specs.Inside.Rules.{IsBrokenRule}
 use Rattle.mp_seqpool.specs.Inside.SeqPool.{state, IsCounted}
 use Rattle.mp_seqpool.specs.Command.{Submit}
-use Rattle.mp_seqpool.specs.Pool.{Pool, transactions, tickets}
-use Rattle.mp_seqpool.specs.SlowPool.{free_bytes, ticket_of, unspent, HasRoom, answer_rules, answer_new, answer, pool_with, next, IsRefused}
+use Rattle.mp_seqpool.specs.Pool.{Pool}
+use Rattle.mp_seqpool.specs.SlowPool.{free_bytes, ticket_of, unspent, HasPlace, answer_rules, answer_new, answer, pool_with, next, IsRefused}
+use Rattle.mp_rules.specs.Checked.{ScriptsAccept}
+use Rattle.mp_tickets.specs.Tickets.{IsRising}
+use Rattle.mp_tickets.proofs.Rising.{rising_push}
+use Rattle.mp_seqpool.proofs.Distinct.{absent as no_such_id}
 use Rattle.mp_seqpool.proofs.Noting.{keeps}
 
 -- ---- the items with one more
 
--- one more item is one more transaction under its ticket
-pub items_of-push : (items kept pushed : List Item) (ticket : ℕ) (t : Transaction) (item : Item) → kept ≡ items → pushed ≡ kept ++ item ∷ [] → item.ticket ≡ ticket → arc_value item.tx ≡ t → items_of pushed ≡ items_of items ++ (ticket, t) ∷ []
-items_of-push items kept pushed ticket t item same is k v =
-    ap items_of (is ∙ ap (λ l. l ++ item ∷ []) same) ∙ map-append (λ (i : Item). (i.ticket, arc_value i.tx)) items (item ∷ [])
-    ∙ ap (λ n. items_of items ++ (n, arc_value item.tx) ∷ []) k ∙ ap (λ x. items_of items ++ (ticket, x) ∷ []) v
+pub ticketed-push : (items : List (ℕ × Item)) (ticket : ℕ) (item : Item) → ticketed (items ++ (ticket, item) ∷ []) ≡ ticketed items ++ (ticket, item.tx) ∷ []
+ticketed-push items ticket item = map-append (λ (e : ℕ × Item). (e.0, e.1.tx)) items ((ticket, item) ∷ [])
 
 transactions-push : (items : List (ℕ × Transaction)) (ticket : ℕ) (t : Transaction) → transactions (items ++ (ticket, t) ∷ []) ≡ transactions items ++ t ∷ []
 transactions-push items ticket t = map-append (λ (i : ℕ × Transaction). i.1) items ((ticket, t) ∷ [])
 
+ids-push : (items : List (ℕ × Transaction)) (ticket : ℕ) (t : Transaction) → map id_of (transactions (items ++ (ticket, t) ∷ [])) ≡ map id_of (transactions items) ++ id_of t ∷ []
+ids-push items ticket t = ap (map id_of) (transactions-push items ticket t) ∙ map-append id_of (transactions items) (t ∷ [])
+
 sum-last : (ts : List Transaction) (t : Transaction) → sum_by size_of (ts ++ t ∷ []) ≡ sum_by size_of ts + size_of t
 sum-last ts t = Prim.grind (arith, common_steps)
 
-All-last : (P : ℕ → Type 0) (items : List (ℕ × Transaction)) (ticket : ℕ) (t : Transaction) → All P (tickets items) → P ticket → All P (tickets (items ++ (ticket, t) ∷ []))
-All-last P items ticket t all one =
-    subst (All P) (sym (map-append (λ (i : ℕ × Transaction). i.0) items ((ticket, t) ∷ [])))
-    (All-append P (tickets items) (ticket ∷ []) all (All-from_recursion P (ticket ∷ []) (one, tt)))
+All-push : {A : Type 0} (P : A → Type 0) (xs : List A) (x : A) → All P xs → P x → All P (xs ++ x ∷ [])
+All-push P xs x all one = All-append P xs (x ∷ []) all (All-from_recursion P (x ∷ []) (one, tt))
+
+tickets-last : (P : ℕ → Type 0) (items : List (ℕ × Transaction)) (ticket : ℕ) (t : Transaction) → All P (tickets items) → P ticket → All P (tickets (items ++ (ticket, t) ∷ []))
+tickets-last P items ticket t all one =
+    subst (All P) (sym (map-append (λ (i : ℕ × Transaction). i.0) items ((ticket, t) ∷ []))) (All-push P (tickets items) ticket all one)
 
 one_higher : (n k : ℕ) → k ≤ n → k ≤ n + 1
 one_higher n k le = omega arith
@@ -53,24 +59,42 @@ over_zero n = omega arith
 itself : (n : ℕ) → n ≤ n
 itself n = omega arith
 
+below_next : (k n : ℕ) → k ≤ n → k < n + 1
+below_next k n le = omega arith
+
+-- no ticket is above the last one, so each is below the next
+pub all_below : (n : ℕ) (items : List (ℕ × Item)) → All (λ k. k ≤ n) (tickets (ticketed items)) → All (λ e. e.0 < n + 1) items
+all_below n [] h = All-nil (λ (e : ℕ × Item). e.0 < n + 1)
+all_below n (e ∷ es) h =
+    All-cons (λ (e : ℕ × Item). e.0 < n + 1) e es (below_next e.0 n (All-head (λ k. k ≤ n) e.0 (tickets (ticketed es)) h))
+    (all_below n es (All-tail (λ k. k ≤ n) e.0 (tickets (ticketed es)) h))
+
 -- what the pool keeps beside is right with one more transaction too
-pub counted : (was new : Inside) (t : Transaction) → new.config ≡ was.config → new.overlay.applied ≡ was.overlay.applied ++ t ∷ [] → Notes was.tickets.entries (id_of t) (was.last + 1) new.tickets.entries
-    → items_of new.items.items ≡ items_of was.items.items ++ (was.last + 1, t) ∷ [] → new.last ≡ was.last + 1 → new.bytes ≡ was.bytes + size_of t → new.changes ≡ was.changes + 1
-    → ticket_of (id_of t) (items_of was.items.items) ≡ None → HasRoom (state was) t → IsCounted was → IsCounted new
-counted was new t config applied noted items last bytes changes absent room law =
-    let all : List (ℕ × Transaction) = items_of was.items.items ++ (was.last + 1, t) ∷ [] in
+pub counted : (was new : Inside) (item : Item) → new.config ≡ was.config → new.overlay.applied ≡ was.overlay.applied ++ item.tx ∷ [] → Notes was.tickets.entries (id_of item.tx) (was.last + 1) new.tickets.entries
+    → new.items ≡ was.items ++ (was.last + 1, item) ∷ [] → new.last ≡ was.last + 1 → new.bytes ≡ was.bytes + size_of item.tx → new.changes ≡ was.changes + 1
+    → ticket_of (id_of item.tx) (ticketed was.items) ≡ None → HasPlace (state was) item.tx → ScriptsAccept item.tx item.resolved → IsCounted was → IsCounted new
+counted was new item config applied noted is last bytes changes absent_there room accepted law =
+    let t : Transaction = item.tx in
+    let all : List (ℕ × Transaction) = ticketed was.items ++ (was.last + 1, t) ∷ [] in
+    let items : ticketed new.items ≡ all = ap ticketed is ∙ ticketed-push was.items (was.last + 1) item in
     let last_is : was.last + 1 ≡ new.last = sym last in
     record {
-      applied = applied ∙ ap (λ ts. ts ++ t ∷ []) law.applied ∙ sym (ap transactions items ∙ transactions-push (items_of was.items.items) (was.last + 1) t);
-      noted = λ id. keeps (items_of was.items.items) (was.last + 1) t was.tickets.entries new.tickets.entries absent noted law.noted id ∙ ap (ticket_of id) (sym items);
+      applied = applied ∙ ap (λ ts. ts ++ t ∷ []) law.applied ∙ sym (ap transactions items ∙ transactions-push (ticketed was.items) (was.last + 1) t);
+      noted = λ id. keeps (ticketed was.items) (was.last + 1) t was.tickets.entries new.tickets.entries absent_there noted law.noted id ∙ ap (ticket_of id) (sym items);
+      distinct = subst (λ l. AllPairs (λ a b. a ≢ b) (map id_of (transactions l))) (sym items)
+          (subst (AllPairs (λ a b. a ≢ b)) (sym (ids-push (ticketed was.items) (was.last + 1) t))
+          (all_pairs_push (λ a b. a ≢ b) (map id_of (transactions (ticketed was.items))) (id_of t) law.distinct (no_such_id (id_of t) (ticketed was.items) absent_there)));
+      accepted = subst (All (λ e. ScriptsAccept e.1.tx e.1.resolved)) (sym is)
+          (All-push (λ (e : ℕ × Item). ScriptsAccept e.1.tx e.1.resolved) was.items (was.last + 1, item) law.accepted accepted);
       bytes = bytes ∙ ap (λ n. n + size_of t) law.bytes
-          ∙ sym (ap (λ l. sum_by size_of (transactions l)) items ∙ ap (sum_by size_of) (transactions-push (items_of was.items.items) (was.last + 1) t) ∙ sum-last (transactions (items_of was.items.items)) t);
+          ∙ sym (ap (λ l. sum_by size_of (transactions l)) items ∙ ap (sum_by size_of) (transactions-push (ticketed was.items) (was.last + 1) t) ∙ sum-last (transactions (ticketed was.items)) t);
       most = let held = law.bytes in let within = room.bytes in omega arith;
       changes = let one = room.change in let limit : new.config.limit ≡ was.config.limit = ap (λ x. x.limit) config in omega arith;
-      above_zero = subst (λ l. All (λ k. 0 < k) (tickets l)) (sym items) (All-last (λ k. 0 < k) (items_of was.items.items) (was.last + 1) t law.above_zero (over_zero was.last));
+      rising = subst IsRising (sym is) (rising_push 0 was.items (was.last + 1, item) law.rising
+          (recursion_from_All (λ (e : ℕ × Item). e.0 < was.last + 1) was.items (all_below was.last was.items law.given)) (over_zero was.last));
       given = subst (λ l. All (λ k. k ≤ new.last) (tickets l)) (sym items)
           (subst (λ n. All (λ k. k ≤ n) (tickets all)) last_is
-          (All-last (λ k. k ≤ was.last + 1) (items_of was.items.items) (was.last + 1) t (λ k d lt. one_higher was.last _ (law.given k d lt)) (itself (was.last + 1))));
+          (tickets-last (λ k. k ≤ was.last + 1) (ticketed was.items) (was.last + 1) t (λ k d lt. one_higher was.last _ (law.given k d lt)) (itself (was.last + 1))));
     }
 
 -- ---- where there is a place
