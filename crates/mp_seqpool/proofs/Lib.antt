@@ -2,3 +2,5 @@ pub mod Distinct
 pub mod Submits
 pub mod Noting
 pub mod Histories
+pub mod Left
+pub mod Forgetting

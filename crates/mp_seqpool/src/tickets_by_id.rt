@@ -7,7 +7,7 @@ ghost use Rattle.mp_tickets.specs.Tickets.{among};
 ghost use Rattle.mp_resync.specs.ById.{key_of};
 ghost use Rattle.mp_resync.specs.Item.{ticketed};
 ghost use Rattle.mp_resync.specs.Keep.{transactions};
-ghost use Rattle.mp_seqpool.specs.Inside.TicketsById.{noted_at, Notes, AreNoted};
+ghost use Rattle.mp_seqpool.specs.Inside.TicketsById.{noted_at, Notes, Forgets, AreNoted};
 
 use indexmap::IndexMap;
 use mp_resync::{ById, Item, key_of};
@@ -34,6 +34,13 @@ pub fn note(tickets: &mut TicketsById, id: &TxId, ticket: u64)
     }
 }
 
+// Takes the ticket of the id out.
+fn forget(tickets: &mut TicketsById, id: &TxId)
+    ensures { Forgets tickets.old.entries id.now tickets.new.entries }
+{
+    let _ = tickets.swap_remove(&key_of(id));
+}
+
 /// Takes out the ids of the items that aren't kept, and counts the bytes of those that are.
 pub fn forget_others(tickets: &mut TicketsById, items: &TicketList<Item>, kept: &Tickets) -> u64
     requires noted { AreNoted (ticketed items.now) tickets.old.entries }
@@ -47,7 +54,7 @@ pub fn forget_others(tickets: &mut TicketsById, items: &TicketList<Item>, kept: 
         if kept.contains(ticket) {
             bytes += item.tx.size();
         } else {
-            let _ = tickets.swap_remove(&key_of(item.tx.id()));
+            forget(tickets, item.tx.id());
         }
     }
     bytes

@@ -1,5 +1,5 @@
 -- The table of tickets by ids.
-use Rattle.std.specs.Prelude.{◌≡◌, ℕ, List, Option, Some, if◌then◌else◌}
+use Rattle.std.specs.Prelude.{◌≡◌, ℕ, List, Option, None, Some, if◌then◌else◌}
 use Rattle.std.specs.Map.{lookup}
 use Rattle.mp_tx.specs.declared.reference.OutRef.{OutRef}
 use Rattle.mp_tx.specs.Reference.{same_ref}
@@ -18,6 +18,11 @@ noted_at noted r = lookup (same_ref r) noted
 abbrev pub Notes : Noted → List ℕ → ℕ → Noted → Type 0
 Notes old id ticket new =
     (r : OutRef) → noted_at new r ≡ (if same_ref (key_of id) r then Some ticket else noted_at old r)
+
+-- nothing is noted for the id, and what was stays at other references
+abbrev pub Forgets : Noted → List ℕ → Noted → Type 0
+Forgets old id new =
+    (r : OutRef) → noted_at new r ≡ (if same_ref (key_of id) r then None else noted_at old r)
 
 -- for each id that ticket is noted under which its transaction stands
 abbrev pub AreNoted : List (ℕ × Transaction) → Noted → Type 0

@@ -1,0 +1,26 @@
+use Rattle.std.proofs.Common.{◌<◌, ◌≤◌, refl, ap, subst, ◌∙◌}
+use Rattle.std.specs.Arc.{arc_value}
+use Rattle.mp_tickets.specs.Tickets.{IsRising}
+use Rattle.mp_resync.specs.Kept.{IsKeptOf}
+use Rattle.mp_seqpool.specs.Command.{Remove}
+use Rattle.mp_seqpool.specs.Pool.{Holding}
+use Rattle.mp_seqpool.proofs.Left.{rising_ticketed, ready_removed, full_removed}
+use Rattle.mp_seqpool.proofs.pool.SeqPool.prepare_remove.Goals as goal
+
+pub returns-then-self-clause-refused : goal.returns-then-self-clause-refused
+returns-then-self-clause-refused g c =
+    full_removed (g.V.Verifier.accepts c.args.verifier.now) c.args.self.now.pool (arc_value c.args.ids.now)
+    (subst (λ (h : Holding). h.pool.limit ≤ h.pool.changes) c.self.view_is c.if-self.true)
+
+pub returns-clause-ready : goal.returns-clause-ready
+returns-clause-ready g c =
+    let accepts = g.V.Verifier.accepts c.args.verifier.now in
+    let h = c.args.self.now in
+    let kept = c.in_ok-overlay.field-0 in
+    let named = c.as_slice.ensures ∙ c.deref.ensures in
+    ready_removed accepts h (arc_value c.args.ids.now) kept _
+    (subst (λ (h : Holding). h.pool.changes < h.pool.limit) c.self.view_is c.if-self.false)
+    (subst (λ (h : Holding). IsRising h.pool.items) c.self.view_is (rising_ticketed 0 c.self.inside.items c.self.invariant.rising))
+    (subst (λ ids. IsKeptOf accepts h.pool.ledger h.pool.items ids kept) named
+    (subst (λ l. IsKeptOf accepts l h.pool.items c.as_slice.result.now kept) (c.ledger.ensures ∙ ap (λ (h : Holding). h.pool.ledger) c.self.view_is) c.in_ok-overlay.ensures))
+    (ap Remove c.in_ok-try_clone.ensures) refl refl

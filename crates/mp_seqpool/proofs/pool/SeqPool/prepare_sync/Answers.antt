@@ -1,0 +1,23 @@
+use Rattle.std.proofs.Common.{◌<◌, ◌≤◌, refl, ap, subst}
+use Rattle.mp_tickets.specs.Tickets.{IsRising}
+use Rattle.mp_seqpool.specs.declared.command.Reply.TheVariants.{Synced}
+use Rattle.mp_seqpool.specs.Command.{Sync}
+use Rattle.mp_seqpool.specs.Pool.{Holding}
+use Rattle.mp_seqpool.proofs.Left.{rising_ticketed, ready_synced, full_synced}
+use Rattle.mp_seqpool.proofs.pool.SeqPool.prepare_sync.Goals as goal
+
+pub returns-then-self-clause-refused : goal.returns-then-self-clause-refused
+returns-then-self-clause-refused g c =
+    full_synced (g.V.Verifier.accepts c.args.verifier.now) c.args.self.now.pool c.args.ledger.now
+    (subst (λ (h : Holding). h.pool.limit ≤ h.pool.changes) c.self.view_is c.if-self.true)
+
+pub returns-clause-ready : goal.returns-clause-ready
+returns-clause-ready g c =
+    let accepts = g.V.Verifier.accepts c.args.verifier.now in
+    let h = c.args.self.now in
+    let kept = c.in_ok-overlay.field-0 in
+    ready_synced accepts h c.args.ledger.now kept _
+    (subst (λ (h : Holding). h.pool.changes < h.pool.limit) c.self.view_is c.if-self.false)
+    (subst (λ (h : Holding). IsRising h.pool.items) c.self.view_is (rising_ticketed 0 c.self.inside.items c.self.invariant.rising))
+    c.in_ok-overlay.ensures
+    (ap Sync c.in_ok-share.ensures) (ap (λ ts. Synced ts c.in_ok-overlay.field-0.dropped) c.in_ok-copy.ensures) refl
