@@ -1,12 +1,14 @@
 -- The first fault of a history.
-use Rattle.std.proofs.Common.{◌≡◌, ◌≢◌, ℕ, zero, suc, ◌+◌, ◌<◌, ◌≤◌, Bool, true, false, cond, List, [], ◌∷◌, length, get_or, take, refl, sym, ap, subst, ◌∙◌, arith, eqb-true, leb-true}
-use Rattle.std.specs.Prelude.{nat_le, Option, None, Some, Result, Ok, Err, IfErr, IsErrAnd}
+use Rattle.std.proofs.Common.{◌≡◌, ◌≢◌, ℕ, zero, suc, ◌+◌, ◌<◌, ◌≤◌, Bool, true, false, cond, ◌&&◌, List, [], ◌∷◌, length, get_or, take, refl, sym, ap, subst, ◌∙◌, arith, eqb-true, leb-true}
+use Rattle.std.specs.Prelude.{nat_le, nat_eq, Option, None, Some, Result, Ok, Err, IfErr, IsErrAnd}
 use Rattle.std.specs.Option.{option_or}
-use Rattle.std.proofs.lemmas.Bool.{eqb-false, leb-false}
+use Rattle.std.specs.Cmp.Derive.{both_true}
+use Rattle.std.specs.Cmp.Lexicographic.{pointwise, bytes_decides}
+use Rattle.std.proofs.lemmas.Bool.{leb-false}
 use Rattle.std.proofs.lemmas.Option.{same_Some}
 use Rattle.mp_rules.specs.Verifier.{Accepts}
 use Rattle.mp_seqpool.specs.declared.command.Reply.{Reply}
-use Rattle.mp_seqpool.specs.declared.command.Reply.TheVariants.{Accepted}
+use Rattle.mp_seqpool.specs.declared.command.Reply.TheVariants.{Accepted, Removed, Synced}
 use Rattle.mp_seqpool.specs.declared.refusal.Refusal.{Refusal}
 use Rattle.mp_seqpool.specs.Pool.{Pool}
 use Rattle.mp_seqpool.specs.SlowPool.{answer, next}
@@ -14,18 +16,45 @@ use Rattle.mp_history.specs.declared.fault.AuditFault.{AuditFault}
 use Rattle.mp_history.specs.declared.fault.AuditFault.TheVariants.{NoMemory, WrongReply, StrangeCaller}
 use Rattle.mp_history.specs.Entry.{Entry}
 use Rattle.mp_history.specs.Log.{IsRight, IsLegal, pool_of}
-use Rattle.mp_history.specs.AuditFault.{is_reply, entry_fault, fault_from, first_fault, IsFaultOf, IsWrongReply, IsStrangeCaller, IsFirstAt, IsFirstFault, IsIllegal}
+use Rattle.mp_history.specs.AuditFault.{same_reply, is_reply, entry_fault, fault_from, first_fault, IsFaultOf, IsWrongReply, IsStrangeCaller, IsFirstAt, IsFirstFault, IsIllegal}
+use Rattle.mp_history.proofs.Core.{both}
+use Rattle.mp_history.proofs.Law.{eqb-refl}
+
+same_tickets : (a b : List ℕ) → pointwise nat_eq a b ≡ true → a ≡ b
+same_tickets a b e = (bytes_decides a b).0 e
+
+same_pair : (a b c d : List ℕ) → (pointwise nat_eq a c && pointwise nat_eq b d) ≡ true → (a ≡ c) × (b ≡ d)
+same_pair a b c d e = let h = both (pointwise nat_eq a c) (pointwise nat_eq b d) e in (same_tickets a c h.0, same_tickets b d h.1)
+
+same_reply-true : (a b : Reply) → same_reply a b ≡ true → a ≡ b
+same_reply-true (Accepted a) (Accepted b) e = ap (λ k. Accepted k) (eqb-true a b e)
+same_reply-true (Removed a b) (Removed c d) e = let h = same_pair a b c d e in ap (λ x. Removed x b) h.0 ∙ ap (λ x. Removed c x) h.1
+same_reply-true (Synced a b) (Synced c d) e = let h = same_pair a b c d e in ap (λ x. Synced x b) h.0 ∙ ap (λ x. Synced c x) h.1
+same_reply-true (Accepted a) (Removed c d) e = Prim.cc
+same_reply-true (Accepted a) (Synced c d) e = Prim.cc
+same_reply-true (Removed a b) (Accepted c) e = Prim.cc
+same_reply-true (Removed a b) (Synced c d) e = Prim.cc
+same_reply-true (Synced a b) (Accepted c) e = Prim.cc
+same_reply-true (Synced a b) (Removed c d) e = Prim.cc
+
+equal : (a : List ℕ) → pointwise nat_eq a a ≡ true
+equal a = (bytes_decides a a).1 refl
+
+same_reply-itself : (a : Reply) → same_reply a a ≡ true
+same_reply-itself (Accepted a) = eqb-refl a
+same_reply-itself (Removed a b) = both_true (equal a) (equal b)
+same_reply-itself (Synced a b) = both_true (equal a) (equal b)
 
 is_reply-true : (a : Result Reply Refusal) (r : Reply) → is_reply a r ≡ true → a ≡ Ok r
-is_reply-true (Ok (Accepted a)) (Accepted b) e = ap (λ k. Ok (Accepted k)) (eqb-true a b e)
+is_reply-true (Ok given) r e = ap (λ x. Ok x) (same_reply-true given r e)
 is_reply-true (Err f) r e = Prim.cc
 
-abbrev ticket_in : Result Reply Refusal → ℕ
-ticket_in (Ok (Accepted k)) = k
-ticket_in (Err f) = 0
+abbrev reply_in : Reply → Result Reply Refusal → Reply
+reply_in other (Ok reply) = reply
+reply_in other (Err f) = other
 
 is_reply-false : (a : Result Reply Refusal) (r : Reply) → is_reply a r ≡ false → a ≢ Ok r
-is_reply-false (Ok (Accepted a)) (Accepted b) e = λ same. eqb-false a b e (ap ticket_in same)
+is_reply-false (Ok given) r e = λ same. let is = ap (same_reply given) (ap (reply_in given) same) in let itself = same_reply-itself given in Prim.cc
 is_reply-false (Err f) r e = λ same. Prim.cc
 
 abbrev place_of : AuditFault → ℕ

@@ -18,7 +18,7 @@ use Rattle.mp_history.specs.World.{Version, World, Event, opens, present, is_hol
 use Rattle.mp_history.specs.CoreLaw.{HasLock, IsCommit, IsAnswer, CoreLaw}
 use Rattle.mp_history.proofs.Core.{push-length, IsSound, sound-opens, sound-run, log-run, later-run, own-run}
 
-eqb-refl : (n : ℕ) → (n == n) ≡ true
+pub eqb-refl : (n : ℕ) → (n == n) ≡ true
 eqb-refl n = elim (n == n) as (λ b. (n == n) ≡ b → b ≡ true) [
   | true ↦ λ _. refl
   | false ↦ λ e. absurd (eqb-false n n e refl)

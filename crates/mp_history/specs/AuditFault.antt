@@ -1,9 +1,10 @@
 -- Which fault an audit finds in a history.
-use Rattle.std.specs.Prelude.{◌≡◌, ◌≢◌, ℕ, ◌+◌, ◌<◌, ◌≤◌, ◌==◌, nat_le, Bool, false, List, [], ◌∷◌, length, take, Option, None, Some, IfSome, slice_get, Result, Ok, Err, if◌then◌else◌}
+use Rattle.std.specs.Prelude.{◌≡◌, ◌≢◌, ℕ, ◌+◌, ◌<◌, ◌≤◌, ◌==◌, nat_eq, nat_le, Bool, false, ◌&&◌, List, [], ◌∷◌, length, take, Option, None, Some, IfSome, slice_get, Result, Ok, Err, if◌then◌else◌}
 use Rattle.std.specs.Option.{option_or}
+use Rattle.std.specs.Cmp.Lexicographic.{pointwise}
 use Rattle.mp_rules.specs.Verifier.{Accepts}
 use Rattle.mp_seqpool.specs.declared.command.Reply.{Reply}
-use Rattle.mp_seqpool.specs.declared.command.Reply.TheVariants.{Accepted}
+use Rattle.mp_seqpool.specs.declared.command.Reply.TheVariants.{Accepted, Removed, Synced}
 use Rattle.mp_seqpool.specs.declared.refusal.Refusal.{Refusal}
 use Rattle.mp_seqpool.specs.Pool.{Pool}
 use Rattle.mp_seqpool.specs.SlowPool.{answer, next}
@@ -12,8 +13,12 @@ use Rattle.mp_history.specs.declared.fault.AuditFault.TheVariants.{NoMemory, Wro
 use Rattle.mp_history.specs.Entry.{Entry}
 use Rattle.mp_history.specs.Log.{IsLegal, pool_of}
 
+-- of one kind, and with the same tickets
 abbrev pub same_reply : Reply → Reply → Bool
 same_reply (Accepted a) (Accepted b) = a == b
+same_reply (Removed named dropped) (Removed n d) = pointwise nat_eq named n && pointwise nat_eq dropped d
+same_reply (Synced kept dropped) (Synced k d) = pointwise nat_eq kept k && pointwise nat_eq dropped d
+same_reply _ _ = false
 
 -- the answer is this reply
 abbrev pub is_reply : Result Reply Refusal → Reply → Bool

@@ -12,9 +12,13 @@ pub struct Entry {
 }
 
 impl Model for Entry {
+    ghost use Rattle.std.specs.Coded.{codes};
+    ghost use Rattle.std.specs.FinMap as finite;
     ghost use Rattle.mp_history.specs.Entry as told;
 
     ghost Value = { told.Entry };
+
+    ghost coded = { Prim.hlevel (codes, finite.code) };
 
     ghost use Rattle.mp_history.specs.Inside.Entry.{entry_of};
 

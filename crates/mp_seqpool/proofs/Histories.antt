@@ -1,11 +1,10 @@
 -- The pool laws hold of every history.
-use Rattle.std.proofs.Common.{◌≡◌, ◌≢◌, ℕ, zero, suc, ◌+◌, ◌-◌, ◌^◌, ◌<◌, ◌≤◌, Bool, true, false, cond, List, [], ◌∷◌, ◌++◌, length, get_or, take, drop, refl, sym, ap, subst, ◌∙◌, arith}
-use Rattle.std.specs.Prelude.{Option, None, Some, Result, Ok, Err, is_ok, map, All, AllPairs, Contains, nat_le, nat_eq}
+use Rattle.std.proofs.Common.{◌≡◌, ◌≢◌, ℕ, zero, suc, ◌+◌, ◌-◌, ◌^◌, ◌<◌, ◌≤◌, Bool, true, false, cond, List, [], ◌∷◌, ◌++◌, take, drop, refl, sym, ap, subst, ◌∙◌, arith}
+use Rattle.std.specs.Prelude.{Option, None, Some, Result, Ok, Err, is_ok, map, All, AllPairs, Contains, nat_le}
 use Rattle.std.specs.List.Sorted.{IsStrictlyIncreasing}
-use Rattle.std.specs.Cmp.Lexicographic.{pointwise, bytes_decides}
 use Rattle.std.specs.FinMap.{get}
 use Rattle.std.proofs.lemmas.List.{map-append, get_or_default, take-append-drop}
-use Rattle.std.proofs.lemmas.List.Elements.{All-append, All-from_recursion}
+use Rattle.std.proofs.lemmas.List.Elements.{All-push}
 use Rattle.std.proofs.lemmas.List.Quantifiers.{all_pairs_push}
 use Rattle.std.proofs.lemmas.Grind.{common_steps}
 use Rattle.mp_tx.specs.Transaction.{Transaction}
@@ -17,14 +16,18 @@ use Rattle.mp_rules.specs.Verifier.{Accepts}
 use Rattle.mp_rules.specs.Validity.{IsValid, Chain}
 use Rattle.mp_rules.specs.FirstFault.{first_fault}
 use Rattle.mp_rules.proofs.Valid.{valid}
+use Rattle.mp_resync.specs.Keep.{transactions, tickets, unnamed, keep}
 use Rattle.mp_seqpool.specs.declared.refusal.Refusal.{Refusal}
 use Rattle.mp_seqpool.specs.declared.refusal.Refusal.TheVariants as refusals
 use Rattle.mp_seqpool.specs.declared.command.Reply.{Reply}
-use Rattle.mp_seqpool.specs.declared.command.Reply.TheVariants.{Accepted}
-use Rattle.mp_seqpool.specs.Command.{Command, Submit}
-use Rattle.mp_seqpool.specs.Pool.{Pool, transactions, tickets}
-use Rattle.mp_seqpool.specs.SlowPool.{IsRefused, empty_pool, unspent, ticket_of, answer_rules, answer_new, answer, pool_with, next, pool_after}
+use Rattle.mp_seqpool.specs.declared.command.Reply.TheVariants.{Accepted, Removed, Synced}
+use Rattle.mp_seqpool.specs.Command.{Command, Submit, Remove, Sync}
+use Rattle.mp_seqpool.specs.Pool.{Pool}
+use Rattle.mp_seqpool.specs.Config.{renewed}
+use Rattle.mp_seqpool.specs.SlowPool.{AreSigned, IsRefused, empty_pool, unspent, ticket_of, answer_rules, answer_new, answer, done, pool_with, pool_upon, next, pool_after}
 use Rattle.mp_seqpool.specs.PoolLaws.{IsLawful, Lasts, GivesNext, ObeysLaws}
+use Rattle.mp_seqpool.proofs.Distinct.{absent}
+use Rattle.mp_seqpool.proofs.Keeping.{IsOrderly, orderly-of, rising-of, above_zero-of, given-of, distinct-of, orderly-unnamed, All-unnamed, All-kept, orderly-kept, chain-kept, signed-chain}
 
 -- ---- numbers, lists and tests
 
@@ -34,19 +37,6 @@ not_refused false e r x h = h
 
 rising-append : (ks : List ℕ) (n : ℕ) → IsStrictlyIncreasing ks → All (λ k. k < n) ks → IsStrictlyIncreasing (ks ++ n ∷ [])
 rising-append ks n rise below = λ k lt. Prim.grind (arith, common_steps)
-
-All-push : {A : Type 0} (P : A → Type 0) (xs : List A) (x : A) → All P xs → P x → All P (xs ++ x ∷ [])
-All-push P xs x all one = All-append P xs (x ∷ []) all (All-from_recursion P (x ∷ []) (one, tt))
-
-missed : {A : Type 0} (b : Bool) (x : A) (o : Option A) → cond b (Some x) o ≡ None → (b ≡ false) × (o ≡ None)
-missed true x o e = Prim.cc
-missed false x o e = (refl, e)
-
--- an id that no item has stands nowhere among the ids
-absent : (id : List ℕ) (items : List (ℕ × Transaction)) → ticket_of id items ≡ None → (k : ℕ) (d : List ℕ) → k < length (map id_of (transactions items)) → get_or (map id_of (transactions items)) k d ≢ id
-absent id [] e k d lt = absurd (omega arith)
-absent id (i ∷ is) e zero d lt = λ same. let h = missed (pointwise nat_eq id (id_of i.1)) i.0 _ e in let k = (bytes_decides id (id_of i.1)).1 (sym same) in let f = h.0 in Prim.cc
-absent id (i ∷ is) e (suc k) d lt = absent id is (missed (pointwise nat_eq id (id_of i.1)) i.0 _ e).1 k d (omega arith)
 
 below_next : (a b : ℕ) → a ≤ b → a < b + 1
 below_next a b le = omega arith
@@ -84,6 +74,8 @@ by_rules p t (Some f) r h = Prim.cc
 
 abbrev ticket_in : Reply → ℕ
 ticket_in (Accepted k) = k
+ticket_in (Removed named dropped) = 0
+ticket_in (Synced kept dropped) = 0
 
 module _ (accepts : Accepts) where
   -- ---- what an accepted submit says
@@ -98,6 +90,14 @@ module _ (accepts : Accepts) where
   taken : (p : Pool) (t : Transaction) (r : Reply) → answer accepts p (Submit t) ≡ Ok r → (ticket_of (id_of t) p.items ≡ None) × IsClear p t × (r ≡ Accepted (p.last + 1))
   unfolding answer
   taken p t r h = new p t _ r (not_refused (nat_le (2 ^ 64 - 1) p.last) refusals.TicketsSpent _ r (not_refused (nat_le p.limit p.changes) refusals.HistoryFull _ r h))
+
+  not_removed : (p : Pool) (ids : List (List ℕ)) (k : ℕ) → answer accepts p (Remove ids) ≡ Ok (Accepted k) → ⊥
+  unfolding answer
+  not_removed p ids k h = let e = not_refused (nat_le p.limit p.changes) refusals.HistoryFull _ (Accepted k) h in Prim.cc
+
+  not_synced : (p : Pool) (ledger : LedgerState) (k : ℕ) → answer accepts p (Sync ledger) ≡ Ok (Accepted k) → ⊥
+  unfolding answer
+  not_synced p ledger k h = let e = not_refused (nat_le p.limit p.changes) refusals.HistoryFull _ (Accepted k) h in Prim.cc
 
   -- ---- each part of the law after one more transaction
 
@@ -123,30 +123,58 @@ module _ (accepts : Accepts) where
             (all_pairs_push (λ a b. a ≢ b) (map id_of (transactions p.items)) (id_of t) law.distinct (absent (id_of t) p.items is.0));
       }
 
+  -- ---- the law upon another ledger state
+
+  orderly : (p : Pool) → IsLawful accepts p → IsOrderly p.last p.items
+  orderly p law = orderly-of p.last p.items law.rising law.above_zero law.given law.distinct
+
+  -- what is kept of orderly items upon a ledger state
+  lawful-upon : (p : Pool) (ledger : LedgerState) (items : List (ℕ × Transaction)) → IsOrderly p.last items → IsLawful accepts (pool_upon p ledger (keep accepts ledger items))
+  lawful-upon p ledger items is =
+      let kept = orderly-kept accepts p.last (get ledger.utxo) ledger.tick items is in
+      record {
+        chained = chain-kept accepts (get ledger.utxo) ledger.tick items;
+        rising = rising-of p.last (keep accepts ledger items) kept;
+        above_zero = above_zero-of p.last (keep accepts ledger items) kept;
+        given = given-of p.last (keep accepts ledger items) kept;
+        distinct = distinct-of p.last (keep accepts ledger items) kept;
+      }
+
+  lawful-done : (p : Pool) (c : Command) (r : Reply) → IsLawful accepts p → answer accepts p c ≡ Ok r → IsLawful accepts (done accepts p c)
+  lawful-done p (Submit t) r law e = lawful-accepted p t r law e
+  lawful-done p (Remove ids) r law e = lawful-upon p p.ledger (unnamed ids p.items) (orderly-unnamed p.last ids p.items (orderly p law))
+  lawful-done p (Sync ledger) r law e = lawful-upon p ledger p.items (orderly p law)
+
   -- ---- the laws along a history
 
-  unfold_next : (p : Pool) (t : Transaction) → next accepts p (Submit t) ≡ cond (is_ok (answer accepts p (Submit t))) (pool_with p t) p
+  unfold_next : (p : Pool) (c : Command) → next accepts p c ≡ cond (is_ok (answer accepts p c)) (done accepts p c) p
   unfolding next
-  unfold_next p t = refl
+  unfold_next p c = refl
 
-  next_is : (p : Pool) (t : Transaction) (a : Result Reply Refusal) → answer accepts p (Submit t) ≡ a → next accepts p (Submit t) ≡ cond (is_ok a) (pool_with p t) p
-  next_is p t a e = unfold_next p t ∙ ap (λ b. cond (is_ok b) (pool_with p t) p) e
+  next_is : (p : Pool) (c : Command) (a : Result Reply Refusal) → answer accepts p c ≡ a → next accepts p c ≡ cond (is_ok a) (done accepts p c) p
+  next_is p c a e = unfold_next p c ∙ ap (λ b. cond (is_ok b) (done accepts p c) p) e
 
-  -- a fact of a state that refusals keep and accepted submits keep
-  kept : (P : Pool → Type 0) (p : Pool) (t : Transaction) (a : Result Reply Refusal) → answer accepts p (Submit t) ≡ a → P p → ((r : Reply) → answer accepts p (Submit t) ≡ Ok r → P (pool_with p t)) → P (next accepts p (Submit t))
-  kept P p t (Ok r) e old new = subst P (sym (next_is p t (Ok r) e)) (new r e)
-  kept P p t (Err f) e old new = subst P (sym (next_is p t (Err f) e)) old
+  -- a fact of a state that refusals keep and commands that are done keep
+  kept : (P : Pool → Type 0) (p : Pool) (c : Command) (a : Result Reply Refusal) → answer accepts p c ≡ a → P p → ((r : Reply) → answer accepts p c ≡ Ok r → P (done accepts p c)) → P (next accepts p c)
+  kept P p c (Ok r) e old new = subst P (sym (next_is p c (Ok r) e)) (new r e)
+  kept P p c (Err f) e old new = subst P (sym (next_is p c (Err f) e)) old
 
   pub lawful-next : (p : Pool) (c : Command) → IsLawful accepts p → IsLawful accepts (next accepts p c)
-  lawful-next p (Submit t) law = kept (IsLawful accepts) p t _ refl law (λ r e. lawful-accepted p t r law e)
+  lawful-next p c law = kept (IsLawful accepts) p c (answer accepts p c) refl law (λ r e. lawful-done p c r law e)
 
-  lawful-after : (p : Pool) (cs : List Command) → IsLawful accepts p → IsLawful accepts (pool_after accepts p cs)
+  pub lawful-after : (p : Pool) (cs : List Command) → IsLawful accepts p → IsLawful accepts (pool_after accepts p cs)
   lawful-after p [] law = law
   lawful-after p (c ∷ cs) law = lawful-after (next accepts p c) cs (lawful-next p c law)
 
-  follows-next : (p q : Pool) (c : Command) → Follows p q → Follows p (next accepts q c)
+  follows-done : (p q : Pool) (c : Command) → Follows p q → Follows p (done accepts q c)
   unfolding Follows
-  follows-next p q (Submit t) f = kept (Follows p) q t _ refl f (λ r e. (higher p.last q.last f.0, All-push (λ i. i.0 ≤ p.last → Contains p.items i) q.items (q.last + 1, t) f.1 (λ le. absurd (too_late p.last q.last f.0 le))))
+  follows-done p q (Submit t) f = (higher p.last q.last f.0, All-push (λ i. i.0 ≤ p.last → Contains p.items i) q.items (q.last + 1, t) f.1 (λ le. absurd (too_late p.last q.last f.0 le)))
+  follows-done p q (Remove ids) f =
+      (f.0, All-kept accepts (λ i. i.0 ≤ p.last → Contains p.items i) (get q.ledger.utxo) q.ledger.tick (unnamed ids q.items) (All-unnamed (λ i. i.0 ≤ p.last → Contains p.items i) ids q.items f.1))
+  follows-done p q (Sync ledger) f = (f.0, All-kept accepts (λ i. i.0 ≤ p.last → Contains p.items i) (get ledger.utxo) ledger.tick q.items f.1)
+
+  follows-next : (p q : Pool) (c : Command) → Follows p q → Follows p (next accepts q c)
+  follows-next p q c f = kept (Follows p) q c (answer accepts q c) refl f (λ r e. follows-done p q c f)
 
   follows-after : (p q : Pool) (cs : List Command) → Follows p q → Follows p (pool_after accepts q cs)
   follows-after p q [] f = f
@@ -162,10 +190,13 @@ module _ (accepts : Accepts) where
       let q = pool_after accepts p (take m cs) in
       subst (Lasts q) (sym (ap (pool_after accepts p) (sym (take-append-drop m (take n cs)) ∙ ap (λ r. r ++ drop m (take n cs)) (take-within m n cs le)) ∙ pool_after-append p (take m cs) (drop m (take n cs)))) (follows-after q q (drop m (take n cs)) (follows_itself q)).1
 
+  -- only a submit gives a ticket
   gives_next : (p : Pool) (c : Command) → GivesNext accepts p c
   gives_next p (Submit t) k e =
       let is : k ≡ p.last + 1 = ap ticket_in (taken p t (Accepted k) e).2 in
-      (is, ap (λ (q : Pool). q.last) (next_is p t (Ok (Accepted k)) e) ∙ sym is)
+      (is, ap (λ (q : Pool). q.last) (next_is p (Submit t) (Ok (Accepted k)) e) ∙ sym is)
+  gives_next p (Remove ids) k e = absurd (not_removed p ids k e)
+  gives_next p (Sync ledger) k e = absurd (not_synced p ledger k e)
 
   pub obeys : (p : Pool) (cs : List Command) → IsLawful accepts p → ObeysLaws accepts p cs
   obeys p cs law = record {
@@ -184,8 +215,19 @@ module _ (accepts : Accepts) where
 
   -- a refusal changes nothing
   pub next-refused : (p : Pool) (c : Command) (f : Refusal) → answer accepts p c ≡ Err f → next accepts p c ≡ p
-  next-refused p (Submit t) f e = next_is p t (Err f) e
+  next-refused p c f e = next_is p c (Err f) e
 
   -- every history from an opening with no transaction
   pub obeys-empty : (limit last : ℕ) (ledger : LedgerState) (cs : List Command) → ObeysLaws accepts (empty_pool limit last ledger) cs
   obeys-empty limit last ledger cs = obeys (empty_pool limit last ledger) cs (lawful-empty limit last ledger)
+
+  -- all signatures in a lawful pool are accepted
+  pub signed : (p : Pool) → IsLawful accepts p → AreSigned accepts p
+  signed p law = signed-chain accepts (get p.ledger.utxo) p.ledger.tick (transactions p.items) law.chained
+
+  pub signed-after : (limit last : ℕ) (ledger : LedgerState) (cs : List Command) → AreSigned accepts (pool_after accepts (empty_pool limit last ledger) cs)
+  signed-after limit last ledger cs = signed (pool_after accepts (empty_pool limit last ledger) cs) (lawful-after (empty_pool limit last ledger) cs (lawful-empty limit last ledger))
+
+  -- a lawful pool may open anew with what it holds
+  pub lawful-renewed : (limit : ℕ) (p : Pool) → IsLawful accepts p → IsLawful accepts (renewed limit p)
+  lawful-renewed limit p law = record { chained = law.chained; rising = law.rising; above_zero = law.above_zero; given = law.given; distinct = law.distinct }
