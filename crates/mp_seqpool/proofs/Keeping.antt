@@ -26,19 +26,19 @@ AllPairs-head R x xs pairs k d lt = pairs zero (suc k) d (omega arith) (omega ar
 AllPairs-tail : {A : Type 0} (R : A → A → Type 0) (x : A) (xs : List A) → AllPairs R (x ∷ xs) → AllPairs R xs
 AllPairs-tail R x xs pairs i j d lt within = pairs (suc i) (suc j) d (omega arith) (omega arith)
 
-All-unmap : {A B : Type 0} (f : A → B) (P : B → Type 0) (xs : List A) → All P (map f xs) → All (λ x. P (f x)) xs
+pub All-unmap : {A B : Type 0} (f : A → B) (P : B → Type 0) (xs : List A) → All P (map f xs) → All (λ x. P (f x)) xs
 All-unmap f P [] all = All-nil (λ x. P (f x))
 All-unmap f P (x ∷ xs) all =
     All-cons (λ x. P (f x)) x xs (All-head P (f x) (map f xs) all) (All-unmap f P xs (All-tail P (f x) (map f xs) all))
 
-AllPairs-map : {A B : Type 0} (f : A → B) (R : B → B → Type 0) (xs : List A) → AllPairs (λ x y. R (f x) (f y)) xs → AllPairs R (map f xs)
+pub AllPairs-map : {A B : Type 0} (f : A → B) (R : B → B → Type 0) (xs : List A) → AllPairs (λ x y. R (f x) (f y)) xs → AllPairs R (map f xs)
 AllPairs-map f R [] pairs = AllPairs-nil R
 AllPairs-map f R (x ∷ xs) pairs =
     AllPairs-cons R (f x) (map f xs)
     (All-map (R (f x)) f xs (AllPairs-head (λ x y. R (f x) (f y)) x xs pairs))
     (AllPairs-map f R xs (AllPairs-tail (λ x y. R (f x) (f y)) x xs pairs))
 
-AllPairs-unmap : {A B : Type 0} (f : A → B) (R : B → B → Type 0) (xs : List A) → AllPairs R (map f xs) → AllPairs (λ x y. R (f x) (f y)) xs
+pub AllPairs-unmap : {A B : Type 0} (f : A → B) (R : B → B → Type 0) (xs : List A) → AllPairs R (map f xs) → AllPairs (λ x y. R (f x) (f y)) xs
 AllPairs-unmap f R [] pairs = AllPairs-nil (λ x y. R (f x) (f y))
 AllPairs-unmap f R (x ∷ xs) pairs =
     AllPairs-cons (λ x y. R (f x) (f y)) x xs

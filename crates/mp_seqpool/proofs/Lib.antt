@@ -5,3 +5,5 @@ pub mod Keeping
 pub mod Histories
 pub mod Left
 pub mod Forgetting
+pub mod Staying
+pub mod Answering
