@@ -3,11 +3,13 @@ use Rattle.std.proofs.Common.{◌≡◌, ℕ, suc, ◌+◌, ◌<◌, true, false
 use Rattle.std.specs.Prelude.{◌==◌, None, Some, option_map}
 use Rattle.std.specs.Option.{option_or}
 use Rattle.std.proofs.lemmas.List.{take_more}
+use Rattle.mp_tx.specs.Ledger.{LedgerState}
 use Rattle.mp_rules.specs.Verifier.{Accepts}
 use Rattle.mp_seqpool.specs.Pool.{Pool}
-use Rattle.mp_seqpool.specs.SlowPool.{next}
+use Rattle.mp_seqpool.specs.SlowPool.{AreSigned, empty_pool, next}
+use Rattle.mp_seqpool.proofs.Histories.{signed-after}
 use Rattle.mp_history.specs.Entry.{Entry}
-use Rattle.mp_history.specs.Log.{IsRight, IsLegal, pool_of, last_of}
+use Rattle.mp_history.specs.Log.{commands, IsRight, IsLegal, pool_of, last_of}
 
 -- where the log ends with the caller's entry, that is its last one
 pub last_of-own : (caller : ℕ) (log : List Entry) (d : Entry) → (caller == d.caller) ≡ true → last_of caller (log ++ d ∷ []) ≡ Some (length log)
@@ -38,3 +40,7 @@ module _ (accepts : Accepts) where
         subst (IsLegal accepts callers p) (sym more) (legal-append callers p (take place log) d so_far.0 (subst (λ s. IsRight accepts callers s d) so_far.1 right)),
         is ∙ ap (λ s. next accepts s d.command) so_far.1 ∙ sym (pool_of-append p (take place log) d) ∙ ap (pool_of accepts p) (sym more),
       )
+
+  -- all signatures in the pool after a log are accepted
+  pub signed-of : (limit last : ℕ) (ledger : LedgerState) (p : Pool) (log : List Entry) → p ≡ pool_of accepts (empty_pool limit last ledger) log → AreSigned accepts p
+  signed-of limit last ledger p log is = subst (AreSigned accepts) (sym is) (signed-after accepts limit last ledger (commands log))

@@ -2,7 +2,7 @@
 
 ghost use Rattle.std.specs.Prelude.{◌≡◌, ◌≢◌, Some, IfOk, OnOk, IfErr};
 ghost use Rattle.mp_seqpool.specs.Config.{fresh_pool};
-ghost use Rattle.mp_seqpool.specs.SlowPool.{next};
+ghost use Rattle.mp_seqpool.specs.SlowPool.{AreSigned, next};
 ghost use Rattle.mp_history.specs.Log.{IsRight, IsLegal, pool_of};
 ghost use Rattle.mp_history.specs.AuditFault.{entry_fault, IsFaultOf, IsIllegal};
 ghost use Rattle.mp_history.specs.declared.fault.AuditFault.TheVariants as faults;
@@ -21,11 +21,13 @@ fn replay<V: Verifier>(
     entry: &Entry,
     verifier: &V,
 ) -> Result<(), AuditFault>
-    ensures right { OnOk result (IsRight (V.accepts verifier.now) callers pool.old entry.now) }
+    requires { AreSigned (V.accepts verifier.now) pool.old.pool }
+    ensures right { OnOk result
+        (IsRight (V.accepts verifier.now) callers pool.old.pool entry.now) }
     ensures next { OnOk result
-        (pool.new ≡ next (V.accepts verifier.now) pool.old entry.now.command) }
+        (pool.new.pool ≡ next (V.accepts verifier.now) pool.old.pool entry.now.command) }
     ensures fault { IfErr result (λ fault. fault ≢ faults.NoMemory
-        → entry_fault (V.accepts verifier.now) callers pool.old place entry.now ≡ Some fault) }
+        → entry_fault (V.accepts verifier.now) callers pool.old.pool place entry.now ≡ Some fault) }
 {
     if entry.caller >= callers {
         return Err(AuditFault::StrangeCaller(place));
@@ -58,7 +60,7 @@ pub fn audit<V: Verifier>(
 ) -> Result<SeqPool, AuditFault>
     ensures legal { OnOk result
         (IsLegal (V.accepts verifier.now) callers (fresh_pool config ledger.now) entries.now) }
-    ensures pool { IfOk result (λ pool. pool
+    ensures pool { IfOk result (λ pool. pool.pool
         ≡ pool_of (V.accepts verifier.now) (fresh_pool config ledger.now) entries.now) }
     ensures fault { IfErr result
         (IsFaultOf (V.accepts verifier.now) callers (fresh_pool config ledger.now) entries.now) }

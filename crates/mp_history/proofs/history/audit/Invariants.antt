@@ -7,4 +7,4 @@ use Rattle.mp_history.proofs.history.audit.Given as goal
 abbrev pub invariant-loop-place : goal.invariant-loop-place
 invariant-loop-place g l =
     IsLegal (g.V.Verifier.accepts l.verifier) l.fn.callers (empty_pool l.fn.config.limit l.fn.config.last l.fn.ledger) (take l.place l.entries)
-    × (l.pool ≡ pool_of (g.V.Verifier.accepts l.verifier) (empty_pool l.fn.config.limit l.fn.config.last l.fn.ledger) (take l.place l.entries))
+    × (l.pool.pool ≡ pool_of (g.V.Verifier.accepts l.verifier) (empty_pool l.fn.config.limit l.fn.config.last l.fn.ledger) (take l.place l.entries))
