@@ -11,3 +11,4 @@ pub mod Rising
 pub mod Seeks
 pub mod Follows
 pub mod Listed
+pub mod Searched

@@ -1,7 +1,4 @@
 //! Lists of tickets.
-
-ghost use Rattle.std.specs.List.Sorted.{IsStrictlyIncreasing};
-
 use mp_memory::{Memory, NoMemory};
 use std::marker::Model;
 
@@ -13,6 +10,7 @@ pub struct Tickets {
 
 impl Model for Tickets {
     ghost use Rattle.std.specs.Prelude.{ℕ, List};
+    ghost use Rattle.std.specs.List.Sorted.{IsStrictlyIncreasing};
 
     ghost Value = { List ℕ };
 
@@ -23,6 +21,7 @@ impl Model for Tickets {
 
 impl Tickets {
     ghost use Rattle.std.specs.Prelude.{◌≡◌, ◌<◌, [], ◌∷◌, ◌++◌, All, IfOk, OnOk, OnErr};
+    ghost use Rattle.std.specs.List.Sorted.{IsStrictlyIncreasing};
     ghost use Rattle.mp_tickets.specs.Tickets.{has_ticket};
 
     /// No tickets. It takes no memory.
@@ -51,8 +50,8 @@ impl Tickets {
     pub fn copy(&self) -> Result<Tickets, NoMemory>
         ensures { IfOk result (λ t. t ≡ self.now) }
     {
-        let mut tickets = Vec::with_capacity(self.tickets.allocator(), self.tickets.len())?;
-        tickets.extend_from_slice(&self.tickets)?;
+        let memory = *self.tickets.allocator();
+        let tickets = Vec::from_slice(memory, &self.tickets)?;
         Ok(Tickets { tickets })
     }
 
@@ -70,4 +69,25 @@ impl Tickets {
     {
         self.tickets.binary_search(&ticket).is_ok()
     }
+}
+
+impl PartialEq for Tickets {
+    ghost use Rattle.std.proofs.Common.{rules};
+    ghost use Rattle.std.proofs.lemmas.Grind.{common_steps};
+    ghost use Rattle.std.specs.Bool.{nat_eq};
+    ghost use Rattle.std.specs.Cmp.Lexicographic.{pointwise};
+
+    ghost eq = { pointwise nat_eq };
+
+    ghost laws = { Prim.search (rules, common_steps) };
+
+    fn eq(&self, other: &Tickets) -> bool {
+        self.tickets == other.tickets
+    }
+}
+
+impl Eq for Tickets {
+    ghost use Rattle.std.proofs.lemmas.Cmp.{nat_list_eq_equiv};
+
+    ghost laws = { nat_list_eq_equiv };
 }
