@@ -1,7 +1,7 @@
 -- What only the crate's own clauses, views and invariants cite.
 pub mod Command
-pub mod Item
-pub mod Tickets
+pub mod Change
+pub mod TicketsById
 pub mod Place
 pub mod Rules
 pub mod SeqPool

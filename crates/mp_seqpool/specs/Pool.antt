@@ -1,7 +1,8 @@
 -- The state of a pool.
-use Rattle.std.specs.Prelude.{ℕ, List, map}
+use Rattle.std.specs.Prelude.{ℕ, List}
 use Rattle.mp_tx.specs.Transaction.{Transaction}
 use Rattle.mp_tx.specs.Ledger.{LedgerState}
+use Rattle.mp_utxo.specs.Overlay.{Room}
 
 pub record Pool : Type 0 where
   -- the adopted ledger state
@@ -17,8 +18,7 @@ pub record Pool : Type 0 where
   -- the last ticket at the opening
   pub opening_ticket : ℕ
 
-abbrev pub transactions : List (ℕ × Transaction) → List Transaction
-transactions items = map (λ i. i.1) items
-
-abbrev pub tickets : List (ℕ × Transaction) → List ℕ
-tickets items = map (λ i. i.0) items
+-- A pool with the room that it has: a step that was prepared needs it.
+pub record Holding : Type 0 where
+  pub pool : Pool
+  pub room : Room

@@ -1,6 +1,6 @@
 -- The slow pool: a list and a map. It computes everything anew from the ledger at each question.
 -- It follows the Mempool API of ouroboros-consensus.
-use Rattle.std.specs.Prelude.{◌≡◌, ℕ, ◌+◌, ◌*◌, ◌-◌, ◌^◌, ◌<◌, ◌≤◌, nat_eq, nat_le, nat_lt, List, [], ◌∷◌, ◌++◌, sum_by, Option, None, Some, Result, Ok, Err, is_ok, if◌then◌else◌}
+use Rattle.std.specs.Prelude.{◌≡◌, ℕ, ◌+◌, ◌*◌, ◌-◌, ◌^◌, ◌<◌, ◌≤◌, nat_eq, nat_le, nat_lt, Bool, List, [], ◌∷◌, ◌++◌, sum_by, All, Option, None, Some, Result, Ok, Err, is_ok, if◌then◌else◌}
 use Rattle.std.specs.Cmp.Lexicographic.{pointwise}
 use Rattle.std.specs.FinMap.{get}
 use Rattle.mp_tx.specs.Transaction.{Transaction}
@@ -10,12 +10,14 @@ use Rattle.mp_utxo.specs.Apply.{Unspent, after}
 use Rattle.mp_rules.specs.declared.invalid.Invalid.{Invalid}
 use Rattle.mp_rules.specs.Verifier.{Accepts}
 use Rattle.mp_rules.specs.FirstFault.{first_fault}
+use Rattle.mp_rules.specs.Checked.{IsSigned}
+use Rattle.mp_resync.specs.Keep.{transactions, tickets, named, unnamed, keep, dropped}
 use Rattle.mp_seqpool.specs.declared.refusal.Refusal.{Refusal}
 use Rattle.mp_seqpool.specs.declared.refusal.Refusal.TheVariants as refusals
 use Rattle.mp_seqpool.specs.declared.command.Reply.{Reply}
-use Rattle.mp_seqpool.specs.declared.command.Reply.TheVariants.{Accepted}
-use Rattle.mp_seqpool.specs.Command.{Command, Submit}
-use Rattle.mp_seqpool.specs.Pool.{Pool, transactions}
+use Rattle.mp_seqpool.specs.declared.command.Reply.TheVariants.{Accepted, Removed, Synced}
+use Rattle.mp_seqpool.specs.Command.{Command, Submit, Remove, Sync}
+use Rattle.mp_seqpool.specs.Pool.{Pool}
 
 -- what may be spent after all transactions of the pool
 abbrev pub unspent : Pool → Unspent
@@ -33,6 +35,10 @@ abbrev pub ticket_of : List ℕ → List (ℕ × Transaction) → Option ℕ
 ticket_of id [] = None
 ticket_of id (i ∷ is) = if pointwise nat_eq id (id_of i.1) then Some i.0 else ticket_of id is
 
+-- as many changes were made as there may be
+abbrev pub is_at_limit : Pool → Bool
+is_at_limit p = nat_le p.limit p.changes
+
 abbrev pub answer_rules : Pool → Transaction → Option Invalid → Result Reply Refusal
 answer_rules p t None = Ok (Accepted (p.last + 1))
 answer_rules p t (Some fault) = Err (refusals.Invalid fault)
@@ -41,8 +47,12 @@ answer_rules p t (Some fault) = Err (refusals.Invalid fault)
 abbrev pub pool_with : Pool → Transaction → Pool
 pool_with p t = record p { items = p.items ++ (p.last + 1, t) ∷ []; last = p.last + 1; changes = p.changes + 1 }
 
+-- these items upon this ledger state; the last ticket stays
+abbrev pub pool_upon : Pool → LedgerState → List (ℕ × Transaction) → Pool
+pool_upon p ledger items = record p { ledger = ledger; items = items; changes = p.changes + 1 }
+
 -- the pool can count one more transaction
-pub record HasRoom (p : Pool) (t : Transaction) : Type 0 where
+pub record HasPlace (p : Pool) (t : Transaction) : Type 0 where
   -- there is a next ticket
   pub ticket : p.last < 2 ^ 64 - 1
   -- one more change may be made
@@ -61,22 +71,45 @@ empty_pool limit last ledger = record { ledger = ledger; items = []; last = last
 
 -- The verifier decides which signatures are good.
 module _ (accepts : Accepts) where
+  -- it accepts all signatures in the pool
+  abbrev pub AreSigned : Pool → Type 0
+  AreSigned p = All (IsSigned accepts) (transactions p.items)
+
   abbrev pub answer_new : Pool → Transaction → Option ℕ → Result Reply Refusal
   answer_new p t None =
       if nat_lt (free_bytes p) (size_of t) then Err (refusals.Full (size_of t) (free_bytes p))
       else answer_rules p t (first_fault accepts (unspent p) p.ledger.tick t)
   answer_new p t (Some ticket) = Err (refusals.AlreadyInPool ticket)
 
+  -- what stays where those with these ids are taken out, and what goes with them
+  abbrev pub left_without : List (List ℕ) → Pool → List (ℕ × Transaction)
+  left_without ids p = keep accepts p.ledger (unnamed ids p.items)
+
+  abbrev pub reply_removed : List (List ℕ) → Pool → Reply
+  reply_removed ids p = Removed (tickets (named ids p.items)) (dropped accepts p.ledger (unnamed ids p.items))
+
+  -- what stays upon another ledger state
+  abbrev pub reply_synced : LedgerState → Pool → Reply
+  reply_synced ledger p = Synced (tickets (keep accepts ledger p.items)) (dropped accepts ledger p.items)
+
   -- the reply to a command, or the first refusal that holds
   unfoldable pub answer : Pool → Command → Result Reply Refusal
   answer p (Submit t) =
-      if nat_le p.limit p.changes then Err refusals.HistoryFull
+      if is_at_limit p then Err refusals.HistoryFull
       else if nat_le (2 ^ 64 - 1) p.last then Err refusals.TicketsSpent
       else answer_new p t (ticket_of (id_of t) p.items)
+  answer p (Remove ids) = if is_at_limit p then Err refusals.HistoryFull else Ok (reply_removed ids p)
+  answer p (Sync ledger) = if is_at_limit p then Err refusals.HistoryFull else Ok (reply_synced ledger p)
+
+  -- what a command that isn't refused does
+  abbrev pub done : Pool → Command → Pool
+  done p (Submit t) = pool_with p t
+  done p (Remove ids) = pool_upon p p.ledger (left_without ids p)
+  done p (Sync ledger) = pool_upon p ledger (keep accepts ledger p.items)
 
   -- the state after a command: a refusal changes nothing
   unfoldable pub next : Pool → Command → Pool
-  next p (Submit t) = if is_ok (answer p (Submit t)) then pool_with p t else p
+  next p c = if is_ok (answer p c) then done p c else p
 
   -- A refusal that a call gives is the slow pool's. Memory may be wanting at any command.
   abbrev pub IsRefused : Pool → Command → Refusal → Type 0

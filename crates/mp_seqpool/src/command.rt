@@ -1,15 +1,21 @@
 //! What is asked of the pool, and what it replies.
 
+use crate::ids::Ids;
 use crate::refusal::Refusal;
 use mp_memory::{Memory, NoMemory};
-use mp_tx::Tx;
+use mp_tickets::Tickets;
+use mp_tx::{Ledger, Tx};
 use std::sync::Arc;
 
 /// What a caller asks of the pool.
-#[derive(Debug, Drop)]
+#[derive(Drop)]
 pub enum Command {
     /// To take the transaction in.
     Submit(Arc<Tx, Memory>),
+    /// To take out the transactions with these ids, whether they are valid or not.
+    Remove(Arc<Ids, Memory>),
+    /// To adopt the ledger state.
+    Sync(Ledger),
 }
 
 impl Command {
@@ -22,15 +28,21 @@ impl Command {
     {
         match self {
             Command::Submit(tx) => Ok(Command::Submit(Arc::try_clone(tx)?)),
+            Command::Remove(ids) => Ok(Command::Remove(Arc::try_clone(ids)?)),
+            Command::Sync(ledger) => Ok(Command::Sync(ledger.share()?)),
         }
     }
 }
 
 /// What the pool replies where it doesn't refuse.
-#[derive(Clone, Copy, Debug, PartialEq, Eq)]
+#[derive(Debug, PartialEq, Drop)]
 pub enum Reply {
     /// The transaction stands in the pool, last, under this ticket.
     Accepted { ticket: u64 },
+    /// The tickets of those that were named, and of those that aren't valid without them.
+    Removed { named: Tickets, dropped: Tickets },
+    /// The tickets of those that stay upon the adopted ledger state, and of those that aren't valid there.
+    Synced { kept: Tickets, dropped: Tickets },
 }
 
 /// What the pool answers to a command: a reply or a refusal.
@@ -43,6 +55,16 @@ impl Reply {
     pub fn copy(&self) -> Result<Reply, NoMemory>
         ensures { IfOk result (λ r. r ≡ self.now) }
     {
-        Ok(*self)
+        match self {
+            Reply::Accepted { ticket } => Ok(Reply::Accepted { ticket: *ticket }),
+            Reply::Removed { named, dropped } => Ok(Reply::Removed {
+                named: named.copy()?,
+                dropped: dropped.copy()?,
+            }),
+            Reply::Synced { kept, dropped } => Ok(Reply::Synced {
+                kept: kept.copy()?,
+                dropped: dropped.copy()?,
+            }),
+        }
     }
 }

@@ -1,19 +1,23 @@
-//! The sequential pool: one thread's mempool over a list.
+//! The sequential pool: one thread's mempool over a list. Every step is prepared first, and then finished without memory.
 #![tactic(auto)]
 
 mod command;
 mod config;
-mod item;
+mod ids;
 pub mod laws;
 mod playing;
 mod pool;
+mod prepared;
 mod refusal;
-mod tickets;
+mod tickets_by_id;
 
 pub use command::{Answer, Command, Reply};
 pub use config::Config;
-pub use item::Item;
-pub use mp_rules::{Invalid, Verifier};
-pub use playing::play;
+pub use ids::Ids;
+pub use mp_resync::Item;
+pub use mp_rules::{Checked, Invalid, Verifier};
+pub use mp_tickets::{Iter, Tickets};
+pub use playing::{Played, play};
 pub use pool::SeqPool;
+pub use prepared::Prepared;
 pub use refusal::Refusal;

@@ -2,18 +2,20 @@
 
 ghost use Rattle.std.specs.Prelude.{◌≡◌, ◌<◌, OnOk};
 ghost use Rattle.indexmap.specs.IndexMap.{spare};
-ghost use Rattle.std.specs.Vec.{vec_len, vec_capacity};
 ghost use Rattle.mp_utxo.specs.Overlay.{IsSame, HasRoomFor};
 
 use crate::command::{Answer, Command, Reply};
 use crate::config::Config;
-use crate::item::Item;
+use crate::ids::Ids;
+use crate::prepared::{Change, Prepared};
 use crate::refusal::Refusal;
-use crate::tickets::{Tickets, note, ticket_under};
+use crate::tickets_by_id::{TicketsById, forget_others, note, ticket_under};
 use indexmap::IndexMap;
 use mp_memory::{Memory, NoMemory};
-use mp_rules::{Verifier, check};
-use mp_tx::{Ledger, Tx};
+use mp_resync::{Item, Kept, revalidate};
+use mp_rules::{Checked, Resolved, Verifier, check, check_with};
+use mp_tickets::{Iter, Node, TicketList, Tickets, make_node};
+use mp_tx::{Ledger, Tx, TxId};
 use mp_utxo::Overlay;
 use std::marker::Model;
 use std::sync::Arc;
@@ -22,15 +24,18 @@ use std::sync::Arc;
 /// adopted ledger state, every transaction is valid; each has a ticket, and tickets increase and
 /// are never reused. Any of these calls may return `NoMemory` instead, and then nothing has changed.
 ///
+/// Every step has two parts. A `prepare_` call looks at everything, takes all memory, and leaves what the pool holds; `finish`
+/// takes the step that it gave. `submit`, `remove` and `sync` do both.
+///
 /// What its transactions spend and make, and the tickets of their ids, are kept in tables, so that a
-/// submit takes no walk over the pool.
+/// submit takes no walk over the pool. A contract sees what the pool holds, and the room that was made in its tables.
 #[derive(Drop)]
 pub struct SeqPool {
     memory: Memory,
     config: Config,
     overlay: Overlay,
-    tickets: Tickets,
-    items: Vec<Item, Memory>,
+    tickets: TicketsById,
+    items: TicketList<Item>,
     last: u64,
     bytes: u64,
     changes: u64,
@@ -39,63 +44,62 @@ pub struct SeqPool {
 impl Model for SeqPool {
     ghost use Rattle.std.specs.Coded.{codes};
     ghost use Rattle.std.specs.FinMap as finite;
-    ghost use Rattle.mp_seqpool.specs.Pool.{Pool};
+    ghost use Rattle.mp_seqpool.specs.Pool.{Holding};
 
-    ghost Value = { Pool };
+    ghost Value = { Holding };
 
     ghost coded = { Prim.hlevel (codes, finite.code) };
 
-    ghost use Rattle.mp_seqpool.specs.Inside.SeqPool.{state, IsCounted};
+    ghost use Rattle.mp_seqpool.specs.Inside.SeqPool.{holding, IsCounted};
 
-    ghost view = { state };
+    ghost view = { holding };
 
     ghost invariant = { IsCounted };
 }
 
-// Takes all the room that one more transaction needs.
-fn reserve(
-    overlay: &mut Overlay,
-    tickets: &mut Tickets,
-    items: &mut Vec<Item, Memory>,
-    tx: &Tx,
-) -> Result<(), NoMemory>
+// Takes all the room in the tables that one more transaction needs.
+fn reserve(overlay: &mut Overlay, tickets: &mut TicketsById, tx: &Tx) -> Result<(), NoMemory>
     ensures overlay { IsSame overlay.old overlay.new }
     ensures tickets { tickets.new.entries ≡ tickets.old.entries }
-    ensures items { items.new.items ≡ items.old.items }
-    ensures room { OnOk result (HasRoomFor overlay.new tx.now) }
+    ensures room { OnOk result (HasRoomFor overlay.new.room tx.now) }
     ensures spare { OnOk result (0 < spare tickets.new) }
-    ensures capacity { OnOk result (vec_len items.new < vec_capacity items.new) }
 {
     overlay.reserve_for(tx)?;
     tickets.reserve(1)?;
-    items.reserve(1)?;
     Ok(())
 }
 
 impl SeqPool {
-    ghost use Rattle.std.specs.Prelude.{◌≡◌, ◌+◌, ◌≤◌, ◌^◌, None, IfNone, IfOk, IfErr, OnOk, OnErr, Ok};
+    ghost use Rattle.std.specs.Prelude.{◌≡◌, ◌≢◌, ◌+◌, ◌≤◌, ◌^◌, ◌==◌, List, [], length, None, IfNone, IfOk, IfErr, OnOk, OnErr, Ok};
     ghost use Rattle.std.specs.Arc.{arc_value};
+    ghost use Rattle.std.specs.Map.Iter.{ShowsInOrder};
     ghost use Rattle.mp_tx.specs.Spelling.{id_of};
     ghost use Rattle.mp_rules.specs.FirstFault.{first_fault};
-    ghost use Rattle.mp_seqpool.specs.Inside.Item.{items_of};
+    ghost use Rattle.mp_rules.specs.Checked.{IsChecked, ScriptsAccept};
+    ghost use Rattle.mp_tickets.specs.Tickets.{among, shown};
+    ghost use Rattle.mp_resync.specs.Item as resync;
+    ghost use Rattle.mp_resync.specs.Item.{ticketed};
+    ghost use Rattle.mp_resync.specs.Keep.{transactions};
+    ghost use Rattle.mp_resync.specs.Kept.{IsKeptOf};
     ghost use Rattle.mp_seqpool.specs.Inside.Place.{misplaced};
     ghost use Rattle.mp_seqpool.specs.Inside.Rules.{IsBrokenRule};
-    ghost use Rattle.mp_seqpool.specs.Command.{Submit};
-    ghost use Rattle.mp_seqpool.specs.Config.{fresh_pool};
-    ghost use Rattle.mp_seqpool.specs.SlowPool.{answer, next, IsRefused, bytes_held, unspent, ticket_of, HasRoom};
+    ghost use Rattle.mp_seqpool.specs.Command.{Submit, Remove, Sync};
+    ghost use Rattle.mp_seqpool.specs.Config.{fresh_pool, renewed};
+    ghost use Rattle.mp_seqpool.specs.SlowPool.{answer, next, IsRefused, AreSigned, bytes_held, unspent, ticket_of, HasPlace, pool_with, pool_upon};
+    ghost use Rattle.mp_seqpool.specs.Prepared.{Append, Keep, CanAppend, Prepares, IsPrepared, leads_to};
     ghost use Rattle.mp_seqpool.specs.declared.command.Reply.TheVariants.{Accepted};
     ghost use Rattle.mp_seqpool.specs.Inside.Command.{command_of};
 
     /// A pool with no transaction upon the ledger state.
     pub fn start(memory: Memory, config: Config, ledger: &Ledger) -> Result<SeqPool, NoMemory>
-        ensures { IfOk result (λ pool. pool ≡ fresh_pool config ledger.now) }
+        ensures { IfOk result (λ pool. pool.pool ≡ fresh_pool config ledger.now) }
     {
         Ok(SeqPool {
             memory,
             config,
             overlay: Overlay::over(memory, ledger)?,
             tickets: IndexMap::with_hasher(memory, ledger.salt()),
-            items: Vec::new(memory),
+            items: TicketList::new(memory)?,
             last: config.last,
             bytes: 0,
             changes: 0,
@@ -105,8 +109,9 @@ impl SeqPool {
     // Why there is no place for the transaction, whatever its rules say.
     #[tactic(auto, unfolding(crate::specs::Inside::Place::misplaced))]
     fn misplaced(&self, tx: &Tx) -> Option<Refusal>
-        ensures refusal { result ≡ misplaced self.now tx.now }
-        ensures room { IfNone result (HasRoom self.now tx.now) }
+        ensures refusal { result ≡ misplaced self.now.pool tx.now }
+        ensures place { IfNone result (HasPlace self.now.pool tx.now) }
+        ensures new { IfNone result (ticket_of (id_of tx.now) self.now.pool.items ≡ None) }
     {
         if self.changes >= self.config.limit {
             return Some(Refusal::HistoryFull);
@@ -126,65 +131,312 @@ impl SeqPool {
     }
 
     // Checks the rules after all transactions of the pool.
-    fn check_rules<V: Verifier>(&self, tx: &Tx, verifier: &V) -> Result<(), Refusal>
+    fn check_rules<V: Verifier>(&self, tx: &Tx, verifier: &V) -> Result<Resolved, Refusal>
         ensures clear { OnOk result (first_fault (V.accepts verifier.now)
-            (unspent self.now) self.now.ledger.tick tx.now ≡ None) }
-        ensures fault { IfErr result (IsBrokenRule (V.accepts verifier.now) self.now tx.now) }
+            (unspent self.now.pool) self.now.pool.ledger.tick tx.now ≡ None) }
+        ensures scripts { IfOk result (ScriptsAccept tx.now) }
+        ensures fault { IfErr result
+            (IsBrokenRule (V.accepts verifier.now) self.now.pool tx.now) }
     {
         let tick = self.overlay.ledger().tick();
-        let _resolved = check(self.memory, tx, &self.overlay, tick, verifier)?;
-        Ok(())
+        Ok(check(self.memory, tx, &self.overlay, tick, verifier)?)
     }
 
-    // The ticket that the transaction gets, or why it is refused.
-    fn ticket_for<V: Verifier>(&self, tx: &Tx, verifier: &V) -> Result<u64, Refusal>
-        ensures ok { IfOk result (λ ticket. answer (V.accepts verifier.now)
-            self.now (Submit tx.now) ≡ Ok (Accepted ticket)) }
-        ensures next { IfOk result (λ ticket. ticket ≡ self.now.last + 1) }
-        ensures new { OnOk result (ticket_of (id_of tx.now) self.now.items ≡ None) }
-        ensures room { OnOk result (HasRoom self.now tx.now) }
-        ensures refused { IfErr result
-            (IsRefused (V.accepts verifier.now) self.now (Submit tx.now)) }
+    // The same with what was found of its signatures and scripts before.
+    fn check_rules_with<V: Verifier>(
+        &self,
+        tx: &Tx,
+        checked: &Checked,
+        verifier: &V,
+    ) -> Result<Resolved, Refusal>
+        requires { IsChecked (V.accepts verifier.now) tx.now checked.now }
+        ensures clear { OnOk result (first_fault (V.accepts verifier.now)
+            (unspent self.now.pool) self.now.pool.ledger.tick tx.now ≡ None) }
+        ensures scripts { IfOk result (ScriptsAccept tx.now) }
+        ensures fault { IfErr result
+            (IsBrokenRule (V.accepts verifier.now) self.now.pool tx.now) }
     {
-        if let Some(refusal) = self.misplaced(tx) {
-            return Err(refusal);
-        }
-        self.check_rules(tx, verifier)?;
-        Ok(self.last + 1)
+        let tick = self.overlay.ledger().tick();
+        Ok(check_with(self.memory, tx, &self.overlay, tick, checked, verifier)?)
     }
 
-    /// Takes the transaction in under the next ticket, as one change. All room is taken before anything changes.
+    // The step that takes the transaction in. All memory for it is taken.
+    fn prepare_append(
+        &mut self,
+        tx: &Arc<Tx, Memory>,
+        resolved: Resolved,
+    ) -> Result<Prepared, NoMemory>
+        requires place { HasPlace self.old.pool (arc_value tx.now) }
+        requires new { ticket_of (id_of (arc_value tx.now)) self.old.pool.items ≡ None }
+        requires accepted { ScriptsAccept (arc_value tx.now) resolved }
+        ensures same { self.new.pool ≡ self.old.pool }
+        ensures command { IfOk result (λ q. q.command ≡ Submit (arc_value tx.now)) }
+        ensures reply { IfOk result (λ q. q.reply ≡ Accepted (self.old.pool.last + 1)) }
+        ensures change { IfOk result (λ q. q.change
+            ≡ Append (record { tx = arc_value tx.now; resolved = resolved })) }
+        ensures prepared { IfOk result (IsPrepared self.new) }
+    {
+        let command = Command::Submit(Arc::try_clone(tx)?);
+        let applied = Arc::try_clone(tx)?;
+        let item = Item {
+            tx: Arc::try_clone(tx)?,
+            resolved,
+        };
+        let Ok(node) = make_node(self.memory, item) else {
+            return Err(NoMemory);
+        };
+        reserve(&mut self.overlay, &mut self.tickets, tx)?;
+        Ok(Prepared {
+            command,
+            reply: Reply::Accepted {
+                ticket: self.last + 1,
+            },
+            change: Change::Append(node, applied),
+        })
+    }
+
+    /// Prepares to take the transaction in under the next ticket, as one change.
     ///
     /// # Errors
     /// The first refusal that holds, in the order of `Refusal`. Of the rules it is the first that fails, and never
     /// `Refusal::Invalid(Invalid::NoMemory)`: want of memory is `Refusal::NoMemory`.
+    pub fn prepare_submit<V: Verifier>(
+        &mut self,
+        tx: &Arc<Tx, Memory>,
+        verifier: &V,
+    ) -> Result<Prepared, Refusal>
+        ensures same { self.new.pool ≡ self.old.pool }
+        ensures ready { IfOk result (Prepares (V.accepts verifier.now)
+            self.new (Submit (arc_value tx.now))) }
+        ensures refused { IfErr result (IsRefused (V.accepts verifier.now)
+            self.old.pool (Submit (arc_value tx.now))) }
+    {
+        if let Some(refusal) = self.misplaced(tx) {
+            return Err(refusal);
+        }
+        let resolved = self.check_rules(tx, verifier)?;
+        Ok(self.prepare_append(tx, resolved)?)
+    }
+
+    /// Prepares to take the transaction in, with what was found of its signatures and scripts before. Scripts are run again only
+    /// where the transaction names other outputs than those that they were run upon.
+    ///
+    /// # Errors
+    /// As `prepare_submit`.
+    pub fn prepare_submit_with<V: Verifier>(
+        &mut self,
+        tx: &Arc<Tx, Memory>,
+        checked: &Checked,
+        verifier: &V,
+    ) -> Result<Prepared, Refusal>
+        requires { IsChecked (V.accepts verifier.now) (arc_value tx.now) checked.now }
+        ensures same { self.new.pool ≡ self.old.pool }
+        ensures ready { IfOk result (Prepares (V.accepts verifier.now)
+            self.new (Submit (arc_value tx.now))) }
+        ensures refused { IfErr result (IsRefused (V.accepts verifier.now)
+            self.old.pool (Submit (arc_value tx.now))) }
+    {
+        if let Some(refusal) = self.misplaced(tx) {
+            return Err(refusal);
+        }
+        let resolved = self.check_rules_with(tx, checked, verifier)?;
+        Ok(self.prepare_append(tx, resolved)?)
+    }
+
+    // Looks at all transactions anew.
+    fn revalidate<V: Verifier>(
+        &self,
+        ledger: &Ledger,
+        without: &[TxId],
+        verifier: &V,
+    ) -> Result<Kept, NoMemory>
+        requires { AreSigned (V.accepts verifier.now) self.now.pool }
+        ensures { IfOk result (IsKeptOf (V.accepts verifier.now)
+            ledger.now self.now.pool.items without.now) }
+    {
+        revalidate(self.memory, ledger, &self.items, without, verifier)
+    }
+
+    /// Prepares to take out the transactions with these ids, whether they are valid or not, and with them those that aren't
+    /// valid without them. Ids that no transaction of the pool has, and ids that stand twice, do nothing more. It is one change,
+    /// also where nothing goes.
+    ///
+    /// # Errors
+    /// `Refusal::HistoryFull`, where as many changes were made as there may be.
+    pub fn prepare_remove<V: Verifier>(
+        &self,
+        ids: &Arc<Ids, Memory>,
+        verifier: &V,
+    ) -> Result<Prepared, Refusal>
+        requires { AreSigned (V.accepts verifier.now) self.now.pool }
+        ensures ready { IfOk result (Prepares (V.accepts verifier.now)
+            self.now (Remove (arc_value ids.now))) }
+        ensures refused { IfErr result (IsRefused (V.accepts verifier.now)
+            self.now.pool (Remove (arc_value ids.now))) }
+    {
+        if self.changes >= self.config.limit {
+            return Err(Refusal::HistoryFull);
+        }
+        let command = Command::Remove(Arc::try_clone(ids)?);
+        let Kept {
+            overlay,
+            kept,
+            named,
+            dropped,
+        } = self.revalidate(self.overlay.ledger(), ids.as_slice(), verifier)?;
+        Ok(Prepared {
+            command,
+            reply: Reply::Removed { named, dropped },
+            change: Change::Keep(overlay, kept),
+        })
+    }
+
+    /// Prepares to adopt the ledger state, and to drop those transactions that aren't valid upon it. The others keep their tickets.
+    /// Nothing is dropped for size. It is one change, also where nothing goes.
+    ///
+    /// # Errors
+    /// `Refusal::HistoryFull`, where as many changes were made as there may be.
+    pub fn prepare_sync<V: Verifier>(
+        &self,
+        ledger: &Ledger,
+        verifier: &V,
+    ) -> Result<Prepared, Refusal>
+        requires { AreSigned (V.accepts verifier.now) self.now.pool }
+        ensures ready { IfOk result (Prepares (V.accepts verifier.now)
+            self.now (Sync ledger.now)) }
+        ensures refused { IfErr result (IsRefused (V.accepts verifier.now)
+            self.now.pool (Sync ledger.now)) }
+    {
+        if self.changes >= self.config.limit {
+            return Err(Refusal::HistoryFull);
+        }
+        let command = Command::Sync(ledger.share()?);
+        let Kept {
+            overlay,
+            kept,
+            named: _,
+            dropped,
+        } = self.revalidate(ledger, &[], verifier)?;
+        Ok(Prepared {
+            command,
+            reply: Reply::Synced {
+                kept: kept.copy()?,
+                dropped,
+            },
+            change: Change::Keep(overlay, kept),
+        })
+    }
+
+    // Puts the item last.
+    fn append(&mut self, node: Node<Item>, applied: Arc<Tx, Memory>)
+        requires one { arc_value applied ≡ node.tx }
+        requires can { CanAppend self.old node }
+        ensures { self.new.pool ≡ pool_with self.old.pool node.tx }
+    {
+        let ticket = self.last + 1;
+        note(&mut self.tickets, applied.id(), ticket);
+        self.bytes += applied.size();
+        self.overlay.apply(applied);
+        self.items.push_node(ticket, node);
+        self.last = ticket;
+        self.changes += 1;
+    }
+
+    // Takes out all but those under these tickets.
+    fn keep_only(&mut self, overlay: Overlay, kept: &Tickets)
+        requires change { self.old.pool.changes < self.old.pool.limit }
+        requires applied { overlay.applied ≡ transactions (among kept.now self.old.pool.items) }
+        ensures { self.new.pool
+            ≡ pool_upon self.old.pool overlay.ledger (among kept.now self.old.pool.items) }
+    {
+        self.bytes = forget_others(&mut self.tickets, &self.items, kept);
+        self.items.keep_only(kept);
+        self.overlay = overlay;
+        self.changes += 1;
+    }
+
+    /// Takes the step, and gives its reply. It takes no memory and can't fail: the step is one that the last `prepare_` call on
+    /// this pool gave.
+    pub fn finish(&mut self, prepared: Prepared) -> Reply
+        requires { IsPrepared self.old prepared }
+        ensures pool { self.new.pool ≡ leads_to self.old.pool prepared }
+        ensures reply { result ≡ prepared.reply }
+    {
+        let Prepared {
+            command: _,
+            reply,
+            change,
+        } = prepared;
+        match change {
+            Change::Append(node, applied) => self.append(node, applied),
+            Change::Keep(overlay, kept) => self.keep_only(overlay, &kept),
+        }
+        reply
+    }
+
+    /// Takes the transaction in under the next ticket, as one change.
+    ///
+    /// # Errors
+    /// As `prepare_submit`.
     pub fn submit<V: Verifier>(
         &mut self,
         tx: &Arc<Tx, Memory>,
         verifier: &V,
     ) -> Result<Reply, Refusal>
         ensures ok { IfOk result (λ reply. answer (V.accepts verifier.now)
-            self.old (Submit (arc_value tx.now)) ≡ Ok reply) }
-        ensures next { OnOk result (self.new ≡ next (V.accepts verifier.now)
-            self.old (Submit (arc_value tx.now))) }
+            self.old.pool (Submit (arc_value tx.now)) ≡ Ok reply) }
+        ensures next { OnOk result (self.new.pool ≡ next (V.accepts verifier.now)
+            self.old.pool (Submit (arc_value tx.now))) }
         ensures refused { IfErr result (IsRefused (V.accepts verifier.now)
-            self.old (Submit (arc_value tx.now))) }
-        ensures err { OnErr result (self.new ≡ self.old) }
+            self.old.pool (Submit (arc_value tx.now))) }
+        ensures err { OnErr result (self.new.pool ≡ self.old.pool) }
     {
-        let ticket = self.ticket_for(tx, verifier)?;
-        let item = Item {
-            ticket,
-            tx: Arc::try_clone(tx)?,
-        };
-        let applied = Arc::try_clone(tx)?;
-        reserve(&mut self.overlay, &mut self.tickets, &mut self.items, tx)?;
-        self.overlay.apply(applied);
-        note(&mut self.tickets, tx.id(), ticket);
-        self.items.push_reserved(item);
-        self.last = ticket;
-        self.bytes += tx.size();
-        self.changes += 1;
-        Ok(Reply::Accepted { ticket })
+        let prepared = self.prepare_submit(tx, verifier)?;
+        Ok(self.finish(prepared))
+    }
+
+    /// Takes out the transactions with these ids, and with them those that aren't valid without them.
+    ///
+    /// # Errors
+    /// As `prepare_remove`.
+    pub fn remove<V: Verifier>(
+        &mut self,
+        ids: &Arc<Ids, Memory>,
+        verifier: &V,
+    ) -> Result<Reply, Refusal>
+        requires { AreSigned (V.accepts verifier.now) self.old.pool }
+        ensures ok { IfOk result (λ reply. answer (V.accepts verifier.now)
+            self.old.pool (Remove (arc_value ids.now)) ≡ Ok reply) }
+        ensures next { OnOk result (self.new.pool ≡ next (V.accepts verifier.now)
+            self.old.pool (Remove (arc_value ids.now))) }
+        ensures refused { IfErr result (IsRefused (V.accepts verifier.now)
+            self.old.pool (Remove (arc_value ids.now))) }
+        ensures err { OnErr result (self.new.pool ≡ self.old.pool) }
+    {
+        let prepared = self.prepare_remove(ids, verifier)?;
+        Ok(self.finish(prepared))
+    }
+
+    /// Adopts the ledger state, and drops those transactions that aren't valid upon it.
+    ///
+    /// # Errors
+    /// As `prepare_sync`.
+    pub fn sync<V: Verifier>(
+        &mut self,
+        ledger: &Ledger,
+        verifier: &V,
+    ) -> Result<Reply, Refusal>
+        requires { AreSigned (V.accepts verifier.now) self.old.pool }
+        ensures ok { IfOk result (λ reply. answer (V.accepts verifier.now)
+            self.old.pool (Sync ledger.now) ≡ Ok reply) }
+        ensures next { OnOk result (self.new.pool ≡ next (V.accepts verifier.now)
+            self.old.pool (Sync ledger.now)) }
+        ensures refused { IfErr result (IsRefused (V.accepts verifier.now)
+            self.old.pool (Sync ledger.now)) }
+        ensures err { OnErr result (self.new.pool ≡ self.old.pool) }
+    {
+        let prepared = self.prepare_sync(ledger, verifier)?;
+        Ok(self.finish(prepared))
     }
 
     /// Does what the command asks, as the call of its kind does.
@@ -193,26 +445,30 @@ impl SeqPool {
         command: &Command,
         verifier: &V,
     ) -> Result<Reply, Refusal>
+        requires { AreSigned (V.accepts verifier.now) self.old.pool }
         ensures ok { IfOk result (λ reply. answer (V.accepts verifier.now)
-            self.old (command_of command.now) ≡ Ok reply) }
-        ensures next { OnOk result (self.new ≡ next (V.accepts verifier.now)
-            self.old (command_of command.now)) }
+            self.old.pool (command_of command.now) ≡ Ok reply) }
+        ensures next { OnOk result (self.new.pool ≡ next (V.accepts verifier.now)
+            self.old.pool (command_of command.now)) }
         ensures refused { IfErr result (IsRefused (V.accepts verifier.now)
-            self.old (command_of command.now)) }
-        ensures err { OnErr result (self.new ≡ self.old) }
+            self.old.pool (command_of command.now)) }
+        ensures err { OnErr result (self.new.pool ≡ self.old.pool) }
     {
         match command {
             Command::Submit(tx) => self.submit(tx, verifier),
+            Command::Remove(ids) => self.remove(ids, verifier),
+            Command::Sync(ledger) => self.sync(ledger, verifier),
         }
     }
 
     /// Does what the command asks, and answers with the reply or the refusal.
     pub fn step<V: Verifier>(&mut self, command: &Command, verifier: &V) -> Result<Answer, NoMemory>
+        requires { AreSigned (V.accepts verifier.now) self.old.pool }
         ensures answer { IfOk result (λ a. a ≡ answer (V.accepts verifier.now)
-            self.old (command_of command.now)) }
-        ensures next { OnOk result (self.new ≡ next (V.accepts verifier.now)
-            self.old (command_of command.now)) }
-        ensures err { OnErr result (self.new ≡ self.old) }
+            self.old.pool (command_of command.now)) }
+        ensures next { OnOk result (self.new.pool ≡ next (V.accepts verifier.now)
+            self.old.pool (command_of command.now)) }
+        ensures err { OnErr result (self.new.pool ≡ self.old.pool) }
     {
         match self.execute(command, verifier) {
             Ok(reply) => Ok(Ok(reply)),
@@ -223,30 +479,59 @@ impl SeqPool {
         }
     }
 
-    /// The transactions with their tickets, oldest first.
-    pub fn contents(&self) -> &[Item]
-        ensures { items_of result.now ≡ self.now.items }
+    /// Makes the pool one that opens with what it holds: no change was made, there may be so many (1 to 2^32), and the last
+    /// ticket stays. It takes no memory.
+    pub fn renew(&mut self, limit: u64)
+        requires least { 1 ≤ limit }
+        requires greatest { limit ≤ 2 ^ 32 }
+        ensures { self.new.pool ≡ renewed limit self.old.pool }
     {
-        &self.items
+        self.config = Config {
+            limit,
+            last: self.last,
+        };
+        self.changes = 0;
+    }
+
+    /// The transactions with their tickets, oldest first.
+    pub fn contents(&self) -> Iter<'_, Item>
+        ensures all { ticketed result ≡ self.now.pool.items }
+        ensures runs { ShowsInOrder (shown {T = resync.Item}) }
+    {
+        self.items.iter()
+    }
+
+    /// How many transactions there are.
+    pub fn len(&self) -> usize
+        ensures { result ≡ length self.now.pool.items }
+    {
+        self.items.len()
+    }
+
+    /// Whether there is none.
+    pub fn is_empty(&self) -> bool
+        ensures { result ≡ (length self.now.pool.items == 0) }
+    {
+        self.items.is_empty()
     }
 
     /// The adopted ledger state.
     pub fn ledger(&self) -> &Ledger
-        ensures { result.now ≡ self.now.ledger }
+        ensures { result.now ≡ self.now.pool.ledger }
     {
         self.overlay.ledger()
     }
 
     /// The last ticket that was given, or that of the configuration.
     pub fn last_ticket(&self) -> u64
-        ensures { result ≡ self.now.last }
+        ensures { result ≡ self.now.pool.last }
     {
         self.last
     }
 
     /// How many bytes the transactions have together, at most 2^40.
     pub fn bytes(&self) -> u64
-        ensures bytes { result ≡ bytes_held self.now }
+        ensures bytes { result ≡ bytes_held self.now.pool }
         ensures most { result ≤ 2 ^ 40 }
     {
         self.bytes
@@ -254,16 +539,16 @@ impl SeqPool {
 
     /// How many changes were made.
     pub fn changes(&self) -> u64
-        ensures changes { result ≡ self.now.changes }
-        ensures most { result ≤ self.now.limit }
+        ensures changes { result ≡ self.now.pool.changes }
+        ensures most { result ≤ self.now.pool.limit }
     {
         self.changes
     }
 
     /// How the pool was set up.
     pub fn config(&self) -> Config
-        ensures limit { result.limit ≡ self.now.limit }
-        ensures last { result.last ≡ self.now.opening_ticket }
+        ensures limit { result.limit ≡ self.now.pool.limit }
+        ensures last { result.last ≡ self.now.pool.opening_ticket }
     {
         self.config
     }

@@ -1,4 +1,4 @@
--- A command without the share that its transaction is held by.
+-- A command without the shares that its parts are held by.
 use Rattle.std.specs.Prelude.{List, map}
 use Rattle.std.specs.Arc.{arc_value}
 use Rattle.mp_seqpool.specs.declared.command.Command.{Command}
@@ -8,6 +8,8 @@ use Rattle.mp_seqpool.specs.Command as told
 -- what a command asks for
 abbrev pub command_of : Command → told.Command
 command_of (commands.Submit tx) = told.Submit (arc_value tx)
+command_of (commands.Remove ids) = told.Remove (arc_value ids)
+command_of (commands.Sync ledger) = told.Sync ledger
 
 abbrev pub commands_of : List Command → List told.Command
 commands_of cs = map command_of cs

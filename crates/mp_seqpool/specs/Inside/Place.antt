@@ -5,7 +5,7 @@ use Rattle.mp_tx.specs.Spelling.{id_of, size_of}
 use Rattle.mp_seqpool.specs.declared.refusal.Refusal.{Refusal}
 use Rattle.mp_seqpool.specs.declared.refusal.Refusal.TheVariants as refusals
 use Rattle.mp_seqpool.specs.Pool.{Pool}
-use Rattle.mp_seqpool.specs.SlowPool.{free_bytes, ticket_of}
+use Rattle.mp_seqpool.specs.SlowPool.{is_at_limit, free_bytes, ticket_of}
 
 abbrev pub new_misplaced : Pool → Transaction → Option ℕ → Option Refusal
 new_misplaced p t None =
@@ -15,6 +15,6 @@ new_misplaced p t (Some ticket) = Some (refusals.AlreadyInPool ticket)
 -- why there is no place for the transaction, whatever its rules say
 unfoldable pub misplaced : Pool → Transaction → Option Refusal
 misplaced p t =
-    if nat_le p.limit p.changes then Some refusals.HistoryFull
+    if is_at_limit p then Some refusals.HistoryFull
     else if nat_le (2 ^ 64 - 1) p.last then Some refusals.TicketsSpent
     else new_misplaced p t (ticket_of (id_of t) p.items)

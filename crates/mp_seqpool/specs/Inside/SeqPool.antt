@@ -1,34 +1,51 @@
 -- What a pool keeps beside the state that contracts see.
-use Rattle.std.specs.Prelude.{◌≡◌, ◌<◌, ◌≤◌, ◌^◌, sum_by, All}
-use Rattle.mp_tx.specs.Spelling.{size_of}
+use Rattle.std.specs.Prelude.{◌≡◌, ◌≢◌, ◌≤◌, ◌^◌, min, map, sum_by, All, AllPairs}
+use Rattle.indexmap.specs.IndexMap.{spare}
+use Rattle.mp_tx.specs.Spelling.{id_of, size_of}
+use Rattle.mp_rules.specs.Checked.{ScriptsAccept}
+use Rattle.mp_tickets.specs.Tickets.{IsRising}
+use Rattle.mp_resync.specs.Item.{ticketed}
+use Rattle.mp_resync.specs.Keep.{transactions, tickets}
 use Rattle.mp_seqpool.specs.declared.pool.SeqPool.TheInside.{Inside}
-use Rattle.mp_seqpool.specs.Inside.Item.{items_of}
-use Rattle.mp_seqpool.specs.Inside.Tickets.{AreNoted}
-use Rattle.mp_seqpool.specs.Pool.{Pool, transactions, tickets}
+use Rattle.mp_seqpool.specs.Inside.TicketsById.{AreNoted}
+use Rattle.mp_seqpool.specs.Pool.{Pool, Holding}
 
 abbrev pub state : Inside → Pool
 state p = record {
   ledger = p.overlay.ledger;
-  items = items_of p.items.items;
+  items = ticketed p.items;
   last = p.last;
   changes = p.changes;
   limit = p.config.limit;
   opening_ticket = p.config.last;
 }
 
+abbrev pub holding : Inside → Holding
+holding p = record {
+  pool = state p;
+  room = record {
+    references = p.overlay.room.references;
+    transactions = min p.overlay.room.transactions (spare p.tickets);
+  };
+}
+
 -- What is kept along the way is right, and tickets are what a ticket may be.
 pub record IsCounted (p : Inside) : Type 0 where
   -- all its transactions were applied upon the ledger, in order
-  pub applied : p.overlay.applied ≡ transactions (items_of p.items.items)
+  pub applied : p.overlay.applied ≡ transactions (ticketed p.items)
   -- each is found by its id
-  pub noted : AreNoted (items_of p.items.items) p.tickets.entries
+  pub noted : AreNoted (ticketed p.items) p.tickets.entries
+  -- no id stands twice
+  pub distinct : AllPairs (λ a b. a ≢ b) (map id_of (transactions (ticketed p.items)))
+  -- the scripts of each accept upon the outputs that stand beside it
+  pub accepted : All (λ e. ScriptsAccept e.1.tx e.1.resolved) p.items
   -- the bytes are those of all its transactions together
-  pub bytes : p.bytes ≡ sum_by size_of (transactions (items_of p.items.items))
+  pub bytes : p.bytes ≡ sum_by size_of (transactions (ticketed p.items))
   -- no pool can hold more
   pub most : p.bytes ≤ 2 ^ 40
   -- no more changes were made than there may be
   pub changes : p.changes ≤ p.config.limit
-  -- no ticket is 0
-  pub above_zero : All (λ k. 0 < k) (tickets (items_of p.items.items))
+  -- tickets rise, and none is 0
+  pub rising : IsRising p.items
   -- no ticket is above the last one
-  pub given : All (λ k. k ≤ p.last) (tickets (items_of p.items.items))
+  pub given : All (λ k. k ≤ p.last) (tickets (ticketed p.items))

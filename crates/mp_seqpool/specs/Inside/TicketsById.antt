@@ -4,6 +4,7 @@ use Rattle.std.specs.Map.{lookup}
 use Rattle.mp_tx.specs.declared.reference.OutRef.{OutRef}
 use Rattle.mp_tx.specs.Reference.{same_ref}
 use Rattle.mp_tx.specs.Transaction.{Transaction}
+use Rattle.mp_resync.specs.ById.{key_of}
 use Rattle.mp_seqpool.specs.SlowPool.{ticket_of}
 
 -- references with tickets
@@ -12,10 +13,6 @@ Noted = List (OutRef × ℕ)
 
 abbrev pub noted_at : Noted → OutRef → Option ℕ
 noted_at noted r = lookup (same_ref r) noted
-
--- the reference of the first output of the transaction with this id
-abbrev pub key_of : List ℕ → OutRef
-key_of id = record { id = id; index = 0 }
 
 -- this ticket is noted for the id, and what was stays at other references
 abbrev pub Notes : Noted → List ℕ → ℕ → Noted → Type 0

@@ -1,0 +1,57 @@
+-- Steps that are ready to be taken.
+use Rattle.std.specs.Prelude.{◌≡◌, ℕ, ◌<◌, List, None, Ok}
+use Rattle.mp_tx.specs.Spelling.{id_of}
+use Rattle.mp_utxo.specs.Overlay.{Overlay, HasRoomFor}
+use Rattle.mp_rules.specs.Verifier.{Accepts}
+use Rattle.mp_rules.specs.Checked.{ScriptsAccept}
+use Rattle.mp_tickets.specs.Tickets.{among}
+use Rattle.mp_resync.specs.Item.{Item}
+use Rattle.mp_resync.specs.Keep.{transactions}
+use Rattle.mp_seqpool.specs.declared.command.Reply.{Reply}
+use Rattle.mp_seqpool.specs.Command.{Command}
+use Rattle.mp_seqpool.specs.Pool.{Pool, Holding}
+use Rattle.mp_seqpool.specs.SlowPool.{ticket_of, pool_with, pool_upon, HasPlace, answer, next}
+
+-- what a step does to the pool
+pub data Change : Type 0 where
+  -- the transaction comes last, under the next ticket
+  Append : Item → Change
+  -- the transactions under these tickets stay, and are all that is applied upon the ledger state
+  Keep : Overlay → List ℕ → Change
+
+pub record Prepared : Type 0 where
+  pub command : Command
+  pub reply : Reply
+  pub change : Change
+
+abbrev pub changed : Pool → Change → Pool
+changed p (Append item) = pool_with p item.tx
+changed p (Keep overlay kept) = pool_upon p overlay.ledger (among kept p.items)
+
+-- the state that it leads to
+abbrev pub leads_to : Pool → Prepared → Pool
+leads_to p q = changed p q.change
+
+-- the pool can take the item in without memory, and without a look at its rules
+pub record CanAppend (h : Holding) (item : Item) : Type 0 where
+  pub place : HasPlace h.pool item.tx
+  pub new : ticket_of (id_of item.tx) h.pool.items ≡ None
+  pub room : HasRoomFor h.room item.tx
+  pub accepted : ScriptsAccept item.tx item.resolved
+
+abbrev pub CanChange : Holding → Change → Type 0
+CanChange h (Append item) = CanAppend h item
+CanChange h (Keep overlay kept) = overlay.applied ≡ transactions (among kept h.pool.items)
+
+-- The pool can take the step: it is as it was when the step was prepared, or was prepared alike since.
+pub record IsPrepared (h : Holding) (q : Prepared) : Type 0 where
+  -- one more change may be made
+  pub change : h.pool.changes < h.pool.limit
+  pub fits : CanChange h q.change
+
+-- The step is the slow pool's: it has the command and the reply to it, and leads to the state after it.
+pub record Prepares (accepts : Accepts) (h : Holding) (c : Command) (q : Prepared) : Type 0 where
+  pub command : q.command ≡ c
+  pub reply : answer accepts h.pool c ≡ Ok q.reply
+  pub leads : next accepts h.pool c ≡ leads_to h.pool q
+  pub prepared : IsPrepared h q

@@ -1,0 +1,63 @@
+//! Steps that are ready to be taken.
+
+use crate::command::{Command, Reply};
+use mp_memory::Memory;
+use mp_resync::Item;
+use mp_tickets::{Node, Tickets};
+use mp_tx::Tx;
+use mp_utxo::Overlay;
+use std::marker::Model;
+use std::sync::Arc;
+
+/// What a step does to the pool.
+#[derive(Drop)]
+pub enum Change {
+    /// The item comes last, and its transaction is applied.
+    Append(Node<Item>, Arc<Tx, Memory>),
+    /// Those under these tickets stay: all that the overlay has applied.
+    Keep(Overlay, Tickets),
+}
+
+/// A step of the pool that is ready to be taken: all that can be refused is behind it, and it holds the memory that it needs.
+/// To take it is `SeqPool::finish`; where it is dropped instead, nothing has happened.
+#[derive(Drop)]
+pub struct Prepared {
+    pub(crate) command: Command,
+    pub(crate) reply: Reply,
+    pub(crate) change: Change,
+}
+
+impl Model for Prepared {
+    ghost use Rattle.std.specs.Coded.{codes};
+    ghost use Rattle.std.specs.FinMap as finite;
+    ghost use Rattle.mp_seqpool.specs.Prepared as told;
+
+    ghost Value = { told.Prepared };
+
+    ghost coded = { Prim.hlevel (codes, finite.code) };
+
+    ghost use Rattle.mp_seqpool.specs.Inside.Change.{prepared, IsOfOne};
+
+    ghost view = { prepared };
+
+    ghost invariant = { λ q. IsOfOne q.change };
+}
+
+impl Prepared {
+    ghost use Rattle.std.specs.Prelude.{◌≡◌};
+    ghost use Rattle.mp_seqpool.specs.Inside.Command.{command_of};
+
+    /// What was asked.
+    pub fn command(&self) -> &Command
+        ensures { command_of result.now ≡ self.now.command }
+    {
+        &self.command
+    }
+
+    /// What `finish` will reply.
+    pub fn reply(&self) -> &Reply
+        ensures { result.now ≡ self.now.reply }
+    {
+        &self.reply
+    }
+}

@@ -1,0 +1,54 @@
+//! The tickets of ids.
+
+ghost use Rattle.std.specs.Prelude.{◌≡◌, ◌<◌, ◌≤◌, ◌^◌, ◌≢◌, map, sum_by, AllPairs};
+ghost use Rattle.indexmap.specs.IndexMap.{spare};
+ghost use Rattle.mp_tx.specs.Spelling.{id_of, size_of};
+ghost use Rattle.mp_tickets.specs.Tickets.{among};
+ghost use Rattle.mp_resync.specs.ById.{key_of};
+ghost use Rattle.mp_resync.specs.Item.{ticketed};
+ghost use Rattle.mp_resync.specs.Keep.{transactions};
+ghost use Rattle.mp_seqpool.specs.Inside.TicketsById.{noted_at, Notes, AreNoted};
+
+use indexmap::IndexMap;
+use mp_resync::{ById, Item, key_of};
+use mp_tickets::{TicketList, Tickets};
+use mp_tx::TxId;
+
+/// The ticket of each transaction of the pool, so that an id is found with no walk over the pool.
+pub type TicketsById = ById<u64>;
+
+/// The ticket that is noted for the id.
+pub fn ticket_under(tickets: &TicketsById, id: &TxId) -> Option<u64>
+    ensures { result ≡ noted_at tickets.now.entries (key_of id.now) }
+{
+    tickets.get(&key_of(id)).copied()
+}
+
+/// Notes the ticket for the id.
+pub fn note(tickets: &mut TicketsById, id: &TxId, ticket: u64)
+    requires { 0 < spare tickets.old }
+    ensures { Notes tickets.old.entries id.now ticket tickets.new.entries }
+{
+    if tickets.insert(key_of(id), ticket).is_err() {
+        unreachable!()
+    }
+}
+
+/// Takes out the ids of the items that aren't kept, and counts the bytes of those that are.
+pub fn forget_others(tickets: &mut TicketsById, items: &TicketList<Item>, kept: &Tickets) -> u64
+    requires noted { AreNoted (ticketed items.now) tickets.old.entries }
+    requires distinct { AllPairs (λ a b. a ≢ b) (map id_of (transactions (ticketed items.now))) }
+    requires most { sum_by size_of (transactions (ticketed items.now)) ≤ 2 ^ 40 }
+    ensures noted { AreNoted (among kept.now (ticketed items.now)) tickets.new.entries }
+    ensures bytes { result ≡ sum_by size_of (transactions (among kept.now (ticketed items.now))) }
+{
+    let mut bytes = 0;
+    for (ticket, item) in items.iter() {
+        if kept.contains(ticket) {
+            bytes += item.tx.size();
+        } else {
+            let _ = tickets.swap_remove(&key_of(item.tx.id()));
+        }
+    }
+    bytes
+}
