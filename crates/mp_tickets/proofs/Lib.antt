@@ -12,3 +12,4 @@ pub mod Seeks
 pub mod Follows
 pub mod Listed
 pub mod Searched
+pub mod Kept

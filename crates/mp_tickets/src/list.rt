@@ -82,14 +82,14 @@ impl<T> TicketList<T> {
         Some(Box::into_inner(link).into_item())
     }
 
-    /// Takes out and drops each item whose ticket isn't one of these, in one walk over the list. It takes no memory and can't
-    /// fail.
+    /// Takes out and drops each item whose ticket isn't one of these, in one walk over the list and the ends of the buckets. It
+    /// takes no memory and can't fail.
     pub fn keep_only(&mut self, kept: &Tickets)
     where
         T: Drop,
         ensures { self.new ≡ among kept.now self.old }
     {
-        // links each node that stays in anew
+        self.len = self.chain.keep_only(kept, self.len, self.memory);
     }
 
     /// The first ticket with its item, if there is one.

@@ -51,7 +51,7 @@ impl Tickets {
         ensures { IfOk result (λ t. t ≡ self.now) }
     {
         let memory = *self.tickets.allocator();
-        let tickets = Vec::from_slice(memory, &self.tickets)?;
+        let tickets = Vec::from_slice(memory, self.as_slice())?;
         Ok(Tickets { tickets })
     }
 

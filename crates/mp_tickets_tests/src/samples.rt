@@ -1,6 +1,6 @@
 //! A list in one bucket, and how it is filled.
 use mp_memory::Memory;
-use mp_tickets::{Node, TicketList, make_node};
+use mp_tickets::{Node, TicketList, Tickets, make_node};
 use std::test::Fail;
 
 /// A node that holds the item. An `Err` says that there was no memory for it.
@@ -31,4 +31,13 @@ pub fn one_bucket(memory: Memory) -> Result<TicketList<u64>, Fail> {
     push(&mut list, 1025, node_of(memory, 102_500)?)?;
     push(&mut list, 2049, node_of(memory, 204_900)?)?;
     Ok(list)
+}
+
+/// Every third ticket from 3 to 6,000.
+pub fn thirds(memory: Memory) -> Result<Tickets, Fail> {
+    let mut tickets = Tickets::new(memory);
+    for third in 1..2001u64 {
+        tickets.push(3 * third)?;
+    }
+    Ok(tickets)
 }
