@@ -43,9 +43,6 @@ module _ (accepts : Accepts) (tick : ℕ) where
   dropped_step true b u i is e k d h = k h
   dropped_step false b u i is e k d h = ap (λ l. i.0 ∷ l) (d h) ∙ cons_cond b i.0 (dropped_upon accepts u tick is) (dropped_upon accepts u tick is ++ e.0 ∷ [])
 
-  nothing_dropped : (e : ℕ × Transaction) (v : Bool) → (if v then [] else e.0 ∷ []) ≡ cond v [] (e.0 ∷ [])
-  nothing_dropped e v = refl
-
   pub dropped_last : (b : Bool) (u : Unspent) (xs : List (ℕ × Transaction)) (e : ℕ × Transaction) → DropsLast b u xs e
   dropped_last b u [] e = λ h. ap (λ (v : Bool). if v then [] else e.0 ∷ []) h
   dropped_last b u (i ∷ is) e = dropped_step (is_valid accepts u tick i.1) b u i is e (dropped_last b (apply i.1 u) is e) (dropped_last b u is e)

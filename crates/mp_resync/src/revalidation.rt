@@ -4,7 +4,7 @@ ghost use Rattle.std.specs.Prelude.{◌≡◌, ◌<◌, ℕ, List, [], All, IfOk
 ghost use Rattle.std.specs.Map.{lookup};
 ghost use Rattle.mp_tx.specs.Reference.{same_ref};
 ghost use Rattle.mp_tx.specs.Spelling.{id_of};
-ghost use Rattle.mp_utxo.specs.Overlay.{IsOver, unspent};
+ghost use Rattle.mp_utxo.specs.Overlay.{unspent};
 ghost use Rattle.mp_rules.specs.Verifier.{Accepts};
 ghost use Rattle.mp_resync.specs.ById.{key_of};
 ghost use Rattle.mp_resync.specs.Item.{IsVouched, ticketed};
