@@ -31,7 +31,7 @@ loop-ticket-preserved g c =
       tt,
       subst (λ l. IsKeptOf accepts c.args.ledger.now l c.args.without.now c.handle.new.kept) (sym (ticketed-last c.loop-ticket.yielded (c.in-Some.ticket, c.in-Some.item)))
           (one_more accepts c.args.ledger.now c.args.without.now _ (ticketed (map shown c.loop-ticket.yielded)) (c.in-Some.ticket, c.in-Some.item.now.tx) c.loop-ticket.kept c.handle.new.kept
-          (c.in_ok-names.ensures (id_of c.in-Some.item.now.tx)) c.loop-ticket.invariant.2 c.in_ok-handle.ensures),
+          (c.in_ok-names.ensures.named (id_of c.in-Some.item.now.tx)) c.loop-ticket.invariant.2 c.in_ok-handle.ensures),
     )
 
 pub returns : goal.returns
