@@ -9,7 +9,7 @@ use Rattle.mp_resync.specs.Keep.{transactions, tickets, named, unnamed, keep, dr
 -- those with these ids are taken out, and of the others what is valid is kept
 pub record IsKeptOf (accepts : Accepts) (ledger : LedgerState) (items : List (ℕ × Transaction)) (ids : List (List ℕ)) (k : Kept)
     : Type 0 where
-  pub ledger : k.overlay.ledger ≡ ledger
+  pub base : k.overlay.ledger ≡ ledger
   pub applied : k.overlay.applied ≡ transactions (keep accepts ledger (unnamed ids items))
   pub kept : k.kept ≡ tickets (keep accepts ledger (unnamed ids items))
   pub named : k.named ≡ tickets (named ids items)

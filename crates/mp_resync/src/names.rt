@@ -1,10 +1,11 @@
 //! The ids of what is to be taken out.
 
-ghost use Rattle.std.specs.Prelude.{◌≡◌, IfOk, is_some};
+ghost use Rattle.std.specs.Prelude.{◌≡◌, IfOk, OnOk, is_some};
 ghost use Rattle.std.specs.Map.{lookup};
+ghost use Rattle.indexmap.specs.IndexMap.{hasher_of};
 ghost use Rattle.mp_tx.specs.Reference.{same_ref};
 ghost use Rattle.mp_resync.specs.ById.{key_of};
-ghost use Rattle.mp_resync.specs.Inside.Names.{AreNamed};
+ghost use Rattle.mp_resync.specs.Inside.Names.{AreNamed, Notes};
 
 use crate::by_id::{ById, key_of};
 use indexmap::IndexMap;
@@ -14,13 +15,23 @@ use mp_tx::{Salt, TxId};
 /// Ids in a table, so that none is looked for by a walk over them.
 pub type Names = ById<()>;
 
+// Puts the id in.
+fn note(names: &mut Names, id: &TxId) -> Result<(), NoMemory>
+    ensures notes { OnOk result (Notes names.old.entries id.now names.new.entries) }
+    ensures salt { hasher_of names.new ≡ hasher_of names.old }
+{
+    names.insert(key_of(id), ())?;
+    Ok(())
+}
+
 /// A table of these ids.
 pub fn names_of(memory: Memory, salt: Salt, ids: &[TxId]) -> Result<Names, NoMemory>
-    ensures { IfOk result (λ names. AreNamed ids.now names.entries) }
+    ensures named { IfOk result (λ names. AreNamed ids.now names.entries) }
+    ensures salt { IfOk result (λ names. hasher_of names ≡ salt) }
 {
     let mut names = IndexMap::with_capacity_and_hasher(memory, ids.len(), salt)?;
     for id in ids {
-        names.insert(key_of(id), ())?;
+        note(&mut names, id)?;
     }
     Ok(names)
 }

@@ -1,12 +1,20 @@
 //! Looking at all items anew.
 
-ghost use Rattle.std.specs.Prelude.{All, IfOk};
+ghost use Rattle.std.specs.Prelude.{◌≡◌, ◌<◌, ℕ, List, [], All, IfOk, OnOk, is_some};
+ghost use Rattle.std.specs.Map.{lookup};
+ghost use Rattle.mp_tx.specs.Reference.{same_ref};
+ghost use Rattle.mp_tx.specs.Spelling.{id_of};
+ghost use Rattle.mp_utxo.specs.Overlay.{unspent};
+ghost use Rattle.mp_rules.specs.Verifier.{Accepts};
+ghost use Rattle.mp_resync.specs.ById.{key_of};
 ghost use Rattle.mp_resync.specs.Item.{IsVouched, ticketed};
+ghost use Rattle.mp_resync.specs.Keep.{is_valid};
 ghost use Rattle.mp_resync.specs.Kept.{IsKeptOf};
+ghost use Rattle.mp_resync.specs.Inside.Judged.{AreBelow, Keeps, Judges, Handles};
 
 use crate::item::Item;
 use crate::kept::Kept;
-use crate::names::{is_named, names_of};
+use crate::names::{Names, is_named, names_of};
 use mp_memory::{Memory, NoMemory};
 use mp_rules::{Invalid, Verifier, recheck};
 use mp_tickets::{TicketList, Tickets};
@@ -15,13 +23,46 @@ use mp_utxo::Overlay;
 use std::sync::Arc;
 
 // Nothing yet, upon the ledger state.
-fn nothing_kept(memory: Memory, ledger: &Ledger) -> Result<Kept, NoMemory> {
+fn nothing_kept(memory: Memory, ledger: &Ledger) -> Result<Kept, NoMemory>
+    ensures { (accepts : Accepts) (ids : List (List ℕ)) → IfOk result
+        (IsKeptOf accepts ledger.now [] ids) }
+{
     Ok(Kept {
         overlay: Overlay::over(memory, ledger)?,
         kept: Tickets::new(memory),
         named: Tickets::new(memory),
         dropped: Tickets::new(memory),
     })
+}
+
+// Whether the item is valid after what was applied.
+fn stays<V: Verifier>(
+    memory: Memory,
+    overlay: &Overlay,
+    item: &Item,
+    verifier: &V,
+) -> Result<bool, NoMemory>
+    requires { IsVouched (V.accepts verifier.now) item.now }
+    ensures { IfOk result (λ stays. stays ≡ is_valid (V.accepts verifier.now)
+        (unspent overlay.now) overlay.now.ledger.tick item.now.tx) }
+{
+    let tick = overlay.ledger().tick();
+    match recheck(memory, &item.tx, overlay, tick, &item.resolved, verifier) {
+        Ok(_) => Ok(true),
+        Err(Invalid::NoMemory) => Err(NoMemory),
+        Err(_) => Ok(false),
+    }
+}
+
+// Applies the item.
+fn keep(kept: &mut Kept, ticket: u64, item: &Item) -> Result<(), NoMemory>
+    requires { All (λ t. t < ticket) kept.old.kept }
+    ensures { OnOk result (Keeps kept.old (ticket, item.now.tx) kept.new) }
+{
+    let tx = Arc::try_clone(&item.tx)?;
+    kept.overlay.reserve_for(&tx)?;
+    kept.overlay.apply(tx);
+    kept.kept.push(ticket)
 }
 
 // Keeps the item where it is valid after those that were kept, and drops it where it isn't.
@@ -31,23 +72,38 @@ fn judge<V: Verifier>(
     ticket: u64,
     item: &Item,
     verifier: &V,
-) -> Result<(), NoMemory> {
-    let tick = kept.overlay.ledger().tick();
-    match recheck(
-        memory,
-        &item.tx,
-        &kept.overlay,
-        tick,
-        &item.resolved,
-        verifier,
-    ) {
-        Ok(_) => {
-            kept.overlay.reserve_for(&item.tx)?;
-            kept.overlay.apply(Arc::try_clone(&item.tx)?);
-            kept.kept.push(ticket)
-        }
-        Err(Invalid::NoMemory) => Err(NoMemory),
-        Err(_) => kept.dropped.push(ticket),
+) -> Result<(), NoMemory>
+    requires vouched { IsVouched (V.accepts verifier.now) item.now }
+    requires below { AreBelow ticket kept.old }
+    ensures { OnOk result (Judges (V.accepts verifier.now)
+        kept.old (ticket, item.now.tx) kept.new) }
+{
+    if stays(memory, &kept.overlay, item, verifier)? {
+        keep(kept, ticket, item)
+    } else {
+        kept.dropped.push(ticket)
+    }
+}
+
+// Passes over the item where its id is one of the names, and else judges it.
+fn handle<V: Verifier>(
+    memory: Memory,
+    names: &Names,
+    kept: &mut Kept,
+    ticket: u64,
+    item: &Item,
+    verifier: &V,
+) -> Result<(), NoMemory>
+    requires vouched { IsVouched (V.accepts verifier.now) item.now }
+    requires below { AreBelow ticket kept.old }
+    ensures { OnOk result (Handles (V.accepts verifier.now)
+        (is_some (lookup (same_ref (key_of (id_of item.now.tx))) names.now.entries))
+        kept.old (ticket, item.now.tx) kept.new) }
+{
+    if is_named(names, item.tx.id()) {
+        kept.named.push(ticket)
+    } else {
+        judge(memory, kept, ticket, item, verifier)
     }
 }
 
@@ -72,11 +128,7 @@ pub fn revalidate<V: Verifier>(
     let names = names_of(memory, ledger.salt(), without)?;
     let mut kept = nothing_kept(memory, ledger)?;
     for (ticket, item) in items.iter() {
-        if is_named(&names, item.tx.id()) {
-            kept.named.push(ticket)?;
-        } else {
-            judge(memory, &mut kept, ticket, item, verifier)?;
-        }
+        handle(memory, &names, &mut kept, ticket, item, verifier)?;
     }
     Ok(kept)
 }

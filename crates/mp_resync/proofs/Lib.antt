@@ -1,0 +1,4 @@
+pub mod Keeping
+pub mod Naming
+pub mod Revalidated
+pub mod Turns
