@@ -18,7 +18,7 @@ same-back : (a b : List ℕ) → pointwise nat_eq a b ≡ pointwise nat_eq b a
 same-back a b = texts_ties a b ∙ (eq_by_cmp_equiv nat_list_cmp_total).symm a b ∙ sym (texts_ties b a)
 
 -- keys are the same where ids are
-same-key : (a b : List ℕ) → same_ref (key_of a) (key_of b) ≡ pointwise nat_eq b a
+pub same-key : (a b : List ℕ) → same_ref (key_of a) (key_of b) ≡ pointwise nat_eq b a
 same-key a b = and_true (pointwise nat_eq a b) ∙ same-back a b
 
 either : (a : Bool) (o : Option (Unit {0})) → is_some (if a then Some tt else o) ≡ (is_some o || a)

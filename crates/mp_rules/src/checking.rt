@@ -149,7 +149,13 @@ pub fn check_with<U: Utxo, V: Verifier>(
     if let Some(fault) = checked.signature() {
         return Err(fault);
     }
-    if let Some(fault) = refused_again(memory, tx, &resolved, checked.resolved(), checked.script())? {
+    if let Some(fault) = refused_again(
+        memory,
+        tx,
+        &resolved,
+        checked.resolved(),
+        checked.script(),
+    )? {
         return Err(fault);
     }
     Ok(resolved)

@@ -14,7 +14,7 @@ use Rattle.mp_resync.specs.Item.{Item, ticketed}
 use Rattle.mp_resync.specs.Keep.{transactions}
 use Rattle.mp_seqpool.specs.SlowPool.{ticket_of}
 use Rattle.mp_seqpool.specs.Inside.TicketsById.{Noted, noted_at, Forgets, AreNoted}
-use Rattle.mp_seqpool.proofs.Noting.{same-key}
+use Rattle.mp_resync.proofs.Naming.{same-key}
 use Rattle.mp_seqpool.proofs.Left.{some_all, some_filter}
 
 -- ---- ids that differ
@@ -49,9 +49,10 @@ unmapped P (i ∷ is) a = (a.0, unmapped P is a.1)
 apart : (items : List (ℕ × Transaction)) → AllPairs (λ a b. a ≢ b) (map id_of (transactions items)) → Apart items
 apart [] h = tt
 apart (i ∷ is) h =
-    let ids : List (List ℕ) = map id_of (transactions is) in
-    (unmapped (λ b. id_of i.1 ≢ b) is (recursion_from_All (λ b. id_of i.1 ≢ b) ids (λ k d lt. h 0 (suc k) d (omega arith) (omega arith))),
-    apart is (λ j k d lt within. h (suc j) (suc k) d (omega arith) (omega arith)))
+    let ids : List (List ℕ) = map id_of (transactions is) in (
+      unmapped (λ b. id_of i.1 ≢ b) is (recursion_from_All (λ b. id_of i.1 ≢ b) ids (λ k d lt. h 0 (suc k) d (omega arith) (omega arith))),
+      apart is (λ j k d lt within. h (suc j) (suc k) d (omega arith) (omega arith)),
+    )
 
 at_cut : (P : ℕ × Transaction → Type 0) (xs : List (ℕ × Transaction)) (e : ℕ × Transaction) (ys : List (ℕ × Transaction)) → AllByRecursion P (xs ++ e ∷ ys) → P e
 at_cut P [] e ys a = a.0

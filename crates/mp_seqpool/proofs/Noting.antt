@@ -7,20 +7,10 @@ use Rattle.std.specs.Cmp.Lexicographic.{pointwise, bytes_decides, texts_ties, na
 use Rattle.mp_tx.specs.Transaction.{Transaction}
 use Rattle.mp_tx.specs.Spelling.{id_of}
 use Rattle.mp_tx.specs.Reference.{same_ref}
+use Rattle.mp_resync.proofs.Naming.{same-key}
 use Rattle.mp_seqpool.specs.SlowPool.{ticket_of}
 use Rattle.mp_resync.specs.ById.{key_of}
 use Rattle.mp_seqpool.specs.Inside.TicketsById.{Noted, noted_at, Notes, AreNoted}
-
-and_true : (b : Bool) → (b && true) ≡ b
-and_true true = refl
-and_true false = refl
-
-same-back : (a b : List ℕ) → pointwise nat_eq a b ≡ pointwise nat_eq b a
-same-back a b = texts_ties a b ∙ (eq_by_cmp_equiv nat_list_cmp_total).symm a b ∙ sym (texts_ties b a)
-
--- keys are the same where ids are
-pub same-key : (a b : List ℕ) → same_ref (key_of a) (key_of b) ≡ pointwise nat_eq b a
-same-key a b = and_true (pointwise nat_eq a b) ∙ same-back a b
 
 first_or : (b : Bool) (x : ℕ) (o m : Option ℕ) → (if b then Some x else option_or o m) ≡ option_or (if b then Some x else o) m
 first_or true x o m = refl

@@ -421,11 +421,7 @@ impl SeqPool {
     ///
     /// # Errors
     /// As `prepare_sync`.
-    pub fn sync<V: Verifier>(
-        &mut self,
-        ledger: &Ledger,
-        verifier: &V,
-    ) -> Result<Reply, Refusal>
+    pub fn sync<V: Verifier>(&mut self, ledger: &Ledger, verifier: &V) -> Result<Reply, Refusal>
         requires { AreSigned (V.accepts verifier.now) self.old.pool }
         ensures ok { IfOk result (λ reply. answer (V.accepts verifier.now)
             self.old.pool (Sync ledger.now) ≡ Ok reply) }

@@ -31,12 +31,13 @@ loop-command-preserved g c =
     let asked = c.command-item.result in
     let rest = commands_of (drop (n + 1) cs) in
     let within : n < length cs = c.loop-command-test.true in
-    let is : asked ≡ get_or cs n asked = c.command-item.is in
-    (ap (λ l. l ++ answers accepts c.step.new.self.pool rest) (c.in_ok-push.ensures.items ∙ ap (λ a. c.loop-command.answers.items ++ a ∷ []) c.in_ok-step.ensures.answer)
-    ∙ ap (λ q. (c.loop-command.answers.items ++ answer accepts p (command_of asked) ∷ []) ++ answers accepts q rest) c.in_ok-step.ensures.next
-    ∙ sym (answered_one accepts p cs n asked c.loop-command.answers.items within is) ∙ c.loop-command.invariant.0,
-    ap (λ q. pool_after accepts q rest) c.in_ok-step.ensures.next ∙ sym (led_one accepts p cs n asked within is) ∙ c.loop-command.invariant.1,
-    subst (IsLawful accepts) (sym c.in_ok-step.ensures.next) (lawful-next accepts p (command_of asked) c.loop-command.invariant.2))
+    let is : asked ≡ get_or cs n asked = c.command-item.is in (
+      ap (λ l. l ++ answers accepts c.step.new.self.pool rest) (c.in_ok-push.ensures.items ∙ ap (λ a. c.loop-command.answers.items ++ a ∷ []) c.in_ok-step.ensures.answer)
+          ∙ ap (λ q. (c.loop-command.answers.items ++ answer accepts p (command_of asked) ∷ []) ++ answers accepts q rest) c.in_ok-step.ensures.next
+          ∙ sym (answered_one accepts p cs n asked c.loop-command.answers.items within is) ∙ c.loop-command.invariant.0,
+      ap (λ q. pool_after accepts q rest) c.in_ok-step.ensures.next ∙ sym (led_one accepts p cs n asked within is) ∙ c.loop-command.invariant.1,
+      subst (IsLawful accepts) (sym c.in_ok-step.ensures.next) (lawful-next accepts p (command_of asked) c.loop-command.invariant.2),
+    )
 
 pub returns-clause-laws : goal.returns-clause-laws
 returns-clause-laws g c = obeys-empty (g.V.Verifier.accepts c.args.verifier.now) c.args.config.limit c.args.config.last c.args.ledger.now (commands_of c.args.commands.now)
