@@ -5,6 +5,7 @@
 mod ledger;
 mod measurement;
 mod pool;
+mod resync;
 mod rules;
 mod ticket_list;
 mod timing;

@@ -46,11 +46,21 @@ pub enum Measurement {
     OverlayApply,
     /// A transaction of 181 bytes is submitted to a pool with so many.
     PoolSubmit,
+    /// A transaction of 181 bytes is submitted to a pool that grows to so many, in chains of 10: each spends what the one before it makes.
+    PoolChain10,
+    /// The same in chains of 1,000.
+    PoolChain1000,
+    /// The first of so many is removed: what it takes for each of them.
+    PoolRemove,
+    /// A ledger state is adopted upon which all of so many are valid: what it takes for each of them.
+    PoolSyncAll,
+    /// The same, where every other one isn't valid.
+    PoolSyncHalf,
 }
 
 impl Measurement {
     /// Each of them, in the order in which they are taken.
-    pub const ALL: [Measurement; 19] = [
+    pub const ALL: [Measurement; 24] = [
         Measurement::TicketPush,
         Measurement::TicketGet,
         Measurement::TicketUnlink,
@@ -70,6 +80,11 @@ impl Measurement {
         Measurement::Check281,
         Measurement::OverlayApply,
         Measurement::PoolSubmit,
+        Measurement::PoolChain10,
+        Measurement::PoolChain1000,
+        Measurement::PoolRemove,
+        Measurement::PoolSyncAll,
+        Measurement::PoolSyncHalf,
     ];
 }
 
@@ -100,6 +115,11 @@ impl fmt::Display for Measurement {
             Measurement::Check281 => "check-281",
             Measurement::OverlayApply => "overlay-apply",
             Measurement::PoolSubmit => "pool-submit",
+            Measurement::PoolChain10 => "pool-chain-10",
+            Measurement::PoolChain1000 => "pool-chain-1000",
+            Measurement::PoolRemove => "pool-remove",
+            Measurement::PoolSyncAll => "pool-sync-all",
+            Measurement::PoolSyncHalf => "pool-sync-half",
         })
     }
 }

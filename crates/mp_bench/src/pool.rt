@@ -5,20 +5,36 @@ use crate::rules::{AcceptsAll, Kind, STEPS, ledger_of, scaled, spending};
 use anyhow::{Result, ensure};
 use mp_memory::Memory;
 use mp_seqpool::{Config, SeqPool};
-use mp_tx::Tx;
+use mp_tx::{Ledger, Tx};
 use mp_utxo::{Overlay, Utxo};
 use std::rt::Clock;
 use std::sync::Arc;
 use std::time::{Duration, Instant};
 
-// Transactions that spend the outputs from this place on.
-fn shared(memory: Memory, from: u64, to: u64) -> Result<Vec<Arc<Tx, Memory>, Memory>> {
+/// A transaction that several hold.
+pub type Shared = Arc<Tx, Memory>;
+
+/// Transactions that spend the outputs from this place on, up to the one before that place.
+pub fn shared(memory: Memory, from: u64, to: u64) -> Result<Vec<Shared, Memory>> {
     let mut all = Vec::new(memory);
     for number in from..to {
         let tx = spending(memory, Kind::Plain, reference(number, 0))?;
         all.push(Arc::new(memory, tx)?)?;
     }
     Ok(all)
+}
+
+/// A pool upon the ledger state with these transactions.
+pub fn pool_of(memory: Memory, ledger: &Ledger, all: &[Shared]) -> Result<SeqPool> {
+    let config = Config {
+        limit: 1 << 32,
+        last: 0,
+    };
+    let mut pool = SeqPool::start(memory, config, ledger)?;
+    for tx in all {
+        pool.submit(tx, &AcceptsAll)?;
+    }
+    Ok(pool)
 }
 
 /// Makes room in an overlay with `size` transactions for a thousand more and applies them, one after the other, and tells
@@ -49,14 +65,7 @@ pub fn apply_all(clock: &impl Clock, memory: Memory, size: u64) -> Result<Durati
 pub fn submit_all(clock: &impl Clock, memory: Memory, size: u64) -> Result<Duration> {
     let last = size.saturating_add(STEPS);
     let ledger = ledger_of(memory, Kind::Plain, last)?;
-    let config = Config {
-        limit: 1 << 32,
-        last: 0,
-    };
-    let mut pool = SeqPool::start(memory, config, &ledger)?;
-    for tx in shared(memory, 0, size)? {
-        pool.submit(&tx, &AcceptsAll)?;
-    }
+    let mut pool = pool_of(memory, &ledger, &shared(memory, 0, size)?)?;
     let all = shared(memory, size, last)?;
     let start = Instant::now(clock)?;
     for tx in &all {

@@ -3,7 +3,7 @@
 use crate::measurement::Measurement;
 use crate::rules::Kind;
 use crate::transaction::{self, Sample};
-use crate::{ledger, pool, rules, ticket_list};
+use crate::{ledger, pool, resync, rules, ticket_list};
 use anyhow::Result;
 use mp_memory::Memory;
 use std::fmt;
@@ -50,6 +50,11 @@ fn round(
         Measurement::Check281 => rules::check_all(clock, memory, Kind::Scripted, size),
         Measurement::OverlayApply => pool::apply_all(clock, memory, size),
         Measurement::PoolSubmit => pool::submit_all(clock, memory, size),
+        Measurement::PoolChain10 => resync::submit_chains(clock, memory, 10, size),
+        Measurement::PoolChain1000 => resync::submit_chains(clock, memory, 1_000, size),
+        Measurement::PoolRemove => resync::remove_first(clock, memory, size),
+        Measurement::PoolSyncAll => resync::sync(clock, memory, 1, size),
+        Measurement::PoolSyncHalf => resync::sync(clock, memory, 2, size),
     }
 }
 
