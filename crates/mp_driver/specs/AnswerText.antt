@@ -9,7 +9,7 @@ use Rattle.mp_rules.specs.declared.invalid.Invalid.TheVariants as rules
 use Rattle.mp_seqpool.specs.declared.refusal.Refusal.{Refusal}
 use Rattle.mp_seqpool.specs.declared.refusal.Refusal.TheVariants as refusals
 use Rattle.mp_seqpool.specs.declared.command.Reply.{Reply}
-use Rattle.mp_seqpool.specs.declared.command.Reply.TheVariants.{Accepted}
+use Rattle.mp_seqpool.specs.declared.command.Reply.TheVariants.{Accepted, Removed, Synced}
 use Rattle.mp_seqpool.specs.Pool.{Pool}
 use Rattle.mp_seqpool.specs.SlowPool.{bytes_held}
 use Rattle.mp_driver.specs.Names.{Names, name_of}
@@ -52,9 +52,18 @@ refusal_text (refusals.AlreadyInPool ticket) = codes "already" ++ number_text ti
 refusal_text (refusals.Full need free) = codes "full" ++ number_text need ++ number_text free
 refusal_text (refusals.Invalid fault) = invalid_text fault
 
+-- each ticket after a space
+abbrev pub tickets_text : List ℕ → List ℕ
+tickets_text tickets = flat_map number_text tickets
+
+abbrev pub reply_text : Reply → List ℕ
+reply_text (Accepted ticket) = codes "accepted" ++ number_text ticket
+reply_text (Removed named dropped) = codes "removed" ++ tickets_text named ++ codes " dropped" ++ tickets_text dropped
+reply_text (Synced kept dropped) = codes "kept" ++ tickets_text kept ++ codes " dropped" ++ tickets_text dropped
+
 -- a line feed ends it
 unfoldable pub answer_text : Result Reply Refusal → List ℕ
-answer_text (Ok (Accepted ticket)) = codes "accepted" ++ number_text ticket ++ 10 ∷ []
+answer_text (Ok reply) = reply_text reply ++ 10 ∷ []
 answer_text (Err refusal) = codes "refused " ++ refusal_text refusal ++ 10 ∷ []
 
 -- the ticket, a colon and the name

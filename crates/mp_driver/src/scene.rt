@@ -21,7 +21,7 @@ use crate::openings::Openings;
 use crate::plain::{Coin, plain_output};
 use crate::verifier::RefusesAll;
 use mp_memory::{Memory, NoMemory};
-use mp_seqpool::{Command, Config, SeqPool};
+use mp_seqpool::{Answer, Config, Refusal, SeqPool};
 use mp_text::{first_word, is_clean, is_comment_or_blank, is_name};
 use mp_tx::{Ledger, LedgerFault, Salt, Tx};
 use std::mem;
@@ -115,7 +115,7 @@ fn declare(
 
 // The pool upon the opening outputs.
 fn pool_upon(memory: Memory, openings: Openings) -> Result<SeqPool, NoMemory>
-    ensures { IfOk result (λ p. p ≡ pool_at (Before openings)) }
+    ensures { IfOk result (λ p. p.pool ≡ pool_at (Before openings)) }
 {
     let ledger = match Ledger::of_outputs(
         memory,
@@ -158,21 +158,34 @@ fn submit_to(memory: Memory, stage: &mut Stage, tx: &Arc<Tx, Memory>) -> Result<
     }
 }
 
+// The pool's answer to the transaction.
+fn answer_to(pool: &mut SeqPool, tx: &Arc<Tx, Memory>) -> Result<Answer, NoMemory>
+    ensures answer { IfOk result (λ a.
+        a ≡ answer accepts_nothing pool.old.pool (Submit (arc_value tx.now))) }
+    ensures next { OnOk result
+        (pool.new.pool ≡ next accepts_nothing pool.old.pool (Submit (arc_value tx.now))) }
+{
+    match pool.submit(tx, &RefusesAll) {
+        Ok(reply) => Ok(Ok(reply)),
+        Err(refusal) => match refusal {
+            Refusal::NoMemory => Err(NoMemory),
+            other => Ok(Err(other)),
+        },
+    }
+}
+
 fn submit_to_pool(
     memory: Memory,
     pool: &mut SeqPool,
     tx: &Arc<Tx, Memory>,
 ) -> Result<Text, NoMemory>
     ensures answer { IfOk result (λ text. text.items
-        ≡ answer_text (answer accepts_nothing pool.old (Submit (arc_value tx.now)))) }
+        ≡ answer_text (answer accepts_nothing pool.old.pool (Submit (arc_value tx.now)))) }
     ensures next { OnOk result
-        (pool.new ≡ next accepts_nothing pool.old (Submit (arc_value tx.now))) }
+        (pool.new.pool ≡ next accepts_nothing pool.old.pool (Submit (arc_value tx.now))) }
 {
-    let command = Command::Submit(Arc::try_clone(tx)?);
-    match pool.step(&command, &RefusesAll) {
-        Ok(answer) => answer_line(memory, &answer),
-        Err(error) => Err(error),
-    }
+    let answer = answer_to(pool, tx)?;
+    answer_line(memory, &answer)
 }
 
 impl Scene {

@@ -106,7 +106,7 @@ fn a_history_may_be_short_or_too_long(rt: HostRuntime) -> Result<(), Fail> {
 // How many transactions stand in the pool that an audit gives, and its last ticket.
 fn counts(memory: Memory, ledger: &Ledger, entries: &[Entry]) -> Result<(usize, u64), AuditFault> {
     let pool = audit(memory, CONFIG, ledger, 1, entries, &RefusesAll)?;
-    Ok((pool.contents().len(), pool.last_ticket()))
+    Ok((pool.len(), pool.last_ticket()))
 }
 
 #[test]

@@ -8,7 +8,7 @@ use Rattle.mp_driver.specs.Scene as told
 
 abbrev pub stage_of : Stage → told.Stage
 stage_of (stages.Before outputs) = Before outputs
-stage_of (stages.Open p) = Open p
+stage_of (stages.Open p) = Open p.pool
 
 abbrev pub scene_of : Scene → told.Scene
 scene_of s = record { names = names_of s.names.items; stage = stage_of s.stage }
