@@ -61,7 +61,11 @@ pub fn remove_first(clock: &impl Clock, memory: Memory, size: u64) -> Result<Dur
     let start = Instant::now(clock)?;
     pool.remove(&ids, &AcceptsAll)?;
     let time = start.elapsed(clock)?;
-    ensure!(pool.len() as u64 + 1 == size, "{} left", pool.len());
+    ensure!(
+        pool.len() as u64 == size.saturating_sub(1),
+        "{} left",
+        pool.len()
+    );
     Ok(time)
 }
 
