@@ -88,6 +88,10 @@ pub fn sync(clock: &impl Clock, memory: Memory, step: u64, size: u64) -> Result<
     let start = Instant::now(clock)?;
     pool.sync(&next, &AcceptsAll)?;
     let time = start.elapsed(clock)?;
-    ensure!(pool.len() as u64 == size / step.max(1), "{} left", pool.len());
+    ensure!(
+        pool.len() as u64 == size / step.max(1),
+        "{} left",
+        pool.len()
+    );
     Ok(time)
 }
