@@ -1,5 +1,5 @@
 -- A verifier that accepts each signature accepts all in a pool.
-use Rattle.std.proofs.Common.{◌≡◌, ℕ, true, not, List, [], ◌∷◌, refl, ap}
+use Rattle.std.proofs.Common.{◌≡◌, true, not, List, [], ◌∷◌, refl, ap}
 use Rattle.std.specs.Prelude.{None, option_map, All}
 use Rattle.std.specs.List.{find}
 use Rattle.std.proofs.lemmas.List.Elements.{All-nil, All-cons}
