@@ -4,6 +4,8 @@
 #[cfg(test)]
 mod answers;
 #[cfg(test)]
-mod out_of_memory;
+mod asking;
 #[cfg(test)]
-mod refuses_all;
+mod samples;
+#[cfg(test)]
+mod told;
