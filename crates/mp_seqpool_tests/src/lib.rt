@@ -4,7 +4,11 @@
 #[cfg(test)]
 mod answers;
 #[cfg(test)]
+mod asked;
+#[cfg(test)]
 mod asking;
+#[cfg(test)]
+mod out_of_memory;
 #[cfg(test)]
 mod samples;
 #[cfg(test)]
