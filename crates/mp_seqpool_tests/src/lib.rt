@@ -4,6 +4,12 @@
 #[cfg(test)]
 mod answers;
 #[cfg(test)]
+mod asked;
+#[cfg(test)]
+mod asking;
+#[cfg(test)]
 mod out_of_memory;
 #[cfg(test)]
-mod refuses_all;
+mod samples;
+#[cfg(test)]
+mod told;

@@ -1,134 +1,261 @@
-//! Each call that may want memory: at each refused growth it says so and leaves the pool, and then the same call answers. Starting,
-//! sharing and copying take none.
-use crate::refuses_all::RefusesAll;
+//! Each call that may want memory: at each refused growth it says so and leaves the pool, and then the same call answers.
+use crate::asked::{Asked, CONFIG, all_asked, pool_of_three};
+use crate::asking::{
+    remove_from, run, step_with, submit_to, sync_with, try_remove, try_submit, try_submit_with,
+    try_sync,
+};
+use crate::told::{Standing, Told, look_at, read_answer, read_reply};
 use mp_memory::{Memory, NoMemory};
-use mp_seqpool::{Answer, Command, Config, Refusal, Reply, SeqPool, play};
-use mp_testing::{ledger, opening, transaction, under_each_refusal};
-use mp_tx::{Ledger, TxId};
+use mp_seqpool::{Answer, Command, Refusal, Reply, SeqPool};
+use mp_testing::under_each_refusal;
+use std::sync::Arc;
 use std::test::Fail;
 
-const CONFIG: Config = Config {
-    limit: 1_000_000,
-    last: 8,
-};
+const NO_MEMORY: Told = Told::Refused(Refusal::NoMemory);
 
-// How many transactions and bytes, which last ticket and how many changes.
-type Counts = [u64; 4];
+// The three transactions stand.
+const OF_THREE: Standing = [123, 543, 3, 3];
 
-const NEW: Counts = [0, 0, 8, 0];
+const NEW: Standing = [0, 0, 0, 0];
 
-const OF_ONE: Counts = [1, 181, 9, 1];
-
-fn counts(pool: &SeqPool) -> Counts {
-    [
-        pool.contents().len() as u64,
-        pool.bytes(),
-        pool.last_ticket(),
-        pool.changes(),
-    ]
+// What a call is told, without its kind.
+#[derive(Clone, Copy, Debug, PartialEq, Eq)]
+enum Got {
+    Tickets(u64, u64),
+    NoMemory,
+    Other,
 }
 
-// The ticket that is given, 0 for want of memory, and nothing at another refusal.
-fn ticket_of(answer: Answer) -> Option<u64> {
-    match answer {
-        Ok(Reply::Accepted { ticket }) => Some(ticket),
-        Err(Refusal::NoMemory) => Some(0),
-        Err(_) => None,
+fn strip(told: Told) -> Got {
+    match told {
+        Told::Accepted(ticket) => Got::Tickets(ticket, 0),
+        Told::Removed(named, dropped) => Got::Tickets(named, dropped),
+        Told::Synced(kept, dropped) => Got::Tickets(kept, dropped),
+        Told::Refused(Refusal::NoMemory) => Got::NoMemory,
+        _ => Got::Other,
     }
 }
 
-// The ways in which a command is asked for.
+// A way to ask the pool of three.
 #[derive(Clone, Copy, Debug)]
 enum Way {
-    Submit,
-    Execute,
+    Prepare,
+    Do,
     Step,
 }
 
-fn ask(pool: &mut SeqPool, way: Way, command: &Command) -> Option<u64> {
-    let Command::Submit(tx) = command;
+fn ask_remove(asked: &Asked, way: Way, pool: &mut SeqPool) -> Told {
     match way {
-        Way::Submit => ticket_of(pool.submit(tx, &RefusesAll)),
-        Way::Execute => ticket_of(pool.execute(command, &RefusesAll)),
-        Way::Step => match pool.step(command, &RefusesAll) {
-            Ok(answer) => ticket_of(answer),
-            Err(NoMemory) => Some(0),
+        Way::Prepare => try_remove(pool, &asked.first),
+        Way::Do => read_answer(&remove_from(pool, &asked.first)),
+        Way::Step => match Arc::try_clone(&asked.first) {
+            Ok(ids) => step_with(pool, &Command::Remove(ids)),
+            Err(_) => NO_MEMORY,
         },
     }
 }
 
-// How many growths the first submit makes: those of its rules, and then all the room that the pool needs for it.
-const GROWTHS: u64 = 12;
+fn ask_sync(asked: &Asked, way: Way, pool: &mut SeqPool) -> Told {
+    match way {
+        Way::Prepare => try_sync(pool, &asked.other),
+        Way::Do => read_answer(&sync_with(pool, &asked.other)),
+        Way::Step => match asked.other.share() {
+            Ok(ledger) => step_with(pool, &Command::Sync(ledger)),
+            Err(_) => NO_MEMORY,
+        },
+    }
+}
+
+fn ask_three(asked: &Asked, is_sync: bool, way: Way, pool: &mut SeqPool) -> Got {
+    if is_sync {
+        strip(ask_sync(asked, way, pool))
+    } else {
+        strip(ask_remove(asked, way, pool))
+    }
+}
+
+#[test]
+fn a_remove_and_a_sync_are_refused_at_each_growth(rt: HostRuntime) -> Result<(), Fail> {
+    let memory = Memory::new(rt.alloc())?;
+    let asked = all_asked(memory)?;
+    let (removed, synced) = (Got::Tickets(1, 2), Got::Tickets(2, 13));
+    for way in [Way::Prepare, Way::Do, Way::Step] {
+        for is_sync in [false, true] {
+            let done = under_each_refusal(
+                &memory,
+                || pool_of_three(&asked).ok(),
+                |pool| ask_three(&asked, is_sync, way, pool),
+                |got| *got == Got::NoMemory,
+                |pool| look_at(pool) == OF_THREE,
+            )?;
+            let answer = if is_sync { synced } else { removed };
+            assert_eq!(rt; done.answer, answer, "{way:?}");
+            assert!(rt; done.growths > 5, "{done:?}");
+        }
+    }
+    Ok(())
+}
+
+fn new_pool(asked: &Asked) -> Result<SeqPool, NoMemory> {
+    SeqPool::start(asked.memory, CONFIG, &asked.guarded_ledger)
+}
+
+// `Step` is a submit with what was found of it before, upon other outputs.
+fn ask_submit(asked: &Asked, way: Way, pool: &mut SeqPool) -> Got {
+    match way {
+        Way::Prepare => strip(try_submit(pool, &asked.guarded)),
+        Way::Do => strip(read_answer(&submit_to(pool, &asked.guarded))),
+        Way::Step => strip(try_submit_with(
+            asked.memory,
+            pool,
+            &asked.guarded,
+            &asked.guarded_outputs,
+        )),
+    }
+}
 
 #[test]
 fn a_submit_is_refused_at_each_growth(rt: HostRuntime) -> Result<(), Fail> {
     let memory = Memory::new(rt.alloc())?;
-    let ledger = ledger(memory, 1, 500_000)?;
-    let command = Command::Submit(transaction(memory, &[opening(0)], &[100])?);
-    for way in [Way::Submit, Way::Execute, Way::Step] {
+    let asked = all_asked(memory)?;
+    let accepted = Got::Tickets(1, 0);
+    for way in [Way::Prepare, Way::Do, Way::Step] {
         let done = under_each_refusal(
             &memory,
-            || SeqPool::start(memory, CONFIG, &ledger).ok(),
-            |pool| ask(pool, way, &command),
-            |ticket| *ticket == Some(0),
-            |pool| counts(pool) == NEW,
+            || new_pool(&asked).ok(),
+            |pool| ask_submit(&asked, way, pool),
+            |got| *got == Got::NoMemory,
+            |pool| look_at(pool) == NEW,
         )?;
-        assert_eq!(rt; (done.answer, done.growths), (Some(9), GROWTHS), "{way:?}");
+        assert_eq!(rt; done.answer, accepted, "{way:?}");
+        assert!(rt; done.growths > 5, "{done:?}");
     }
     Ok(())
 }
 
-// What stands after the command is played on a new pool.
-fn played(memory: Memory, ledger: &Ledger, commands: &[Command; 1]) -> Option<Counts> {
-    let mut answers = [Err(Refusal::NoMemory)];
-    let pool = play(memory, CONFIG, ledger, commands, &mut answers, &RefusesAll).ok()?;
-    Some(counts(&pool))
+fn start(asked: &Asked) -> Result<Standing, NoMemory> {
+    let pool = SeqPool::start(asked.memory, CONFIG, &asked.ledger)?;
+    Ok(look_at(&pool))
 }
 
-#[test]
-fn a_play_is_refused_at_each_growth(rt: HostRuntime) -> Result<(), Fail> {
-    let memory = Memory::new(rt.alloc())?;
-    let ledger = ledger(memory, 1, 500_000)?;
-    let commands = [Command::Submit(transaction(memory, &[opening(0)], &[100])?)];
-    for nth in 1..=GROWTHS {
-        memory.refuse(nth);
-        let refused = played(memory, &ledger, &commands);
-        assert!(rt; refused.is_none(), "growth {nth}");
-        assert!(rt; !memory.waits(), "growth {nth}");
+fn play_three(asked: &Asked) -> Result<Standing, NoMemory> {
+    let outcome = run(asked.memory, CONFIG, &asked.ledger, &asked.three)?;
+    Ok(outcome.standing)
+}
+
+// The calls that take no pool.
+#[derive(Clone, Copy)]
+enum Call {
+    Start,
+    Play,
+}
+
+fn make(asked: &Asked, call: Call) -> Result<Standing, NoMemory> {
+    match call {
+        Call::Start => start(asked),
+        Call::Play => play_three(asked),
     }
-    memory.refuse(GROWTHS + 1);
-    assert_eq!(rt; played(memory, &ledger, &commands), Some(OF_ONE));
-    assert!(rt; memory.waits());
-    Ok(())
 }
 
 #[test]
-fn a_start_takes_no_growth(rt: HostRuntime) -> Result<(), Fail> {
+fn a_start_and_a_play_are_refused_at_each_growth(rt: HostRuntime) -> Result<(), Fail> {
     let memory = Memory::new(rt.alloc())?;
-    let ledger = ledger(memory, 1, 500_000)?;
-    memory.refuse(1);
-    let pool = SeqPool::start(memory, CONFIG, &ledger)?;
-    assert!(rt; memory.waits());
-    assert_eq!(rt; counts(&pool), NEW);
+    let asked = all_asked(memory)?;
+    for (call, standing) in [(Call::Start, NEW), (Call::Play, OF_THREE)] {
+        let done = under_each_refusal(
+            &memory,
+            || Some(()),
+            |_nothing| make(&asked, call),
+            |made| *made == Err(NoMemory),
+            |_nothing| true,
+        )?;
+        assert_eq!(rt; done.answer, Ok(standing));
+    }
     Ok(())
 }
 
-fn shared_id(command: &Command) -> Result<TxId, NoMemory> {
+// What a share asks for: its kind, and the bytes, the number of ids or the tick.
+fn share(command: &Command) -> Result<(u64, u64), NoMemory> {
     match command.share()? {
-        Command::Submit(tx) => Ok(*tx.id()),
+        Command::Submit(tx) => Ok((0, tx.size())),
+        Command::Remove(ids) => Ok((1, ids.as_slice().len() as u64)),
+        Command::Sync(ledger) => Ok((2, ledger.tick())),
     }
 }
 
 #[test]
-fn a_share_and_a_copy_take_no_growth(rt: HostRuntime) -> Result<(), Fail> {
+fn a_share_takes_no_growth(rt: HostRuntime) -> Result<(), Fail> {
     let memory = Memory::new(rt.alloc())?;
-    let tx = transaction(memory, &[opening(0)], &[100])?;
-    let id = *tx.id();
-    let command = Command::Submit(tx);
-    let reply = Reply::Accepted { ticket: 7 };
+    let asked = all_asked(memory)?;
+    let remove = Command::Remove(Arc::try_clone(&asked.first)?);
+    let sync = Command::Sync(asked.other.share()?);
     memory.refuse(1);
-    assert!(rt; shared_id(&command) == Ok(id));
-    assert!(rt; reply.copy() == Ok(reply));
+    assert_eq!(rt; share(&asked.three[0]), Ok((0, 181)));
+    assert_eq!(rt; share(&remove), Ok((1, 1)));
+    assert_eq!(rt; share(&sync), Ok((2, 1)));
     assert!(rt; memory.waits());
+    Ok(())
+}
+
+fn copy(reply: &Reply) -> Result<Told, NoMemory> {
+    Ok(read_reply(&reply.copy()?))
+}
+
+// A reply of each kind.
+fn replies(asked: &Asked) -> Result<[Answer; 3], Fail> {
+    let mut pool = pool_of_three(asked)?;
+    let synced = sync_with(&mut pool, &asked.ledger);
+    let removed = remove_from(&mut pool, &asked.first);
+    Ok([Ok(Reply::Accepted { ticket: 7 }), synced, removed])
+}
+
+#[test]
+fn a_copy_is_refused_at_each_growth(rt: HostRuntime) -> Result<(), Fail> {
+    let memory = Memory::new(rt.alloc())?;
+    let asked = all_asked(memory)?;
+    for answer in replies(&asked)? {
+        let reply = answer?;
+        let done = under_each_refusal(
+            &memory,
+            || Some(()),
+            |_nothing| copy(&reply),
+            |copied| *copied == Err(NoMemory),
+            |_nothing| true,
+        )?;
+        assert_eq!(rt; done.answer, Ok(read_reply(&reply)));
+        assert!(rt; done.growths <= 2, "{done:?}");
+    }
+    Ok(())
+}
+
+// Each command twice as a step that is dropped, and then as one that is finished.
+#[test]
+fn a_dropped_step_changes_nothing(rt: HostRuntime) -> Result<(), Fail> {
+    let memory = Memory::new(rt.alloc())?;
+    let asked = all_asked(memory)?;
+    let mut pool = pool_of_three(&asked)?;
+    let removed = Told::Removed(1, 2);
+    assert_eq!(rt; try_remove(&pool, &asked.first), removed);
+    assert_eq!(rt; try_remove(&pool, &asked.first), removed);
+    assert_eq!(rt; look_at(&pool), OF_THREE);
+    assert_eq!(rt; read_answer(&remove_from(&mut pool, &asked.first)), removed);
+    assert_eq!(rt; look_at(&pool), [3, 181, 3, 4]);
+    let synced = Told::Synced(0, 3);
+    assert_eq!(rt; try_sync(&pool, &asked.guarded_ledger), synced);
+    assert_eq!(rt; try_sync(&pool, &asked.guarded_ledger), synced);
+    assert_eq!(rt; look_at(&pool), [3, 181, 3, 4]);
+    assert_eq!(rt;
+        read_answer(&sync_with(&mut pool, &asked.guarded_ledger)),
+        synced
+    );
+    assert_eq!(rt; look_at(&pool), [0, 0, 3, 5]);
+    let accepted = Told::Accepted(4);
+    assert_eq!(rt; try_submit(&mut pool, &asked.guarded), accepted);
+    assert_eq!(rt; try_submit(&mut pool, &asked.guarded), accepted);
+    assert_eq!(rt; look_at(&pool), [0, 0, 3, 5]);
+    assert_eq!(rt;
+        read_answer(&submit_to(&mut pool, &asked.guarded)),
+        accepted
+    );
     Ok(())
 }
