@@ -43,7 +43,7 @@ abbrev pub CanChange : Holding → Change → Type 0
 CanChange h (Append item) = CanAppend h item
 CanChange h (Keep overlay kept) = overlay.applied ≡ transactions (among kept h.pool.items)
 
--- The pool can take the step: it is as it was when the step was prepared, or was prepared alike since.
+-- The pool can take the step: so it is where the last step that was prepared on it is this one.
 pub record IsPrepared (h : Holding) (q : Prepared) : Type 0 where
   -- one more change may be made
   pub change : h.pool.changes < h.pool.limit
