@@ -1,0 +1,9 @@
+pub mod Splitting
+pub mod DeclaredTx
+pub mod Names
+pub mod Bundles
+pub mod Payments
+pub mod References
+pub mod Items
+pub mod Fault
+pub mod Inside
