@@ -1,3 +1,4 @@
 pub mod Name
 pub mod Names
 pub mod DeclaredTx
+pub mod Draft

@@ -5,5 +5,6 @@ pub mod Bundles
 pub mod Payments
 pub mod References
 pub mod Items
+pub mod Draft
 pub mod Fault
 pub mod Inside

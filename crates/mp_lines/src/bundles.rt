@@ -7,20 +7,18 @@ ghost use Rattle.mp_bundle.specs.Token.{token, token_cmp};
 ghost use Rattle.mp_bundle.specs.BundleFault.{follows, is_out_of_range, entry_fault, fault_after, fault_of};
 ghost use Rattle.mp_text.specs.Names.{is_letter_or_digit};
 ghost use Rattle.mp_text.specs.Numbers.{quantity_of};
-ghost use Rattle.mp_lines.specs.Splitting.{insert_rising};
 ghost use Rattle.mp_lines.specs.Bundles.{policy_named, is_token_name, signed_quantity_of, token_by, token_of, entry_of, entry_cmp, put_entries, bundle_by, bundle_of};
 ghost use Rattle.mp_lines.specs.Fault.{Reads, Gives};
 
 use crate::fault::LineFault;
 use crate::names::{COIN, Names};
+use crate::rising::put_entry;
 use crate::splitting::split_once;
-use mp_bundle::{Bundle, PolicyId, Token};
-use mp_memory::{Memory, NoMemory};
+use mp_bundle::{Bundle, Entry, PolicyId, Token};
+use mp_memory::Memory;
 use mp_text::quantity;
 
 const MAX_NAME_BYTES: usize = 32;
-
-type Entry = (Token, i64);
 
 fn policy_named(names: &Names, word: &[u8]) -> Option<PolicyId>
     ensures { result ≡ policy_named names.now word.now }
@@ -111,35 +109,6 @@ fn entry_of(names: &Names, word: &[u8]) -> Option<Entry>
     let token = token_of(names, token)?;
     let quantity = signed_quantity(quantity)?;
     Some((token, quantity))
-}
-
-fn comes_before(entry: &Entry, other: &Entry) -> bool
-    ensures { result ≡ is_lt (entry_cmp entry.now other.now) }
-{
-    entry.0.cmp(&other.0).is_lt()
-}
-
-fn first_greater(entry: &Entry, entries: &[Entry]) -> Option<usize>
-    ensures { result ≡ position (λ other. is_lt (entry_cmp entry.now other)) entries.now }
-{
-    entries.iter().position(|other| comes_before(entry, other))
-}
-
-// Before which place the entry stands.
-fn place_among(entry: &Entry, entries: &[Entry]) -> usize
-    ensures place { result
-        ≡ position_or_len (λ other. is_lt (entry_cmp entry.now other)) entries.now }
-    ensures within { result ≤ length entries.now }
-{
-    first_greater(entry, entries).unwrap_or(entries.len())
-}
-
-fn put_entry(entries: &mut Vec<Entry, Memory>, entry: Entry) -> Result<(), NoMemory>
-    ensures { OnOk result (entries.new.items ≡ insert_rising entry_cmp entry entries.old.items) }
-{
-    let place = place_among(&entry, entries);
-    entries.insert(place, entry)?;
-    Ok(())
 }
 
 fn follows(before: Option<Token>, token: &Token) -> bool

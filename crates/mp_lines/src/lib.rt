@@ -3,12 +3,14 @@
 
 mod bundles;
 mod declared_tx;
+mod draft;
 mod fault;
 mod items;
 mod names;
 mod payment;
 mod payments;
 mod references;
+mod rising;
 mod splitting;
 
 pub use declared_tx::DeclaredTx;

@@ -1,0 +1,99 @@
+-- Items put together, and the transaction that they make.
+use Rattle.std.specs.Prelude.{ℕ, ◌+◌, ◌-◌, ◌%◌, ◌^◌, ◌==◌, Bool, true, false, List, [], ◌∷◌, ◌++◌, map, replicate, is_none, Option, None, Some, option_map, option_and_then, unwrap_or, if◌then◌else◌}
+use Rattle.std.specs.declared.cmp.Ordering.{Ordering}
+use Rattle.mp_bundle.specs.Bundle.{Entry}
+use Rattle.mp_tx.specs.declared.reference.OutRef.{OutRef}
+use Rattle.mp_tx.specs.declared.input.Input.{Input}
+use Rattle.mp_tx.specs.declared.signature.Signature.{Signature}
+use Rattle.mp_tx.specs.Reference.{ref_cmp}
+use Rattle.mp_tx.specs.Transaction.{Transaction, script_cmp, signature_cmp}
+use Rattle.mp_tx.specs.Spelling.{id_of}
+use Rattle.mp_tx.specs.TxFault.{parts_fault}
+use Rattle.mp_lines.specs.declared.payment.Payment.{Payment}
+use Rattle.mp_lines.specs.declared.items.Item.{Item}
+use Rattle.mp_lines.specs.declared.items.Item.TheVariants.{Spends, LooksAt, Pays, From, To, Forges, Carries, Signs}
+use Rattle.mp_lines.specs.declared.items.Signer.{Signer}
+use Rattle.mp_lines.specs.Splitting.{insert_rising}
+use Rattle.mp_lines.specs.DeclaredTx.{DeclaredTx}
+use Rattle.mp_lines.specs.Names.{Names}
+use Rattle.mp_lines.specs.Payments.{output_of}
+use Rattle.mp_lines.specs.Items.{item_of}
+
+-- inputs, references and policy scripts rise, and what is paid keeps its order
+pub record Draft : Type 0 where
+  pub inputs : List Input
+  pub references : List OutRef
+  pub payments : List Payment
+  pub from : Option ℕ
+  pub to : Option ℕ
+  pub forge : Option (List Entry)
+  pub scripts : List (List ℕ)
+  pub signers : List Signer
+
+abbrev pub empty_draft : Draft
+empty_draft = record { inputs = []; references = []; payments = []; from = None; to = None; forge = None; scripts = []; signers = [] }
+
+-- by what is spent
+abbrev pub input_cmp : Input → Input → Ordering
+input_cmp a b = ref_cmp a.from b.from
+
+-- what may stand once stands once
+abbrev pub set_once : {X : Type 0} → Option X → X → Option (Option X)
+set_once None x = Some (Some x)
+set_once (Some y) x = None
+
+abbrev pub with_item : Draft → Item → Option Draft
+with_item d (Spends i) = Some (record d { inputs = insert_rising input_cmp i d.inputs })
+with_item d (LooksAt r) = Some (record d { references = insert_rising ref_cmp r d.references })
+with_item d (Pays p) = Some (record d { payments = d.payments ++ p ∷ [] })
+with_item d (From n) = option_map (λ x. record d { from = x }) (set_once d.from n)
+with_item d (To n) = option_map (λ x. record d { to = x }) (set_once d.to n)
+with_item d (Forges b) = option_map (λ x. record d { forge = x }) (set_once d.forge b)
+with_item d (Carries s) = Some (record d { scripts = insert_rising script_cmp s d.scripts })
+with_item d (Signs s) = Some (record d { signers = d.signers ++ s ∷ [] })
+
+-- all words are items
+abbrev pub draft_of : Names → Draft → List (List ℕ) → Option Draft
+draft_of names d [] = Some d
+draft_of names d (word ∷ words) = option_and_then (λ i. option_and_then (λ e. draft_of names e words) (with_item d i)) (item_of names word)
+
+-- at any tick that isn't excluded, and forging nothing where nothing is said
+abbrev pub transaction_of : Draft → List Signature → Transaction
+transaction_of d signatures = record {
+  inputs = d.inputs;
+  references = d.references;
+  outputs = map output_of d.payments;
+  from = unwrap_or d.from 0;
+  to = unwrap_or d.to (2 ^ 64 - 1);
+  forge = unwrap_or d.forge [];
+  scripts = d.scripts;
+  signatures = signatures;
+}
+
+-- the byte with another lowest bit
+abbrev pub flip : ℕ → ℕ
+flip k = if k % 2 == 0 then k + 1 else k - 1
+
+-- the first byte of a signature: that of the key, or another
+abbrev pub first_byte : Signer → ℕ
+first_byte s = if s.is_good then s.key else flip s.key
+
+-- A key is 32 times its number. Its good signature is the key and then the id
+unfoldable pub signature_of : List ℕ → Signer → Signature
+signature_of id s = record { key = replicate 32 s.key; sig = first_byte s ∷ replicate 31 s.key ++ id }
+
+-- the signatures, in rising order
+abbrev pub signatures_of : List ℕ → List Signature → List Signer → List Signature
+signatures_of id done [] = done
+signatures_of id done (s ∷ signers) = signatures_of id (insert_rising signature_cmp (signature_of id s) done) signers
+
+-- these parts may stand in a transaction
+abbrev pub if_fits : Transaction → Option Transaction
+if_fits t = if is_none (parts_fault t) then Some t else None
+
+-- First it is made without signatures, for its id, and then with those of the id
+abbrev pub sign : Draft → Transaction → Option DeclaredTx
+sign d t = option_map (λ s. record { tx = s; payments = d.payments }) (if_fits (transaction_of d (signatures_of (id_of t) [] d.signers)))
+
+unfoldable pub declared_of : Draft → Option DeclaredTx
+declared_of d = option_and_then (sign d) (if_fits (transaction_of d []))

@@ -1,0 +1,113 @@
+//! Items put together.
+
+ghost use Rattle.std.specs.Prelude.{◌≡◌, Some, None, OnOk, IsErrOf};
+ghost use Rattle.mp_text.specs.Words.{words_of};
+ghost use Rattle.mp_lines.specs.Draft.{empty_draft, set_once, draft_of};
+ghost use Rattle.mp_lines.specs.Fault.{Reads};
+
+use crate::fault::LineFault;
+use crate::items::{Item, Signer, item_of};
+use crate::names::Names;
+use crate::payment::Payment;
+use crate::rising::{put_input, put_reference, put_script};
+use mp_bundle::Bundle;
+use mp_memory::Memory;
+use mp_script::Script;
+use mp_text::first_word;
+use mp_tx::{Input, OutRef};
+use std::marker::Model;
+
+/// Items put together: inputs, references and policy scripts rise, and payments and signers keep their order.
+#[derive(Debug, Drop)]
+pub struct Draft {
+    inputs: Vec<Input, Memory>,
+    references: Vec<OutRef, Memory>,
+    payments: Vec<Payment, Memory>,
+    from: Option<u64>,
+    to: Option<u64>,
+    forge: Option<Bundle>,
+    scripts: Vec<Script, Memory>,
+    signers: Vec<Signer, Memory>,
+}
+
+impl Model for Draft {
+    ghost use Rattle.mp_lines.specs.Draft as told;
+    ghost use Rattle.mp_lines.specs.Inside.Draft.{draft};
+
+    ghost Value = { told.Draft };
+
+    ghost view = { draft };
+}
+
+fn set_once(set: Option<u64>, tick: u64) -> Result<Option<u64>, LineFault>
+    ensures { Reads (set_once set tick) result }
+{
+    match set {
+        None => Ok(Some(tick)),
+        Some(_) => Err(LineFault::Bad),
+    }
+}
+
+fn forge_once(forge: &mut Option<Bundle>, bundle: Bundle) -> Result<(), LineFault>
+    ensures ok { OnOk result (set_once forge.old bundle ≡ Some forge.new) }
+    ensures bad { IsErrOf result LineFault.Bad → set_once forge.old bundle ≡ None }
+{
+    if forge.is_some() {
+        return Err(LineFault::Bad);
+    }
+    *forge = Some(bundle);
+    Ok(())
+}
+
+impl Draft {
+    ghost use Rattle.std.specs.Prelude.{◌≡◌, [], ◌∷◌, ◌++◌, Some, None, option_map, option_copied, OnOk, IsErrOf};
+    ghost use Rattle.mp_lines.specs.Draft.{empty_draft, with_item};
+
+    /// No item.
+    pub fn new(memory: Memory) -> Draft
+        ensures { result ≡ empty_draft }
+    {
+        Draft {
+            inputs: Vec::new(memory),
+            references: Vec::new(memory),
+            payments: Vec::new(memory),
+            from: None,
+            to: None,
+            forge: None,
+            scripts: Vec::new(memory),
+            signers: Vec::new(memory),
+        }
+    }
+
+    /// Puts the item in. The first tick, the last tick and what is forged may be said once.
+    pub fn add(&mut self, item: Item) -> Result<(), LineFault>
+        ensures ok { OnOk result (with_item self.old item ≡ Some self.new) }
+        ensures bad { IsErrOf result LineFault.Bad → with_item self.old item ≡ None }
+    {
+        match item {
+            Item::Spends(input) => put_input(&mut self.inputs, input)?,
+            Item::LooksAt(reference) => put_reference(&mut self.references, reference)?,
+            Item::Pays(payment) => self.payments.push(payment)?,
+            Item::From(tick) => self.from = set_once(self.from, tick)?,
+            Item::To(tick) => self.to = set_once(self.to, tick)?,
+            Item::Forges(bundle) => forge_once(&mut self.forge, bundle)?,
+            Item::Carries(script) => put_script(&mut self.scripts, script)?,
+            Item::Signs(signer) => self.signers.push(signer)?,
+        }
+        Ok(())
+    }
+}
+
+/// The items that the words are, put together.
+pub fn draft_of(memory: Memory, names: &Names, words: &[u8]) -> Result<Draft, LineFault>
+    ensures { Reads (draft_of names.now empty_draft (words_of words.now)) result }
+{
+    let mut draft = Draft::new(memory);
+    let mut rest = words;
+    while let Some((word, others)) = first_word(rest) {
+        let item = item_of(memory, names, word)?;
+        draft.add(item)?;
+        rest = others;
+    }
+    Ok(draft)
+}
