@@ -91,9 +91,13 @@ signatures_of id done (s ∷ signers) = signatures_of id (insert_rising signatur
 abbrev pub if_fits : Transaction → Option Transaction
 if_fits t = if is_none (parts_fault t) then Some t else None
 
--- First it is made without signatures, for its id, and then with those of the id
-abbrev pub sign : Draft → Transaction → Option DeclaredTx
-sign d t = option_map (λ s. record { tx = s; payments = d.payments }) (if_fits (transaction_of d (signatures_of (id_of t) [] d.signers)))
+-- with signatures of the id that the transaction has without them
+abbrev pub signed : Draft → Transaction → Option Transaction
+signed d t = if_fits (transaction_of d (signatures_of (id_of t) [] d.signers))
+
+-- what is declared, after it was made without signatures, for its id
+abbrev pub declare_signed : Draft → Transaction → Option DeclaredTx
+declare_signed d t = option_map (λ s. record { tx = s; payments = d.payments }) (signed d t)
 
 unfoldable pub declared_of : Draft → Option DeclaredTx
-declared_of d = option_and_then (sign d) (if_fits (transaction_of d []))
+declared_of d = option_and_then (declare_signed d) (if_fits (transaction_of d []))

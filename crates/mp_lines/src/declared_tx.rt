@@ -26,6 +26,13 @@ impl DeclaredTx {
     ghost use Rattle.std.specs.Prelude.{◌≡◌};
     ghost use Rattle.std.specs.Arc.{arc_value};
 
+    /// The transaction with what its outputs pay.
+    pub fn of(tx: Arc<Tx, Memory>, payments: Vec<Payment, Memory>) -> DeclaredTx
+        ensures { result ≡ record { tx = arc_value tx; payments = payments.items } }
+    {
+        DeclaredTx { tx, payments }
+    }
+
     /// The transaction.
     pub fn tx(&self) -> &Arc<Tx, Memory>
         ensures { arc_value result.now ≡ self.now.tx }

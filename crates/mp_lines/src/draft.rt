@@ -1,21 +1,26 @@
 //! Items put together.
 
-ghost use Rattle.std.specs.Prelude.{◌≡◌, Some, None, OnOk, IsErrOf};
+ghost use Rattle.std.specs.Prelude.{◌≡◌, Some, None, IfOk, OnOk, IsErrOf};
 ghost use Rattle.mp_text.specs.Words.{words_of};
-ghost use Rattle.mp_lines.specs.Draft.{empty_draft, set_once, draft_of};
+ghost use Rattle.mp_tx.specs.TxFault.{parts_of};
+ghost use Rattle.mp_lines.specs.Draft.{empty_draft, set_once, draft_of, transaction_of, if_fits, signed, declared_of};
 ghost use Rattle.mp_lines.specs.Fault.{Reads};
 
+use crate::copies::{copy_inputs, copy_scripts, outputs_of};
+use crate::declared_tx::DeclaredTx;
 use crate::fault::LineFault;
 use crate::items::{Item, Signer, item_of};
 use crate::names::Names;
 use crate::payment::Payment;
 use crate::rising::{put_input, put_reference, put_script};
+use crate::signing::signatures_of;
 use mp_bundle::Bundle;
-use mp_memory::Memory;
+use mp_memory::{Memory, NoMemory};
 use mp_script::Script;
 use mp_text::first_word;
-use mp_tx::{Input, OutRef};
+use mp_tx::{Input, OutRef, Signature, Tx, TxFault, TxParts};
 use std::marker::Model;
+use std::sync::Arc;
 
 /// Items put together: inputs, references and policy scripts rise, and payments and signers keep their order.
 #[derive(Debug, Drop)]
@@ -110,4 +115,59 @@ pub fn draft_of(memory: Memory, names: &Names, words: &[u8]) -> Result<Draft, Li
         rest = others;
     }
     Ok(draft)
+}
+
+fn parts_of(
+    memory: Memory,
+    draft: &Draft,
+    signatures: Vec<Signature, Memory>,
+) -> Result<TxParts, NoMemory>
+    ensures { IfOk result (λ p. parts_of p ≡ transaction_of draft.now signatures.items) }
+{
+    let forge = match &draft.forge {
+        Some(forge) => forge.share()?,
+        None => Bundle::empty(),
+    };
+    Ok(TxParts {
+        inputs: copy_inputs(memory, &draft.inputs)?,
+        references: Vec::from_slice(memory, &draft.references)?,
+        outputs: outputs_of(memory, &draft.payments)?,
+        from: draft.from.unwrap_or(0),
+        to: draft.to.unwrap_or(u64::MAX),
+        forge,
+        scripts: copy_scripts(memory, &draft.scripts)?,
+        signatures,
+    })
+}
+
+fn put_together(memory: Memory, parts: TxParts) -> Result<Tx, LineFault>
+    ensures { Reads (if_fits (parts_of parts)) result }
+{
+    match Tx::of_parts(memory, parts) {
+        Ok(tx) => Ok(tx),
+        Err(TxFault::NoMemory) => Err(LineFault::NoMemory),
+        Err(_) => Err(LineFault::Bad),
+    }
+}
+
+// The transaction with signatures of its id.
+fn sign(memory: Memory, draft: &Draft, unsigned: &Tx) -> Result<Tx, LineFault>
+    ensures { Reads (signed draft.now unsigned.now) result }
+{
+    let signatures = signatures_of(memory, unsigned.id(), &draft.signers)?;
+    let parts = parts_of(memory, draft, signatures)?;
+    put_together(memory, parts)
+}
+
+/// The transaction of the draft. It is made twice: first without signatures, for its id.
+#[tactic(auto, unfolding(crate::specs::Draft::declared_of))]
+pub fn declared_of(memory: Memory, draft: Draft) -> Result<DeclaredTx, LineFault>
+    ensures { Reads (declared_of draft) result }
+{
+    let parts = parts_of(memory, &draft, Vec::new(memory))?;
+    let unsigned = put_together(memory, parts)?;
+    let tx = sign(memory, &draft, &unsigned)?;
+    let tx = Arc::new(memory, tx)?;
+    let Draft { payments, .. } = draft;
+    Ok(DeclaredTx::of(tx, payments))
 }

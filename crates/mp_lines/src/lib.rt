@@ -2,6 +2,7 @@
 #![tactic(auto)]
 
 mod bundles;
+mod copies;
 mod declared_tx;
 mod draft;
 mod fault;
@@ -11,6 +12,7 @@ mod payment;
 mod payments;
 mod references;
 mod rising;
+mod signing;
 mod splitting;
 
 pub use declared_tx::DeclaredTx;

@@ -1,0 +1,58 @@
+//! How the signers of a scenario sign.
+
+ghost use Rattle.std.specs.Prelude.{◌≡◌, [], IfOk};
+ghost use Rattle.mp_lines.specs.Draft.{flip, first_byte, signature_of, signatures_of};
+
+use crate::items::Signer;
+use crate::rising::put_signature;
+use mp_memory::{Memory, NoMemory};
+use mp_tx::{Signature, TxId};
+
+const KEY_BYTES: usize = 32;
+
+const SIG_BYTES: usize = 64;
+
+fn flip(byte: u8) -> u8
+    ensures { result ≡ flip byte }
+{
+    if byte % 2 == 0 { byte + 1 } else { byte - 1 }
+}
+
+fn first_byte(signer: Signer) -> u8
+    ensures { result ≡ first_byte signer }
+{
+    if signer.is_good {
+        signer.key
+    } else {
+        flip(signer.key)
+    }
+}
+
+// The key, which is 32 times its number, and then the id. A bad one has another first byte.
+#[tactic(auto, unfolding(crate::specs::Draft::signature_of))]
+fn signature_of(id: &TxId, signer: Signer) -> Signature
+    ensures { result ≡ signature_of id.now signer }
+{
+    let mut sig = [signer.key; SIG_BYTES];
+    sig[0] = first_byte(signer);
+    sig[KEY_BYTES..].copy_from_slice(id);
+    Signature {
+        key: [signer.key; KEY_BYTES],
+        sig,
+    }
+}
+
+/// What the signers make of the id, in rising order.
+pub fn signatures_of(
+    memory: Memory,
+    id: &TxId,
+    signers: &[Signer],
+) -> Result<Vec<Signature, Memory>, NoMemory>
+    ensures { IfOk result (λ v. v.items ≡ signatures_of id.now [] signers.now) }
+{
+    let mut signatures = Vec::new(memory);
+    for signer in signers {
+        put_signature(&mut signatures, signature_of(id, *signer))?;
+    }
+    Ok(signatures)
+}
