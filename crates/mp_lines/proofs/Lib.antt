@@ -1,3 +1,5 @@
 pub mod Places
 pub mod Parts
 pub mod Entries
+pub mod Apart
+pub mod Decoded

@@ -2,3 +2,4 @@ pub mod Name
 pub mod Names
 pub mod DeclaredTx
 pub mod Draft
+pub mod Line

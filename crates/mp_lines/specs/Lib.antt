@@ -6,5 +6,6 @@ pub mod Payments
 pub mod References
 pub mod Items
 pub mod Draft
+pub mod Lines
 pub mod Fault
 pub mod Inside

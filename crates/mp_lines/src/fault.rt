@@ -4,7 +4,7 @@ ghost use Rattle.std.specs.Prelude.{◌≡◌};
 ghost use Rattle.mp_lines.specs.declared.fault.LineFault.TheVariants as line_faults;
 
 use mp_memory::NoMemory;
-use std::alloc::AllocFailed;
+use std::alloc::{AllocError, AllocFailed};
 
 /// Why a line does nothing.
 #[derive(Clone, Copy, Debug, PartialEq, Eq)]
@@ -26,6 +26,14 @@ impl<T: Drop> From<AllocFailed<T>> for LineFault {
     ghost from_gives = { λ _ e. e ≡ line_faults.NoMemory };
 
     fn from(_refused: AllocFailed<T>) -> LineFault {
+        LineFault::NoMemory
+    }
+}
+
+impl From<AllocError> for LineFault {
+    ghost from_gives = { λ _ e. e ≡ line_faults.NoMemory };
+
+    fn from(_error: AllocError) -> LineFault {
         LineFault::NoMemory
     }
 }

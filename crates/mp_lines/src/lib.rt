@@ -2,20 +2,28 @@
 #![tactic(auto)]
 
 mod bundles;
+mod commands;
 mod copies;
+mod declarations;
 mod declared_tx;
 mod draft;
 mod fault;
 mod items;
+mod line;
 mod names;
+mod new_ledger;
 mod payment;
 mod payments;
 mod references;
 mod rising;
+mod settings;
 mod signing;
 mod splitting;
 
 pub use declared_tx::DeclaredTx;
 pub use fault::LineFault;
+pub use line::Line;
 pub use names::{Binding, Name, NamedBinding, NamedDatum, NamedScript, Names};
+pub use new_ledger::{NewLedger, Outputs};
 pub use payment::Payment;
+pub use settings::Setting;

@@ -1,0 +1,214 @@
+-- What lines ask, in view of what was declared before them.
+use Rattle.std.specs.Prelude.{ℕ, ◌^◌, ◌++◌, ◌&&◌, Bool, nat_eq, nat_le, List, [], ◌∷◌, codes, is_none, Option, None, Some, option_map, option_and_then, if◌then◌else◌, Result, Ok, Err, is_ok}
+use Rattle.std.specs.Cmp.Lexicographic.{pointwise}
+use Rattle.std.specs.List.{list_any}
+use Rattle.hex.specs.Hex.{decode_of}
+use Rattle.hex.specs.declared.error.FromHexError.{FromHexError}
+use Rattle.mp_text.specs.Numbers.{number_of}
+use Rattle.mp_text.specs.Words.{words_of, are_none_or_comment}
+use Rattle.mp_text.specs.Lines.{is_clean}
+use Rattle.mp_script.specs.ScriptReading.{script_of}
+use Rattle.mp_script.specs.DataReading.{datum_of}
+use Rattle.mp_tx.specs.declared.reference.OutRef.{OutRef}
+use Rattle.mp_tx.specs.declared.output.Output.{Output}
+use Rattle.mp_tx.specs.Reference.{same_ref}
+use Rattle.mp_tx.specs.Transaction.{Transaction}
+use Rattle.mp_tx.specs.Spelling.{id_of}
+use Rattle.mp_lines.specs.declared.payment.Payment.{Payment}
+use Rattle.mp_lines.specs.declared.names.NamedScript.{NamedScript}
+use Rattle.mp_lines.specs.declared.names.NamedDatum.{NamedDatum}
+use Rattle.mp_lines.specs.declared.settings.Setting.{Setting}
+use Rattle.mp_lines.specs.declared.settings.Setting.TheVariants.{BlockBytes, Limit, Last, Tick}
+use Rattle.mp_lines.specs.declared.new_ledger.NewLedger.{NewLedger}
+use Rattle.mp_lines.specs.Splitting.{split_once}
+use Rattle.mp_lines.specs.DeclaredTx.{DeclaredTx}
+use Rattle.mp_lines.specs.Names.{Names, tx_named, is_new_binding, is_new_script, is_new_datum}
+use Rattle.mp_lines.specs.Payments.{output_of, payment_of}
+use Rattle.mp_lines.specs.References.{ref_of, paid_at}
+use Rattle.mp_lines.specs.Draft.{empty_draft, draft_of, declared_of}
+
+pub data Line : Type 0 where
+  -- no word, or a comment
+  Blank : Line
+  Sets : Setting → ℕ → Line
+  Script : NamedScript → Line
+  Data : NamedDatum → Line
+  Out : List ℕ → Payment → Line
+  Tx : List ℕ → DeclaredTx → Line
+  Submit : Transaction → Line
+  -- the ids
+  Remove : List (List ℕ) → Line
+  Sync : NewLedger → Line
+  Snapshot : Line
+
+-- a block has 1 to 2^39 bytes
+abbrev pub block_bytes_of : List ℕ → Option ℕ
+block_bytes_of word = option_and_then (λ n. if nat_le 1 n && nat_le n (2 ^ 39) then Some n else None) (number_of word)
+
+-- a pool makes 1 to 2^32 changes
+abbrev pub limit_of : List ℕ → Option ℕ
+limit_of word = option_and_then (λ n. if nat_le 1 n && nat_le n (2 ^ 32) then Some n else None) (number_of word)
+
+abbrev pub value_of : Setting → List ℕ → Option ℕ
+value_of BlockBytes word = block_bytes_of word
+value_of Limit word = limit_of word
+value_of Last word = number_of word
+value_of Tick word = number_of word
+
+-- the word of a line that has no other
+abbrev pub one_word : List (List ℕ) → Option (List ℕ)
+one_word [] = None
+one_word (word ∷ []) = Some word
+one_word (word ∷ other ∷ more) = None
+
+-- the words of a line that has two
+abbrev pub two_words : List (List ℕ) → Option (List ℕ × List ℕ)
+two_words [] = None
+two_words (word ∷ []) = None
+two_words (word ∷ other ∷ []) = Some (word, other)
+two_words (word ∷ other ∷ another ∷ more) = None
+
+-- block N, limit N, last N, tick N
+abbrev pub setting_line : Setting → List (List ℕ) → Option Line
+setting_line setting words = option_map (Sets setting) (option_and_then (value_of setting) (one_word words))
+
+-- hexadecimal digits of either case
+abbrev pub bytes_of : List ℕ → Option (List ℕ)
+bytes_of digits = bytes_in (decode_of digits)
+  where
+    bytes_in : Result (List ℕ) FromHexError → Option (List ℕ)
+    bytes_in (Ok bytes) = Some bytes
+    bytes_in (Err e) = None
+
+abbrev pub if_script : List ℕ → Option (List ℕ)
+if_script bytes = if is_ok (script_of bytes) then Some bytes else None
+
+abbrev pub if_datum : List ℕ → Option (List ℕ)
+if_datum bytes = if is_ok (datum_of bytes) then Some bytes else None
+
+abbrev pub script_named_by : List ℕ → List ℕ → Line
+script_named_by name bytes = Script (record { name = name; script = bytes })
+
+abbrev pub datum_named_by : List ℕ → List ℕ → Line
+datum_named_by name bytes = Data (record { name = name; datum = bytes })
+
+-- script NAME HEX
+abbrev pub script_by : Names → List ℕ × List ℕ → Option Line
+script_by names words =
+    if is_new_script words.0 names then option_map (script_named_by words.0) (option_and_then if_script (bytes_of words.1)) else None
+
+abbrev pub script_line : Names → List (List ℕ) → Option Line
+script_line names words = option_and_then (script_by names) (two_words words)
+
+-- data NAME HEX
+abbrev pub data_by : Names → List ℕ × List ℕ → Option Line
+data_by names words =
+    if is_new_datum words.0 names then option_map (datum_named_by words.0) (option_and_then if_datum (bytes_of words.1)) else None
+
+abbrev pub data_line : Names → List (List ℕ) → Option Line
+data_line names words = option_and_then (data_by names) (two_words words)
+
+-- out NAME PAY
+abbrev pub output_by : Names → List ℕ × List ℕ → Option Line
+output_by names words =
+    if is_new_binding words.0 names then option_map (Out words.0) (payment_of names words.1) else None
+
+abbrev pub output_line : Names → List (List ℕ) → Option Line
+output_line names words = option_and_then (output_by names) (two_words words)
+
+-- tx NAME ITEM .., one item at least
+abbrev pub tx_line : Names → List (List ℕ) → Option Line
+tx_line names [] = None
+tx_line names (name ∷ []) = None
+tx_line names (name ∷ item ∷ items) =
+    if is_new_binding name names
+    then option_map (Tx name) (option_and_then declared_of (draft_of names empty_draft (item ∷ items)))
+    else None
+
+-- submit TX
+abbrev pub submit_line : Names → List (List ℕ) → Option Line
+submit_line names words = option_map (λ t. Submit t.tx) (option_and_then (λ w. tx_named w names) (one_word words))
+
+-- the ids of the transactions named, behind these
+abbrev pub put_ids : Names → List (List ℕ) → List (List ℕ) → Option (List (List ℕ))
+put_ids names ids [] = Some ids
+put_ids names ids (word ∷ words) = option_and_then (λ t. put_ids names (ids ++ id_of t.tx ∷ []) words) (tx_named word names)
+
+-- remove TX .., one at least
+abbrev pub remove_line : Names → List (List ℕ) → Option Line
+remove_line names [] = None
+remove_line names (word ∷ words) = option_map Remove (put_ids names [] (word ∷ words))
+
+-- an output that exists and that no word before named
+abbrev pub with_output : List (OutRef × Output) → Option OutRef → Option Payment → Option (List (OutRef × Output))
+with_output outputs (Some r) (Some p) = if list_any (λ o. same_ref r o.0) outputs then None else Some (outputs ++ (r, output_of p) ∷ [])
+with_output outputs (Some r) None = None
+with_output outputs None p = None
+
+-- the outputs named, behind these
+abbrev pub put_outputs : Names → List (OutRef × Output) → List (List ℕ) → Option (List (OutRef × Output))
+put_outputs names outputs [] = Some outputs
+put_outputs names outputs (word ∷ words) = option_and_then (λ o. put_outputs names o words) (with_output outputs (ref_of names word) (paid_at names word))
+
+abbrev pub sync_to : ℕ → Option ℕ → List (OutRef × Output) → Line
+sync_to tick block_bytes outputs = Sync (record { tick = tick; block_bytes = block_bytes; outputs = outputs })
+
+-- what stands behind `block=`, 61 being the sign of equality
+unfoldable pub block_word : List ℕ → Option (List ℕ)
+block_word word = if pointwise nat_eq (split_once 61 word).0 (codes "block") then (split_once 61 word).1 else None
+
+-- with the bytes of a block
+abbrev pub sync_told : Names → ℕ → List (List ℕ) → ℕ → Option Line
+sync_told names tick words n = option_map (sync_to tick (Some n)) (put_outputs names [] words)
+
+-- the outputs, and before them the bytes of a block, where they are told
+abbrev pub sync_with : Names → ℕ → Option (List ℕ) → List (List ℕ) → List (List ℕ) → Option Line
+sync_with names tick None all others = option_map (sync_to tick None) (put_outputs names [] all)
+sync_with names tick (Some value) all others = option_and_then (sync_told names tick others) (block_bytes_of value)
+
+abbrev pub sync_at : Names → List (List ℕ) → ℕ → Option Line
+sync_at names [] tick = Some (sync_to tick None [])
+sync_at names (word ∷ words) tick = sync_with names tick (block_word word) (word ∷ words) words
+
+-- sync TICK [block=N] REF ..
+abbrev pub sync_line : Names → List (List ℕ) → Option Line
+sync_line names [] = None
+sync_line names (tick ∷ words) = option_and_then (sync_at names words) (number_of tick)
+
+-- snapshot
+abbrev pub snapshot_line : List (List ℕ) → Option Line
+snapshot_line [] = Some Snapshot
+snapshot_line (other ∷ more) = None
+
+-- by the first word
+abbrev pub command_line : Names → List ℕ → List (List ℕ) → Option Line
+command_line names word words =
+    if pointwise nat_eq word (codes "submit") then submit_line names words
+    else if pointwise nat_eq word (codes "remove") then remove_line names words
+    else if pointwise nat_eq word (codes "sync") then sync_line names words
+    else if pointwise nat_eq word (codes "snapshot") then snapshot_line words
+    else None
+
+abbrev pub declaration_line : Names → List ℕ → List (List ℕ) → Option Line
+declaration_line names word words =
+    if pointwise nat_eq word (codes "script") then script_line names words
+    else if pointwise nat_eq word (codes "data") then data_line names words
+    else if pointwise nat_eq word (codes "out") then output_line names words
+    else if pointwise nat_eq word (codes "tx") then tx_line names words
+    else command_line names word words
+
+abbrev pub asked_line : Names → List ℕ → List (List ℕ) → Option Line
+asked_line names word words =
+    if pointwise nat_eq word (codes "block") then setting_line BlockBytes words
+    else if pointwise nat_eq word (codes "limit") then setting_line Limit words
+    else if pointwise nat_eq word (codes "last") then setting_line Last words
+    else if pointwise nat_eq word (codes "tick") then setting_line Tick words
+    else declaration_line names word words
+
+abbrev pub words_line : Names → List (List ℕ) → Option Line
+words_line names [] = Some Blank
+words_line names (word ∷ words) = if are_none_or_comment (word ∷ words) then Some Blank else asked_line names word words
+
+-- what the line asks, if it is one of the language
+unfoldable pub line_of : Names → List ℕ → Option Line
+line_of names line = if is_clean line then words_line names (words_of line) else None

@@ -1,0 +1,188 @@
+//! Lines that the pool answers.
+
+ghost use Rattle.std.specs.Prelude.{◌≡◌, [], None, Some, option_map, option_copied, option_and_then, OnOk, IsErrOf};
+ghost use Rattle.mp_text.specs.Words.{words_of};
+ghost use Rattle.mp_lines.specs.Lines.{one_word, with_output, put_ids, put_outputs, block_word, block_bytes_of, submit_line, remove_line, sync_told, sync_at, sync_line, snapshot_line, setting_line};
+ghost use Rattle.mp_lines.specs.References.{ref_of, paid_at};
+ghost use Rattle.mp_lines.specs.Fault.{Reads, Gives};
+ghost use Rattle.mp_lines.specs.Inside.Line.{to_line};
+
+use crate::fault::LineFault;
+use crate::line::Line;
+use crate::names::Names;
+use crate::new_ledger::{NewLedger, Outputs};
+use crate::references::{paid_at, ref_of};
+use crate::settings::{Setting, block_bytes_of, value_of};
+use crate::splitting::split_once;
+use mp_memory::Memory;
+use mp_text::{first_word, number};
+use mp_tx::TxId;
+use std::sync::Arc;
+
+fn one_word(words: &[u8]) -> Option<&[u8]>
+    ensures { option_copied result ≡ one_word (words_of words.now) }
+{
+    let (first, rest) = first_word(words)?;
+    match first_word(rest) {
+        None => Some(first),
+        Some(_) => None,
+    }
+}
+
+/// block N, limit N, last N, tick N
+pub fn setting_line(setting: Setting, words: &[u8]) -> Result<Line, LineFault>
+    ensures { Gives to_line (setting_line setting (words_of words.now)) result }
+{
+    let Some(word) = one_word(words) else {
+        return Err(LineFault::Bad);
+    };
+    match value_of(setting, word) {
+        Some(value) => Ok(Line::Sets(setting, value)),
+        None => Err(LineFault::Bad),
+    }
+}
+
+/// submit TX
+pub fn submit_line(names: &Names, words: &[u8]) -> Result<Line, LineFault>
+    ensures { Gives to_line (submit_line names.now (words_of words.now)) result }
+{
+    let Some(word) = one_word(words) else {
+        return Err(LineFault::Bad);
+    };
+    match names.tx(word) {
+        Some(declared) => Ok(Line::Submit(Arc::try_clone(declared.tx())?)),
+        None => Err(LineFault::Bad),
+    }
+}
+
+fn ids_of(memory: Memory, names: &Names, words: &[u8]) -> Result<Vec<TxId, Memory>, LineFault>
+    ensures { Gives (λ v. v.items) (put_ids names.now [] (words_of words.now)) result }
+{
+    let mut ids = Vec::new(memory);
+    let mut rest = words;
+    while let Some((word, others)) = first_word(rest) {
+        let Some(declared) = names.tx(word) else {
+            return Err(LineFault::Bad);
+        };
+        ids.push(*declared.tx().id())?;
+        rest = others;
+    }
+    Ok(ids)
+}
+
+/// remove TX ..
+pub fn remove_line(memory: Memory, names: &Names, words: &[u8]) -> Result<Line, LineFault>
+    ensures { Gives to_line (remove_line names.now (words_of words.now)) result }
+{
+    if first_word(words).is_none() {
+        return Err(LineFault::Bad);
+    }
+    let ids = ids_of(memory, names, words)?;
+    Ok(Line::Remove(ids))
+}
+
+fn put_output(outputs: &mut Outputs, names: &Names, word: &[u8]) -> Result<(), LineFault>
+    ensures ok { OnOk result
+        (with_output outputs.old (ref_of names.now word.now) (paid_at names.now word.now)
+        ≡ Some outputs.new) }
+    ensures bad { IsErrOf result LineFault.Bad
+        → with_output outputs.old (ref_of names.now word.now) (paid_at names.now word.now) ≡ None }
+{
+    let Some(reference) = ref_of(names, word) else {
+        return Err(LineFault::Bad);
+    };
+    let Some(payment) = paid_at(names, word) else {
+        return Err(LineFault::Bad);
+    };
+    outputs.push(reference, payment)
+}
+
+fn outputs_of(memory: Memory, names: &Names, words: &[u8]) -> Result<Outputs, LineFault>
+    ensures { Reads (put_outputs names.now [] (words_of words.now)) result }
+{
+    let mut outputs = Outputs::new(memory);
+    let mut rest = words;
+    while let Some((word, others)) = first_word(rest) {
+        put_output(&mut outputs, names, word)?;
+        rest = others;
+    }
+    Ok(outputs)
+}
+
+// What stands behind `block=`.
+#[tactic(auto, unfolding(crate::specs::Lines::block_word))]
+fn block_word(word: &[u8]) -> Option<&[u8]>
+    ensures { option_copied result ≡ block_word word.now }
+{
+    let (key, value) = split_once(word, b'=');
+    if key == b"block".as_slice() {
+        value
+    } else {
+        None
+    }
+}
+
+fn sync_with_block(
+    memory: Memory,
+    names: &Names,
+    tick: u64,
+    value: &[u8],
+    others: &[u8],
+) -> Result<Line, LineFault>
+    ensures { Gives to_line
+        (option_and_then (sync_told names.now tick (words_of others.now)) (block_bytes_of value.now))
+        result }
+{
+    let Some(bytes) = block_bytes_of(value) else {
+        return Err(LineFault::Bad);
+    };
+    Ok(Line::Sync(NewLedger {
+        tick,
+        block_bytes: Some(bytes),
+        outputs: outputs_of(memory, names, others)?,
+    }))
+}
+
+// The outputs, and before them the bytes of a block, where they are told.
+fn sync_at(memory: Memory, names: &Names, words: &[u8], tick: u64) -> Result<Line, LineFault>
+    ensures { Gives to_line (sync_at names.now (words_of words.now) tick) result }
+{
+    let Some((word, others)) = first_word(words) else {
+        return Ok(Line::Sync(NewLedger {
+            tick,
+            block_bytes: None,
+            outputs: Outputs::new(memory),
+        }));
+    };
+    match block_word(word) {
+        Some(value) => sync_with_block(memory, names, tick, value, others),
+        None => Ok(Line::Sync(NewLedger {
+            tick,
+            block_bytes: None,
+            outputs: outputs_of(memory, names, words)?,
+        })),
+    }
+}
+
+/// sync TICK [block=N] REF ..
+pub fn sync_line(memory: Memory, names: &Names, words: &[u8]) -> Result<Line, LineFault>
+    ensures { Gives to_line (sync_line names.now (words_of words.now)) result }
+{
+    let Some((word, others)) = first_word(words) else {
+        return Err(LineFault::Bad);
+    };
+    match number(word) {
+        Some(tick) => sync_at(memory, names, others, tick),
+        None => Err(LineFault::Bad),
+    }
+}
+
+/// snapshot
+pub fn snapshot_line(words: &[u8]) -> Result<Line, LineFault>
+    ensures { Gives to_line (snapshot_line (words_of words.now)) result }
+{
+    match first_word(words) {
+        None => Ok(Line::Snapshot),
+        Some(_) => Err(LineFault::Bad),
+    }
+}

@@ -1,0 +1,164 @@
+//! Lines that declare something.
+
+ghost use Rattle.std.specs.Prelude.{◌≡◌, None, Some, option_map, option_and_then};
+ghost use Rattle.mp_text.specs.Words.{words_of};
+ghost use Rattle.mp_lines.specs.Lines.{bytes_of, if_script, if_datum, two_words, script_by, script_line, data_by, data_line, output_by, output_line, tx_line};
+ghost use Rattle.mp_lines.specs.Fault.{Reads, Gives};
+ghost use Rattle.mp_lines.specs.Inside.Line.{to_line};
+
+use crate::draft::{declared_of, draft_of};
+use crate::fault::LineFault;
+use crate::line::Line;
+use crate::names::{Name, NamedDatum, NamedScript, Names};
+use crate::payments::payment_of;
+use hex::FromHexError;
+use mp_memory::Memory;
+use mp_script::{Data, DataFault, Script, ScriptFault};
+use mp_text::first_word;
+
+fn bytes_of(memory: Memory, digits: &[u8]) -> Result<Vec<u8, Memory>, LineFault>
+    ensures { Gives (λ v. v.items) (bytes_of digits.now) result }
+{
+    match hex::decode(memory, digits) {
+        Ok(bytes) => Ok(bytes),
+        Err(FromHexError::OutOfMemory) => Err(LineFault::NoMemory),
+        Err(_) => Err(LineFault::Bad),
+    }
+}
+
+fn if_script(memory: Memory, bytes: &[u8]) -> Result<Script, LineFault>
+    ensures { Reads (if_script bytes.now) result }
+{
+    match Script::decode(memory, bytes) {
+        Ok(script) => Ok(script),
+        Err(ScriptFault::NoMemory) => Err(LineFault::NoMemory),
+        Err(_) => Err(LineFault::Bad),
+    }
+}
+
+fn if_datum(memory: Memory, bytes: &[u8]) -> Result<Data, LineFault>
+    ensures { Reads (if_datum bytes.now) result }
+{
+    match Data::decode(memory, bytes) {
+        Ok(datum) => Ok(datum),
+        Err(DataFault::NoMemory) => Err(LineFault::NoMemory),
+        Err(_) => Err(LineFault::Bad),
+    }
+}
+
+fn script_of(memory: Memory, digits: &[u8]) -> Result<Script, LineFault>
+    ensures { Reads (option_and_then if_script (bytes_of digits.now)) result }
+{
+    let bytes = bytes_of(memory, digits)?;
+    if_script(memory, &bytes)
+}
+
+fn datum_of(memory: Memory, digits: &[u8]) -> Result<Data, LineFault>
+    ensures { Reads (option_and_then if_datum (bytes_of digits.now)) result }
+{
+    let bytes = bytes_of(memory, digits)?;
+    if_datum(memory, &bytes)
+}
+
+fn two_words(words: &[u8]) -> Option<(&[u8], &[u8])>
+    ensures { option_map (λ p. (p.0.now, p.1.now)) result ≡ two_words (words_of words.now) }
+{
+    let (first, rest) = first_word(words)?;
+    let (second, rest) = first_word(rest)?;
+    match first_word(rest) {
+        None => Some((first, second)),
+        Some(_) => None,
+    }
+}
+
+fn script_by(
+    memory: Memory,
+    names: &Names,
+    name: &[u8],
+    digits: &[u8],
+) -> Result<Line, LineFault>
+    ensures { Gives to_line (script_by names.now (name.now, digits.now)) result }
+{
+    if !names.is_new_script(name) {
+        return Err(LineFault::Bad);
+    }
+    let script = script_of(memory, digits)?;
+    let name = Name::of(memory, name)?;
+    Ok(Line::Script(NamedScript { name, script }))
+}
+
+fn data_by(
+    memory: Memory,
+    names: &Names,
+    name: &[u8],
+    digits: &[u8],
+) -> Result<Line, LineFault>
+    ensures { Gives to_line (data_by names.now (name.now, digits.now)) result }
+{
+    if !names.is_new_datum(name) {
+        return Err(LineFault::Bad);
+    }
+    let datum = datum_of(memory, digits)?;
+    let name = Name::of(memory, name)?;
+    Ok(Line::Data(NamedDatum { name, datum }))
+}
+
+fn output_by(
+    memory: Memory,
+    names: &Names,
+    name: &[u8],
+    word: &[u8],
+) -> Result<Line, LineFault>
+    ensures { Gives to_line (output_by names.now (name.now, word.now)) result }
+{
+    if !names.is_new_binding(name) {
+        return Err(LineFault::Bad);
+    }
+    let payment = payment_of(memory, names, word)?;
+    Ok(Line::Out(Name::of(memory, name)?, payment))
+}
+
+/// script NAME HEX
+pub fn script_line(memory: Memory, names: &Names, words: &[u8]) -> Result<Line, LineFault>
+    ensures { Gives to_line (script_line names.now (words_of words.now)) result }
+{
+    match two_words(words) {
+        Some((name, digits)) => script_by(memory, names, name, digits),
+        None => Err(LineFault::Bad),
+    }
+}
+
+/// data NAME HEX
+pub fn data_line(memory: Memory, names: &Names, words: &[u8]) -> Result<Line, LineFault>
+    ensures { Gives to_line (data_line names.now (words_of words.now)) result }
+{
+    match two_words(words) {
+        Some((name, digits)) => data_by(memory, names, name, digits),
+        None => Err(LineFault::Bad),
+    }
+}
+
+/// out NAME PAY
+pub fn output_line(memory: Memory, names: &Names, words: &[u8]) -> Result<Line, LineFault>
+    ensures { Gives to_line (output_line names.now (words_of words.now)) result }
+{
+    match two_words(words) {
+        Some((name, word)) => output_by(memory, names, name, word),
+        None => Err(LineFault::Bad),
+    }
+}
+
+/// tx NAME ITEM ..
+pub fn tx_line(memory: Memory, names: &Names, words: &[u8]) -> Result<Line, LineFault>
+    ensures { Gives to_line (tx_line names.now (words_of words.now)) result }
+{
+    let Some((name, items)) = first_word(words) else {
+        return Err(LineFault::Bad);
+    };
+    if first_word(items).is_none() || !names.is_new_binding(name) {
+        return Err(LineFault::Bad);
+    }
+    let draft = draft_of(memory, names, items)?;
+    let declared = declared_of(memory, draft)?;
+    Ok(Line::Tx(Name::of(memory, name)?, declared))
+}

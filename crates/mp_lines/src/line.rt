@@ -1,0 +1,127 @@
+//! What a line asks.
+
+ghost use Rattle.std.specs.Prelude.{◌≡◌, Some, None};
+ghost use Rattle.mp_text.specs.Words.{words_of};
+ghost use Rattle.mp_lines.specs.Lines.{command_line, declaration_line, asked_line, words_line, line_of};
+ghost use Rattle.mp_lines.specs.Fault.{Gives};
+ghost use Rattle.mp_lines.specs.Inside.Line.{to_line};
+
+use crate::commands::{remove_line, setting_line, snapshot_line, submit_line, sync_line};
+use crate::declarations::{data_line, output_line, script_line, tx_line};
+use crate::declared_tx::DeclaredTx;
+use crate::fault::LineFault;
+use crate::names::{Name, NamedDatum, NamedScript, Names};
+use crate::new_ledger::NewLedger;
+use crate::payment::Payment;
+use crate::settings::Setting;
+use mp_memory::Memory;
+use mp_text::{first_word, is_clean, is_comment_or_blank};
+use mp_tx::{Tx, TxId};
+use std::sync::Arc;
+
+/// What a line asks.
+#[derive(Debug, Drop)]
+pub enum Line {
+    /// Nothing: the line has no word, or is a comment.
+    Blank,
+    Sets(Setting, u64),
+    Script(NamedScript),
+    Data(NamedDatum),
+    /// An output of the opening ledger state.
+    Out(Name, Payment),
+    Tx(Name, DeclaredTx),
+    Submit(Arc<Tx, Memory>),
+    Remove(Vec<TxId, Memory>),
+    Sync(NewLedger),
+    Snapshot,
+}
+
+fn command_line(
+    memory: Memory,
+    names: &Names,
+    word: &[u8],
+    words: &[u8],
+) -> Result<Line, LineFault>
+    ensures { Gives to_line (command_line names.now word.now (words_of words.now)) result }
+{
+    if word == b"submit".as_slice() {
+        submit_line(names, words)
+    } else if word == b"remove".as_slice() {
+        remove_line(memory, names, words)
+    } else if word == b"sync".as_slice() {
+        sync_line(memory, names, words)
+    } else if word == b"snapshot".as_slice() {
+        snapshot_line(words)
+    } else {
+        Err(LineFault::Bad)
+    }
+}
+
+fn declaration_line(
+    memory: Memory,
+    names: &Names,
+    word: &[u8],
+    words: &[u8],
+) -> Result<Line, LineFault>
+    ensures { Gives to_line (declaration_line names.now word.now (words_of words.now)) result }
+{
+    if word == b"script".as_slice() {
+        script_line(memory, names, words)
+    } else if word == b"data".as_slice() {
+        data_line(memory, names, words)
+    } else if word == b"out".as_slice() {
+        output_line(memory, names, words)
+    } else if word == b"tx".as_slice() {
+        tx_line(memory, names, words)
+    } else {
+        command_line(memory, names, word, words)
+    }
+}
+
+fn asked_line(
+    memory: Memory,
+    names: &Names,
+    word: &[u8],
+    words: &[u8],
+) -> Result<Line, LineFault>
+    ensures { Gives to_line (asked_line names.now word.now (words_of words.now)) result }
+{
+    if word == b"block".as_slice() {
+        setting_line(Setting::BlockBytes, words)
+    } else if word == b"limit".as_slice() {
+        setting_line(Setting::Limit, words)
+    } else if word == b"last".as_slice() {
+        setting_line(Setting::Last, words)
+    } else if word == b"tick".as_slice() {
+        setting_line(Setting::Tick, words)
+    } else {
+        declaration_line(memory, names, word, words)
+    }
+}
+
+impl Line {
+    ghost use Rattle.mp_lines.specs.Lines.{line_of};
+    ghost use Rattle.mp_lines.specs.Fault.{Gives};
+    ghost use Rattle.mp_lines.specs.Inside.Line.{to_line};
+
+    /// What the line, without its line feed, asks where these names are declared.
+    ///
+    /// # Errors
+    /// `Bad` where the line is none of the language: a byte that isn't printable, over 4,096 bytes, a first word that it
+    /// doesn't know, or words that don't follow the rules of that line. `NoMemory` may stand in place of each answer.
+    #[tactic(auto, unfolding(crate::specs::Lines::line_of))]
+    pub fn parse(memory: Memory, names: &Names, line: &[u8]) -> Result<Line, LineFault>
+        ensures { Gives to_line (line_of names.now line.now) result }
+    {
+        if !is_clean(line) {
+            return Err(LineFault::Bad);
+        }
+        if is_comment_or_blank(line) {
+            return Ok(Line::Blank);
+        }
+        match first_word(line) {
+            Some((word, words)) => asked_line(memory, names, word, words),
+            None => Ok(Line::Blank),
+        }
+    }
+}
