@@ -1,7 +1,3 @@
--- What only the crate's own clauses, views and invariants cite.
-pub mod Coin
-pub mod Draft
-pub mod Item
-pub mod Name
 pub mod Openings
+pub mod Settings
 pub mod Scene

@@ -1,9 +1,6 @@
-pub mod Names
+pub mod Settings
 pub mod Verifier
 pub mod AnswerText
-pub mod References
-pub mod Plain
-pub mod Items
 pub mod Scene
 pub mod Ending
 pub mod Fault

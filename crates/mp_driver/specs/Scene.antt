@@ -1,22 +1,22 @@
 -- What a scenario has come to, and what a line makes of it.
-use Rattle.std.specs.Prelude.{ℕ, ◌+◌, ◌^◌, ◌&&◌, Bool, nat_eq, nat_lt, List, [], ◌∷◌, ◌++◌, length, codes, Option, None, Some, is_none, option_map, option_and_then, if◌then◌else◌}
-use Rattle.std.specs.Cmp.Lexicographic.{pointwise}
+use Rattle.std.specs.Prelude.{ℕ, ◌+◌, ◌^◌, nat_lt, List, [], ◌∷◌, ◌++◌, length, Option, None, Some, option_map, option_and_then, unwrap_or, if◌then◌else◌}
 use Rattle.mp_tx.specs.declared.reference.OutRef.{OutRef}
 use Rattle.mp_tx.specs.declared.output.Output.{Output}
-use Rattle.mp_tx.specs.Transaction.{Transaction}
-use Rattle.mp_tx.specs.Ledger.{ledger_of}
-use Rattle.mp_seqpool.specs.Command.{Submit}
+use Rattle.mp_tx.specs.Ledger.{LedgerState, ledger_of}
+use Rattle.mp_seqpool.specs.Command.{Command}
+use Rattle.mp_seqpool.specs.Command as commands
 use Rattle.mp_seqpool.specs.Pool.{Pool}
 use Rattle.mp_seqpool.specs.SlowPool.{empty_pool, answer, next}
-use Rattle.mp_text.specs.Numbers.{quantity_of}
-use Rattle.mp_text.specs.Names.{is_name}
-use Rattle.mp_text.specs.Words.{words_of, are_none_or_comment}
-use Rattle.mp_text.specs.Lines.{is_clean}
-use Rattle.mp_driver.specs.Names.{Binding, Opening, Made, Names, binding_of, transaction_named}
-use Rattle.mp_driver.specs.References.{opening_ref}
-use Rattle.mp_driver.specs.Items.{empty_draft, draft_of, transaction_of, is_transaction}
-use Rattle.mp_driver.specs.Plain.{plain_output}
-use Rattle.mp_driver.specs.Verifier.{accepts_nothing}
+use Rattle.mp_lines.specs.declared.payment.Payment.{Payment}
+use Rattle.mp_lines.specs.declared.names.Binding.TheVariants.{Opening, Made}
+use Rattle.mp_lines.specs.declared.settings.Setting.{Setting}
+use Rattle.mp_lines.specs.declared.new_ledger.NewLedger.{NewLedger}
+use Rattle.mp_lines.specs.Names.{Names, first_names, with_binding, with_script, with_datum}
+use Rattle.mp_lines.specs.Payments.{output_of}
+use Rattle.mp_lines.specs.References.{opening_ref}
+use Rattle.mp_lines.specs.Lines.{Line, Blank, Sets, Script, Data, Out, Tx, Submit, Remove, Sync, Snapshot, line_of}
+use Rattle.mp_driver.specs.Settings.{Settings, no_settings, with_setting, block_bytes_of, limit_of, last_of, tick_of}
+use Rattle.mp_driver.specs.Verifier.{is_key_and_id}
 use Rattle.mp_driver.specs.AnswerText.{answer_text, snapshot_text}
 
 -- the opening outputs before the first command, and the pool from it on
@@ -26,89 +26,73 @@ pub data Stage : Type 0 where
 
 pub record Scene : Type 0 where
   pub names : Names
+  pub settings : Settings
   pub stage : Stage
 
 abbrev pub empty_scene : Scene
-empty_scene = record { names = []; stage = Before [] }
+empty_scene = record { names = first_names; settings = no_settings; stage = Before [] }
 
--- The pool opens with the first command: tick 0, 500,000 block bytes, 1,000,000 changes, last ticket 0.
-abbrev pub pool_at : Stage → Pool
-pool_at (Before outputs) = empty_pool 1000000 0 (ledger_of 0 500000 outputs)
-pool_at (Open p) = p
+-- the ledger state at the opening
+abbrev pub opening_ledger : Settings → List (OutRef × Output) → LedgerState
+opening_ledger g outputs = ledger_of (tick_of g) (block_bytes_of g) outputs
 
--- the pool is open
-abbrev pub with_pool_open : Scene → Scene
-with_pool_open s = record s { stage = Open (pool_at s.stage) }
+-- the pool opens with the first command
+abbrev pub pool_at : Settings → Stage → Pool
+pool_at g (Before outputs) = empty_pool (limit_of g) (last_of g) (opening_ledger g outputs)
+pool_at g (Open p) = p
+
+-- the pool is this one from now on
+abbrev pub with_pool : Scene → Pool → Scene
+with_pool s p = record s { stage = Open p }
 
 -- the state after a line, and what the line writes
 abbrev pub Step : Type 0
 Step = Option (Scene × List ℕ)
 
--- a name that nothing has yet
-abbrev pub is_new : Scene → List ℕ → Bool
-is_new s name = is_name name && is_none (binding_of name s.names)
+-- a setting stands before the first command
+abbrev pub set_at : Scene → Setting → ℕ → Stage → Step
+set_at s setting n (Before outputs) = option_map (λ g. (record s { settings = g }, [])) (with_setting s.settings setting n)
+set_at s setting n (Open p) = None
 
-abbrev pub declare : Scene → List ℕ → Binding → Scene
-declare s name binding = record s { names = s.names ++ (name, binding) ∷ [] }
+abbrev pub with_names : Scene → Names → Scene × List ℕ
+with_names s names = (record s { names = names }, [])
 
--- out NAME Q, before the first command, at most 65,536 times
-abbrev pub with_output : Scene → List ℕ → List (OutRef × Output) → ℕ → Scene
-with_output s name outputs coin = record {
-  names = s.names ++ (name, Opening (opening_ref (length outputs))) ∷ [];
-  stage = Before (outputs ++ (opening_ref (length outputs), plain_output coin) ∷ []);
+-- an output under the next reference, before the first command, at most 65,536 times
+abbrev pub with_output : Scene → List ℕ → Payment → List (OutRef × Output) → Scene
+with_output s name p outputs = record s {
+  names = with_binding s.names (record { name = name; binding = Opening (opening_ref (length outputs)) p });
+  stage = Before (outputs ++ (opening_ref (length outputs), output_of p) ∷ []);
 }
 
-abbrev pub output_at : Scene → List ℕ → List ℕ → Stage → Step
-output_at s name word (Before outputs) =
-    if nat_lt (length outputs) (2 ^ 16) then option_map (λ coin. (with_output s name outputs coin, [])) (quantity_of word) else None
-output_at s name word (Open p) = None
+abbrev pub output_at : Scene → List ℕ → Payment → Stage → Step
+output_at s name p (Before outputs) = if nat_lt (length outputs) (2 ^ 16) then Some (with_output s name p outputs, []) else None
+output_at s name p (Open q) = None
 
-abbrev pub output_line : Scene → List (List ℕ) → Step
-output_line s [] = None
-output_line s (name ∷ []) = None
-output_line s (name ∷ word ∷ []) = if is_new s name then output_at s name word s.stage else None
-output_line s (name ∷ word ∷ other ∷ more) = None
-
--- tx NAME ITEM .., one item at least
-abbrev pub transaction_line : Scene → List (List ℕ) → Step
-transaction_line s [] = None
-transaction_line s (name ∷ []) = None
-transaction_line s (name ∷ word ∷ words) =
-    if is_new s name
-    then option_and_then (λ d. if is_transaction d then Some (declare s name (Made (transaction_of d)), []) else None) (draft_of s.names empty_draft (word ∷ words))
-    else None
-
--- submit NAME
-abbrev pub submit_to : Scene → Transaction → Scene × List ℕ
-submit_to s t = (
-  record s { stage = Open (next accepts_nothing (pool_at s.stage) (Submit t)) },
-  answer_text (answer accepts_nothing (pool_at s.stage) (Submit t)),
+-- the pool answers, and takes the step
+abbrev pub reply_to : Scene → Command → Scene × List ℕ
+reply_to s c = (
+  with_pool s (next is_key_and_id (pool_at s.settings s.stage) c),
+  answer_text s.names (answer is_key_and_id (pool_at s.settings s.stage) c),
 )
 
-abbrev pub submit_line : Scene → List (List ℕ) → Step
-submit_line s [] = None
-submit_line s (name ∷ []) = option_map (submit_to s) (transaction_named name s.names)
-submit_line s (name ∷ other ∷ more) = None
+-- where the line tells no bytes of a block, the setting holds
+abbrev pub ledger_at : Settings → NewLedger → LedgerState
+ledger_at g l = ledger_of l.tick (unwrap_or l.block_bytes (block_bytes_of g)) l.outputs
 
-abbrev pub snapshot_line : Scene → List (List ℕ) → Step
-snapshot_line s [] = Some (with_pool_open s, snapshot_text s.names (pool_at s.stage))
-snapshot_line s (other ∷ more) = None
-
--- by the first word; any other is bad
-abbrev pub command_line : Scene → List ℕ → List (List ℕ) → Step
-command_line s word words =
-    if pointwise nat_eq word (codes "out") then output_line s words
-    else if pointwise nat_eq word (codes "tx") then transaction_line s words
-    else if pointwise nat_eq word (codes "submit") then submit_line s words
-    else if pointwise nat_eq word (codes "snapshot") then snapshot_line s words
-    else None
-
-abbrev pub words_line : Scene → List (List ℕ) → Step
-words_line s [] = Some (s, [])
-words_line s (word ∷ words) = if are_none_or_comment (word ∷ words) then Some (s, []) else command_line s word words
+abbrev pub take : Scene → Line → Step
+take s Blank = Some (s, [])
+take s (Sets setting n) = set_at s setting n s.stage
+take s (Script named) = Some (with_names s (with_script s.names named))
+take s (Data named) = Some (with_names s (with_datum s.names named))
+take s (Out name p) = output_at s name p s.stage
+take s (Tx name t) = Some (with_names s (with_binding s.names (record { name = name; binding = Made t })))
+take s (Submit t) = Some (reply_to s (commands.Submit t))
+take s (Remove ids) = Some (reply_to s (commands.Remove ids))
+take s (Sync l) = Some (reply_to s (commands.Sync (ledger_at s.settings l)))
+take s Snapshot = Some (with_pool s (pool_at s.settings s.stage), snapshot_text s.names (pool_at s.settings s.stage))
 
 unfoldable pub line_step : Scene → List ℕ → Step
-line_step s line = if is_clean line then words_line s (words_of line) else None
+line_step s line = option_and_then (take s) (line_of s.names line)
 
 -- A line that is bad ends it, and else what the line writes stands before what is written after it.
 abbrev pub follow : ℕ → (Scene → List ℕ × Option ℕ) → Step → List ℕ × Option ℕ

@@ -1,7 +1,8 @@
--- The verifier of scenarios.
-use Rattle.std.specs.Prelude.{false}
+-- Which signatures a scenario's pool accepts.
+use Rattle.std.specs.Prelude.{◌&&◌, nat_eq, take, drop}
+use Rattle.std.specs.Cmp.Lexicographic.{pointwise}
 use Rattle.mp_rules.specs.Verifier.{Accepts}
 
--- no line of a scenario can sign, so no signature is good
-abbrev pub accepts_nothing : Accepts
-accepts_nothing key id signature = false
+-- the key, and behind its 32 bytes the id
+abbrev pub is_key_and_id : Accepts
+is_key_and_id key id signature = pointwise nat_eq (take 32 signature) key && pointwise nat_eq (drop 32 signature) id

@@ -3,15 +3,17 @@
 use mp_seqpool::Verifier;
 use mp_tx::{Key, Sig, TxId};
 
-/// Accepts no signature: no line of a scenario can sign.
-pub struct RefusesAll;
+const KEY_BYTES: usize = 32;
 
-impl Verifier for RefusesAll {
-    ghost use Rattle.mp_driver.specs.Verifier.{accepts_nothing};
+/// Accepts a signature exactly where it is the key followed by the id.
+pub struct KeyAndId;
 
-    ghost accepts = { λ _. accepts_nothing };
+impl Verifier for KeyAndId {
+    ghost use Rattle.mp_driver.specs.Verifier.{is_key_and_id};
 
-    fn verify(&self, _key: &Key, _id: &TxId, _sig: &Sig) -> bool {
-        false
+    ghost accepts = { λ _. is_key_and_id };
+
+    fn verify(&self, key: &Key, id: &TxId, sig: &Sig) -> bool {
+        sig[..KEY_BYTES] == *key && sig[KEY_BYTES..] == *id
     }
 }

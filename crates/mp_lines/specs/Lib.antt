@@ -6,6 +6,7 @@ pub mod Payments
 pub mod References
 pub mod Items
 pub mod Draft
+pub mod Settings
 pub mod Lines
 pub mod Fault
 pub mod Inside

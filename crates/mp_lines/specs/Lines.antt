@@ -20,6 +20,7 @@ use Rattle.mp_lines.specs.declared.names.NamedDatum.{NamedDatum}
 use Rattle.mp_lines.specs.declared.settings.Setting.{Setting}
 use Rattle.mp_lines.specs.declared.settings.Setting.TheVariants.{BlockBytes, Limit, Last, Tick}
 use Rattle.mp_lines.specs.declared.new_ledger.NewLedger.{NewLedger}
+use Rattle.mp_lines.specs.Settings.{block_bytes_of, limit_of}
 use Rattle.mp_lines.specs.Splitting.{split_once}
 use Rattle.mp_lines.specs.DeclaredTx.{DeclaredTx}
 use Rattle.mp_lines.specs.Names.{Names, tx_named, is_new_binding, is_new_script, is_new_datum}
@@ -30,7 +31,7 @@ use Rattle.mp_lines.specs.Draft.{empty_draft, draft_of, declared_of}
 pub data Line : Type 0 where
   -- no word, or a comment
   Blank : Line
-  Sets : Setting → ℕ → Line
+  Sets : Setting → Line
   Script : NamedScript → Line
   Data : NamedDatum → Line
   Out : List ℕ → Payment → Line
@@ -40,20 +41,6 @@ pub data Line : Type 0 where
   Remove : List (List ℕ) → Line
   Sync : NewLedger → Line
   Snapshot : Line
-
--- a block has 1 to 2^39 bytes
-abbrev pub block_bytes_of : List ℕ → Option ℕ
-block_bytes_of word = option_and_then (λ n. if nat_le 1 n && nat_le n (2 ^ 39) then Some n else None) (number_of word)
-
--- a pool makes 1 to 2^32 changes
-abbrev pub limit_of : List ℕ → Option ℕ
-limit_of word = option_and_then (λ n. if nat_le 1 n && nat_le n (2 ^ 32) then Some n else None) (number_of word)
-
-abbrev pub value_of : Setting → List ℕ → Option ℕ
-value_of BlockBytes word = block_bytes_of word
-value_of Limit word = limit_of word
-value_of Last word = number_of word
-value_of Tick word = number_of word
 
 -- the word of a line that has no other
 abbrev pub one_word : List (List ℕ) → Option (List ℕ)
@@ -69,8 +56,17 @@ two_words (word ∷ other ∷ []) = Some (word, other)
 two_words (word ∷ other ∷ another ∷ more) = None
 
 -- block N, limit N, last N, tick N
-abbrev pub setting_line : Setting → List (List ℕ) → Option Line
-setting_line setting words = option_map (Sets setting) (option_and_then (value_of setting) (one_word words))
+abbrev pub block_line : List (List ℕ) → Option Line
+block_line words = option_map (λ n. Sets (BlockBytes n)) (option_and_then block_bytes_of (one_word words))
+
+abbrev pub limit_line : List (List ℕ) → Option Line
+limit_line words = option_map (λ n. Sets (Limit n)) (option_and_then limit_of (one_word words))
+
+abbrev pub last_line : List (List ℕ) → Option Line
+last_line words = option_map (λ n. Sets (Last n)) (option_and_then number_of (one_word words))
+
+abbrev pub tick_line : List (List ℕ) → Option Line
+tick_line words = option_map (λ n. Sets (Tick n)) (option_and_then number_of (one_word words))
 
 -- hexadecimal digits of either case
 abbrev pub bytes_of : List ℕ → Option (List ℕ)
@@ -199,10 +195,10 @@ declaration_line names word words =
 
 abbrev pub asked_line : Names → List ℕ → List (List ℕ) → Option Line
 asked_line names word words =
-    if pointwise nat_eq word (codes "block") then setting_line BlockBytes words
-    else if pointwise nat_eq word (codes "limit") then setting_line Limit words
-    else if pointwise nat_eq word (codes "last") then setting_line Last words
-    else if pointwise nat_eq word (codes "tick") then setting_line Tick words
+    if pointwise nat_eq word (codes "block") then block_line words
+    else if pointwise nat_eq word (codes "limit") then limit_line words
+    else if pointwise nat_eq word (codes "last") then last_line words
+    else if pointwise nat_eq word (codes "tick") then tick_line words
     else declaration_line names word words
 
 abbrev pub words_line : Names → List (List ℕ) → Option Line

@@ -1,7 +1,9 @@
 -- What the names of a scenario stand for.
-use Rattle.std.specs.Prelude.{ℕ, ◌&&◌, Bool, not, nat_eq, List, [], ◌∷◌, find, codes, is_none, Option, None, Some, option_map, option_and_then}
+use Rattle.std.specs.Prelude.{ℕ, ◌&&◌, ◌++◌, Bool, false, not, nat_eq, List, [], ◌∷◌, find, codes, is_none, Option, None, Some, option_map, option_and_then, unwrap_or, replicate, if◌then◌else◌}
 use Rattle.std.specs.Cmp.Lexicographic.{pointwise}
+use Rattle.sha2.specs.Sha256.{sha256}
 use Rattle.mp_text.specs.Names.{is_name}
+use Rattle.mp_tx.specs.Spelling.{id_of}
 use Rattle.mp_tx.specs.Transaction.{Transaction}
 use Rattle.mp_lines.specs.declared.payment.Payment.{Payment}
 use Rattle.mp_lines.specs.declared.names.Binding.{Binding}
@@ -53,3 +55,29 @@ first_names = record {
   scripts = record { name = codes "yes"; script = 1 ∷ [] } ∷ record { name = codes "no"; script = 0 ∷ [] } ∷ [];
   datums = record { name = codes "unit"; datum = 3 ∷ 0 ∷ 0 ∷ [] } ∷ [];
 }
+
+abbrev pub with_binding : Names → NamedBinding → Names
+with_binding names named = record names { bindings = names.bindings ++ named ∷ [] }
+
+abbrev pub with_script : Names → NamedScript → Names
+with_script names named = record names { scripts = names.scripts ++ named ∷ [] }
+
+abbrev pub with_datum : Names → NamedDatum → Names
+with_datum names named = record names { datums = names.datums ++ named ∷ [] }
+
+abbrev pub has_id : List ℕ → Binding → Bool
+has_id id (Opening r p) = false
+has_id id (Made t) = pointwise nat_eq id (id_of t.tx)
+
+abbrev pub has_hash : List ℕ → List ℕ → Bool
+has_hash hash script = pointwise nat_eq hash (sha256 script)
+
+-- the name of the first transaction with this id
+abbrev pub name_of : List ℕ → Names → List ℕ
+name_of id names = unwrap_or (option_map (λ n. n.name) (find (λ n. has_id id n.binding) names.bindings)) []
+
+-- the policy of coin is zeros, and any other is told by the first script with that hash
+abbrev pub policy_name : List ℕ → Names → List ℕ
+policy_name policy names =
+    if pointwise nat_eq policy (replicate 32 0) then codes "coin"
+    else unwrap_or (option_map (λ n. n.name) (find (λ n. has_hash policy n.script) names.scripts)) []

@@ -2,7 +2,9 @@
 
 ghost use Rattle.std.specs.Prelude.{◌≡◌, [], None, Some, option_map, option_copied, option_and_then, OnOk, IsErrOf};
 ghost use Rattle.mp_text.specs.Words.{words_of};
-ghost use Rattle.mp_lines.specs.Lines.{one_word, with_output, put_ids, put_outputs, block_word, block_bytes_of, submit_line, remove_line, sync_told, sync_at, sync_line, snapshot_line, setting_line};
+ghost use Rattle.mp_lines.specs.Lines.{one_word, with_output, put_ids, put_outputs, block_word, submit_line, remove_line, sync_told, sync_at, sync_line, snapshot_line, block_line, limit_line, last_line, tick_line};
+ghost use Rattle.mp_lines.specs.Lines as lines;
+ghost use Rattle.mp_lines.specs.Settings.{block_bytes_of};
 ghost use Rattle.mp_lines.specs.References.{ref_of, paid_at};
 ghost use Rattle.mp_lines.specs.Fault.{Reads, Gives};
 ghost use Rattle.mp_lines.specs.Inside.Line.{to_line};
@@ -12,7 +14,7 @@ use crate::line::Line;
 use crate::names::Names;
 use crate::new_ledger::{NewLedger, Outputs};
 use crate::references::{paid_at, ref_of};
-use crate::settings::{Setting, block_bytes_of, value_of};
+use crate::settings::{BlockBytes, Setting};
 use crate::splitting::split_once;
 use mp_memory::Memory;
 use mp_text::{first_word, number};
@@ -29,15 +31,51 @@ fn one_word(words: &[u8]) -> Option<&[u8]>
     }
 }
 
-/// block N, limit N, last N, tick N
-pub fn setting_line(setting: Setting, words: &[u8]) -> Result<Line, LineFault>
-    ensures { Gives to_line (setting_line setting (words_of words.now)) result }
+fn sets(setting: Option<Setting>) -> Result<Line, LineFault>
+    ensures { Gives to_line (option_map lines.Sets setting) result }
 {
-    let Some(word) = one_word(words) else {
-        return Err(LineFault::Bad);
-    };
-    match value_of(setting, word) {
-        Some(value) => Ok(Line::Sets(setting, value)),
+    match setting {
+        Some(setting) => Ok(Line::Sets(setting)),
+        None => Err(LineFault::Bad),
+    }
+}
+
+/// block N
+pub fn block_line(words: &[u8]) -> Result<Line, LineFault>
+    ensures { Gives to_line (block_line (words_of words.now)) result }
+{
+    match one_word(words) {
+        Some(word) => sets(Setting::block_bytes(word)),
+        None => Err(LineFault::Bad),
+    }
+}
+
+/// limit N
+pub fn limit_line(words: &[u8]) -> Result<Line, LineFault>
+    ensures { Gives to_line (limit_line (words_of words.now)) result }
+{
+    match one_word(words) {
+        Some(word) => sets(Setting::limit(word)),
+        None => Err(LineFault::Bad),
+    }
+}
+
+/// last N
+pub fn last_line(words: &[u8]) -> Result<Line, LineFault>
+    ensures { Gives to_line (last_line (words_of words.now)) result }
+{
+    match one_word(words) {
+        Some(word) => sets(Setting::last(word)),
+        None => Err(LineFault::Bad),
+    }
+}
+
+/// tick N
+pub fn tick_line(words: &[u8]) -> Result<Line, LineFault>
+    ensures { Gives to_line (tick_line (words_of words.now)) result }
+{
+    match one_word(words) {
+        Some(word) => sets(Setting::tick(word)),
         None => Err(LineFault::Bad),
     }
 }
@@ -133,7 +171,7 @@ fn sync_with_block(
         (option_and_then (sync_told names.now tick (words_of others.now)) (block_bytes_of value.now))
         result }
 {
-    let Some(bytes) = block_bytes_of(value) else {
+    let Some(bytes) = BlockBytes::parse(value) else {
         return Err(LineFault::Bad);
     };
     Ok(Line::Sync(NewLedger {

@@ -26,4 +26,4 @@ pub use line::Line;
 pub use names::{Binding, Name, NamedBinding, NamedDatum, NamedScript, Names};
 pub use new_ledger::{NewLedger, Outputs};
 pub use payment::Payment;
-pub use settings::Setting;
+pub use settings::{BlockBytes, Limit, Setting};

@@ -6,7 +6,9 @@ ghost use Rattle.mp_lines.specs.Lines.{command_line, declaration_line, asked_lin
 ghost use Rattle.mp_lines.specs.Fault.{Gives};
 ghost use Rattle.mp_lines.specs.Inside.Line.{to_line};
 
-use crate::commands::{remove_line, setting_line, snapshot_line, submit_line, sync_line};
+use crate::commands::{
+    block_line, last_line, limit_line, remove_line, snapshot_line, submit_line, sync_line, tick_line,
+};
 use crate::declarations::{data_line, output_line, script_line, tx_line};
 use crate::declared_tx::DeclaredTx;
 use crate::fault::LineFault;
@@ -24,7 +26,7 @@ use std::sync::Arc;
 pub enum Line {
     /// Nothing: the line has no word, or is a comment.
     Blank,
-    Sets(Setting, u64),
+    Sets(Setting),
     Script(NamedScript),
     Data(NamedDatum),
     /// An output of the opening ledger state.
@@ -87,13 +89,13 @@ fn asked_line(
     ensures { Gives to_line (asked_line names.now word.now (words_of words.now)) result }
 {
     if word == b"block".as_slice() {
-        setting_line(Setting::BlockBytes, words)
+        block_line(words)
     } else if word == b"limit".as_slice() {
-        setting_line(Setting::Limit, words)
+        limit_line(words)
     } else if word == b"last".as_slice() {
-        setting_line(Setting::Last, words)
+        last_line(words)
     } else if word == b"tick".as_slice() {
-        setting_line(Setting::Tick, words)
+        tick_line(words)
     } else {
         declaration_line(memory, names, word, words)
     }

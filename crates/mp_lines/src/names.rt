@@ -1,11 +1,16 @@
 //! What the names of a scenario stand for.
 
+ghost use Rattle.std.specs.Prelude.{◌≡◌, find, option_copied, IfOk};
+ghost use Rattle.mp_lines.specs.Names.{has_id, has_hash};
+
 use crate::declared_tx::DeclaredTx;
 use crate::payment::Payment;
+use mp_bundle::{PolicyId, Token};
+use mp_bytes::Hash;
 use mp_memory::{Memory, NoMemory};
 use mp_script::{Data, Script};
 use mp_text::is_name;
-use mp_tx::OutRef;
+use mp_tx::{OutRef, TxId};
 use std::marker::Model;
 
 /// The word for the policy of coin. No script has it for a name.
@@ -90,9 +95,116 @@ impl Model for Names {
     ghost view = { names_of };
 }
 
+fn script_of(memory: Memory, name: &[u8], bytes: &[u8]) -> Result<NamedScript, NoMemory>
+    ensures { IfOk result (λ n. n ≡ record { name = name.now; script = bytes.now }) }
+{
+    // These bytes are a script, so memory alone can be wanting.
+    let script = Script::decode(memory, bytes).or(Err(NoMemory))?;
+    let name = Name::of(memory, name)?;
+    Ok(NamedScript { name, script })
+}
+
+fn datum_of(memory: Memory, name: &[u8], bytes: &[u8]) -> Result<NamedDatum, NoMemory>
+    ensures { IfOk result (λ n. n ≡ record { name = name.now; datum = bytes.now }) }
+{
+    // These bytes are a datum, so memory alone can be wanting.
+    let datum = Data::decode(memory, bytes).or(Err(NoMemory))?;
+    let name = Name::of(memory, name)?;
+    Ok(NamedDatum { name, datum })
+}
+
+fn has_id(binding: &Binding, id: &TxId) -> bool
+    ensures { result ≡ has_id id.now binding.now }
+{
+    match binding {
+        Binding::Made(declared) => *id == *declared.tx().id(),
+        Binding::Opening(_, _) => false,
+    }
+}
+
+fn first_with_hash<'a>(scripts: &'a [NamedScript], hash: &Hash) -> Option<&'a NamedScript>
+    ensures { option_copied result ≡ find (λ n. has_hash hash.now n.script) scripts.now }
+{
+    scripts.iter().find(|named| has_hash(&named.script, hash))
+}
+
+fn has_hash(script: &Script, hash: &Hash) -> bool
+    ensures { result ≡ has_hash hash.now script.now }
+{
+    *hash == *script.hash()
+}
+
 impl Names {
-    ghost use Rattle.std.specs.Prelude.{◌≡◌, IfOk, OnOk, option_copied, option_map};
-    ghost use Rattle.mp_lines.specs.Names.{first_names, binding_named, script_named, datum_named, tx_named, is_new_binding, is_new_script, is_new_datum};
+    ghost use Rattle.std.specs.Prelude.{◌≡◌, [], ◌∷◌, ◌++◌, IfOk, OnOk, OnErr, option_copied, option_map};
+    ghost use Rattle.mp_lines.specs.Names.{first_names, binding_named, script_named, datum_named, tx_named, is_new_binding, is_new_script, is_new_datum, name_of, policy_name, with_binding, with_script, with_datum};
+
+    /// The names that are declared beforehand.
+    pub fn new(memory: Memory) -> Result<Names, NoMemory>
+        ensures { IfOk result (λ n. n ≡ first_names) }
+    {
+        let mut scripts = Vec::with_capacity(memory, 2)?;
+        scripts.push(script_of(memory, b"yes", &[0x01])?)?;
+        scripts.push(script_of(memory, b"no", &[0x00])?)?;
+        let mut datums = Vec::with_capacity(memory, 1)?;
+        datums.push(datum_of(memory, b"unit", &[0x03, 0x00, 0x00])?)?;
+        Ok(Names {
+            bindings: Vec::new(memory),
+            scripts,
+            datums,
+        })
+    }
+
+    /// From now on the name stands for this. After an `Err` the names are as they were.
+    pub fn declare(&mut self, name: Name, binding: Binding) -> Result<(), NoMemory>
+        ensures ok { OnOk result (self.new
+            ≡ with_binding self.old (record { name = name; binding = binding })) }
+        ensures err { OnErr result (self.new ≡ self.old) }
+    {
+        self.bindings.push(NamedBinding { name, binding })?;
+        Ok(())
+    }
+
+    /// From now on the name stands for the script. After an `Err` the names are as they were.
+    pub fn declare_script(&mut self, named: NamedScript) -> Result<(), NoMemory>
+        ensures ok { OnOk result (self.new ≡ with_script self.old named) }
+        ensures err { OnErr result (self.new ≡ self.old) }
+    {
+        self.scripts.push(named)?;
+        Ok(())
+    }
+
+    /// From now on the name stands for the datum. After an `Err` the names are as they were.
+    pub fn declare_datum(&mut self, named: NamedDatum) -> Result<(), NoMemory>
+        ensures ok { OnOk result (self.new ≡ with_datum self.old named) }
+        ensures err { OnErr result (self.new ≡ self.old) }
+    {
+        self.datums.push(named)?;
+        Ok(())
+    }
+
+    /// The name that the first transaction with this id was declared with; empty where none was.
+    pub fn name_of(&self, id: &TxId) -> &[u8]
+        ensures { result.now ≡ name_of id.now self.now }
+    {
+        match self.bindings.iter().find(|named| has_id(&named.binding, id)) {
+            Some(named) => named.name.as_bytes(),
+            None => &[],
+        }
+    }
+
+    /// The name that the first script with this hash was declared with, or `coin` where the hash is zeros; empty where
+    /// there is none.
+    pub fn policy_name(&self, policy: &PolicyId) -> &[u8]
+        ensures { result.now ≡ policy_name policy.now self.now }
+    {
+        if *policy == Token::COIN.policy {
+            return COIN;
+        }
+        match first_with_hash(&self.scripts, policy) {
+            Some(named) => named.name.as_bytes(),
+            None => &[],
+        }
+    }
 
     /// What the word stands for, if it was declared as an output or a transaction.
     pub fn binding(&self, word: &[u8]) -> Option<&Binding>

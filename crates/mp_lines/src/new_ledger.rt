@@ -6,6 +6,7 @@ ghost use Rattle.mp_tx.specs.Reference.{same_ref};
 
 use crate::fault::LineFault;
 use crate::payment::Payment;
+use crate::settings::BlockBytes;
 use mp_memory::Memory;
 use mp_tx::{OutRef, Output};
 use std::marker::Model;
@@ -34,7 +35,7 @@ impl Model for Outputs {
 pub struct NewLedger {
     pub tick: u64,
     /// The bytes that a block may have, where the line tells them.
-    pub block_bytes: Option<u64>,
+    pub block_bytes: Option<BlockBytes>,
     pub outputs: Outputs,
 }
 

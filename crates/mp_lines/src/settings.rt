@@ -1,56 +1,142 @@
 //! Settings of a scenario.
 
-ghost use Rattle.std.specs.Prelude.{◌≡◌};
-ghost use Rattle.mp_lines.specs.Lines.{block_bytes_of, limit_of, value_of};
-
 use mp_text::number;
 use mp_tx::MAX_BLOCK_BYTES;
+use std::marker::Model;
 
 const MAX_LIMIT: u64 = 1 << 32;
 
-/// What a setting sets. Each has a value where no line sets it.
-#[derive(Clone, Copy, Debug, PartialEq, Eq)]
+/// The bytes that a block may have: 1 to 2^39.
+#[derive(Debug, Drop)]
+pub struct BlockBytes {
+    bytes: u64,
+}
+
+impl Model for BlockBytes {
+    ghost use Rattle.std.specs.Prelude.{ℕ};
+    ghost use Rattle.mp_tx.specs.Ledger.{HasBlockBytes};
+
+    ghost Value = { ℕ };
+
+    ghost view = { λ b. b.bytes };
+
+    ghost invariant = { λ b. HasBlockBytes b.bytes };
+}
+
+impl BlockBytes {
+    ghost use Rattle.std.specs.Prelude.{◌≡◌};
+    ghost use Rattle.mp_tx.specs.Ledger.{HasBlockBytes};
+    ghost use Rattle.mp_lines.specs.Settings.{block_bytes_of};
+
+    /// What a word tells, if it is a number in the range.
+    pub fn parse(word: &[u8]) -> Option<BlockBytes>
+        ensures { result ≡ block_bytes_of word.now }
+    {
+        let bytes = number(word)?;
+        if 1 <= bytes && bytes <= MAX_BLOCK_BYTES {
+            Some(BlockBytes { bytes })
+        } else {
+            None
+        }
+    }
+
+    /// The number.
+    pub fn get(&self) -> u64
+        ensures same { result ≡ self.now }
+        ensures range { HasBlockBytes result }
+    {
+        self.bytes
+    }
+}
+
+/// The changes that a pool makes: 1 to 2^32.
+#[derive(Debug, Drop)]
+pub struct Limit {
+    changes: u64,
+}
+
+impl Model for Limit {
+    ghost use Rattle.std.specs.Prelude.{ℕ};
+    ghost use Rattle.mp_lines.specs.Settings.{IsLimit};
+
+    ghost Value = { ℕ };
+
+    ghost view = { λ l. l.changes };
+
+    ghost invariant = { λ l. IsLimit l.changes };
+}
+
+impl Limit {
+    ghost use Rattle.std.specs.Prelude.{◌≡◌};
+    ghost use Rattle.mp_lines.specs.Settings.{IsLimit, limit_of};
+
+    /// What a word tells, if it is a number in the range.
+    pub fn parse(word: &[u8]) -> Option<Limit>
+        ensures { result ≡ limit_of word.now }
+    {
+        let changes = number(word)?;
+        if 1 <= changes && changes <= MAX_LIMIT {
+            Some(Limit { changes })
+        } else {
+            None
+        }
+    }
+
+    /// The number.
+    pub fn get(&self) -> u64
+        ensures same { result ≡ self.now }
+        ensures range { IsLimit result }
+    {
+        self.changes
+    }
+}
+
+/// A setting and its value. Each has a value where no line sets it.
+#[derive(Debug, Drop)]
 pub enum Setting {
-    /// The bytes that a block may have: 1 to 2^39.
-    BlockBytes,
-    /// The changes that the pool makes: 1 to 2^32.
-    Limit,
+    BlockBytes(BlockBytes),
+    Limit(Limit),
     /// The ticket that counts as the last one given.
-    Last,
+    Last(u64),
     /// The tick of the opening ledger state.
-    Tick,
+    Tick(u64),
 }
 
-/// The bytes of a block that a word tells.
-pub fn block_bytes_of(word: &[u8]) -> Option<u64>
-    ensures { result ≡ block_bytes_of word.now }
-{
-    let bytes = number(word)?;
-    if 1 <= bytes && bytes <= MAX_BLOCK_BYTES {
-        Some(bytes)
-    } else {
-        None
+impl Setting {
+    ghost use Rattle.std.specs.Prelude.{◌≡◌, option_map};
+    ghost use Rattle.mp_text.specs.Numbers.{number_of};
+    ghost use Rattle.mp_lines.specs.declared.settings.Setting.TheVariants as told;
+    ghost use Rattle.mp_lines.specs.Settings.{block_bytes_of, limit_of};
+
+    /// The bytes of a block that a word tells.
+    pub fn block_bytes(word: &[u8]) -> Option<Setting>
+        ensures { result ≡ option_map told.BlockBytes (block_bytes_of word.now) }
+    {
+        let bytes = BlockBytes::parse(word)?;
+        Some(Setting::BlockBytes(bytes))
     }
-}
 
-fn limit_of(word: &[u8]) -> Option<u64>
-    ensures { result ≡ limit_of word.now }
-{
-    let limit = number(word)?;
-    if 1 <= limit && limit <= MAX_LIMIT {
-        Some(limit)
-    } else {
-        None
+    /// The changes that a word tells.
+    pub fn limit(word: &[u8]) -> Option<Setting>
+        ensures { result ≡ option_map told.Limit (limit_of word.now) }
+    {
+        let limit = Limit::parse(word)?;
+        Some(Setting::Limit(limit))
     }
-}
 
-/// The value that a word gives a setting, if it is in the setting's range.
-pub fn value_of(setting: Setting, word: &[u8]) -> Option<u64>
-    ensures { result ≡ value_of setting word.now }
-{
-    match setting {
-        Setting::BlockBytes => block_bytes_of(word),
-        Setting::Limit => limit_of(word),
-        Setting::Last | Setting::Tick => number(word),
+    /// The last ticket that a word tells.
+    pub fn last(word: &[u8]) -> Option<Setting>
+        ensures { result ≡ option_map told.Last (number_of word.now) }
+    {
+        let ticket = number(word)?;
+        Some(Setting::Last(ticket))
+    }
+
+    /// The tick that a word tells.
+    pub fn tick(word: &[u8]) -> Option<Setting>
+        ensures { result ≡ option_map told.Tick (number_of word.now) }
+    {
+        let tick = number(word)?;
+        Some(Setting::Tick(tick))
     }
 }

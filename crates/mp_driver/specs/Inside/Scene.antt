@@ -2,13 +2,13 @@
 use Rattle.mp_driver.specs.declared.scene.Stage.{Stage}
 use Rattle.mp_driver.specs.declared.scene.Stage.TheVariants as stages
 use Rattle.mp_driver.specs.declared.scene.Scene.{Scene}
-use Rattle.mp_driver.specs.Inside.Name.{names_of}
+use Rattle.mp_driver.specs.Inside.Settings.{to_settings}
 use Rattle.mp_driver.specs.Scene.{Before, Open}
 use Rattle.mp_driver.specs.Scene as told
 
 abbrev pub stage_of : Stage → told.Stage
 stage_of (stages.Before outputs) = Before outputs
-stage_of (stages.Open p) = Open p.pool
+stage_of (stages.Open p) = Open p
 
 abbrev pub scene_of : Scene → told.Scene
-scene_of s = record { names = names_of s.names.items; stage = stage_of s.stage }
+scene_of s = record { names = s.names; settings = to_settings s.settings; stage = stage_of s.stage }

@@ -6,7 +6,7 @@ use Rattle.mp_lines.specs.Lines as told
 
 abbrev pub to_line : Line → told.Line
 to_line lines.Blank = told.Blank
-to_line (lines.Sets setting value) = told.Sets setting value
+to_line (lines.Sets setting) = told.Sets setting
 to_line (lines.Script named) = told.Script named
 to_line (lines.Data named) = told.Data named
 to_line (lines.Out name payment) = told.Out name payment
