@@ -1,4 +1,3 @@
-pub mod Fits
-pub mod OneEntry
 pub mod Numbered
+pub mod Lawful
 pub mod Progress

@@ -1,9 +1,9 @@
--- Numbered outputs have no reference twice.
+-- Outputs that are numbered, or that stand apart, have no reference twice.
 use Rattle.std.proofs.Common.{◌≡◌, ℕ, ◌<◌, ◌≤◌, List, [], length, get_or, sym, ap, subst, ◌∙◌, arith, length-take-le}
-use Rattle.std.proofs.lemmas.List.{get_or-map, get_or-take, length-map}
+use Rattle.std.proofs.lemmas.List.{get_or_default, get_or-map, get_or-take, length-map}
 use Rattle.mp_tx.specs.declared.reference.OutRef.{OutRef}
 use Rattle.mp_tx.specs.declared.output.Output.{Output}
-use Rattle.mp_tx.specs.Ledger.{refs, IsFirstRepeat}
+use Rattle.mp_tx.specs.Ledger.{refs, AreDistinct, IsFirstRepeat}
 use Rattle.mp_lines.specs.References.{opening_ref}
 use Rattle.mp_driver.specs.Inside.Openings.{AreNumbered}
 
@@ -32,3 +32,11 @@ no_repeat es place n h =
     same_not_less j place
     (sym (numbered-at es n j e r (below j place (length es) j_lt lt)) ∙ ap (λ (r : OutRef). r.index) (sym (get_or-take place rs j r j_lt) ∙ again.2) ∙ numbered-at es n place e d lt)
     j_lt
+
+pub no_repeat_apart : (rs : List OutRef) (place : ℕ) → AreDistinct rs → IsFirstRepeat rs place → ⊥
+no_repeat_apart rs place apart h =
+    let d : OutRef = opening_ref 0 in
+    let r : OutRef = get_or rs place d in
+    let again = h.again d in
+    let j_lt : again.0 < place = subst (λ m. again.0 < m) (length-take-le place rs (weaken place (length rs) h.within)) again.1 in
+    apart again.0 place r j_lt h.within (sym (get_or-take place rs again.0 r j_lt) ∙ again.2 ∙ sym (get_or_default rs place r d h.within))

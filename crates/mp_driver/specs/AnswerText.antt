@@ -1,7 +1,5 @@
 -- The line that a command writes.
-use Rattle.std.specs.Prelude.{ℕ, nat_eq, List, [], ◌∷◌, ◌++◌, length, flat_map, replicate, slice_index, decimal, codes, Result, Ok, Err, if◌then◌else◌}
-use Rattle.std.specs.Cmp.Lexicographic.{pointwise}
-use Rattle.hex.specs.Hex.{encode_lower}
+use Rattle.std.specs.Prelude.{ℕ, List, [], ◌∷◌, ◌++◌, length, flat_map, slice_index, decimal, codes, Result, Ok, Err}
 use Rattle.mp_tx.specs.Transaction.{Transaction}
 use Rattle.mp_tx.specs.Spelling.{id_of}
 use Rattle.mp_rules.specs.declared.invalid.Invalid.{Invalid}
@@ -12,45 +10,41 @@ use Rattle.mp_seqpool.specs.declared.command.Reply.{Reply}
 use Rattle.mp_seqpool.specs.declared.command.Reply.TheVariants.{Accepted, Removed, Synced}
 use Rattle.mp_seqpool.specs.Pool.{Pool}
 use Rattle.mp_seqpool.specs.SlowPool.{bytes_held}
-use Rattle.mp_driver.specs.Names.{Names, name_of}
+use Rattle.mp_lines.specs.Names.{Names, name_of, policy_name}
 
 -- a space, and then the number
 abbrev pub number_text : ℕ → List ℕ
 number_text n = 32 ∷ decimal n
 
--- the policy of coin is zeros; any other has no name, and is written in hexadecimal digits
-abbrev pub policy_text : List ℕ → List ℕ
-policy_text policy = if pointwise nat_eq policy (replicate 32 0) then codes "coin" else encode_lower policy
-
 -- the policy, and then a dot and the name, where it isn't empty
-abbrev pub token_text : List ℕ → List ℕ → List ℕ
-token_text policy [] = policy_text policy
-token_text policy (byte ∷ bytes) = policy_text policy ++ 46 ∷ byte ∷ bytes
+abbrev pub token_text : Names → List ℕ → List ℕ → List ℕ
+token_text names policy [] = policy_name policy names
+token_text names policy (byte ∷ bytes) = policy_name policy names ++ 46 ∷ byte ∷ bytes
 
 -- a key is told by its first byte
-abbrev pub invalid_text : Invalid → List ℕ
-invalid_text rules.NoMemory = codes "memory"
-invalid_text rules.NoInputs = codes "no-inputs"
-invalid_text rules.OutsideInterval = codes "interval"
-invalid_text (rules.NegativeOutput place) = codes "negative" ++ number_text place
-invalid_text (rules.InputMissing place) = codes "missing" ++ number_text place
-invalid_text (rules.ReferenceMissing place) = codes "reference" ++ number_text place
-invalid_text (rules.AddressMismatch place) = codes "address" ++ number_text place
-invalid_text (rules.DatumMismatch place) = codes "datum" ++ number_text place
-invalid_text (rules.OutputTaken place) = codes "taken" ++ number_text place
-invalid_text (rules.ForgeWithoutPolicy policy) = codes "no-policy " ++ policy_text policy
-invalid_text (rules.Unbalanced policy name) = codes "unbalanced " ++ token_text policy name
-invalid_text (rules.BadSignature key) = codes "signature" ++ number_text (slice_index key 0)
-invalid_text (rules.ValidatorRefused place) = codes "validator" ++ number_text place
-invalid_text (rules.PolicyRefused place) = codes "policy-script" ++ number_text place
+abbrev pub invalid_text : Names → Invalid → List ℕ
+invalid_text names rules.NoMemory = codes "memory"
+invalid_text names rules.NoInputs = codes "no-inputs"
+invalid_text names rules.OutsideInterval = codes "interval"
+invalid_text names (rules.NegativeOutput place) = codes "negative" ++ number_text place
+invalid_text names (rules.InputMissing place) = codes "missing" ++ number_text place
+invalid_text names (rules.ReferenceMissing place) = codes "reference" ++ number_text place
+invalid_text names (rules.AddressMismatch place) = codes "address" ++ number_text place
+invalid_text names (rules.DatumMismatch place) = codes "datum" ++ number_text place
+invalid_text names (rules.OutputTaken place) = codes "taken" ++ number_text place
+invalid_text names (rules.ForgeWithoutPolicy policy) = codes "no-policy " ++ policy_name policy names
+invalid_text names (rules.Unbalanced policy name) = codes "unbalanced " ++ token_text names policy name
+invalid_text names (rules.BadSignature key) = codes "signature" ++ number_text (slice_index key 0)
+invalid_text names (rules.ValidatorRefused place) = codes "validator" ++ number_text place
+invalid_text names (rules.PolicyRefused place) = codes "policy-script" ++ number_text place
 
-abbrev pub refusal_text : Refusal → List ℕ
-refusal_text refusals.NoMemory = codes "memory"
-refusal_text refusals.HistoryFull = codes "history"
-refusal_text refusals.TicketsSpent = codes "tickets"
-refusal_text (refusals.AlreadyInPool ticket) = codes "already" ++ number_text ticket
-refusal_text (refusals.Full need free) = codes "full" ++ number_text need ++ number_text free
-refusal_text (refusals.Invalid fault) = invalid_text fault
+abbrev pub refusal_text : Names → Refusal → List ℕ
+refusal_text names refusals.NoMemory = codes "memory"
+refusal_text names refusals.HistoryFull = codes "history"
+refusal_text names refusals.TicketsSpent = codes "tickets"
+refusal_text names (refusals.AlreadyInPool ticket) = codes "already" ++ number_text ticket
+refusal_text names (refusals.Full need free) = codes "full" ++ number_text need ++ number_text free
+refusal_text names (refusals.Invalid fault) = invalid_text names fault
 
 -- each ticket after a space
 abbrev pub tickets_text : List ℕ → List ℕ
@@ -62,9 +56,9 @@ reply_text (Removed named dropped) = codes "removed" ++ tickets_text named ++ co
 reply_text (Synced kept dropped) = codes "kept" ++ tickets_text kept ++ codes " dropped" ++ tickets_text dropped
 
 -- a line feed ends it
-unfoldable pub answer_text : Result Reply Refusal → List ℕ
-answer_text (Ok reply) = reply_text reply ++ 10 ∷ []
-answer_text (Err refusal) = codes "refused " ++ refusal_text refusal ++ 10 ∷ []
+unfoldable pub answer_text : Names → Result Reply Refusal → List ℕ
+answer_text names (Ok reply) = reply_text reply ++ 10 ∷ []
+answer_text names (Err refusal) = codes "refused " ++ refusal_text names refusal ++ 10 ∷ []
 
 -- the ticket, a colon and the name
 abbrev pub item_text : Names → ℕ × Transaction → List ℕ

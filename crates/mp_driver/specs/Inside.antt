@@ -1,3 +1,4 @@
+-- What only the crate's own clauses, views and invariants cite.
 pub mod Openings
-pub mod Settings
+pub mod ScenarioPool
 pub mod Scene

@@ -15,7 +15,8 @@ use Rattle.mp_lines.specs.Names.{Names, first_names, with_binding, with_script, 
 use Rattle.mp_lines.specs.Payments.{output_of}
 use Rattle.mp_lines.specs.References.{opening_ref}
 use Rattle.mp_lines.specs.Lines.{Line, Blank, Sets, Script, Data, Out, Tx, Submit, Remove, Sync, Snapshot, line_of}
-use Rattle.mp_driver.specs.Settings.{Settings, no_settings, with_setting, block_bytes_of, limit_of, last_of, tick_of}
+use Rattle.mp_driver.specs.declared.settings.Settings.{Settings}
+use Rattle.mp_driver.specs.Settings.{no_settings, with_setting, block_bytes_of, limit_of, last_of, tick_of}
 use Rattle.mp_driver.specs.Verifier.{is_key_and_id}
 use Rattle.mp_driver.specs.AnswerText.{answer_text, snapshot_text}
 
@@ -50,9 +51,9 @@ abbrev pub Step : Type 0
 Step = Option (Scene × List ℕ)
 
 -- a setting stands before the first command
-abbrev pub set_at : Scene → Setting → ℕ → Stage → Step
-set_at s setting n (Before outputs) = option_map (λ g. (record s { settings = g }, [])) (with_setting s.settings setting n)
-set_at s setting n (Open p) = None
+abbrev pub set_at : Scene → Setting → Stage → Step
+set_at s setting (Before outputs) = option_map (λ g. (record s { settings = g }, [])) (with_setting s.settings setting)
+set_at s setting (Open p) = None
 
 abbrev pub with_names : Scene → Names → Scene × List ℕ
 with_names s names = (record s { names = names }, [])
@@ -81,7 +82,7 @@ ledger_at g l = ledger_of l.tick (unwrap_or l.block_bytes (block_bytes_of g)) l.
 
 abbrev pub take : Scene → Line → Step
 take s Blank = Some (s, [])
-take s (Sets setting n) = set_at s setting n s.stage
+take s (Sets setting) = set_at s setting s.stage
 take s (Script named) = Some (with_names s (with_script s.names named))
 take s (Data named) = Some (with_names s (with_datum s.names named))
 take s (Out name p) = output_at s name p s.stage

@@ -3,27 +3,17 @@ use Rattle.std.specs.Prelude.{ℕ, Option, None, Some, option_map, unwrap_or}
 use Rattle.mp_lines.specs.declared.settings.Setting.{Setting}
 use Rattle.mp_lines.specs.declared.settings.Setting.TheVariants.{BlockBytes, Limit, Last, Tick}
 use Rattle.mp_lines.specs.Draft.{set_once}
-
--- what was set, if it was
-pub record Settings : Type 0 where
-  -- the bytes of a block
-  pub block_bytes : Option ℕ
-  -- how many changes the pool makes
-  pub limit : Option ℕ
-  -- the ticket before the first one
-  pub last : Option ℕ
-  -- the tick of the opening ledger state
-  pub tick : Option ℕ
+use Rattle.mp_driver.specs.declared.settings.Settings.{Settings}
 
 abbrev pub no_settings : Settings
 no_settings = record { block_bytes = None; limit = None; last = None; tick = None }
 
 -- each at most once
-abbrev pub with_setting : Settings → Setting → ℕ → Option Settings
-with_setting s BlockBytes n = option_map (λ x. record s { block_bytes = x }) (set_once s.block_bytes n)
-with_setting s Limit n = option_map (λ x. record s { limit = x }) (set_once s.limit n)
-with_setting s Last n = option_map (λ x. record s { last = x }) (set_once s.last n)
-with_setting s Tick n = option_map (λ x. record s { tick = x }) (set_once s.tick n)
+abbrev pub with_setting : Settings → Setting → Option Settings
+with_setting s (BlockBytes n) = option_map (λ x. record s { block_bytes = x }) (set_once s.block_bytes n)
+with_setting s (Limit n) = option_map (λ x. record s { limit = x }) (set_once s.limit n)
+with_setting s (Last n) = option_map (λ x. record s { last = x }) (set_once s.last n)
+with_setting s (Tick n) = option_map (λ x. record s { tick = x }) (set_once s.tick n)
 
 -- with what holds where nothing is set
 abbrev pub block_bytes_of : Settings → ℕ

@@ -2,12 +2,12 @@
 
 ghost use Rattle.std.specs.Prelude.{◌≡◌, ℕ, List, [], ◌∷◌, ◌++◌, length, flat_map, IfOk, OnOk, codes};
 ghost use Rattle.mp_driver.specs.AnswerText.{tickets_text, reply_text, answer_text, item_text, snapshot_text};
-ghost use Rattle.mp_driver.specs.Inside.Name.{names_of};
 
-use crate::names::{Name, name_of};
+use crate::pool::ScenarioPool;
 use crate::refusals::{put_number, put_refusal};
+use mp_lines::Names;
 use mp_memory::{Memory, NoMemory};
-use mp_seqpool::{Answer, Item, Reply, SeqPool};
+use mp_seqpool::{Answer, Item, Reply};
 
 type Text = Vec<u8, Memory>;
 
@@ -52,15 +52,15 @@ fn put_reply(memory: Memory, text: &mut Text, reply: &Reply) -> Result<(), NoMem
 
 /// The line of a pool's answer.
 #[tactic(auto, unfolding(crate::specs::AnswerText::answer_text))]
-pub fn answer_line(memory: Memory, answer: &Answer) -> Result<Text, NoMemory>
-    ensures { IfOk result (λ text. text.items ≡ answer_text answer.now) }
+pub fn answer_line(memory: Memory, names: &Names, answer: &Answer) -> Result<Text, NoMemory>
+    ensures { IfOk result (λ text. text.items ≡ answer_text names.now answer.now) }
 {
     let mut text = Vec::new(memory);
     match answer {
         Ok(reply) => put_reply(memory, &mut text, reply)?,
         Err(refusal) => {
             text.extend_from_slice(b"refused ")?;
-            put_refusal(memory, &mut text, refusal)?;
+            put_refusal(memory, &mut text, names, refusal)?;
         }
     }
     text.push(b'\n')?;
@@ -70,27 +70,27 @@ pub fn answer_line(memory: Memory, answer: &Answer) -> Result<Text, NoMemory>
 fn put_item(
     memory: Memory,
     text: &mut Text,
-    names: &[Name],
+    names: &Names,
     ticket: u64,
     item: &Item,
 ) -> Result<(), NoMemory>
     ensures { OnOk result (text.new.items ≡ text.old.items
-        ++ item_text (names_of names.now) (ticket, item.now.tx)) }
+        ++ item_text names.now (ticket, item.now.tx)) }
 {
     put_number(memory, text, ticket)?;
     text.push(b':')?;
-    text.extend_from_slice(name_of(names, item.tx.id()))?;
+    text.extend_from_slice(names.name_of(item.tx.id()))?;
     Ok(())
 }
 
 fn put_items(
     memory: Memory,
     text: &mut Text,
-    names: &[Name],
-    pool: &SeqPool,
+    names: &Names,
+    pool: &ScenarioPool,
 ) -> Result<(), NoMemory>
     ensures { OnOk result (text.new.items ≡ text.old.items
-        ++ flat_map (item_text (names_of names.now)) pool.now.pool.items) }
+        ++ flat_map (item_text names.now) pool.now.items) }
 {
     for (ticket, item) in pool.contents() {
         put_item(memory, text, names, ticket, item)?;
@@ -100,8 +100,8 @@ fn put_items(
 
 /// The line of a snapshot.
 #[tactic(auto, unfolding(crate::specs::AnswerText::snapshot_text))]
-pub fn snapshot_line(memory: Memory, names: &[Name], pool: &SeqPool) -> Result<Text, NoMemory>
-    ensures { IfOk result (λ text. text.items ≡ snapshot_text (names_of names.now) pool.now.pool) }
+pub fn snapshot_line(memory: Memory, names: &Names, pool: &ScenarioPool) -> Result<Text, NoMemory>
+    ensures { IfOk result (λ text. text.items ≡ snapshot_text names.now pool.now) }
 {
     let mut text = Vec::new(memory);
     text.extend_from_slice(b"snapshot")?;

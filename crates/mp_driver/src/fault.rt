@@ -1,37 +1,10 @@
-//! Why a line or a run comes to no good end.
+//! Why a run comes to no good end.
 
 ghost use Rattle.std.specs.Prelude.{◌≡◌};
-ghost use Rattle.mp_driver.specs.declared.fault.LineFault.TheVariants as line_faults;
 ghost use Rattle.mp_driver.specs.declared.fault.Fault.TheVariants as faults;
 ghost use Rattle.mp_driver.specs.Fault as run_fault;
 
-use mp_memory::NoMemory;
-use std::alloc::AllocFailed;
 use thiserror::Error;
-
-/// Why a line does nothing.
-#[derive(Clone, Copy, Debug, PartialEq, Eq)]
-pub enum LineFault {
-    NoMemory,
-    /// The line is none of the language.
-    Bad,
-}
-
-impl From<NoMemory> for LineFault {
-    ghost from_gives = { λ _ e. e ≡ line_faults.NoMemory };
-
-    fn from(_error: NoMemory) -> LineFault {
-        LineFault::NoMemory
-    }
-}
-
-impl<T: Drop> From<AllocFailed<T>> for LineFault {
-    ghost from_gives = { λ _ e. e ≡ line_faults.NoMemory };
-
-    fn from(_refused: AllocFailed<T>) -> LineFault {
-        LineFault::NoMemory
-    }
-}
 
 /// Why a run ended before its input did. Its text is the line that the program prints.
 #[derive(Clone, Copy, Debug, PartialEq, Eq, Error)]

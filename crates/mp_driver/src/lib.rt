@@ -3,14 +3,12 @@
 
 mod answers;
 mod fault;
-mod items;
-mod names;
 mod openings;
-mod plain;
 mod play;
-mod references;
+mod pool;
 mod refusals;
 mod scene;
+mod settings;
 mod verifier;
 
 pub use fault::Fault;

@@ -1,20 +1,29 @@
 //! A scenario's text, from a reader to a writer.
 
-ghost use Rattle.std.specs.Prelude.{◌≤◌, length, IfSome};
+ghost use Rattle.std.specs.Prelude.{◌≡◌, ◌≤◌, length, IfSome};
+ghost use Rattle.mp_driver.specs.Scene.{empty_scene};
 ghost use Rattle.mp_driver.specs.Ending.{Ended};
+ghost use Rattle.mp_driver.specs.Inside.Scene.{scene_of};
 
-use crate::fault::{Fault, LineFault};
+use crate::fault::Fault;
 use crate::scene::Scene;
+use mp_lines::LineFault;
 use mp_memory::Memory;
 use mp_text::{InputFault, MAX_BYTES, first_line, read_all, write_all};
 use std::io::{Read, Write};
 
 // Does the lines of a text in order, writing each line's answer.
-fn answer_lines<W: Write>(memory: Memory, text: &[u8], writer: &mut W) -> Result<(), Fault>
-    requires { length text.now ≤ MAX_BYTES }
+fn answer_from<W: Write>(
+    memory: Memory,
+    scene: Scene,
+    text: &[u8],
+    writer: &mut W,
+) -> Result<(), Fault>
+    requires empty { scene_of scene ≡ empty_scene }
+    requires short { length text.now ≤ MAX_BYTES }
     ensures { Ended text.now (W.contents writer.old) (W.contents writer.new) result }
 {
-    let mut scene = Scene::new(memory);
+    let mut scene = scene;
     let mut rest = text;
     let mut number = 1u64;
     while let Some((line, after)) = first_line(rest) {
@@ -30,6 +39,16 @@ fn answer_lines<W: Write>(memory: Memory, text: &[u8], writer: &mut W) -> Result
         number += 1;
     }
     Ok(())
+}
+
+fn answer_lines<W: Write>(memory: Memory, text: &[u8], writer: &mut W) -> Result<(), Fault>
+    requires { length text.now ≤ MAX_BYTES }
+    ensures { Ended text.now (W.contents writer.old) (W.contents writer.new) result }
+{
+    match Scene::new(memory) {
+        Ok(scene) => answer_from(memory, scene, text, writer),
+        Err(_) => Err(Fault::NoMemory),
+    }
 }
 
 /// Reads all of the input, and then does its lines in order, writing each line's answer.

@@ -1,10 +1,11 @@
 //! The names of refusals, and what is told with them.
 
 ghost use Rattle.std.specs.Prelude.{◌≡◌, ◌++◌, OnOk};
-ghost use Rattle.mp_driver.specs.AnswerText.{number_text, policy_text, token_text, invalid_text, refusal_text};
+ghost use Rattle.mp_lines.specs.Names.{policy_name};
+ghost use Rattle.mp_driver.specs.AnswerText.{number_text, token_text, invalid_text, refusal_text};
 
-use crate::plain::COIN_POLICY;
 use mp_bundle::{PolicyId, TokenName};
+use mp_lines::Names;
 use mp_memory::{Memory, NoMemory};
 use mp_seqpool::{Invalid, Refusal};
 
@@ -28,27 +29,24 @@ fn put_place(memory: Memory, text: &mut Text, word: &[u8], place: usize) -> Resu
     put_number(memory, text, place as u64)
 }
 
-fn put_policy(memory: Memory, text: &mut Text, policy: &PolicyId) -> Result<(), NoMemory>
-    ensures { OnOk result (text.new.items ≡ text.old.items ++ policy_text policy.now) }
+fn put_policy(text: &mut Text, names: &Names, policy: &PolicyId) -> Result<(), NoMemory>
+    ensures { OnOk result
+        (text.new.items ≡ text.old.items ++ policy_name policy.now names.now) }
 {
-    if *policy == COIN_POLICY {
-        text.extend_from_slice(b"coin")?;
-    } else {
-        let digits = hex::encode(memory, policy)?;
-        text.extend_from_slice(digits.as_bytes())?;
-    }
+    text.extend_from_slice(names.policy_name(policy))?;
     Ok(())
 }
 
 fn put_token(
-    memory: Memory,
     text: &mut Text,
+    names: &Names,
     policy: &PolicyId,
     name: &TokenName,
 ) -> Result<(), NoMemory>
-    ensures { OnOk result (text.new.items ≡ text.old.items ++ token_text policy.now name.now) }
+    ensures { OnOk result (text.new.items
+        ≡ text.old.items ++ token_text names.now policy.now name.now) }
 {
-    put_policy(memory, text, policy)?;
+    put_policy(text, names, policy)?;
     let name = name.as_slice();
     if !name.is_empty() {
         text.push(b'.')?;
@@ -57,8 +55,13 @@ fn put_token(
     Ok(())
 }
 
-fn put_invalid(memory: Memory, text: &mut Text, fault: &Invalid) -> Result<(), NoMemory>
-    ensures { OnOk result (text.new.items ≡ text.old.items ++ invalid_text fault.now) }
+fn put_invalid(
+    memory: Memory,
+    text: &mut Text,
+    names: &Names,
+    fault: &Invalid,
+) -> Result<(), NoMemory>
+    ensures { OnOk result (text.new.items ≡ text.old.items ++ invalid_text names.now fault.now) }
 {
     match fault {
         Invalid::NoMemory => text.extend_from_slice(b"memory")?,
@@ -72,11 +75,11 @@ fn put_invalid(memory: Memory, text: &mut Text, fault: &Invalid) -> Result<(), N
         Invalid::OutputTaken(place) => put_place(memory, text, b"taken", *place)?,
         Invalid::ForgeWithoutPolicy(policy) => {
             text.extend_from_slice(b"no-policy ")?;
-            put_policy(memory, text, policy)?;
+            put_policy(text, names, policy)?;
         }
         Invalid::Unbalanced(policy, name) => {
             text.extend_from_slice(b"unbalanced ")?;
-            put_token(memory, text, policy, name)?;
+            put_token(text, names, policy, name)?;
         }
         Invalid::BadSignature(key) => put_place(memory, text, b"signature", key[0] as usize)?,
         Invalid::ValidatorRefused(place) => put_place(memory, text, b"validator", *place)?,
@@ -86,8 +89,14 @@ fn put_invalid(memory: Memory, text: &mut Text, fault: &Invalid) -> Result<(), N
 }
 
 /// The name of the refusal, and what is told with it.
-pub fn put_refusal(memory: Memory, text: &mut Text, refusal: &Refusal) -> Result<(), NoMemory>
-    ensures { OnOk result (text.new.items ≡ text.old.items ++ refusal_text refusal.now) }
+pub fn put_refusal(
+    memory: Memory,
+    text: &mut Text,
+    names: &Names,
+    refusal: &Refusal,
+) -> Result<(), NoMemory>
+    ensures { OnOk result
+        (text.new.items ≡ text.old.items ++ refusal_text names.now refusal.now) }
 {
     match refusal {
         Refusal::NoMemory => text.extend_from_slice(b"memory")?,
@@ -102,7 +111,7 @@ pub fn put_refusal(memory: Memory, text: &mut Text, refusal: &Refusal) -> Result
             put_number(memory, text, *need)?;
             put_number(memory, text, *free)?;
         }
-        Refusal::Invalid(fault) => put_invalid(memory, text, fault)?,
+        Refusal::Invalid(fault) => put_invalid(memory, text, names, fault)?,
     }
     Ok(())
 }

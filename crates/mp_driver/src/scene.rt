@@ -1,44 +1,28 @@
 //! What a scenario has come to, line by line.
 
-ghost use Rattle.std.specs.Prelude.{◌≡◌, ◌&&◌, [], ◌∷◌, ◌++◌, None, is_none, MatchOption, IfOk, OnOk, IsErrOf};
-ghost use Rattle.std.specs.Arc.{arc_value};
-ghost use Rattle.mp_seqpool.specs.Command.{Submit};
+ghost use Rattle.std.specs.Prelude.{◌≡◌, unwrap_or, IfOk, OnOk};
+ghost use Rattle.mp_tx.specs.Ledger.{HasBlockBytes};
 ghost use Rattle.mp_seqpool.specs.SlowPool.{answer, next};
-ghost use Rattle.mp_text.specs.Names.{is_name};
-ghost use Rattle.mp_text.specs.Words.{words_of};
-ghost use Rattle.mp_driver.specs.Names.{binding_of};
-ghost use Rattle.mp_driver.specs.AnswerText.{answer_text};
-ghost use Rattle.mp_driver.specs.Verifier.{accepts_nothing};
-ghost use Rattle.mp_driver.specs.Scene.{Before, Open, Scene as Told, pool_at, output_line, submit_line};
-ghost use Rattle.mp_driver.specs.Inside.Name.{names_of, to_binding};
+ghost use Rattle.mp_seqpool.specs.Inside.Command.{command_of};
+ghost use Rattle.mp_driver.specs.AnswerText.{answer_text, snapshot_text};
+ghost use Rattle.mp_driver.specs.Settings.{block_bytes_of};
+ghost use Rattle.mp_driver.specs.Verifier.{is_key_and_id};
+ghost use Rattle.mp_driver.specs.Scene.{Before, Open, pool_at, ledger_at};
 ghost use Rattle.mp_driver.specs.Inside.Scene.{stage_of};
 
 use crate::answers::{answer_line, snapshot_line};
-use crate::fault::LineFault;
-use crate::items::{draft_of, transaction_of};
-use crate::names::{Binding, Name, binding_of, transaction_named};
 use crate::openings::Openings;
-use crate::plain::{Coin, plain_output};
-use crate::verifier::RefusesAll;
+use crate::pool::ScenarioPool;
+use crate::settings::Settings;
+use mp_lines::{Binding, BlockBytes, Line, LineFault, Name, Names, NewLedger, Payment, Setting};
 use mp_memory::{Memory, NoMemory};
-use mp_seqpool::{Answer, Config, Refusal, SeqPool};
-use mp_text::{first_word, is_clean, is_comment_or_blank, is_name};
-use mp_tx::{Ledger, LedgerFault, Salt, Tx};
+use mp_seqpool::{Command, Ids};
+use mp_tx::{Ledger, LedgerFault, Salt};
 use std::mem;
 use std::sync::Arc;
 
-// The opening ledger state and the pool of every scenario.
 // Whoever runs a scenario has written it, so nobody is to be kept from choosing where outputs lie in the table.
 const SALT: u64 = 0;
-
-const TICK: u64 = 0;
-
-const BLOCK_BYTES: u64 = 500_000;
-
-const CONFIG: Config = Config {
-    limit: 1_000_000,
-    last: 0,
-};
 
 const MAX_OUTPUTS: usize = 1 << 16;
 
@@ -51,77 +35,30 @@ pub enum Stage {
     /// No command has come: the opening outputs.
     Before(Openings),
     /// From the first command on: the pool.
-    Open(SeqPool),
+    Open(ScenarioPool),
 }
 
 /// What a scenario has come to.
 #[derive(Drop)]
 pub struct Scene {
-    pub names: Vec<Name, Memory>,
+    pub names: Names,
+    pub settings: Settings,
     pub stage: Stage,
 }
 
-// The two words of a line that has no other.
-fn two_words(words: &[u8]) -> Option<(&[u8], &[u8])>
-    ensures { MatchOption result ((s : Told) → output_line s (words_of words.now) ≡ None)
-        (λ p. words_of words.now ≡ p.0.now ∷ p.1.now ∷ []) }
-{
-    let Some((first, rest)) = first_word(words) else {
-        return None;
-    };
-    let Some((second, rest)) = first_word(rest) else {
-        return None;
-    };
-    match first_word(rest) {
-        None => Some((first, second)),
-        Some(_) => None,
-    }
-}
-
-// The one word of a line that has no other.
-fn one_word(words: &[u8]) -> Option<&[u8]>
-    ensures { MatchOption result ((s : Told) → submit_line s (words_of words.now) ≡ None)
-        (λ w. words_of words.now ≡ w.now ∷ []) }
-{
-    let Some((first, rest)) = first_word(words) else {
-        return None;
-    };
-    match first_word(rest) {
-        None => Some(first),
-        Some(_) => None,
-    }
-}
-
-// A name that nothing has yet.
-fn is_new(names: &[Name], name: &[u8]) -> bool
-    ensures { result ≡ (is_name name.now && is_none (binding_of name.now (names_of names.now))) }
-{
-    is_name(name) && binding_of(names, name).is_none()
-}
-
-fn declare(
-    memory: Memory,
-    names: &mut Vec<Name, Memory>,
-    word: &[u8],
-    binding: Binding,
-) -> Result<(), NoMemory>
-    ensures { OnOk result (names_of names.new.items
-        ≡ names_of names.old.items ++ (word.now, to_binding binding) ∷ []) }
-{
-    let word = Vec::from_slice(memory, word)?;
-    names.push(Name { word, binding })?;
-    Ok(())
-}
-
 // The pool upon the opening outputs.
-fn pool_upon(memory: Memory, openings: Openings) -> Result<SeqPool, NoMemory>
-    ensures { IfOk result (λ p. p.pool ≡ pool_at (Before openings)) }
+fn pool_upon(
+    memory: Memory,
+    settings: &Settings,
+    openings: Openings,
+) -> Result<ScenarioPool, NoMemory>
+    ensures { IfOk result (λ p. p ≡ pool_at settings.now (Before openings)) }
 {
     let ledger = match Ledger::of_outputs(
         memory,
         Salt::new(SALT),
-        TICK,
-        BLOCK_BYTES,
+        settings.tick(),
+        settings.block_bytes(),
         openings.into_entries(),
     ) {
         Ok(ledger) => ledger,
@@ -131,195 +68,193 @@ fn pool_upon(memory: Memory, openings: Openings) -> Result<SeqPool, NoMemory>
             LedgerFault::BadBlockBytes => unreachable!(),
         },
     };
-    SeqPool::start(memory, CONFIG, &ledger)
+    ScenarioPool::start(memory, settings.config(), &ledger)
 }
 
 // Opens the pool, unless it is.
-fn open_pool(memory: Memory, stage: &mut Stage) -> Result<(), NoMemory>
-    ensures { OnOk result (stage_of stage.new ≡ Open (pool_at (stage_of stage.old))) }
+fn open_pool(memory: Memory, settings: &Settings, stage: &mut Stage) -> Result<(), NoMemory>
+    ensures { OnOk result
+        (stage_of stage.new ≡ Open (pool_at settings.now (stage_of stage.old))) }
 {
     if let Stage::Before(openings) = stage {
         let openings = mem::replace(openings, Openings::new(memory));
-        *stage = Stage::Open(pool_upon(memory, openings)?);
+        *stage = Stage::Open(pool_upon(memory, settings, openings)?);
     }
     Ok(())
 }
 
-fn submit_to(memory: Memory, stage: &mut Stage, tx: &Arc<Tx, Memory>) -> Result<Text, NoMemory>
-    ensures answer { IfOk result (λ text. text.items
-        ≡ answer_text (answer accepts_nothing (pool_at (stage_of stage.old)) (Submit (arc_value tx.now)))) }
-    ensures next { OnOk result (stage_of stage.new
-        ≡ Open (next accepts_nothing (pool_at (stage_of stage.old)) (Submit (arc_value tx.now)))) }
+// The setting holds where a line tells no bytes of a block.
+fn block_bytes_at(settings: &Settings, told: &Option<BlockBytes>) -> u64
+    ensures same { result ≡ unwrap_or told.now (block_bytes_of settings.now) }
+    ensures range { HasBlockBytes result }
 {
-    open_pool(memory, stage)?;
-    match stage {
-        Stage::Open(pool) => submit_to_pool(memory, pool, tx),
-        Stage::Before(_) => unreachable!(),
+    match told {
+        Some(bytes) => bytes.get(),
+        None => settings.block_bytes(),
     }
 }
 
-// The pool's answer to the transaction.
-fn answer_to(pool: &mut SeqPool, tx: &Arc<Tx, Memory>) -> Result<Answer, NoMemory>
-    ensures answer { IfOk result (λ a.
-        a ≡ answer accepts_nothing pool.old.pool (Submit (arc_value tx.now))) }
-    ensures next { OnOk result
-        (pool.new.pool ≡ next accepts_nothing pool.old.pool (Submit (arc_value tx.now))) }
+// The ledger state that a line tells.
+fn ledger_at(memory: Memory, settings: &Settings, ledger: NewLedger) -> Result<Ledger, NoMemory>
+    ensures { IfOk result (λ l. l ≡ ledger_at settings.now ledger) }
 {
-    match pool.submit(tx, &RefusesAll) {
-        Ok(reply) => Ok(Ok(reply)),
-        Err(refusal) => match refusal {
-            Refusal::NoMemory => Err(NoMemory),
-            other => Ok(Err(other)),
+    let NewLedger {
+        tick,
+        block_bytes,
+        outputs,
+    } = ledger;
+    match Ledger::of_outputs(
+        memory,
+        Salt::new(SALT),
+        tick,
+        block_bytes_at(settings, &block_bytes),
+        outputs.into_entries(),
+    ) {
+        Ok(ledger) => Ok(ledger),
+        Err(fault) => match fault {
+            LedgerFault::NoMemory => Err(NoMemory),
+            LedgerFault::Repeated(_) => unreachable!(),
+            LedgerFault::BadBlockBytes => unreachable!(),
         },
     }
 }
 
-fn submit_to_pool(
+fn reply_of(
     memory: Memory,
-    pool: &mut SeqPool,
-    tx: &Arc<Tx, Memory>,
+    names: &Names,
+    pool: &mut ScenarioPool,
+    command: &Command,
 ) -> Result<Text, NoMemory>
     ensures answer { IfOk result (λ text. text.items
-        ≡ answer_text (answer accepts_nothing pool.old.pool (Submit (arc_value tx.now)))) }
-    ensures next { OnOk result
-        (pool.new.pool ≡ next accepts_nothing pool.old.pool (Submit (arc_value tx.now))) }
+        ≡ answer_text names.now (answer is_key_and_id pool.old (command_of command.now))) }
+    ensures next { OnOk result (pool.new ≡ next is_key_and_id pool.old (command_of command.now)) }
 {
-    let answer = answer_to(pool, tx)?;
-    answer_line(memory, &answer)
+    let answer = pool.step(command)?;
+    answer_line(memory, names, &answer)
 }
 
 impl Scene {
     ghost use Rattle.std.specs.Prelude.{◌≡◌, [], ◌∷◌, Some, None, IfOk, IfErr, OnOk, IsErrOf};
-    ghost use Rattle.mp_text.specs.Words.{words_of};
-    ghost use Rattle.mp_driver.specs.Scene.{empty_scene, output_line, transaction_line, submit_line, snapshot_line, command_line, line_step};
-    ghost use Rattle.mp_driver.specs.Inside.Scene.{scene_of};
+    ghost use Rattle.mp_lines.specs.Names.{with_binding};
+    ghost use Rattle.mp_lines.specs.Lines as lines;
+    ghost use Rattle.mp_lines.specs.Inside.Line.{to_line};
+    ghost use Rattle.mp_seqpool.specs.Inside.Command.{command_of};
+    ghost use Rattle.mp_driver.specs.AnswerText.{snapshot_text};
+    ghost use Rattle.mp_driver.specs.Scene.{empty_scene, set_at, output_at, reply_to, with_pool, pool_at, take, line_step};
+    ghost use Rattle.mp_driver.specs.Inside.Scene.{stage_of, scene_of};
 
     /// The scene before the first line.
-    pub fn new(memory: Memory) -> Scene
-        ensures { scene_of result ≡ empty_scene }
+    pub fn new(memory: Memory) -> Result<Scene, NoMemory>
+        ensures { IfOk result (λ s. scene_of s ≡ empty_scene) }
     {
-        Scene {
-            names: Vec::new(memory),
+        Ok(Scene {
+            names: Names::new(memory)?,
+            settings: Settings::new(),
             stage: Stage::Before(Openings::new(memory)),
+        })
+    }
+
+    // A setting stands before the first command.
+    fn set(&mut self, setting: Setting) -> Result<(), LineFault>
+        ensures ok { OnOk result
+            (set_at (scene_of self.old) setting (stage_of self.old.stage)
+            ≡ Some (scene_of self.new, [])) }
+        ensures bad { IsErrOf result LineFault.Bad
+            → set_at (scene_of self.old) setting (stage_of self.old.stage) ≡ None }
+        ensures stays { IsErrOf result LineFault.Bad → scene_of self.new ≡ scene_of self.old }
+    {
+        match &self.stage {
+            Stage::Before(_) => self.settings.set(setting),
+            Stage::Open(_) => Err(LineFault::Bad),
         }
     }
 
-    // out NAME Q
-    fn output_line(&mut self, memory: Memory, words: &[u8]) -> Result<(), LineFault>
+    // An output stands before the first command.
+    fn put_output(&mut self, name: Name, payment: Payment) -> Result<(), LineFault>
         ensures ok { OnOk result
-            (output_line (scene_of self.old) (words_of words.now) ≡ Some (scene_of self.new, [])) }
+            (output_at (scene_of self.old) name payment (stage_of self.old.stage)
+            ≡ Some (scene_of self.new, [])) }
         ensures bad { IsErrOf result LineFault.Bad
-            → output_line (scene_of self.old) (words_of words.now) ≡ None }
+            → output_at (scene_of self.old) name payment (stage_of self.old.stage) ≡ None }
         ensures stays { IsErrOf result LineFault.Bad → scene_of self.new ≡ scene_of self.old }
     {
-        let Some((name, word)) = two_words(words) else {
-            return Err(LineFault::Bad);
-        };
-        if !is_new(&self.names, name) {
-            return Err(LineFault::Bad);
-        }
         match &mut self.stage {
             Stage::Open(_) => Err(LineFault::Bad),
             Stage::Before(openings) => {
                 if openings.len() >= MAX_OUTPUTS {
                     return Err(LineFault::Bad);
                 }
-                let Some(coin) = Coin::parse(word) else {
-                    return Err(LineFault::Bad);
-                };
-                let output = plain_output(memory, &coin)?;
                 let reference = openings.next();
-                openings.push(output)?;
-                declare(memory, &mut self.names, name, Binding::Opening(reference))?;
+                openings.push(payment.to_output()?)?;
+                self.names
+                    .declare(name, Binding::Opening(reference, payment))?;
                 Ok(())
             }
         }
     }
 
-    // tx NAME ITEM ..
-    fn transaction_line(&mut self, memory: Memory, words: &[u8]) -> Result<(), LineFault>
-        ensures ok { OnOk result
-            (transaction_line (scene_of self.old) (words_of words.now)
-            ≡ Some (scene_of self.new, [])) }
-        ensures bad { IsErrOf result LineFault.Bad
-            → transaction_line (scene_of self.old) (words_of words.now) ≡ None }
-        ensures stays { IsErrOf result LineFault.Bad → scene_of self.new ≡ scene_of self.old }
+    // The pool answers the command.
+    fn reply_to(&mut self, memory: Memory, command: &Command) -> Result<Text, NoMemory>
+        ensures { IfOk result (λ text.
+            reply_to (scene_of self.old) (command_of command.now)
+            ≡ (scene_of self.new, text.items)) }
     {
-        let Some((name, items)) = first_word(words) else {
-            return Err(LineFault::Bad);
-        };
-        if first_word(items).is_none() {
-            return Err(LineFault::Bad);
-        }
-        if !is_new(&self.names, name) {
-            return Err(LineFault::Bad);
-        }
-        let draft = draft_of(memory, &self.names, items)?;
-        let tx = transaction_of(memory, &draft)?;
-        let tx = Arc::new(memory, tx)?;
-        declare(memory, &mut self.names, name, Binding::Made(tx))?;
-        Ok(())
-    }
-
-    // submit NAME
-    fn submit_line(&mut self, memory: Memory, words: &[u8]) -> Result<Text, LineFault>
-        ensures ok { IfOk result (λ text.
-            submit_line (scene_of self.old) (words_of words.now)
-            ≡ Some (scene_of self.new, text.items)) }
-        ensures bad { IsErrOf result LineFault.Bad
-            → submit_line (scene_of self.old) (words_of words.now) ≡ None }
-        ensures stays { IsErrOf result LineFault.Bad → scene_of self.new ≡ scene_of self.old }
-    {
-        let Some(name) = one_word(words) else {
-            return Err(LineFault::Bad);
-        };
-        match transaction_named(&self.names, name) {
-            Some(tx) => Ok(submit_to(memory, &mut self.stage, tx)?),
-            None => Err(LineFault::Bad),
-        }
-    }
-
-    // snapshot
-    fn snapshot_line(&mut self, memory: Memory, words: &[u8]) -> Result<Text, LineFault>
-        ensures ok { IfOk result (λ text.
-            snapshot_line (scene_of self.old) (words_of words.now)
-            ≡ Some (scene_of self.new, text.items)) }
-        ensures bad { IsErrOf result LineFault.Bad
-            → snapshot_line (scene_of self.old) (words_of words.now) ≡ None }
-        ensures stays { IsErrOf result LineFault.Bad → scene_of self.new ≡ scene_of self.old }
-    {
-        if first_word(words).is_some() {
-            return Err(LineFault::Bad);
-        }
-        open_pool(memory, &mut self.stage)?;
-        match &self.stage {
-            Stage::Open(pool) => Ok(snapshot_line(memory, &self.names, pool)?),
+        open_pool(memory, &self.settings, &mut self.stage)?;
+        match &mut self.stage {
+            Stage::Open(pool) => reply_of(memory, &self.names, pool, command),
             Stage::Before(_) => unreachable!(),
         }
     }
 
-    // The line's command, by its first word.
-    fn command_line(&mut self, memory: Memory, word: &[u8], words: &[u8]) -> Result<Text, LineFault>
+    fn snapshot(&mut self, memory: Memory) -> Result<Text, NoMemory>
+        ensures pool { OnOk result (scene_of self.new
+            ≡ with_pool (scene_of self.old) (pool_at self.old.settings (stage_of self.old.stage))) }
+        ensures text { IfOk result (λ text. text.items
+            ≡ snapshot_text self.old.names (pool_at self.old.settings (stage_of self.old.stage))) }
+    {
+        open_pool(memory, &self.settings, &mut self.stage)?;
+        match &self.stage {
+            Stage::Open(pool) => snapshot_line(memory, &self.names, pool),
+            Stage::Before(_) => unreachable!(),
+        }
+    }
+
+    // The command that a line asks for.
+    fn sync_to(&mut self, memory: Memory, ledger: NewLedger) -> Result<Text, NoMemory>
+        ensures { IfOk result (λ text.
+            take (scene_of self.old) (lines.Sync ledger) ≡ Some (scene_of self.new, text.items)) }
+    {
+        let ledger = ledger_at(memory, &self.settings, ledger)?;
+        self.reply_to(memory, &Command::Sync(ledger))
+    }
+
+    /// Does what the line asks, and gives what it writes. A bad line does nothing.
+    ///
+    /// # Errors
+    /// `Bad` where a setting comes twice or after the first command, and where an output comes after it or is the 65,537th.
+    pub fn take(&mut self, memory: Memory, line: Line) -> Result<Text, LineFault>
         ensures ok { IfOk result (λ text.
-            command_line (scene_of self.old) word.now (words_of words.now)
-            ≡ Some (scene_of self.new, text.items)) }
+            take (scene_of self.old) (to_line line) ≡ Some (scene_of self.new, text.items)) }
         ensures bad { IsErrOf result LineFault.Bad
-            → command_line (scene_of self.old) word.now (words_of words.now) ≡ None }
+            → take (scene_of self.old) (to_line line) ≡ None }
         ensures stays { IsErrOf result LineFault.Bad → scene_of self.new ≡ scene_of self.old }
     {
-        if word == b"out".as_slice() {
-            self.output_line(memory, words)?;
-            Ok(Vec::new(memory))
-        } else if word == b"tx".as_slice() {
-            self.transaction_line(memory, words)?;
-            Ok(Vec::new(memory))
-        } else if word == b"submit".as_slice() {
-            self.submit_line(memory, words)
-        } else if word == b"snapshot".as_slice() {
-            self.snapshot_line(memory, words)
-        } else {
-            Err(LineFault::Bad)
+        match line {
+            Line::Blank => {}
+            Line::Sets(setting) => self.set(setting)?,
+            Line::Script(named) => self.names.declare_script(named)?,
+            Line::Data(named) => self.names.declare_datum(named)?,
+            Line::Out(name, payment) => self.put_output(name, payment)?,
+            Line::Tx(name, declared) => self.names.declare(name, Binding::Made(declared))?,
+            Line::Submit(tx) => return Ok(self.reply_to(memory, &Command::Submit(tx))?),
+            Line::Remove(ids) => {
+                let ids = Arc::new(memory, Ids::of(ids))?;
+                return Ok(self.reply_to(memory, &Command::Remove(ids))?);
+            }
+            Line::Sync(ledger) => return Ok(self.sync_to(memory, ledger)?),
+            Line::Snapshot => return Ok(self.snapshot(memory)?),
         }
+        Ok(Vec::new(memory))
     }
 
     /// Does what a line says, and gives what it writes. A bad line does nothing.
@@ -330,15 +265,7 @@ impl Scene {
         ensures bad { IsErrOf result LineFault.Bad → line_step (scene_of self.old) line.now ≡ None }
         ensures stays { IsErrOf result LineFault.Bad → scene_of self.new ≡ scene_of self.old }
     {
-        if !is_clean(line) {
-            return Err(LineFault::Bad);
-        }
-        if is_comment_or_blank(line) {
-            return Ok(Vec::new(memory));
-        }
-        match first_word(line) {
-            Some((word, words)) => self.command_line(memory, word, words),
-            None => Ok(Vec::new(memory)),
-        }
+        let line = Line::parse(memory, &self.names, line)?;
+        self.take(memory, line)
     }
 }

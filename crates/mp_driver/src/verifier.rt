@@ -14,6 +14,7 @@ impl Verifier for KeyAndId {
     ghost accepts = { λ _. is_key_and_id };
 
     fn verify(&self, key: &Key, id: &TxId, sig: &Sig) -> bool {
-        sig[..KEY_BYTES] == *key && sig[KEY_BYTES..] == *id
+        let (front, back) = sig.split_at(KEY_BYTES);
+        front == key.as_slice() && back == id.as_slice()
     }
 }

@@ -2,7 +2,6 @@
 use Rattle.mp_driver.specs.declared.scene.Stage.{Stage}
 use Rattle.mp_driver.specs.declared.scene.Stage.TheVariants as stages
 use Rattle.mp_driver.specs.declared.scene.Scene.{Scene}
-use Rattle.mp_driver.specs.Inside.Settings.{to_settings}
 use Rattle.mp_driver.specs.Scene.{Before, Open}
 use Rattle.mp_driver.specs.Scene as told
 
@@ -11,4 +10,4 @@ stage_of (stages.Before outputs) = Before outputs
 stage_of (stages.Open p) = Open p
 
 abbrev pub scene_of : Scene → told.Scene
-scene_of s = record { names = s.names; settings = to_settings s.settings; stage = stage_of s.stage }
+scene_of s = record { names = s.names; settings = s.settings; stage = stage_of s.stage }

@@ -2,7 +2,7 @@ use Rattle.std.proofs.Common.{◌+◌, ◌≤◌, ◌^◌, length}
 use Rattle.mp_text.specs.Lines.{lines_of}
 use Rattle.mp_driver.specs.Inside.Scene.{scene_of}
 use Rattle.mp_driver.proofs.Progress.{Progress}
-use Rattle.mp_driver.proofs.play.answer_lines.Given as goal
+use Rattle.mp_driver.proofs.play.answer_from.Given as goal
 
 -- the lines before the rest are done, and each of them had a byte
 abbrev pub invariant-loop-line : goal.invariant-loop-line

@@ -5,13 +5,13 @@ use Rattle.mp_text.specs.Lines.{lines_of}
 use Rattle.mp_text.specs.Output.{AppendsFront}
 use Rattle.mp_driver.specs.Inside.Scene.{scene_of}
 use Rattle.mp_driver.proofs.Progress.{Progress, begins, goes_on, is_cut, stops}
-use Rattle.mp_driver.proofs.play.answer_lines.Goals as goal
+use Rattle.mp_driver.proofs.play.answer_from.Goals as goal
 
 pub loop-line-init : goal.loop-line-init
 loop-line-init g c =
     let old : Option (List ℕ) = g.W.Write.contents c.args.writer.now in
     let all : List (List ℕ) = lines_of c.args.text.now in
-    (subst (λ s. Progress old old all all s 1) (sym c.new-scene.ensures) (begins old all), omega (arith, c.requires))
+    (subst (λ s. Progress old old all all s 1) (sym c.requires.empty) (begins old all), omega (arith, c.requires.short))
 
 pub loop-line-preserved : goal.loop-line-preserved
 loop-line-preserved g c =
@@ -31,7 +31,7 @@ returns-in-Err g c =
     let now : Option (List ℕ) = g.W.Write.contents c.loop-line.writer in
     let new : Option (List ℕ) = g.W.Write.contents c.write_all.new.writer in
     let all : List (List ℕ) = lines_of c.args.text.now in (
-      c.requires,
+      c.requires.short,
       is_cut old now new all (lines_of c.in-Some.after.now) (scene_of c.loop-line.scene) (scene_of c.read_line.new.self) c.loop-line.number c.in-Some.line.now c.in-Ok.answer.items
           (subst (λ r. Progress old now all r (scene_of c.loop-line.scene) c.loop-line.number) c.in-Some.ensures.first c.loop-line.invariant.0)
           c.in-Ok.ensures.ok (subst (AppendsFront now new) c.deref.ensures.value c.in-Err.ensures.err),

@@ -1,0 +1,124 @@
+//! The settings of a scenario.
+
+ghost use Rattle.std.specs.Prelude.{◌≡◌, Some, None, unwrap_or, option_map, OnOk, IsErrOf};
+ghost use Rattle.mp_lines.specs.Draft.{set_once};
+ghost use Rattle.mp_lines.specs.Fault.{Reads};
+
+use mp_lines::{BlockBytes, Limit, LineFault, Setting};
+use mp_seqpool::Config;
+
+const BLOCK_BYTES: u64 = 500_000;
+
+const LIMIT: u64 = 1_000_000;
+
+/// What was set before the first command, and else what holds where nothing is set.
+#[derive(Debug, Drop)]
+pub struct Settings {
+    pub block_bytes: Option<BlockBytes>,
+    pub limit: Option<Limit>,
+    /// The ticket before the first one that is given; 0 where nothing is set.
+    pub last: Option<u64>,
+    /// The tick of the opening ledger state; 0 where nothing is set.
+    pub tick: Option<u64>,
+}
+
+fn set_number(set: &mut Option<u64>, number: u64) -> Result<(), LineFault>
+    ensures ok { OnOk result (set_once set.old number ≡ Some set.new) }
+    ensures bad { IsErrOf result LineFault.Bad → set_once set.old number ≡ None }
+    ensures stays { IsErrOf result LineFault.Bad → set.new ≡ set.old }
+{
+    if set.is_some() {
+        return Err(LineFault::Bad);
+    }
+    *set = Some(number);
+    Ok(())
+}
+
+fn set_block_bytes(set: &mut Option<BlockBytes>, bytes: BlockBytes) -> Result<(), LineFault>
+    ensures ok { OnOk result (set_once set.old bytes ≡ Some set.new) }
+    ensures bad { IsErrOf result LineFault.Bad → set_once set.old bytes ≡ None }
+    ensures stays { IsErrOf result LineFault.Bad → set.new ≡ set.old }
+{
+    if set.is_some() {
+        return Err(LineFault::Bad);
+    }
+    *set = Some(bytes);
+    Ok(())
+}
+
+fn set_limit(set: &mut Option<Limit>, limit: Limit) -> Result<(), LineFault>
+    ensures ok { OnOk result (set_once set.old limit ≡ Some set.new) }
+    ensures bad { IsErrOf result LineFault.Bad → set_once set.old limit ≡ None }
+    ensures stays { IsErrOf result LineFault.Bad → set.new ≡ set.old }
+{
+    if set.is_some() {
+        return Err(LineFault::Bad);
+    }
+    *set = Some(limit);
+    Ok(())
+}
+
+impl Settings {
+    ghost use Rattle.std.specs.Prelude.{◌≡◌, Some, None, OnOk, IsErrOf};
+    ghost use Rattle.mp_tx.specs.Ledger.{HasBlockBytes};
+    ghost use Rattle.mp_driver.specs.Settings.{no_settings, with_setting, block_bytes_of, limit_of, last_of, tick_of};
+
+    /// Nothing is set.
+    pub fn new() -> Settings
+        ensures { result ≡ no_settings }
+    {
+        Settings {
+            block_bytes: None,
+            limit: None,
+            last: None,
+            tick: None,
+        }
+    }
+
+    /// Sets what wasn't set before. After an `Err` nothing has changed.
+    pub fn set(&mut self, setting: Setting) -> Result<(), LineFault>
+        ensures ok { OnOk result (with_setting self.old setting ≡ Some self.new) }
+        ensures bad { IsErrOf result LineFault.Bad → with_setting self.old setting ≡ None }
+        ensures stays { IsErrOf result LineFault.Bad → self.new ≡ self.old }
+    {
+        match setting {
+            Setting::BlockBytes(bytes) => set_block_bytes(&mut self.block_bytes, bytes),
+            Setting::Limit(limit) => set_limit(&mut self.limit, limit),
+            Setting::Last(ticket) => set_number(&mut self.last, ticket),
+            Setting::Tick(tick) => set_number(&mut self.tick, tick),
+        }
+    }
+
+    /// The bytes that a block may have; 500,000 where nothing is set.
+    pub fn block_bytes(&self) -> u64
+        ensures same { result ≡ block_bytes_of self.now }
+        ensures range { HasBlockBytes result }
+    {
+        match &self.block_bytes {
+            Some(bytes) => bytes.get(),
+            None => BLOCK_BYTES,
+        }
+    }
+
+    /// The tick of the opening ledger state.
+    pub fn tick(&self) -> u64
+        ensures { result ≡ tick_of self.now }
+    {
+        self.tick.unwrap_or(0)
+    }
+
+    /// The limit, 1,000,000 where nothing is set, and the last ticket.
+    pub fn config(&self) -> Config
+        ensures limit { result.limit ≡ limit_of self.now }
+        ensures last { result.last ≡ last_of self.now }
+    {
+        let limit = match &self.limit {
+            Some(limit) => limit.get(),
+            None => LIMIT,
+        };
+        Config {
+            limit,
+            last: self.last.unwrap_or(0),
+        }
+    }
+}
