@@ -163,10 +163,10 @@ impl Scene {
             → set_at (scene_of self.old) setting (stage_of self.old.stage) ≡ None }
         ensures stays { IsErrOf result LineFault.Bad → scene_of self.new ≡ scene_of self.old }
     {
-        match &self.stage {
-            Stage::Before(_) => self.settings.set(setting),
-            Stage::Open(_) => Err(LineFault::Bad),
+        if let Stage::Open(_) = &self.stage {
+            return Err(LineFault::Bad);
         }
+        self.settings.set(setting)
     }
 
     // An output stands before the first command.
