@@ -94,12 +94,14 @@ impl SeqPool {
     pub fn start(memory: Memory, config: Config, ledger: &Ledger) -> Result<SeqPool, NoMemory>
         ensures { IfOk result (λ pool. pool.pool ≡ fresh_pool config ledger.now) }
     {
+        let items = TicketList::new(memory)?;
+        let overlay = Overlay::over(memory, ledger)?;
         Ok(SeqPool {
             memory,
             config,
-            overlay: Overlay::over(memory, ledger)?,
+            overlay,
             tickets: IndexMap::with_hasher(memory, ledger.salt()),
-            items: TicketList::new(memory)?,
+            items,
             last: config.last,
             bytes: 0,
             changes: 0,

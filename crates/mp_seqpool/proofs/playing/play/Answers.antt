@@ -4,6 +4,7 @@ use Rattle.mp_seqpool.specs.PoolLaws.{IsLawful}
 use Rattle.mp_seqpool.specs.Pool.{Pool}
 use Rattle.mp_seqpool.specs.SlowPool.{answer, answers, pool_after}
 use Rattle.mp_seqpool.proofs.Answering.{answered_one, led_one}
+use Rattle.mp_seqpool.proofs.Exits.{no_value}
 use Rattle.mp_seqpool.proofs.Histories.{obeys-empty, lawful-next, signed}
 use Rattle.mp_seqpool.proofs.playing.play.Goals as goal
 
@@ -41,3 +42,27 @@ loop-command-preserved g c =
 
 pub returns-clause-laws : goal.returns-clause-laws
 returns-clause-laws g c = obeys-empty (g.V.Verifier.accepts c.args.verifier.now) c.args.config.limit c.args.config.last c.args.ledger.now (commands_of c.args.commands.now)
+
+pub returns-in_err-answers-clause-answers : goal.returns-in_err-answers-clause-answers
+returns-in_err-answers-clause-answers g c = no_value c.from_residual.result _ c.from_residual.ensures.0
+
+pub returns-in_err-answers-clause-pool : goal.returns-in_err-answers-clause-pool
+returns-in_err-answers-clause-pool g c = no_value c.from_residual.result _ c.from_residual.ensures.0
+
+pub returns-in_err-pool-clause-answers : goal.returns-in_err-pool-clause-answers
+returns-in_err-pool-clause-answers g c = no_value c.from_residual-in_err-pool.result _ c.from_residual-in_err-pool.ensures.0
+
+pub returns-in_err-pool-clause-pool : goal.returns-in_err-pool-clause-pool
+returns-in_err-pool-clause-pool g c = no_value c.from_residual-in_err-pool.result _ c.from_residual-in_err-pool.ensures.0
+
+pub returns-in_err-step-clause-answers : goal.returns-in_err-step-clause-answers
+returns-in_err-step-clause-answers g c = no_value c.from_residual-in_err-step.result _ c.from_residual-in_err-step.ensures.0
+
+pub returns-in_err-step-clause-pool : goal.returns-in_err-step-clause-pool
+returns-in_err-step-clause-pool g c = no_value c.from_residual-in_err-step.result _ c.from_residual-in_err-step.ensures.0
+
+pub returns-in_err-push-clause-answers : goal.returns-in_err-push-clause-answers
+returns-in_err-push-clause-answers g c = no_value c.from_residual-in_err-push.result _ c.from_residual-in_err-push.ensures.0
+
+pub returns-in_err-push-clause-pool : goal.returns-in_err-push-clause-pool
+returns-in_err-push-clause-pool g c = no_value c.from_residual-in_err-push.result _ c.from_residual-in_err-push.ensures.0
