@@ -8,3 +8,4 @@ pub mod Forgetting
 pub mod Staying
 pub mod Answering
 pub mod Exits
+pub mod Opening
