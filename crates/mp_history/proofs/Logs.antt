@@ -3,11 +3,11 @@ use Rattle.std.proofs.Common.{◌≡◌, ℕ, suc, ◌+◌, ◌<◌, true, false
 use Rattle.std.specs.Prelude.{◌==◌, None, Some, option_map}
 use Rattle.std.specs.Option.{option_or}
 use Rattle.std.proofs.lemmas.List.{take_more}
-use Rattle.mp_tx.specs.Ledger.{LedgerState}
 use Rattle.mp_rules.specs.Verifier.{Accepts}
 use Rattle.mp_seqpool.specs.Pool.{Pool}
-use Rattle.mp_seqpool.specs.SlowPool.{AreSigned, empty_pool, next}
-use Rattle.mp_seqpool.proofs.Histories.{signed-after}
+use Rattle.mp_seqpool.specs.SlowPool.{AreSigned, next}
+use Rattle.mp_seqpool.specs.PoolLaws.{IsLawful}
+use Rattle.mp_seqpool.proofs.Histories.{signed, lawful-after}
 use Rattle.mp_history.specs.Entry.{Entry}
 use Rattle.mp_history.specs.Log.{commands, IsRight, IsLegal, pool_of, last_of}
 
@@ -42,5 +42,5 @@ module _ (accepts : Accepts) where
       )
 
   -- all signatures in the pool after a log are accepted
-  pub signed-of : (limit last : ℕ) (ledger : LedgerState) (p : Pool) (log : List Entry) → p ≡ pool_of accepts (empty_pool limit last ledger) log → AreSigned accepts p
-  signed-of limit last ledger p log is = subst (AreSigned accepts) (sym is) (signed-after accepts limit last ledger (commands log))
+  pub signed-of : (p q : Pool) (log : List Entry) → IsLawful accepts p → q ≡ pool_of accepts p log → AreSigned accepts q
+  signed-of p q log law is = subst (AreSigned accepts) (sym is) (signed accepts (pool_of accepts p log) (lawful-after accepts p (commands log) law))

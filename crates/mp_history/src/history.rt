@@ -2,6 +2,7 @@
 
 ghost use Rattle.std.specs.Prelude.{◌≡◌, ◌≢◌, Some, IfOk, OnOk, IfErr};
 ghost use Rattle.mp_seqpool.specs.Config.{fresh_pool};
+ghost use Rattle.mp_seqpool.specs.PoolLaws.{IsLawful};
 ghost use Rattle.mp_seqpool.specs.SlowPool.{AreSigned, next};
 ghost use Rattle.mp_history.specs.Log.{IsRight, IsLegal, pool_of};
 ghost use Rattle.mp_history.specs.AuditFault.{entry_fault, IsFaultOf, IsIllegal};
@@ -45,6 +46,29 @@ fn replay<V: Verifier>(
     }
 }
 
+// Does what the entries ask, in order, as far as they are right.
+fn replay_all<V: Verifier>(
+    pool: &mut SeqPool,
+    callers: u32,
+    entries: &[Entry],
+    verifier: &V,
+) -> Result<(), AuditFault>
+    requires { IsLawful (V.accepts verifier.now) pool.old.pool }
+    ensures legal { OnOk result
+        (IsLegal (V.accepts verifier.now) callers pool.old.pool entries.now) }
+    ensures pool { OnOk result
+        (pool.new.pool ≡ pool_of (V.accepts verifier.now) pool.old.pool entries.now) }
+    ensures fault { IfErr result
+        (IsFaultOf (V.accepts verifier.now) callers pool.old.pool entries.now) }
+    ensures illegal { IfErr result (λ fault. fault ≢ faults.NoMemory
+        → IsIllegal (V.accepts verifier.now) callers pool.old.pool entries.now) }
+{
+    for (place, entry) in entries.iter().enumerate() {
+        replay(pool, callers, place, entry, verifier)?;
+    }
+    Ok(())
+}
+
 /// Runs a history of so many callers anew on a pool that opens upon the ledger state, where the
 /// verifier decides which signatures are good. Where the history is legal, it gives the pool after
 /// all entries: each entry's caller is below `callers`, and its reply is the slow pool's after the
@@ -68,8 +92,6 @@ pub fn audit<V: Verifier>(
         → IsIllegal (V.accepts verifier.now) callers (fresh_pool config ledger.now) entries.now) }
 {
     let mut pool = SeqPool::start(memory, config, ledger)?;
-    for (place, entry) in entries.iter().enumerate() {
-        replay(&mut pool, callers, place, entry, verifier)?;
-    }
+    replay_all(&mut pool, callers, entries, verifier)?;
     Ok(pool)
 }

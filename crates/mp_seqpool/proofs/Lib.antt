@@ -7,3 +7,5 @@ pub mod Left
 pub mod Forgetting
 pub mod Staying
 pub mod Answering
+pub mod Exits
+pub mod Opening

@@ -1,10 +1,10 @@
 //! A pool over a whole list of commands.
 
-ghost use Rattle.std.specs.Prelude.{◌≡◌, IfOk};
+ghost use Rattle.std.specs.Prelude.{◌≡◌, ◌++◌, IfOk, OnOk};
 ghost use Rattle.mp_seqpool.specs.Config.{fresh_pool};
 ghost use Rattle.mp_seqpool.specs.SlowPool.{answers, pool_after};
 ghost use Rattle.mp_seqpool.specs.Inside.Command.{commands_of};
-ghost use Rattle.mp_seqpool.specs.PoolLaws.{ObeysLaws};
+ghost use Rattle.mp_seqpool.specs.PoolLaws.{IsLawful, ObeysLaws};
 
 use crate::command::{Answer, Command};
 use crate::config::Config;
@@ -20,6 +20,25 @@ pub struct Played {
     pub answers: Vec<Answer, Memory>,
     /// The pool after them all.
     pub pool: SeqPool,
+}
+
+// Does what the commands ask, in order, and puts the answers last.
+fn step_all<V: Verifier>(
+    pool: &mut SeqPool,
+    told: &mut Vec<Answer, Memory>,
+    commands: &[Command],
+    verifier: &V,
+) -> Result<(), NoMemory>
+    requires { IsLawful (V.accepts verifier.now) pool.old.pool }
+    ensures answers { OnOk result (told.new.items ≡ told.old.items
+        ++ answers (V.accepts verifier.now) pool.old.pool (commands_of commands.now)) }
+    ensures pool { OnOk result (pool.new.pool
+        ≡ pool_after (V.accepts verifier.now) pool.old.pool (commands_of commands.now)) }
+{
+    for command in commands {
+        told.push(pool.step(command, verifier)?)?;
+    }
+    Ok(())
 }
 
 /// Runs the commands in order on a pool that opens upon the ledger state. Answers and pool are the slow pool's, and every state
@@ -40,8 +59,6 @@ pub fn play<V: Verifier>(
 {
     let mut answers = Vec::with_capacity(memory, commands.len())?;
     let mut pool = SeqPool::start(memory, config, ledger)?;
-    for command in commands {
-        answers.push(pool.step(command, verifier)?)?;
-    }
+    step_all(&mut pool, &mut answers, commands, verifier)?;
     Ok(Played { answers, pool })
 }

@@ -1,8 +1,12 @@
 //! The sequential pool.
 
-ghost use Rattle.std.specs.Prelude.{◌≡◌, ◌<◌, OnOk};
+ghost use Rattle.std.specs.Prelude.{◌≡◌, ◌<◌, OnOk, IfOk};
+ghost use Rattle.std.specs.Arc.{arc_value};
 ghost use Rattle.indexmap.specs.IndexMap.{spare};
 ghost use Rattle.mp_utxo.specs.Overlay.{IsSame, HasRoomFor};
+ghost use Rattle.mp_seqpool.specs.Command.{Submit, Sync};
+ghost use Rattle.mp_seqpool.specs.Prepared.{Append, Keep};
+ghost use Rattle.mp_seqpool.specs.declared.command.Reply.TheVariants.{Accepted, Synced};
 
 use crate::command::{Answer, Command, Reply};
 use crate::config::Config;
@@ -69,6 +73,51 @@ fn reserve(overlay: &mut Overlay, tickets: &mut TicketsById, tx: &Tx) -> Result<
     Ok(())
 }
 
+// The step that takes the transaction in under this ticket.
+fn append_step(
+    memory: Memory,
+    tx: &Arc<Tx, Memory>,
+    resolved: Resolved,
+    ticket: u64,
+) -> Result<Prepared, NoMemory>
+    ensures command { IfOk result (λ q. q.command ≡ Submit (arc_value tx.now)) }
+    ensures reply { IfOk result (λ q. q.reply ≡ Accepted ticket) }
+    ensures change { IfOk result (λ q. q.change
+        ≡ Append (record { tx = arc_value tx.now; resolved = resolved })) }
+{
+    let asked = Arc::try_clone(tx)?;
+    let applied = Arc::try_clone(tx)?;
+    let item = Item {
+        tx: Arc::try_clone(tx)?,
+        resolved,
+    };
+    let Ok(node) = make_node(memory, item) else {
+        return Err(NoMemory);
+    };
+    Ok(Prepared {
+        command: Command::Submit(asked),
+        reply: Reply::Accepted { ticket },
+        change: Change::Append(node, applied),
+    })
+}
+
+// The step of a sync that leaves this. What is kept is both told and done.
+fn sync_step(adopted: Ledger, left: Kept) -> Result<Prepared, NoMemory>
+    ensures command { IfOk result (λ q. q.command ≡ Sync adopted) }
+    ensures reply { IfOk result (λ q. q.reply ≡ Synced left.kept left.dropped) }
+    ensures change { IfOk result (λ q. q.change ≡ Keep left.overlay left.kept) }
+{
+    let told = left.kept.copy()?;
+    Ok(Prepared {
+        command: Command::Sync(adopted),
+        reply: Reply::Synced {
+            kept: told,
+            dropped: left.dropped,
+        },
+        change: Change::Keep(left.overlay, left.kept),
+    })
+}
+
 impl SeqPool {
     ghost use Rattle.std.specs.Prelude.{◌≡◌, ◌≢◌, ◌+◌, ◌≤◌, ◌^◌, ◌==◌, List, [], length, None, IfNone, IfOk, IfErr, OnOk, OnErr, Ok};
     ghost use Rattle.std.specs.Arc.{arc_value};
@@ -94,12 +143,14 @@ impl SeqPool {
     pub fn start(memory: Memory, config: Config, ledger: &Ledger) -> Result<SeqPool, NoMemory>
         ensures { IfOk result (λ pool. pool.pool ≡ fresh_pool config ledger.now) }
     {
+        let items = TicketList::new(memory)?;
+        let overlay = Overlay::over(memory, ledger)?;
         Ok(SeqPool {
             memory,
             config,
-            overlay: Overlay::over(memory, ledger)?,
+            overlay,
             tickets: IndexMap::with_hasher(memory, ledger.salt()),
-            items: TicketList::new(memory)?,
+            items,
             last: config.last,
             bytes: 0,
             changes: 0,
@@ -176,23 +227,8 @@ impl SeqPool {
             ≡ Append (record { tx = arc_value tx.now; resolved = resolved })) }
         ensures prepared { IfOk result (IsPrepared self.new) }
     {
-        let command = Command::Submit(Arc::try_clone(tx)?);
-        let applied = Arc::try_clone(tx)?;
-        let item = Item {
-            tx: Arc::try_clone(tx)?,
-            resolved,
-        };
-        let Ok(node) = make_node(self.memory, item) else {
-            return Err(NoMemory);
-        };
         reserve(&mut self.overlay, &mut self.tickets, tx)?;
-        Ok(Prepared {
-            command,
-            reply: Reply::Accepted {
-                ticket: self.last + 1,
-            },
-            change: Change::Append(node, applied),
-        })
+        append_step(self.memory, tx, resolved, self.last + 1)
     }
 
     /// Prepares to take the transaction in under the next ticket, as one change.
@@ -277,7 +313,7 @@ impl SeqPool {
         if self.changes >= self.config.limit {
             return Err(Refusal::HistoryFull);
         }
-        let command = Command::Remove(Arc::try_clone(ids)?);
+        let asked = Arc::try_clone(ids)?;
         let Kept {
             overlay,
             kept,
@@ -285,7 +321,7 @@ impl SeqPool {
             dropped,
         } = self.revalidate(self.overlay.ledger(), ids.as_slice(), verifier)?;
         Ok(Prepared {
-            command,
+            command: Command::Remove(asked),
             reply: Reply::Removed { named, dropped },
             change: Change::Keep(overlay, kept),
         })
@@ -310,21 +346,9 @@ impl SeqPool {
         if self.changes >= self.config.limit {
             return Err(Refusal::HistoryFull);
         }
-        let command = Command::Sync(ledger.share()?);
-        let Kept {
-            overlay,
-            kept,
-            named: _,
-            dropped,
-        } = self.revalidate(ledger, &[], verifier)?;
-        Ok(Prepared {
-            command,
-            reply: Reply::Synced {
-                kept: kept.copy()?,
-                dropped,
-            },
-            change: Change::Keep(overlay, kept),
-        })
+        let adopted = ledger.share()?;
+        let left = self.revalidate(ledger, &[], verifier)?;
+        Ok(sync_step(adopted, left)?)
     }
 
     // Puts the item last.

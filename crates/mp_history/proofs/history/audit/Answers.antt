@@ -1,23 +1,56 @@
-use Rattle.std.proofs.Common.{sym, take}
-use Rattle.mp_seqpool.specs.SlowPool.{empty_pool}
-use Rattle.mp_history.proofs.Logs.{signed-of, legal-more}
-use Rattle.mp_history.proofs.FirstFaults.{fault_told, illegal_told}
+use Rattle.std.proofs.Common.{refl, sym, ap, subst, ◌∙◌}
+use Rattle.mp_seqpool.specs.Pool.{Pool}
+use Rattle.mp_seqpool.specs.PoolLaws.{IsLawful}
+use Rattle.mp_seqpool.proofs.Exits.{no_value, not_ok, passed_on}
+use Rattle.mp_seqpool.proofs.Histories.{lawful-empty}
+use Rattle.mp_history.specs.declared.fault.AuditFault.TheVariants.{NoMemory}
+use Rattle.mp_history.specs.AuditFault.{IsFaultOf, IsIllegal}
+use Rattle.mp_history.specs.Log.{IsLegal, pool_of}
 use Rattle.mp_history.proofs.history.audit.Goals as goal
 
-pub replay-requires : goal.replay-requires
-replay-requires g c =
-    signed-of (g.V.Verifier.accepts c.args.verifier.now) c.args.config.limit c.args.config.last c.args.ledger.now c.loop-place.pool.pool (take c.loop-place.place c.args.entries.now) c.loop-place.invariant.1
+pub returns-in_err-pool-clause-legal : goal.returns-in_err-pool-clause-legal
+returns-in_err-pool-clause-legal g c = not_ok c.from_residual.result _ c.from_residual.ensures.0
 
-pub loop-place-preserved : goal.loop-place-preserved
-loop-place-preserved g c =
-    legal-more (g.V.Verifier.accepts c.args.verifier.now) c.args.callers (empty_pool c.args.config.limit c.args.config.last c.args.ledger.now) c.loop-place.pool.pool c.replay.new.pool.pool c.args.entries.now c.loop-place.place c.index-entries-place.result c.loop-place-test.true (sym c.index-entries-place.is) c.loop-place.invariant c.in_ok-replay.ensures.right c.in_ok-replay.ensures.next
+pub returns-in_err-pool-clause-pool : goal.returns-in_err-pool-clause-pool
+returns-in_err-pool-clause-pool g c = no_value c.from_residual.result _ c.from_residual.ensures.0
 
-pub returns-in_err-replay-clause-fault : goal.returns-in_err-replay-clause-fault
-returns-in_err-replay-clause-fault g c =
-    fault_told (g.V.Verifier.accepts c.args.verifier.now) c.args.callers (empty_pool c.args.config.limit c.args.config.last c.args.ledger.now) c.loop-place.pool.pool c.args.entries.now c.loop-place.place c.index-entries-place.result c.in_err-replay.field-0.0
-    c.loop-place-test.true c.index-entries-place.is c.loop-place.invariant c.in_err-replay.ensures.fault c.from_residual-in_err-replay.result c.from_residual-in_err-replay.ensures.1
+pub returns-in_err-pool-clause-fault : goal.returns-in_err-pool-clause-fault
+returns-in_err-pool-clause-fault g c = passed_on c.from_residual.result _ NoMemory c.from_residual.ensures.1 tt
 
-pub returns-in_err-replay-clause-illegal : goal.returns-in_err-replay-clause-illegal
-returns-in_err-replay-clause-illegal g c =
-    illegal_told (g.V.Verifier.accepts c.args.verifier.now) c.args.callers (empty_pool c.args.config.limit c.args.config.last c.args.ledger.now) c.loop-place.pool.pool c.args.entries.now c.loop-place.place c.index-entries-place.result c.in_err-replay.field-0.0
-    c.loop-place-test.true c.index-entries-place.is c.loop-place.invariant c.in_err-replay.ensures.fault c.from_residual-in_err-replay.result c.from_residual-in_err-replay.ensures.1
+pub returns-in_err-pool-clause-illegal : goal.returns-in_err-pool-clause-illegal
+returns-in_err-pool-clause-illegal g c = passed_on c.from_residual.result _ NoMemory c.from_residual.ensures.1 (λ other. absurd (other refl))
+
+pub replay_all-requires : goal.replay_all-requires
+replay_all-requires g c =
+    let accepts = g.V.Verifier.accepts c.args.verifier.now in
+    subst (IsLawful accepts) (sym c.in_ok-pool.ensures) (lawful-empty accepts c.args.config.limit c.args.config.last c.args.ledger.now)
+
+pub returns-in_err-replay_all-clause-legal : goal.returns-in_err-replay_all-clause-legal
+returns-in_err-replay_all-clause-legal g c = not_ok c.from_residual-in_err-replay_all.result _ c.from_residual-in_err-replay_all.ensures.0
+
+pub returns-in_err-replay_all-clause-pool : goal.returns-in_err-replay_all-clause-pool
+returns-in_err-replay_all-clause-pool g c = no_value c.from_residual-in_err-replay_all.result _ c.from_residual-in_err-replay_all.ensures.0
+
+pub returns-in_err-replay_all-clause-fault : goal.returns-in_err-replay_all-clause-fault
+returns-in_err-replay_all-clause-fault g c =
+    let accepts = g.V.Verifier.accepts c.args.verifier.now in
+    let fault = c.in_err-replay_all.field-0.0 in
+    passed_on c.from_residual-in_err-replay_all.result _ fault c.from_residual-in_err-replay_all.ensures.1
+    (subst (λ (p : Pool). IsFaultOf accepts c.args.callers p c.args.entries.now fault) c.in_ok-pool.ensures c.in_err-replay_all.ensures.fault)
+
+pub returns-in_err-replay_all-clause-illegal : goal.returns-in_err-replay_all-clause-illegal
+returns-in_err-replay_all-clause-illegal g c =
+    let accepts = g.V.Verifier.accepts c.args.verifier.now in
+    let fault = c.in_err-replay_all.field-0.0 in
+    passed_on c.from_residual-in_err-replay_all.result _ fault c.from_residual-in_err-replay_all.ensures.1
+    (λ other. subst (λ (p : Pool). IsIllegal accepts c.args.callers p c.args.entries.now) c.in_ok-pool.ensures (c.in_err-replay_all.ensures.illegal other))
+
+pub returns-clause-legal : goal.returns-clause-legal
+returns-clause-legal g c =
+    let accepts = g.V.Verifier.accepts c.args.verifier.now in
+    subst (λ (p : Pool). IsLegal accepts c.args.callers p c.args.entries.now) c.in_ok-pool.ensures c.in_ok-replay_all.ensures.legal
+
+pub returns-clause-pool : goal.returns-clause-pool
+returns-clause-pool g c =
+    let accepts = g.V.Verifier.accepts c.args.verifier.now in
+    c.in_ok-replay_all.ensures.pool ∙ ap (λ (p : Pool). pool_of accepts p c.args.entries.now) c.in_ok-pool.ensures

@@ -4,6 +4,8 @@ use Rattle.mp_tickets.specs.Tickets.{IsRising}
 use Rattle.mp_resync.specs.Kept.{IsKeptOf}
 use Rattle.mp_seqpool.specs.Command.{Remove}
 use Rattle.mp_seqpool.specs.Pool.{Holding}
+use Rattle.mp_seqpool.specs.declared.refusal.Refusal.TheVariants.{NoMemory}
+use Rattle.mp_seqpool.proofs.Exits.{no_value, passed_on}
 use Rattle.mp_seqpool.proofs.Left.{rising_ticketed, ready_removed, full_removed}
 use Rattle.mp_seqpool.proofs.pool.SeqPool.prepare_remove.Goals as goal
 
@@ -23,4 +25,16 @@ returns-clause-ready g c =
     (subst (λ (h : Holding). IsRising h.pool.items) c.self.view_is (rising_ticketed 0 c.self.inside.items c.self.invariant.rising))
     (subst (λ ids. IsKeptOf accepts h.pool.ledger h.pool.items ids kept) named
     (subst (λ l. IsKeptOf accepts l h.pool.items c.as_slice.result.now kept) (c.ledger.ensures ∙ ap (λ (h : Holding). h.pool.ledger) c.self.view_is) c.in_ok-overlay.ensures))
-    (ap Remove c.in_ok-try_clone.ensures) refl refl
+    (ap Remove c.in_ok-asked.ensures) refl refl
+
+pub returns-in_err-asked-clause-ready : goal.returns-in_err-asked-clause-ready
+returns-in_err-asked-clause-ready g c = no_value c.from_residual.result _ c.from_residual.ensures.0
+
+pub returns-in_err-asked-clause-refused : goal.returns-in_err-asked-clause-refused
+returns-in_err-asked-clause-refused g c = passed_on c.from_residual.result _ NoMemory c.from_residual.ensures.1 tt
+
+pub returns-in_err-overlay-clause-ready : goal.returns-in_err-overlay-clause-ready
+returns-in_err-overlay-clause-ready g c = no_value c.from_residual-in_err-overlay.result _ c.from_residual-in_err-overlay.ensures.0
+
+pub returns-in_err-overlay-clause-refused : goal.returns-in_err-overlay-clause-refused
+returns-in_err-overlay-clause-refused g c = passed_on c.from_residual-in_err-overlay.result _ NoMemory c.from_residual-in_err-overlay.ensures.1 tt

@@ -1,8 +1,9 @@
-use Rattle.std.proofs.Common.{◌<◌, ◌≤◌, refl, ap, subst}
+use Rattle.std.proofs.Common.{◌<◌, ◌≤◌, ap, subst, ◌∙◌}
 use Rattle.mp_tickets.specs.Tickets.{IsRising}
-use Rattle.mp_seqpool.specs.declared.command.Reply.TheVariants.{Synced}
 use Rattle.mp_seqpool.specs.Command.{Sync}
 use Rattle.mp_seqpool.specs.Pool.{Holding}
+use Rattle.mp_seqpool.specs.declared.refusal.Refusal.TheVariants.{NoMemory}
+use Rattle.mp_seqpool.proofs.Exits.{no_value, passed_on}
 use Rattle.mp_seqpool.proofs.Left.{rising_ticketed, ready_synced, full_synced}
 use Rattle.mp_seqpool.proofs.pool.SeqPool.prepare_sync.Goals as goal
 
@@ -15,9 +16,27 @@ pub returns-clause-ready : goal.returns-clause-ready
 returns-clause-ready g c =
     let accepts = g.V.Verifier.accepts c.args.verifier.now in
     let h = c.args.self.now in
-    let kept = c.in_ok-overlay.field-0 in
-    ready_synced accepts h c.args.ledger.now kept _
+    let done = c.in_ok-sync_step.ensures in
+    ready_synced accepts h c.args.ledger.now c.in_ok-left.left c.in_ok-sync_step.field-0
     (subst (λ (h : Holding). h.pool.changes < h.pool.limit) c.self.view_is c.if-self.false)
     (subst (λ (h : Holding). IsRising h.pool.items) c.self.view_is (rising_ticketed 0 c.self.inside.items c.self.invariant.rising))
-    c.in_ok-overlay.ensures
-    (ap Sync c.in_ok-share.ensures) (ap (λ ts. Synced ts c.in_ok-overlay.field-0.dropped) c.in_ok-copy.ensures) refl
+    c.in_ok-left.ensures
+    (done.command ∙ ap Sync c.in_ok-adopted.ensures) done.reply done.change
+
+pub returns-in_err-adopted-clause-ready : goal.returns-in_err-adopted-clause-ready
+returns-in_err-adopted-clause-ready g c = no_value c.from_residual.result _ c.from_residual.ensures.0
+
+pub returns-in_err-adopted-clause-refused : goal.returns-in_err-adopted-clause-refused
+returns-in_err-adopted-clause-refused g c = passed_on c.from_residual.result _ NoMemory c.from_residual.ensures.1 tt
+
+pub returns-in_err-left-clause-ready : goal.returns-in_err-left-clause-ready
+returns-in_err-left-clause-ready g c = no_value c.from_residual-in_err-left.result _ c.from_residual-in_err-left.ensures.0
+
+pub returns-in_err-left-clause-refused : goal.returns-in_err-left-clause-refused
+returns-in_err-left-clause-refused g c = passed_on c.from_residual-in_err-left.result _ NoMemory c.from_residual-in_err-left.ensures.1 tt
+
+pub returns-in_err-sync_step-clause-ready : goal.returns-in_err-sync_step-clause-ready
+returns-in_err-sync_step-clause-ready g c = no_value c.from_residual-in_err-sync_step.result _ c.from_residual-in_err-sync_step.ensures.0
+
+pub returns-in_err-sync_step-clause-refused : goal.returns-in_err-sync_step-clause-refused
+returns-in_err-sync_step-clause-refused g c = passed_on c.from_residual-in_err-sync_step.result _ NoMemory c.from_residual-in_err-sync_step.ensures.1 tt

@@ -1,0 +1,11 @@
+use Rattle.mp_seqpool.proofs.Exits.{no_value}
+use Rattle.mp_seqpool.proofs.pool.sync_step.Goals as goal
+
+pub returns-in_err-told-clause-command : goal.returns-in_err-told-clause-command
+returns-in_err-told-clause-command c = no_value c.from_residual.result _ c.from_residual.ensures.0
+
+pub returns-in_err-told-clause-reply : goal.returns-in_err-told-clause-reply
+returns-in_err-told-clause-reply c = no_value c.from_residual.result _ c.from_residual.ensures.0
+
+pub returns-in_err-told-clause-change : goal.returns-in_err-told-clause-change
+returns-in_err-told-clause-change c = no_value c.from_residual.result _ c.from_residual.ensures.0
