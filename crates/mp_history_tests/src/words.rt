@@ -109,7 +109,11 @@ fn two_threads<N: PoolName + Send + Sync, R: Threads + Wait + Abort + Sync>(
     shared.right.covers(&one.front);
     shared.right.covers(&two.front);
     assert_eq!(rt; shared.right.front().len(), 100);
-    assert_eq!(rt; one.front.len().max(two.front.len()), 100, "who ends last has seen all");
+    assert_eq!(rt;
+        one.front.len().max(two.front.len()),
+        100,
+        "who ends last has seen all"
+    );
     let mut places = one.places;
     places.extend_from_slice(&two.places)?;
     places.sort()?;
@@ -132,11 +136,13 @@ fn numbered<N: PoolName>(name: NewName, memory: Memory, callers: u32) -> Result<
     requires most { callers ≤ 1024 }
 {
     let (_history, _right, tokens) = History::<N>::open(name, memory, callers)?;
-    Ok(tokens
-        .iter()
-        .enumerate()
-        .filter(|(place, token)| token.number() as usize == *place)
-        .count())
+    Ok(
+        tokens
+            .iter()
+            .enumerate()
+            .filter(|(place, token)| token.number() as usize == *place)
+            .count(),
+    )
 }
 
 fn open_for(memory: Memory, callers: u32) -> Result<usize, NoMemory>
