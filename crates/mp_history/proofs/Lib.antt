@@ -2,3 +2,9 @@ pub mod Logs
 pub mod Core
 pub mod Law
 pub mod FirstFaults
+pub mod Prefixes
+pub mod Notes
+pub mod Cells
+pub mod Chains
+pub mod Steps
+pub mod Turns

@@ -1,2 +1,5 @@
 -- What only the crate's own clauses, views and invariants cite.
 pub mod Entry
+pub mod Noted
+pub mod Rule
+pub mod Turn

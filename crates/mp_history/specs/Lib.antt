@@ -4,3 +4,5 @@ pub mod AuditFault
 pub mod World
 pub mod CoreLaw
 pub mod Inside
+pub mod Front
+pub mod PoolName

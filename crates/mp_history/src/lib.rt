@@ -5,8 +5,10 @@ mod entry;
 mod fault;
 mod history;
 mod laws;
+mod word;
 
 pub use entry::Entry;
 pub use fault::AuditFault;
 pub use history::audit;
 pub use laws::{audit_faults, interleavings};
+pub use word::{Caller, CommitRight, Front, History, NewName, PoolName, look};

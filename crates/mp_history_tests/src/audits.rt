@@ -7,13 +7,13 @@ use mp_tx::{Key, Ledger, Sig, Tx, TxFault, TxId};
 use std::sync::Arc;
 use std::test::Fail;
 
-const CONFIG: Config = Config {
+pub(crate) const CONFIG: Config = Config {
     limit: 1_000_000,
     last: 0,
 };
 
 // Nobody has signed here.
-struct RefusesAll;
+pub(crate) struct RefusesAll;
 
 impl Verifier for RefusesAll {
     ghost use Rattle.std.specs.Prelude.{false};

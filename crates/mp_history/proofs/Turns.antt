@@ -1,0 +1,26 @@
+-- The right after a step.
+use Rattle.std.proofs.Common.{◌≡◌, ℕ, ◌+◌, List, [], ◌∷◌, ◌++◌, length, ap, sym, ◌∙◌, arith}
+use Rattle.std.proofs.lemmas.List.{length_push}
+use Rattle.logbook.specs.Pages.{Nib, nib, inked, left_with, may_write, may_make}
+use Rattle.mp_history.specs.Entry.{Entry}
+use Rattle.mp_history.specs.Inside.Noted.{Noted, notes_of, entries_of, history, right_after}
+use Rattle.mp_history.specs.Inside.Turn.{IsTurn}
+use Rattle.mp_history.proofs.Notes.{entries_of-one, right_after-last}
+
+-- a pen that has made its word
+pub made : (p : Nib) (n : ℕ) → p.right ≡ may_make → inked p n ≡ nib may_write p.key n
+made p n is = ap (λ r. nib (left_with r) p.key n) is
+
+pub made_as : (t p : Nib) (n : ℕ) → t ≡ inked p n → p.right ≡ may_make → t ≡ nib may_write t.key n
+made_as t p n is may = is ∙ (made p n may ∙ ap (λ k. nib may_write k n) (sym (ap (λ q. q.key) is)))
+
+module _ (root : ℕ) (log later : List Noted) (n : Noted) (e : Entry) where
+  pub history-later : notes_of root later ≡ notes_of root log ++ n ∷ [] → n.entries ≡ e ∷ [] → history root later ≡ history root log ++ e ∷ []
+  history-later is one = ap entries_of is ∙ entries_of-one (notes_of root log) n e one
+
+  pub right-later : (count : ℕ) (pen next : Nib) → IsTurn root count log pen → notes_of root later ≡ notes_of root log ++ n ∷ [] → n.entries ≡ e ∷ [] → next ≡ nib may_write n.next 0 → IsTurn root (count + 1) later next
+  right-later count pen next right is one to = record {
+    opened = omega (arith, right.opened, ap length is, length_push (notes_of root log) n);
+    counted = ap (λ k. k + 1) right.counted ∙ sym (ap length (history-later is one) ∙ length_push (history root log) e);
+    turn = to ∙ ap (λ k. nib may_write k 0) (sym (ap (right_after root) is ∙ right_after-last root (notes_of root log) n));
+  }

@@ -1,0 +1,72 @@
+//! What was seen of a history.
+ghost use Rattle.std.specs.Prelude.{◌≡◌, ◌≤◌, length};
+ghost use mathlib.Core.List.{IsPrefix};
+ghost use Rattle.mp_history.specs.Front.{AreOfOneLog};
+
+use crate::word::pool_name::PoolName;
+use crate::word::rule::{Law, Noted};
+use logbook::Seen;
+use std::marker::{Model, PhantomData};
+
+/// A beginning of the pool's history that was seen. Contracts see it as its entries; the program
+/// keeps their number alone.
+#[derive(Drop)]
+pub struct Front<N: PoolName> {
+    pub(crate) count: u64,
+    pub(crate) seen: Seen<Noted, u64, Law>,
+    pub(crate) of: PhantomData<N>,
+}
+
+impl<N: PoolName> Model for Front<N> {
+    ghost use Rattle.std.specs.Prelude.{◌≡◌, List, length};
+    ghost use Rattle.std.specs.Coded.{codes};
+    ghost use Rattle.std.specs.FinMap as finite;
+    ghost use Rattle.mp_history.specs.Entry as told;
+    ghost use Rattle.mp_history.specs.Inside.Noted.{history};
+
+    ghost Value = { List told.Entry };
+
+    ghost coded = { Prim.hlevel (codes, finite.code) };
+
+    ghost view = { λ f. history N.root f.seen.log };
+
+    ghost invariant = { λ f. (f.count ≡ length (history N.root f.seen.log))
+        × (f.seen.book ≡ N.book) };
+}
+
+impl<N: PoolName> Front<N> {
+    /// How many entries it has.
+    pub fn len(&self) -> u64
+        ensures { result ≡ length self.now }
+    {
+        self.count
+    }
+
+    /// A copy. It takes no memory.
+    pub fn again(&self) -> Front<N>
+        ensures { result ≡ self.now }
+    {
+        Front {
+            count: self.count,
+            seen: self.seen.again(),
+            of: PhantomData,
+        }
+    }
+
+    /// Of two fronts of one pool the shorter begins the longer. That costs nothing when it runs.
+    pub fn compare(&self, other: &Front<N>)
+        ensures this { length self.now ≤ length other.now → IsPrefix self.now other.now }
+        ensures that { length other.now ≤ length self.now → IsPrefix other.now self.now }
+    {
+        let mut both = self.seen.again();
+        both.learn(&other.seen);
+    }
+}
+
+/// Two fronts of one pool are beginnings of one history. That costs nothing when it runs.
+pub fn look<N: PoolName>(first: &Front<N>, second: &Front<N>)
+    ensures { AreOfOneLog first.now second.now }
+{
+    let mut both = first.seen.again();
+    both.learn(&second.seen);
+}

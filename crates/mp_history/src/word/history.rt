@@ -1,0 +1,64 @@
+//! The word that the callers of a pool share.
+ghost use Rattle.std.specs.Prelude.{◌≡◌, ◌<◌, ◌≤◌, ◌^◌, [], ◌∷◌, ◌++◌, length, IfOk};
+ghost use Rattle.std.specs.List.{range_with_len};
+ghost use Rattle.mp_history.specs.PoolName.{head_of};
+
+use crate::entry::Entry;
+use crate::word::caller::Caller;
+use crate::word::commit_right::CommitRight;
+use crate::word::new_name::NewName;
+use crate::word::pool_name::PoolName;
+use crate::word::rule::{Law, Noted};
+use logbook::Word;
+use mp_memory::{Memory, NoMemory};
+use std::marker::PhantomData;
+
+/// The pool's history: one word, the number of its entries. The entries themselves are seen by
+/// contracts alone, and take no memory. All callers may share it; who has the commit right
+/// lengthens it.
+#[derive(Drop)]
+pub struct History<N: PoolName> {
+    head: Word<Noted, u64, Law>,
+    of: PhantomData<N>,
+    ghost head_is: { head ≡ head_of N.book N.root },
+}
+
+impl<N: PoolName> History<N> {
+    /// Opens a pool's history under its name, for 1 to 1,024 callers: an empty history, the right
+    /// to lengthen it, and the tokens of the callers 0, 1, .. in order. Without memory for the
+    /// tokens the name is lost.
+    pub fn open(
+        name: NewName,
+        memory: Memory,
+        callers: u32,
+    ) -> Result<(History<N>, CommitRight<N>, Vec<Caller<N>, Memory>), NoMemory>
+        requires name { name ≡ head_of N.book N.root }
+        requires number { callers ≡ N.callers }
+        requires some { 1 ≤ callers }
+        requires most { callers ≤ 1024 }
+        ensures empty { IfOk result (λ opened. opened.1 ≡ []) }
+        ensures callers { IfOk result (λ opened. opened.2.items ≡ range_with_len 0 callers) }
+    {
+        let tokens = Caller::all(memory, callers)?;
+        let (head, right) = CommitRight::first(name);
+        Ok((
+            History {
+                head,
+                of: PhantomData,
+            },
+            right,
+            tokens,
+        ))
+    }
+
+    /// Enters the caller's entry last, always: it can't be refused, and takes no memory. The
+    /// history may have up to 2^32 entries.
+    pub fn commit(&self, right: &mut CommitRight<N>, caller: &Caller<N>, entry: &Entry)
+        requires room { length right.old < 2 ^ 32 }
+        requires own { entry.now.caller ≡ caller.now }
+        ensures { right.new ≡ right.old ++ entry.now ∷ [] }
+    {
+        let _ = caller;
+        right.enter(&self.head, entry);
+    }
+}

@@ -1,0 +1,138 @@
+//! The rule of the words that a history has, and the steps that they make.
+use crate::entry::Entry;
+use logbook::{Gain, Pen, Plain, Play, Rule, Word};
+use std::marker::{Model, PhantomData};
+
+/// What a book of histories is made of. It is in no program: proofs alone speak of its values.
+pub struct Noted {
+    of: PhantomData<()>,
+}
+
+impl Model for Noted {
+    ghost use Rattle.std.specs.Prelude.{[]};
+    ghost use Rattle.std.specs.Coded.{codes};
+    ghost use Rattle.std.specs.FinMap as finite;
+    ghost use Rattle.mp_history.specs.Inside.Noted as noted;
+
+    ghost Value = { noted.Noted };
+
+    ghost coded = { Prim.hlevel (codes, finite.code) };
+
+    ghost view = { λ n. record { root = 0; used = 0; next = 0; entries = [] } };
+}
+
+/// What holds of the words of histories between any two steps.
+pub struct Law;
+
+impl Rule<Noted, u64> for Law {
+    ghost use Rattle.std.specs.Prelude.{[]};
+    ghost use base.Fml.{ftrue};
+    ghost use Rattle.mp_history.specs.Inside.Rule.{IsKept};
+
+    ghost holds = { λ cells log. IsKept cells log };
+
+    ghost first = { [] };
+
+    ghost hinted = { λ n log. Unit {0} };
+
+    ghost shows = { λ log. [] };
+
+    ghost keeps = { λ names log. ftrue };
+
+    ghost moves = { λ ask before after answer. Unit {0} };
+}
+
+/// Callers trade nothing with the book, and a step that enters nothing asks nothing.
+pub struct Nothing;
+
+impl Gain<Noted, u64> for Nothing {
+    ghost use base.Fml.{ftrue};
+
+    ghost after = { λ names about answer. ftrue };
+}
+
+impl Plain<(), Noted, u64> for Nothing {
+    ghost use Rattle.std.specs.Prelude.{None, []};
+
+    ghost ask = { λ _. record { root = 0; used = 0; next = 0; entries = [] } };
+
+    ghost state = { λ _. None };
+}
+
+/// A step that adds a cell.
+pub struct Adds;
+
+impl Play<Noted, u64> for Adds {
+    ghost use Rattle.mp_history.specs.Inside.Rule as told;
+
+    ghost then = { told.Adds };
+}
+
+/// The pens that a history opens with: that of its word, and that of the first right.
+#[derive(Clone, Copy)]
+pub struct FirstPens<'a> {
+    pub head: &'a Pen,
+    pub next: &'a Pen,
+}
+
+/// A step that opens a history.
+pub struct Opens;
+
+impl Play<Noted, u64> for Opens {
+    ghost use Rattle.mp_history.specs.Inside.Rule as told;
+
+    ghost then = { told.Opens };
+}
+
+impl<'a> Plain<FirstPens<'a>, Noted, u64> for Opens {
+    ghost use Rattle.std.specs.Prelude.{None, []};
+
+    ghost ask = { λ p. record {
+      root = p.head.now.nib.key;
+      used = p.head.now.nib.key;
+      next = p.next.now.nib.key;
+      entries = [];
+    } };
+
+    ghost state = { λ _. None };
+}
+
+/// An entry, with its history's word, the pen that enters it and the one that enters the next.
+#[derive(Clone, Copy)]
+pub struct Addition<'a> {
+    pub head: &'a Word<Noted, u64, Law>,
+    pub entry: &'a Entry,
+    pub used: &'a Pen,
+    pub next: &'a Pen,
+}
+
+/// A step that enters an entry.
+pub struct Commits;
+
+impl Play<Noted, u64> for Commits {
+    ghost use Rattle.mp_history.specs.Inside.Rule as told;
+
+    ghost then = { told.Commits };
+}
+
+impl<'a> Plain<Addition<'a>, Noted, u64> for Commits {
+    ghost use Rattle.std.specs.Prelude.{None, [], ◌∷◌};
+
+    ghost ask = { λ a. record {
+      root = a.head.now.key;
+      used = a.used.now.nib.key;
+      next = a.next.now.nib.key;
+      entries = a.entry.now ∷ [];
+    } };
+
+    ghost state = { λ _. None };
+}
+
+/// A step that changes nothing.
+pub struct Covers;
+
+impl Play<Noted, u64> for Covers {
+    ghost use Rattle.mp_history.specs.Inside.Rule as told;
+
+    ghost then = { told.Covers };
+}
