@@ -1,5 +1,5 @@
 -- The entries of a bundle, one by one.
-use Rattle.std.proofs.Common.{◌≡◌, ℕ, ◌==◌, List, [], ◌∷◌, Option, Some, None, refl, ap, ◌∙◌, sym}
+use Rattle.std.proofs.Common.{◌≡◌, ℕ, ◌==◌, List, Option, Some, None, ap, ◌∙◌, sym}
 use Rattle.std.specs.Prelude.{option_and_then}
 use Rattle.std.specs.List.{slice_split}
 use Rattle.mp_bundle.specs.Bundle.{Entry}

@@ -2,4 +2,3 @@ pub mod Places
 pub mod Parts
 pub mod Entries
 pub mod Apart
-pub mod Decoded

@@ -1,5 +1,5 @@
 -- The items of a transaction's line.
-use Rattle.std.specs.Prelude.{ℕ, ◌==◌, ◌&&◌, Bool, true, false, nat_eq, nat_lt, List, codes, Option, None, Some, option_map, option_and_then, if◌then◌else◌}
+use Rattle.std.specs.Prelude.{ℕ, true, false, nat_eq, nat_lt, List, codes, Option, None, Some, option_map, option_and_then, if◌then◌else◌}
 use Rattle.std.specs.Cmp.Lexicographic.{pointwise}
 use Rattle.mp_text.specs.Numbers.{number_of}
 use Rattle.mp_tx.specs.declared.reference.OutRef.{OutRef}
@@ -8,7 +8,7 @@ use Rattle.mp_lines.specs.declared.payment.Payment.{Payment}
 use Rattle.mp_lines.specs.declared.items.Item.{Item}
 use Rattle.mp_lines.specs.declared.items.Item.TheVariants.{Spends, LooksAt, Pays, From, To, Forges, Carries, Signs}
 use Rattle.mp_lines.specs.Splitting.{split_once}
-use Rattle.mp_lines.specs.Names.{Names, script_named, datum_named}
+use Rattle.mp_lines.specs.Names.{Names, script_named}
 use Rattle.mp_lines.specs.Bundles.{bundle_of}
 use Rattle.mp_lines.specs.Payments.{script_or_yes, datum_or_unit, lock_words, payment_of}
 use Rattle.mp_lines.specs.References.{ref_of, paid_at}

@@ -1,5 +1,5 @@
 -- What lines ask, in view of what was declared before them.
-use Rattle.std.specs.Prelude.{ℕ, ◌^◌, ◌++◌, ◌&&◌, Bool, nat_eq, nat_le, List, [], ◌∷◌, codes, is_none, Option, None, Some, option_map, option_and_then, if◌then◌else◌, Result, Ok, Err, is_ok}
+use Rattle.std.specs.Prelude.{ℕ, ◌++◌, nat_eq, List, [], ◌∷◌, codes, Option, None, Some, option_map, option_and_then, if◌then◌else◌, Result, Ok, Err, is_ok}
 use Rattle.std.specs.Cmp.Lexicographic.{pointwise}
 use Rattle.std.specs.List.{list_any}
 use Rattle.hex.specs.Hex.{decode_of}

@@ -4,8 +4,6 @@ use Rattle.std.specs.Cmp.Lexicographic.{pointwise}
 use Rattle.sha2.specs.Sha256.{sha256}
 use Rattle.mp_text.specs.Names.{is_name}
 use Rattle.mp_tx.specs.Spelling.{id_of}
-use Rattle.mp_tx.specs.Transaction.{Transaction}
-use Rattle.mp_lines.specs.declared.payment.Payment.{Payment}
 use Rattle.mp_lines.specs.declared.names.Binding.{Binding}
 use Rattle.mp_lines.specs.declared.names.Binding.TheVariants.{Opening, Made}
 use Rattle.mp_lines.specs.declared.names.NamedBinding.{NamedBinding}

@@ -1,5 +1,5 @@
 -- Payments, as words write them.
-use Rattle.std.specs.Prelude.{ℕ, List, codes, Option, None, Some, option_and_then}
+use Rattle.std.specs.Prelude.{ℕ, List, codes, Option, None, Some}
 use Rattle.sha2.specs.Sha256.{sha256}
 use Rattle.mp_bundle.specs.Bundle.{Entry}
 use Rattle.mp_tx.specs.declared.output.Output.{Output}

@@ -149,11 +149,7 @@ fn is_faultless(entries: &[Entry]) -> bool
 }
 
 // The entries between commas, in rising order.
-fn entries_of(
-    memory: Memory,
-    names: &Names,
-    word: &[u8],
-) -> Result<Vec<Entry, Memory>, LineFault>
+fn entries_of(memory: Memory, names: &Names, word: &[u8]) -> Result<Vec<Entry, Memory>, LineFault>
     ensures { Gives (λ v. v.items)
         (put_entries names.now [] (slice_split (λ b. b == 44) word.now)) result }
 {

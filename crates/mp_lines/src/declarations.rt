@@ -71,12 +71,7 @@ fn two_words(words: &[u8]) -> Option<(&[u8], &[u8])>
     }
 }
 
-fn script_by(
-    memory: Memory,
-    names: &Names,
-    name: &[u8],
-    digits: &[u8],
-) -> Result<Line, LineFault>
+fn script_by(memory: Memory, names: &Names, name: &[u8], digits: &[u8]) -> Result<Line, LineFault>
     ensures { Gives to_line (script_by names.now (name.now, digits.now)) result }
 {
     if !names.is_new_script(name) {
@@ -87,12 +82,7 @@ fn script_by(
     Ok(Line::Script(NamedScript { name, script }))
 }
 
-fn data_by(
-    memory: Memory,
-    names: &Names,
-    name: &[u8],
-    digits: &[u8],
-) -> Result<Line, LineFault>
+fn data_by(memory: Memory, names: &Names, name: &[u8], digits: &[u8]) -> Result<Line, LineFault>
     ensures { Gives to_line (data_by names.now (name.now, digits.now)) result }
 {
     if !names.is_new_datum(name) {
@@ -103,12 +93,7 @@ fn data_by(
     Ok(Line::Data(NamedDatum { name, datum }))
 }
 
-fn output_by(
-    memory: Memory,
-    names: &Names,
-    name: &[u8],
-    word: &[u8],
-) -> Result<Line, LineFault>
+fn output_by(memory: Memory, names: &Names, name: &[u8], word: &[u8]) -> Result<Line, LineFault>
     ensures { Gives to_line (output_by names.now (name.now, word.now)) result }
 {
     if !names.is_new_binding(name) {

@@ -188,12 +188,7 @@ fn carries(memory: Memory, names: &Names, word: &[u8]) -> Result<Item, LineFault
     }
 }
 
-fn witness_item(
-    memory: Memory,
-    names: &Names,
-    kind: &[u8],
-    value: &[u8],
-) -> Result<Item, LineFault>
+fn witness_item(memory: Memory, names: &Names, kind: &[u8], value: &[u8]) -> Result<Item, LineFault>
     ensures { Reads (witness_item names.now kind.now value.now) result }
 {
     if kind == b"policy".as_slice() {
@@ -207,12 +202,7 @@ fn witness_item(
     }
 }
 
-fn limit_item(
-    memory: Memory,
-    names: &Names,
-    kind: &[u8],
-    value: &[u8],
-) -> Result<Item, LineFault>
+fn limit_item(memory: Memory, names: &Names, kind: &[u8], value: &[u8]) -> Result<Item, LineFault>
     ensures { Reads (limit_item names.now kind.now value.now) result }
 {
     if kind == b"from".as_slice() {
@@ -226,12 +216,7 @@ fn limit_item(
     }
 }
 
-fn item_by(
-    memory: Memory,
-    names: &Names,
-    kind: &[u8],
-    value: &[u8],
-) -> Result<Item, LineFault>
+fn item_by(memory: Memory, names: &Names, kind: &[u8], value: &[u8]) -> Result<Item, LineFault>
     ensures { Reads (item_by names.now kind.now value.now) result }
 {
     if kind == b"in".as_slice() {

@@ -7,7 +7,8 @@ ghost use Rattle.mp_lines.specs.Fault.{Gives};
 ghost use Rattle.mp_lines.specs.Inside.Line.{to_line};
 
 use crate::commands::{
-    block_line, last_line, limit_line, remove_line, snapshot_line, submit_line, sync_line, tick_line,
+    block_line, last_line, limit_line, remove_line, snapshot_line, submit_line, sync_line,
+    tick_line,
 };
 use crate::declarations::{data_line, output_line, script_line, tx_line};
 use crate::declared_tx::DeclaredTx;
@@ -38,12 +39,7 @@ pub enum Line {
     Snapshot,
 }
 
-fn command_line(
-    memory: Memory,
-    names: &Names,
-    word: &[u8],
-    words: &[u8],
-) -> Result<Line, LineFault>
+fn command_line(memory: Memory, names: &Names, word: &[u8], words: &[u8]) -> Result<Line, LineFault>
     ensures { Gives to_line (command_line names.now word.now (words_of words.now)) result }
 {
     if word == b"submit".as_slice() {
@@ -80,12 +76,7 @@ fn declaration_line(
     }
 }
 
-fn asked_line(
-    memory: Memory,
-    names: &Names,
-    word: &[u8],
-    words: &[u8],
-) -> Result<Line, LineFault>
+fn asked_line(memory: Memory, names: &Names, word: &[u8], words: &[u8]) -> Result<Line, LineFault>
     ensures { Gives to_line (asked_line names.now word.now (words_of words.now)) result }
 {
     if word == b"block".as_slice() {

@@ -186,7 +186,11 @@ impl Names {
     pub fn name_of(&self, id: &TxId) -> &[u8]
         ensures { result.now ≡ name_of id.now self.now }
     {
-        match self.bindings.iter().find(|named| has_id(&named.binding, id)) {
+        match self
+            .bindings
+            .iter()
+            .find(|named| has_id(&named.binding, id))
+        {
             Some(named) => named.name.as_bytes(),
             None => &[],
         }
@@ -210,7 +214,10 @@ impl Names {
     pub fn binding(&self, word: &[u8]) -> Option<&Binding>
         ensures { option_copied result ≡ binding_named word.now self.now }
     {
-        let found = self.bindings.iter().find(|named| word == named.name.as_bytes())?;
+        let found = self
+            .bindings
+            .iter()
+            .find(|named| word == named.name.as_bytes())?;
         Some(&found.binding)
     }
 
@@ -218,7 +225,10 @@ impl Names {
     pub fn script(&self, word: &[u8]) -> Option<&Script>
         ensures { option_copied result ≡ script_named word.now self.now }
     {
-        let found = self.scripts.iter().find(|named| word == named.name.as_bytes())?;
+        let found = self
+            .scripts
+            .iter()
+            .find(|named| word == named.name.as_bytes())?;
         Some(&found.script)
     }
 
@@ -226,7 +236,10 @@ impl Names {
     pub fn datum(&self, word: &[u8]) -> Option<&Data>
         ensures { option_copied result ≡ datum_named word.now self.now }
     {
-        let found = self.datums.iter().find(|named| word == named.name.as_bytes())?;
+        let found = self
+            .datums
+            .iter()
+            .find(|named| word == named.name.as_bytes())?;
         Some(&found.datum)
     }
 

@@ -46,7 +46,7 @@ fn has_reference(entries: &[(OutRef, Output)], reference: &OutRef) -> bool
 }
 
 impl Outputs {
-    ghost use Rattle.std.specs.Prelude.{◌≡◌, [], None, Some, OnOk, IsErrOf, option_copied};
+    ghost use Rattle.std.specs.Prelude.{◌≡◌, [], None, Some, OnOk, OnErr, IsErrOf, option_copied};
     ghost use Rattle.mp_tx.specs.Ledger.{refs, AreDistinct};
     ghost use Rattle.mp_lines.specs.Lines.{with_output};
 
@@ -59,12 +59,14 @@ impl Outputs {
         }
     }
 
-    /// Puts the output last that has the reference and pays this, unless the reference stands there.
+    /// Puts the output last that has the reference and pays this, unless the reference stands there. After an `Err` the
+    /// outputs are as they were.
     pub fn push(&mut self, reference: OutRef, payment: &Payment) -> Result<(), LineFault>
         ensures ok { OnOk result
             (with_output self.old (Some reference) (Some payment.now) ≡ Some self.new) }
         ensures bad { IsErrOf result LineFault.Bad
             → with_output self.old (Some reference) (Some payment.now) ≡ None }
+        ensures err { OnErr result (self.new ≡ self.old) }
     {
         if has_reference(&self.entries, &reference) {
             return Err(LineFault::Bad);

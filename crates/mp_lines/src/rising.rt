@@ -23,7 +23,9 @@ fn entry_precedes(entry: &Entry, other: &Entry) -> bool
 fn first_greater_entry(entry: &Entry, entries: &[Entry]) -> Option<usize>
     ensures { result ≡ position (λ other. is_lt (entry_cmp entry.now other)) entries.now }
 {
-    entries.iter().position(|other| entry_precedes(entry, other))
+    entries
+        .iter()
+        .position(|other| entry_precedes(entry, other))
 }
 
 fn place_of_entry(entry: &Entry, entries: &[Entry]) -> usize

@@ -1,4 +1,4 @@
-use Rattle.std.proofs.Common.{◌≡◌, ◌==◌, Some, ap, ◌∙◌, sym, subst, rules}
+use Rattle.std.proofs.Common.{ap, ◌∙◌, sym, rules}
 use Rattle.std.specs.Prelude.{option_copied}
 use Rattle.mp_lines.specs.Bundles.{put_entries}
 use Rattle.mp_lines.proofs.Parts.{parts_left}
@@ -9,11 +9,11 @@ pub returns-in_default-entry_of : goal.returns-in_default-entry_of
 returns-in_default-entry_of c =
     let left = ap (λ r. put_entries c.args.names.now c.loop-rest.entries.items (parts_left 44 (option_copied r))) (sym c.in-Some.is) ∙ c.loop-rest.invariant in
     put-bad c.args.names.now c.loop-rest.entries.items c.in-Some.part.now c.split_once.result.0.now (option_copied c.split_once.result.1) _ left
-      c.split_once.ensures.before c.split_once.ensures.after (sym c.entry_of.ensures ∙ c.in_default-entry_of.is)
+    c.split_once.ensures.before c.split_once.ensures.after (sym c.entry_of.ensures ∙ c.in_default-entry_of.is)
 
 pub loop-rest-preserved : goal.loop-rest-preserved
 loop-rest-preserved c =
     let left = ap (λ r. put_entries c.args.names.now c.loop-rest.entries.items (parts_left 44 (option_copied r))) (sym c.in-Some.is) ∙ c.loop-rest.invariant in
     put-more c.args.names.now c.loop-rest.entries.items c.put_entry.new.entries.items c.in-Some.part.now c.split_once.result.0.now
-      (option_copied c.split_once.result.1) _ c.in-Some-entry_of.entry left c.split_once.ensures.before c.split_once.ensures.after
-      (sym c.entry_of.ensures ∙ c.in-Some-entry_of.is) (Prim.search rules)
+    (option_copied c.split_once.result.1) _ c.in-Some-entry_of.entry left c.split_once.ensures.before c.split_once.ensures.after
+    (sym c.entry_of.ensures ∙ c.in-Some-entry_of.is) (Prim.search rules)

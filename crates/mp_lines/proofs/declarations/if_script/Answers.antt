@@ -1,7 +1,7 @@
 use Rattle.std.proofs.Common.{cond, Some, None, ap, sym, ◌∙◌}
-use Rattle.mp_lines.proofs.Decoded.{script_ok}
+use Rattle.mp_tx.proofs.Wholes.{script_is_ok}
 use Rattle.mp_lines.proofs.declarations.if_script.Goals as goal
 
 pub returns-in-Ok : goal.returns-in-Ok
 returns-in-Ok c =
-    ap (λ t. cond t (Some c.args.bytes.now) None) (script_ok c.args.bytes.now c.in-Ok.ensures.found.1) ∙ ap Some (sym c.in-Ok.ensures.found.0)
+    ap (λ t. cond t (Some c.args.bytes.now) None) (script_is_ok c.args.bytes.now c.in-Ok.ensures.found.1) ∙ ap Some (sym c.in-Ok.ensures.found.0)

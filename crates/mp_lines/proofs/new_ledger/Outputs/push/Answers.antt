@@ -1,4 +1,4 @@
-use Rattle.std.proofs.Common.{◌≡◌, ◌∙◌, sym, rules}
+use Rattle.std.proofs.Common.{rules}
 use Rattle.mp_lines.proofs.Apart.{stays_distinct}
 use Rattle.mp_lines.proofs.new_ledger.Outputs.push.Goals as goal
 
