@@ -1,0 +1,42 @@
+//! How the program ends: what it writes to standard error, and its status.
+
+use clap::Error;
+use clap::error::ErrorKind;
+use mp_driver::Fault;
+use std::io;
+use std::process::ExitCode;
+
+const REFUSED: u8 = 2;
+
+/// After a run: 0, or 1 and the fault's line.
+pub fn end_run(rt: &HostRuntime, ended: Result<(), Fault>) -> ExitCode {
+    match ended {
+        Ok(()) => ExitCode::SUCCESS,
+        Err(fault) => {
+            let _ = rt.eprintln(fault);
+            ExitCode::FAILURE
+        }
+    }
+}
+
+/// Where `name` can't be read: 1.
+pub fn end_unread(rt: &HostRuntime, name: &str, error: io::Error) -> ExitCode {
+    let _ = rt.eprintln(format_args!("keltuvar: {name} can't be read: {error}"));
+    ExitCode::FAILURE
+}
+
+/// After the help or the version: 0, or 1 where it can't be written. After a refused command line: 2.
+pub fn end_unparsed(rt: &HostRuntime, error: Error) -> ExitCode {
+    let is_written = error.print(rt).is_ok();
+    match error.kind() {
+        ErrorKind::DisplayHelp | ErrorKind::DisplayVersion => {
+            if is_written {
+                ExitCode::SUCCESS
+            } else {
+                ExitCode::FAILURE
+            }
+        }
+        ErrorKind::OutOfMemory => ExitCode::FAILURE,
+        _ => ExitCode::from(REFUSED),
+    }
+}
