@@ -33,7 +33,9 @@ fn program<'a>(alloc: Global) -> Result<Command<'a>, AllocError> {
         .after_help(EXAMPLES)
         .disable_help_subcommand(true)
         .subcommand_required(true);
-    command.subcommand(run_command(alloc)?)
+    command
+        .bin_name("keltuvar")?
+        .subcommand(run_command(alloc)?)
 }
 
 fn run_command<'a>(alloc: Global) -> Result<Command<'a>, AllocError> {

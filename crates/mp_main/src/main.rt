@@ -6,7 +6,7 @@ mod command_line;
 mod ending;
 
 use command_line::scenario_file;
-use ending::{end_run, end_unparsed, end_unread};
+use ending::{end_run, end_unparsed, end_unread, end_unworded};
 use mp_driver::{Fault, run};
 use mp_memory::Memory;
 use std::fs::File;
@@ -19,7 +19,7 @@ fn main(rt: HostRuntime) -> ExitCode {
             Ok(file) => run_file(&rt, file),
             Err(error) => end_unparsed(&rt, error),
         },
-        Err(error) => end_unread(&rt, "the command line", error),
+        Err(error) => end_unworded(&rt, error),
     }
 }
 
