@@ -1,0 +1,23 @@
+-- The command lines that the program takes: `keltuvar run [FILE]`, `--help` and `--version`.
+use Rattle.std.specs.Prelude.{List, Option, codes, option_and_then, option_map, true}
+use Rattle.clap.specs.Simple.{on_top}
+use Rattle.clap.specs.Words.{App, Row, Text, first_of, new_app, new_rule, subcommand_of, with_rule, with_subcommand}
+
+-- `run`, with a file or none
+abbrev pub run_command : App
+run_command = with_rule (new_app (codes "run")) (new_rule (codes "FILE"))
+
+-- a command has to be named, and there is none but `run`
+abbrev pub program : App
+program = with_subcommand
+    (on_top (λ s. record s { has_version = true; disable_help_subcommand = true; subcommand_required = true })
+    (new_app (codes "keltuvar")))
+    run_command.top
+
+-- the file among what was given to the command that was met
+abbrev pub file_of : Option (Text × List Row) → Option Text
+file_of command = option_and_then (first_of (codes "FILE")) (option_map (λ c. c.1) command)
+
+-- the file that these words name, the program's name first
+abbrev pub file_in : List Text → Option Text
+file_in words = file_of (subcommand_of program words)

@@ -1,0 +1,64 @@
+//! How the program ends: what it writes to standard error, and its status.
+
+ghost use Rattle.std.specs.Prelude.{◌≡◌, ◌≢◌, IfErr, IfOk};
+ghost use Rattle.std.specs.Process.{exit_status};
+ghost use Rattle.clap.specs.Words.{kind_of};
+
+use clap::Error;
+use clap::error::ErrorKind;
+use mp_driver::Fault;
+use std::io;
+use std::process::ExitCode;
+
+const REFUSED: u8 = 2;
+
+/// After a run: 0, or 1 and the fault's line.
+pub fn end_run(rt: &HostRuntime, ended: Result<(), Fault>) -> ExitCode
+    ensures done { IfOk ended (λ _. exit_status result ≡ 0) }
+    ensures fault { IfErr ended (λ _. exit_status result ≡ 1) }
+{
+    match ended {
+        Ok(()) => ExitCode::SUCCESS,
+        Err(fault) => {
+            let _ = rt.eprintln(fault);
+            ExitCode::FAILURE
+        }
+    }
+}
+
+/// Where a word of the command line is no text: 2, or 1 where there is no memory for it.
+pub fn end_unworded(rt: &HostRuntime, error: io::Error) -> ExitCode {
+    let _ = rt.eprintln(format_args!("keltuvar: the command line can't be read: {error}"));
+    match error.kind() {
+        io::ErrorKind::OutOfMemory => ExitCode::FAILURE,
+        _ => ExitCode::from(REFUSED),
+    }
+}
+
+/// Where `name` can't be read: 1.
+pub fn end_unread(rt: &HostRuntime, name: &str, error: io::Error) -> ExitCode
+    ensures { exit_status result ≡ 1 }
+{
+    let _ = rt.eprintln(format_args!("keltuvar: {name} can't be read: {error}"));
+    ExitCode::FAILURE
+}
+
+/// After the help or the version: 0, or 1 where it can't be written. After a refused command line: 2.
+pub fn end_unparsed(rt: &HostRuntime, error: Error) -> ExitCode
+    ensures refused { kind_of error ≢ ErrorKind.DisplayHelp
+        → kind_of error ≢ ErrorKind.DisplayVersion
+        → kind_of error ≢ ErrorKind.OutOfMemory → exit_status result ≡ 2 }
+{
+    let is_written = error.print(rt).is_ok();
+    match error.kind() {
+        ErrorKind::DisplayHelp | ErrorKind::DisplayVersion => {
+            if is_written {
+                ExitCode::SUCCESS
+            } else {
+                ExitCode::FAILURE
+            }
+        }
+        ErrorKind::OutOfMemory => ExitCode::FAILURE,
+        _ => ExitCode::from(REFUSED),
+    }
+}
