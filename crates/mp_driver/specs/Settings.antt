@@ -1,5 +1,5 @@
 -- The settings of a scenario.
-use Rattle.std.specs.Prelude.{ℕ, Option, None, Some, option_map, unwrap_or}
+use Rattle.std.specs.Prelude.{ℕ, Option, None, option_map, unwrap_or}
 use Rattle.mp_lines.specs.declared.settings.Setting.{Setting}
 use Rattle.mp_lines.specs.declared.settings.Setting.TheVariants.{BlockBytes, Limit, Last, Tick}
 use Rattle.mp_lines.specs.Draft.{set_once}
