@@ -3,3 +3,4 @@ pub mod Names
 pub mod DeclaredTx
 pub mod Draft
 pub mod Line
+pub mod BindingTable

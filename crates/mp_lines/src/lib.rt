@@ -1,6 +1,7 @@
 //! The lines of scenarios: what each one asks, in view of what was declared before it.
 #![tactic(auto)]
 
+mod binding_table;
 mod bundles;
 mod commands;
 mod copies;

@@ -3,6 +3,7 @@
 ghost use Rattle.std.specs.Prelude.{◌≡◌, find, option_copied, IfOk};
 ghost use Rattle.mp_lines.specs.Names.{has_id, has_hash};
 
+use crate::binding_table::BindingTable;
 use crate::declared_tx::DeclaredTx;
 use crate::payment::Payment;
 use mp_bundle::{PolicyId, Token};
@@ -43,6 +44,13 @@ impl Name {
         })
     }
 
+    /// A copy of its bytes.
+    pub fn to_bytes(&self) -> Result<Vec<u8, Memory>, NoMemory>
+        ensures { IfOk result (λ v. v.items ≡ self.now) }
+    {
+        Ok(Vec::from_slice(*self.bytes.allocator(), &self.bytes)?)
+    }
+
     /// Its bytes.
     pub fn as_bytes(&self) -> &[u8]
         ensures { result.now ≡ self.now }
@@ -81,7 +89,7 @@ pub struct NamedDatum {
 /// declared beforehand.
 #[derive(Debug, Drop)]
 pub struct Names {
-    bindings: Vec<NamedBinding, Memory>,
+    bindings: BindingTable,
     scripts: Vec<NamedScript, Memory>,
     datums: Vec<NamedDatum, Memory>,
 }
@@ -122,6 +130,12 @@ fn has_id(binding: &Binding, id: &TxId) -> bool
     }
 }
 
+fn first_with_id<'a>(bindings: &'a [NamedBinding], id: &TxId) -> Option<&'a NamedBinding>
+    ensures { option_copied result ≡ find (λ n. has_id id.now n.binding) bindings.now }
+{
+    bindings.iter().find(|named| has_id(&named.binding, id))
+}
+
 fn first_with_hash<'a>(scripts: &'a [NamedScript], hash: &Hash) -> Option<&'a NamedScript>
     ensures { option_copied result ≡ find (λ n. has_hash hash.now n.script) scripts.now }
 {
@@ -148,7 +162,7 @@ impl Names {
         let mut datums = Vec::with_capacity(memory, 1)?;
         datums.push(datum_of(memory, b"unit", &[0x03, 0x00, 0x00])?)?;
         Ok(Names {
-            bindings: Vec::new(memory),
+            bindings: BindingTable::new(memory),
             scripts,
             datums,
         })
@@ -160,7 +174,7 @@ impl Names {
             ≡ with_binding self.old (record { name = name; binding = binding })) }
         ensures err { OnErr result (self.new ≡ self.old) }
     {
-        self.bindings.push(NamedBinding { name, binding })?;
+        self.bindings.push(name, binding)?;
         Ok(())
     }
 
@@ -186,11 +200,7 @@ impl Names {
     pub fn name_of(&self, id: &TxId) -> &[u8]
         ensures { result.now ≡ name_of id.now self.now }
     {
-        match self
-            .bindings
-            .iter()
-            .find(|named| has_id(&named.binding, id))
-        {
+        match first_with_id(self.bindings.as_slice(), id) {
             Some(named) => named.name.as_bytes(),
             None => &[],
         }
@@ -214,10 +224,7 @@ impl Names {
     pub fn binding(&self, word: &[u8]) -> Option<&Binding>
         ensures { option_copied result ≡ binding_named word.now self.now }
     {
-        let found = self
-            .bindings
-            .iter()
-            .find(|named| word == named.name.as_bytes())?;
+        let found = self.bindings.get(word)?;
         Some(&found.binding)
     }
 
