@@ -219,7 +219,7 @@ impl Scene {
         }
     }
 
-    // The command that a line asks for.
+    // The pool adopts the ledger state that a line tells.
     fn sync_to(&mut self, memory: Memory, ledger: NewLedger) -> Result<Text, NoMemory>
         ensures { IfOk result (λ text.
             take (scene_of self.old) (lines.Sync ledger) ≡ Some (scene_of self.new, text.items)) }

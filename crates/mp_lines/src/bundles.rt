@@ -14,11 +14,9 @@ use crate::fault::LineFault;
 use crate::names::{COIN, Names};
 use crate::rising::put_entry;
 use crate::splitting::split_once;
-use mp_bundle::{Bundle, Entry, PolicyId, Token};
+use mp_bundle::{Bundle, Entry, MAX_NAME_BYTES, PolicyId, Token};
 use mp_memory::Memory;
 use mp_text::quantity;
-
-const MAX_NAME_BYTES: usize = 32;
 
 fn policy_named(names: &Names, word: &[u8]) -> Option<PolicyId>
     ensures { result ≡ policy_named names.now word.now }

@@ -28,7 +28,7 @@ impl<N: PoolName> Model for Caller<N> {
 }
 
 impl<N: PoolName> Caller<N> {
-    // The tokens of all callers, in order.
+    /// The tokens of all callers, in order.
     pub(crate) fn all(memory: Memory, callers: u32) -> Result<Vec<Caller<N>, Memory>, NoMemory>
         requires { callers ≡ N.callers }
         ensures { IfOk result (λ tokens. tokens.items ≡ range_with_len 0 callers) }

@@ -45,7 +45,7 @@ impl<N: PoolName> Model for CommitRight<N> {
 }
 
 impl<N: PoolName> CommitRight<N> {
-    // Opens the history of this name: its word, and the right that stands after no entry.
+    /// Opens the history of this name: its word, and the right that stands after no entry.
     pub(crate) fn first(name: NewName) -> (Word<Noted, u64, Law>, CommitRight<N>)
         requires { name ≡ head_of N.book N.root }
         ensures head { result.0 ≡ head_of N.book N.root }
@@ -80,8 +80,8 @@ impl<N: PoolName> CommitRight<N> {
         )
     }
 
-    // Enters the entry: an exchange upon the right's own word adds the word of the next pen, and one
-    // upon the history's word raises the number of entries.
+    /// Enters the entry: an exchange upon the right's own word adds the word of the next pen, and one
+    /// upon the history's word raises the number of entries.
     pub(crate) fn enter(&mut self, head: &Word<Noted, u64, Law>, entry: &Entry)
         requires head { head.now ≡ head_of N.book N.root }
         requires room { length self.old < 2 ^ 32 }

@@ -33,7 +33,7 @@ impl Model for NewName {
         × ((n.pen.book ≡ n.seen.book) × (n.pen.nib.right ≡ may_make)) };
 }
 
-// The right to make one more word, by an exchange that changes no word.
+/// The right to make one more word, by an exchange that changes no word.
 pub(crate) fn add_cell(own: &Word<Noted, u64, Law>, seen: &Seen<Noted, u64, Law>) -> Pen
     requires { own.now ≡ head_of seen.now.book 0 }
     ensures book { result.book ≡ seen.now.book }
