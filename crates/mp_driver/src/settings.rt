@@ -1,10 +1,6 @@
 //! The settings of a scenario.
 
-ghost use Rattle.std.specs.Prelude.{◌≡◌, Some, None, unwrap_or, option_map, OnOk, IsErrOf};
-ghost use Rattle.mp_lines.specs.Draft.{set_once};
-ghost use Rattle.mp_lines.specs.Fault.{Reads};
-
-use mp_lines::{BlockBytes, Limit, LineFault, Setting};
+use mp_lines::{BlockBytes, Limit, LineFault, Setting, set_once};
 use mp_seqpool::Config;
 
 const BLOCK_BYTES: u64 = 500_000;
@@ -20,42 +16,6 @@ pub struct Settings {
     pub last: Option<u64>,
     /// The tick of the opening ledger state; 0 where nothing is set.
     pub tick: Option<u64>,
-}
-
-fn set_number(set: &mut Option<u64>, number: u64) -> Result<(), LineFault>
-    ensures ok { OnOk result (set_once set.old number ≡ Some set.new) }
-    ensures bad { IsErrOf result LineFault.Bad → set_once set.old number ≡ None }
-    ensures stays { IsErrOf result LineFault.Bad → set.new ≡ set.old }
-{
-    if set.is_some() {
-        return Err(LineFault::Bad);
-    }
-    *set = Some(number);
-    Ok(())
-}
-
-fn set_block_bytes(set: &mut Option<BlockBytes>, bytes: BlockBytes) -> Result<(), LineFault>
-    ensures ok { OnOk result (set_once set.old bytes ≡ Some set.new) }
-    ensures bad { IsErrOf result LineFault.Bad → set_once set.old bytes ≡ None }
-    ensures stays { IsErrOf result LineFault.Bad → set.new ≡ set.old }
-{
-    if set.is_some() {
-        return Err(LineFault::Bad);
-    }
-    *set = Some(bytes);
-    Ok(())
-}
-
-fn set_limit(set: &mut Option<Limit>, limit: Limit) -> Result<(), LineFault>
-    ensures ok { OnOk result (set_once set.old limit ≡ Some set.new) }
-    ensures bad { IsErrOf result LineFault.Bad → set_once set.old limit ≡ None }
-    ensures stays { IsErrOf result LineFault.Bad → set.new ≡ set.old }
-{
-    if set.is_some() {
-        return Err(LineFault::Bad);
-    }
-    *set = Some(limit);
-    Ok(())
 }
 
 impl Settings {
@@ -82,10 +42,10 @@ impl Settings {
         ensures stays { IsErrOf result LineFault.Bad → self.new ≡ self.old }
     {
         match setting {
-            Setting::BlockBytes(bytes) => set_block_bytes(&mut self.block_bytes, bytes),
-            Setting::Limit(limit) => set_limit(&mut self.limit, limit),
-            Setting::Last(ticket) => set_number(&mut self.last, ticket),
-            Setting::Tick(tick) => set_number(&mut self.tick, tick),
+            Setting::BlockBytes(bytes) => set_once(&mut self.block_bytes, bytes),
+            Setting::Limit(limit) => set_once(&mut self.limit, limit),
+            Setting::Last(ticket) => set_once(&mut self.last, ticket),
+            Setting::Tick(tick) => set_once(&mut self.tick, tick),
         }
     }
 

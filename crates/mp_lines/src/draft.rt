@@ -1,9 +1,9 @@
 //! Items put together.
 
-ghost use Rattle.std.specs.Prelude.{◌≡◌, Some, None, IfOk, OnOk, IsErrOf};
+ghost use Rattle.std.specs.Prelude.{◌≡◌, Some, None, IfOk};
 ghost use Rattle.mp_text.specs.Words.{words_of};
 ghost use Rattle.mp_tx.specs.TxFault.{parts_of};
-ghost use Rattle.mp_lines.specs.Draft.{empty_draft, set_once, draft_of, transaction_of, if_fits, signed, declared_of};
+ghost use Rattle.mp_lines.specs.Draft.{empty_draft, draft_of, transaction_of, if_fits, signed, declared_of};
 ghost use Rattle.mp_lines.specs.Fault.{Reads};
 
 use crate::copies::{copy_inputs, copy_scripts, outputs_of};
@@ -11,6 +11,7 @@ use crate::declared_tx::DeclaredTx;
 use crate::fault::LineFault;
 use crate::items::{Item, Signer, item_of};
 use crate::names::Names;
+use crate::once::set_once;
 use crate::payment::Payment;
 use crate::rising::{put_input, put_reference, put_script};
 use crate::signing::signatures_of;
@@ -44,26 +45,6 @@ impl Model for Draft {
     ghost view = { draft };
 }
 
-fn set_once(set: Option<u64>, tick: u64) -> Result<Option<u64>, LineFault>
-    ensures { Reads (set_once set tick) result }
-{
-    match set {
-        None => Ok(Some(tick)),
-        Some(_) => Err(LineFault::Bad),
-    }
-}
-
-fn forge_once(forge: &mut Option<Bundle>, bundle: Bundle) -> Result<(), LineFault>
-    ensures ok { OnOk result (set_once forge.old bundle ≡ Some forge.new) }
-    ensures bad { IsErrOf result LineFault.Bad → set_once forge.old bundle ≡ None }
-{
-    if forge.is_some() {
-        return Err(LineFault::Bad);
-    }
-    *forge = Some(bundle);
-    Ok(())
-}
-
 impl Draft {
     ghost use Rattle.std.specs.Prelude.{◌≡◌, [], ◌∷◌, ◌++◌, Some, None, option_map, option_copied, OnOk, IsErrOf};
     ghost use Rattle.mp_lines.specs.Draft.{empty_draft, with_item};
@@ -93,9 +74,9 @@ impl Draft {
             Item::Spends(input) => put_input(&mut self.inputs, input)?,
             Item::LooksAt(reference) => put_reference(&mut self.references, reference)?,
             Item::Pays(payment) => self.payments.push(payment)?,
-            Item::From(tick) => self.from = set_once(self.from, tick)?,
-            Item::To(tick) => self.to = set_once(self.to, tick)?,
-            Item::Forges(bundle) => forge_once(&mut self.forge, bundle)?,
+            Item::From(tick) => set_once(&mut self.from, tick)?,
+            Item::To(tick) => set_once(&mut self.to, tick)?,
+            Item::Forges(bundle) => set_once(&mut self.forge, bundle)?,
             Item::Carries(script) => put_script(&mut self.scripts, script)?,
             Item::Signs(signer) => self.signers.push(signer)?,
         }
