@@ -1,11 +1,15 @@
--- The command lines that the program takes: `keltuvar run [FILE]`, `--help` and `--version`.
-use Rattle.std.specs.Prelude.{List, Option, codes, option_and_then, option_map, true}
+-- The command lines that the program takes: `keltuvar run [--explain] [FILE]`, `--help` and `--version`.
+use Rattle.std.specs.Prelude.{List, Option, Some, codes, option_and_then, option_map, true}
 use Rattle.clap.specs.Simple.{on_top}
-use Rattle.clap.specs.Words.{App, Row, Text, first_of, new_app, new_rule, subcommand_of, with_rule, with_subcommand}
+use Rattle.clap.specs.declared.builder.action.ArgAction.TheVariants.{SetTrue}
+use Rattle.clap.specs.Words.{App, Row, Rule, Text, first_of, new_app, new_rule, subcommand_of, with_rule, with_subcommand}
 
--- `run`, with a file or none
+abbrev pub explain_rule : Rule
+explain_rule = record (new_rule (codes "explain")) { long = Some (codes "explain"); action = Some SetTrue }
+
+-- `run`, with the flag or without, with a file or none
 abbrev pub run_command : App
-run_command = with_rule (new_app (codes "run")) (new_rule (codes "FILE"))
+run_command = with_rule (with_rule (new_app (codes "run")) explain_rule) (new_rule (codes "FILE"))
 
 -- a command has to be named, and there is none but `run`
 abbrev pub program : App

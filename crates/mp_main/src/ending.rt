@@ -7,6 +7,8 @@ ghost use Rattle.clap.specs.Words.{kind_of};
 use clap::Error;
 use clap::error::ErrorKind;
 use mp_driver::Fault;
+use mp_explain::explain;
+use mp_memory::Memory;
 use std::io;
 use std::process::ExitCode;
 
@@ -24,6 +26,25 @@ pub fn end_run(rt: &HostRuntime, ended: Result<(), Fault>) -> ExitCode
             ExitCode::FAILURE
         }
     }
+}
+
+/// After a run of the text: 0, or 1 and the fault's line, and behind a bad line what is wrong with it.
+pub fn end_explained(
+    rt: &HostRuntime,
+    memory: Memory,
+    text: &[u8],
+    ended: Result<(), Fault>,
+) -> ExitCode
+    ensures done { IfOk ended (λ _. exit_status result ≡ 0) }
+    ensures fault { IfErr ended (λ _. exit_status result ≡ 1) }
+{
+    let status = end_run(rt, ended);
+    if let Err(Fault::BadLine(number)) = ended
+        && let Some(reason) = explain(memory, text, number)
+    {
+        let _ = rt.eprintln(format_args!("bad line {number}: {reason}"));
+    }
+    status
 }
 
 /// Where a word of the command line is no text: 2, or 1 where there is no memory for it.

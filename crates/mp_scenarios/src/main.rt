@@ -4,12 +4,14 @@
 #![tactic(auto)]
 
 mod bad_lines;
+mod explanations;
 mod files;
 mod outcome;
 mod scenarios;
 
 use anyhow::Result;
 use bad_lines::count_bad_lines;
+use explanations::count_explanations;
 use mp_memory::Memory;
 use scenarios::count_scenarios;
 
@@ -19,5 +21,7 @@ fn main(rt: HostRuntime) -> Result<()> {
     println!(rt; "scenarios {scenarios}")?;
     let bad_lines = count_bad_lines(&rt, memory)?;
     println!(rt; "bad lines {bad_lines}")?;
+    let explanations = count_explanations(&rt, memory)?;
+    println!(rt; "explanations {explanations}")?;
     Ok(())
 }

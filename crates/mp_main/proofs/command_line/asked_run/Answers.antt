@@ -1,6 +1,6 @@
 use Rattle.std.proofs.Common.{◌∙◌, ap, map}
 use Rattle.clap.specs.Words.{App, takes}
-use Rattle.mp_main.proofs.command_line.scenario_file.Goals as goal
+use Rattle.mp_main.proofs.command_line.asked_run.Goals as goal
 
 pub returns-in-Err-clause-taken : goal.returns-in-Err-clause-taken
 returns-in-Err-clause-taken g c =
