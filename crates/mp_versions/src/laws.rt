@@ -8,5 +8,4 @@ ghost use Rattle.mp_versions.specs.Reading.{within, IsLongestWithin};
 pub fn longest_within()
     ensures { (bytes : ℕ) (items : List (ℕ × Transaction))
         → IsLongestWithin bytes items (within bytes items) }
-{
-}
+{}

@@ -1,6 +1,6 @@
 //! Pages without some of their items.
 
-ghost use Rattle.std.specs.Prelude.{◌≡◌, ◌<◌, ◌≤◌, [], ◌∷◌, ◌++◌, length, false, not, option_to_list, All, IfOk, OnOk};
+ghost use Rattle.std.specs.Prelude.{◌≡◌, ◌<◌, ◌≤◌, [], ◌∷◌, ◌++◌, length, option_to_list, if◌then◌else◌, All, IfOk, OnOk};
 ghost use Rattle.std.specs.Bool.{OnFalse};
 ghost use Rattle.std.specs.List.Sorted.{IsStrictlyIncreasing};
 ghost use Rattle.mp_tickets.specs.Tickets.{IsRising, has_ticket};
@@ -83,11 +83,7 @@ fn left_items(
 }
 
 // What is left of a chunk: the same chunk where it loses nothing.
-fn left_chunk(
-    memory: Memory,
-    chunk: &Chunk,
-    tickets: &[u64],
-) -> Result<Option<Chunk>, NoMemory>
+fn left_chunk(memory: Memory, chunk: &Chunk, tickets: &[u64]) -> Result<Option<Chunk>, NoMemory>
     requires filled { IsFilled chunk.now }
     requires rising { IsRising chunk.now }
     requires increasing { IsStrictlyIncreasing tickets.now }
