@@ -1,12 +1,14 @@
 -- What is noted of one history in a longer log.
-use Rattle.std.proofs.Common.{◌≡◌, ℕ, true, false, cond, List, [], ◌∷◌, ◌++◌, refl, ap, sym, ◌∙◌}
+use Rattle.std.proofs.Common.{◌≡◌, ℕ, ◌<◌, ◌≤◌, true, false, cond, List, [], ◌∷◌, ◌++◌, length, refl, ap, sym, ◌∙◌, arith}
 use Rattle.std.specs.Prelude.{◌==◌}
 use Rattle.std.proofs.lemmas.List.{append-nil}
 use Rattle.std.proofs.lemmas.List.Elements.{filter-append}
 use Rattle.std.proofs.lemmas.Grind.{flat_map-append}
 use mathlib.Core.List.{IsPrefix}
 use Rattle.mp_history.specs.Entry.{Entry}
-use Rattle.mp_history.specs.Inside.Noted.{Noted, notes_of, entries_of, history, right_after}
+use Rattle.mp_history.specs.Log.{Log, Begins}
+use Rattle.mp_history.specs.Inside.Noted.{Noted, notes_of, entries_of, history, opening_of, log_of, right_after}
+use Rattle.mp_history.proofs.Prefixes.{prefix_shorter}
 
 pub notes_of-append : (root : ℕ) (xs ys : List Noted) → notes_of root (xs ++ ys) ≡ notes_of root xs ++ notes_of root ys
 notes_of-append root xs ys = filter-append (λ (n : Noted). n.root == root) xs ys
@@ -32,6 +34,21 @@ notes_of-other root log n is = notes_of-append root log (n ∷ []) ∙ (ap (λ b
 
 pub entries_of-one : (notes : List Noted) (n : Noted) (e : Entry) → n.entries ≡ e ∷ [] → entries_of (notes ++ n ∷ []) ≡ entries_of notes ++ e ∷ []
 entries_of-one notes n e is = entries_of-append notes (n ∷ []) ∙ ap (λ es. entries_of notes ++ es) (append-nil n.entries ∙ is)
+
+-- a history that has opened goes on with the state that it opened with
+pub opening_of-prefix : (xs ys : List Noted) → 0 < length xs → IsPrefix xs ys → opening_of xs ≡ opening_of ys
+opening_of-prefix [] ys opened p = absurd (omega (arith, opened))
+opening_of-prefix (x ∷ xs) ys opened p = ap opening_of p.1
+
+pub log_of-prefix : (root : ℕ) (xs ys : List Noted) → 0 < length (notes_of root xs) → IsPrefix xs ys → Begins (log_of root xs) (log_of root ys)
+log_of-prefix root xs ys opened p = record {
+  opening = opening_of-prefix (notes_of root xs) (notes_of root ys) opened (notes_of-prefix root xs ys p);
+  entries = history-prefix root xs ys p;
+}
+
+-- of two beginnings of one history the shorter begins the longer
+pub shorter_begins : (a b log : Log) → Begins a log → Begins b log → length a.entries ≤ length b.entries → Begins a b
+shorter_begins a b log p q le = record { opening = p.opening ∙ sym q.opening; entries = prefix_shorter a.entries b.entries log.entries p.entries q.entries le }
 
 pub right_after-last : (r : ℕ) (notes : List Noted) (n : Noted) → right_after r (notes ++ n ∷ []) ≡ n.next
 right_after-last r [] n = refl

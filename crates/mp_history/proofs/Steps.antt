@@ -7,7 +7,8 @@ use mathlib.Core.List.{IsPrefix}
 use prog.Atomic.{either}
 use Rattle.logbook.specs.Pages.{Cell, cell, keeps, gives, adds, no_nib, nib, may_write, step, Moves, View}
 use Rattle.mp_history.specs.Entry.{Entry}
-use Rattle.mp_history.specs.Inside.Noted.{Noted, notes_of, entries_of, history, right_after}
+use Rattle.mp_seqpool.specs.Pool.{Pool}
+use Rattle.mp_history.specs.Inside.Noted.{Noted, no_state, notes_of, entries_of, history, right_after}
 use Rattle.mp_history.specs.Inside.Rule.{IsHome, Chain, IsKept, Adds, Opens, Commits, Covers}
 use Rattle.mp_history.proofs.Cells.{put, put_here, put_other, put_home, put_keeps, put_back, put_same, more}
 use Rattle.mp_history.proofs.Chains.{chain-end, chain-head, kept-more, kept-note}
@@ -44,15 +45,15 @@ adds_moves seen ask cs log kept pre away = (
 pub not_home : (cs : List Cell) (p : ℕ) → (cell cs p).1 ≡ false → IsHome cs p → ⊥
 not_home cs p is home = false≢true (sym is ∙ home.1)
 
-abbrev pub opening : ℕ → ℕ → Noted
-opening p next = record { root = p; used = p; next = next; entries = [] }
+abbrev pub opening : ℕ → ℕ → Pool → Noted
+opening p next state = record { root = p; used = p; next = next; opening = state; entries = [] }
 
-pub opens_moves : (seen : List Noted) (p next : ℕ) → Moves IsKept shown moved 0 (view_of seen p) same_number (Opens (step 0 0 0 (opening p next)) (view_of seen p))
-opens_moves seen p next cs log kept pre away =
+pub opens_moves : (seen : List Noted) (p next : ℕ) (state : Pool) → Moves IsKept shown moved 0 (view_of seen p) same_number (Opens (step 0 0 0 (opening p next state)) (view_of seen p))
+opens_moves seen p next state cs log kept pre away =
     let gone = away refl in
     let out : IsHome cs p → ⊥ = not_home cs p gone.1 in
     let unopened : notes_of p log ≡ [] = chain-end cs p [] (notes_of p log) (kept.chain p) out in
-    let n : Noted = opening p next in
+    let n : Noted = opening p next state in
     let zero_there : (cell (put cs p 0) p).0 ≡ 0 = ap (λ c. c.0) (put_here cs p 0 gone.0) in
     let after : IsKept (put cs p 0) (log ++ n ∷ []) =
     kept-note cs (put cs p 0) log n p kept refl (ap (right_after p) unopened) out (put_keeps cs p 0) (put_home cs p 0 gone.0) (λ k _ ne. put_back cs p 0 k ne) (λ _. zero_there)
@@ -96,7 +97,7 @@ abbrev pub next_number : ℕ → ℕ → ℕ
 next_number old n = either (n == old) (old + 1) n
 
 pub commits_moves : (seen : List Noted) (root p old next : ℕ) (e : Entry) → 0 < length (notes_of root seen) → right_after root (notes_of root seen) ≡ p → old ≡ length (history root seen)
-    → (n : Noted) → n ≡ record { root = root; used = p; next = next; entries = e ∷ [] }
+    → (n : Noted) → n ≡ record { root = root; used = p; next = next; opening = no_state; entries = e ∷ [] }
     → Moves IsKept shown moved root (view_of seen p) (next_number old) (Commits (step root old (old + 1) n) (view_of seen p))
 commits_moves seen root p old next e opened turn counted n is cs log kept pre away =
     let gone = away refl in

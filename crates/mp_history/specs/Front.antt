@@ -1,10 +1,8 @@
 -- Fronts: beginnings of one history that were seen.
-use Rattle.std.specs.Prelude.{List}
-use mathlib.Core.List.{IsPrefix}
-use Rattle.mp_history.specs.Entry.{Entry}
+use Rattle.mp_history.specs.Log.{Log, Begins}
 
 -- each of the two begins one history
-pub record AreOfOneLog (a b : List Entry) : Type 0 where
-  pub log : List Entry
-  pub first : IsPrefix a log
-  pub second : IsPrefix b log
+pub record AreOfOneLog (a b : Log) : Type 0 where
+  pub log : Log
+  pub first : Begins a log
+  pub second : Begins b log

@@ -1,11 +1,27 @@
 -- Histories that a pool may have had.
-use Rattle.std.specs.Prelude.{◌≡◌, ℕ, ◌+◌, ◌<◌, ◌==◌, List, [], ◌∷◌, map, Option, None, Some, option_map, Ok, if◌then◌else◌}
+use Rattle.std.specs.Prelude.{◌≡◌, ℕ, ◌+◌, ◌<◌, ◌==◌, List, [], ◌∷◌, ◌++◌, map, Option, None, Some, option_map, Ok, if◌then◌else◌}
 use Rattle.std.specs.Option.{option_or}
+use mathlib.Core.List.{IsPrefix}
 use Rattle.mp_rules.specs.Verifier.{Accepts}
 use Rattle.mp_seqpool.specs.Command.{Command}
 use Rattle.mp_seqpool.specs.Pool.{Pool}
+use Rattle.mp_seqpool.specs.PoolLaws.{IsLawful}
 use Rattle.mp_seqpool.specs.SlowPool.{answer, next, pool_after}
 use Rattle.mp_history.specs.Entry.{Entry}
+
+-- what one history says: the state that it opened with, and what was asked and replied since
+pub record Log : Type 0 where
+  pub opening : Pool
+  pub entries : List Entry
+
+-- the history with one more entry
+abbrev pub entered : Log → Entry → Log
+entered log e = record log { entries = log.entries ++ e ∷ [] }
+
+-- the first is how the second begins
+pub record Begins (a b : Log) : Type 0 where
+  pub opening : a.opening ≡ b.opening
+  pub entries : IsPrefix a.entries b.entries
 
 abbrev pub commands : List Entry → List Command
 commands log = map (λ e. e.command) log
@@ -33,3 +49,13 @@ module _ (accepts : Accepts) where
   -- the state after all entries
   abbrev pub pool_of : Pool → List Entry → Pool
   pool_of p log = pool_after accepts p (commands log)
+
+  -- a history that a pool may have had, which opened with a lawful state and no change
+  pub record IsLegalLog (callers : ℕ) (log : Log) : Type 0 where
+    pub lawful : IsLawful accepts log.opening
+    pub unchanged : log.opening.changes ≡ 0
+    pub legal : IsLegal callers log.opening log.entries
+
+  -- the state after a history
+  abbrev pub state_after : Log → Pool
+  state_after log = pool_of log.opening log.entries

@@ -5,7 +5,7 @@ ghost use Rattle.mp_history.specs.PoolName.{head_of};
 use crate::audits::{CONFIG, RefusesAll};
 use mp_history::{Caller, CommitRight, Entry, Front, History, NewName, PoolName, audit, look};
 use mp_memory::{Memory, NoMemory};
-use mp_seqpool::{Command, Reply};
+use mp_seqpool::{Command, Reply, SeqPool};
 use mp_testing::{ledger, opening, transaction, under_each_refusal};
 use mp_tx::Tx;
 use std::marker::Brand;
@@ -84,11 +84,12 @@ fn two_threads<N: PoolName + Send + Sync, R: Threads + Wait + Abort + Sync>(
     rt: &R,
     memory: Memory,
     name: NewName,
+    pool: &SeqPool,
 ) -> Result<(), Fail>
     requires name { name ≡ head_of N.book N.root }
     requires callers { N.callers ≡ 2 }
 {
-    let (history, right, tokens) = History::<N>::open(name, memory, 2)?;
+    let (history, right, tokens) = History::<N>::open(name, memory, 2, pool)?;
     let [first, second] = tokens.as_slice() else {
         return Err(Fail::from("two callers"));
     };
@@ -125,17 +126,23 @@ fn two_threads<N: PoolName + Send + Sync, R: Threads + Wait + Abort + Sync>(
 #[test]
 fn two_threads_commit_in_one_order(rt: HostRuntime) -> Result<(), Fail> {
     let memory = Memory::new(rt.alloc())?;
-    two_threads::<Brand, _>(&rt, memory, NewName::new())
+    let pool = SeqPool::start(memory, CONFIG, &ledger(memory, 2 * EACH, 500_000)?)?;
+    two_threads::<Brand, _>(&rt, memory, NewName::new(), &pool)
 }
 
 // How many of the tokens have their place as their number.
-fn numbered<N: PoolName>(name: NewName, memory: Memory, callers: u32) -> Result<usize, NoMemory>
+fn numbered<N: PoolName>(
+    name: NewName,
+    memory: Memory,
+    callers: u32,
+    pool: &SeqPool,
+) -> Result<usize, NoMemory>
     requires name { name ≡ head_of N.book N.root }
     requires number { callers ≡ N.callers }
     requires some { 1 ≤ callers }
     requires most { callers ≤ 1024 }
 {
-    let (_history, _right, tokens) = History::<N>::open(name, memory, callers)?;
+    let (_history, _right, tokens) = History::<N>::open(name, memory, callers, pool)?;
     Ok(
         tokens
             .iter()
@@ -145,21 +152,22 @@ fn numbered<N: PoolName>(name: NewName, memory: Memory, callers: u32) -> Result<
     )
 }
 
-fn open_for(memory: Memory, callers: u32) -> Result<usize, NoMemory>
+fn open_for(memory: Memory, callers: u32, pool: &SeqPool) -> Result<usize, NoMemory>
     requires some { 1 ≤ callers }
     requires most { callers ≤ 1024 }
 {
-    numbered::<Brand>(NewName::new(), memory, callers)
+    numbered::<Brand>(NewName::new(), memory, callers, pool)
 }
 
 #[test]
 fn a_history_opens_with_one_token_for_each_caller(rt: HostRuntime) -> Result<(), Fail> {
     let memory = Memory::new(rt.alloc())?;
-    assert_eq!(rt; open_for(memory, 1)?, 1);
+    let pool = SeqPool::start(memory, CONFIG, &ledger(memory, 1, 500_000)?)?;
+    assert_eq!(rt; open_for(memory, 1, &pool)?, 1);
     let done = under_each_refusal(
         &memory,
         || Some(()),
-        |_| open_for(memory, 1024),
+        |_| open_for(memory, 1024, &pool),
         |answer| *answer == Err(NoMemory),
         |_| true,
     );

@@ -113,7 +113,7 @@ one_more kept done e =
 sum_end : (ts : List Transaction) (t : Transaction) → sum_by size_of (ts ++ t ∷ []) ≡ sum_by size_of ts + size_of t
 sum_end ts t = Prim.grind (arith, common_steps)
 
-sum-last : (items : List (ℕ × Transaction)) (i : ℕ × Transaction) → sum_by size_of (transactions (items ++ i ∷ [])) ≡ sum_by size_of (transactions items) + size_of i.1
+pub sum-last : (items : List (ℕ × Transaction)) (i : ℕ × Transaction) → sum_by size_of (transactions (items ++ i ∷ [])) ≡ sum_by size_of (transactions items) + size_of i.1
 sum-last items i = ap (sum_by size_of) (map-append (λ (i : ℕ × Transaction). i.1) items (i ∷ [])) ∙ sum_end (transactions items) i.1
 
 pub sum_first : (t : Transaction) (ts : List Transaction) → sum_by size_of (t ∷ ts) ≡ size_of t + sum_by size_of ts

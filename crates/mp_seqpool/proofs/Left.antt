@@ -23,7 +23,8 @@ use Rattle.mp_seqpool.specs.declared.command.Reply.TheVariants.{Removed, Synced}
 use Rattle.mp_seqpool.specs.Command.{Command, Remove, Sync}
 use Rattle.mp_seqpool.specs.Pool.{Pool, Holding}
 use Rattle.mp_seqpool.specs.SlowPool.{is_at_limit, pool_upon, answer, next, done, reply_removed, reply_synced}
-use Rattle.mp_seqpool.specs.Prepared.{Prepared, Keep, changed, CanChange, Prepares}
+use Rattle.mp_seqpool.specs.Prepared.{Prepared, Keep, changed, CanChange, Prepares, leads_to, told, apart}
+use Rattle.mp_seqpool.proofs.Apart.{all_above, apart_named, apart_dropped, rising_unnamed}
 
 -- ---- some of a list, in their order
 
@@ -63,10 +64,6 @@ some_kept accepts u tick [] = refl
 some_kept accepts u tick (i ∷ is) = some_cond (is_valid accepts u tick i.1) i (keep_upon accepts (apply i.1 u) tick is) (keep_upon accepts u tick is) is (some_kept accepts (apply i.1 u) tick is) (some_kept accepts u tick is)
 
 -- ---- those with the tickets of some are these
-
-all_above : (low m : ℕ) (ys : List (ℕ × Transaction)) → m ≤ low → IsRisingFrom low ys → AllByRecursion (λ y. m < y.0) ys
-all_above low m [] h r = tt
-all_above low m (y ∷ ys) h r = let k = r.0 in (omega arith, all_above y.0 m ys (omega arith) r.1)
 
 has_not : (n : ℕ) (ks : List (ℕ × Transaction)) → AllByRecursion (λ k. n < k.0) ks → has_ticket (tickets ks) n ≡ false
 has_not n [] a = refl
@@ -132,6 +129,27 @@ module _ (accepts : Accepts) where
       ∙ among_some 0 (keep accepts ledger (unnamed ids items)) items rising
       (some_trans (keep accepts ledger (unnamed ids items)) (unnamed ids items) items (some_kept accepts (get ledger.utxo) ledger.tick (unnamed ids items)) (some_filter (λ i. not (is_named ids i.1)) items))
 
+  -- what has neither the tickets of what is named nor those of what is dropped is what is kept
+  apart_left : (ledger : LedgerState) (ids : List (List ℕ)) (items : List (ℕ × Transaction)) (k : Kept) → IsRising items → IsKeptOf accepts ledger items ids k
+      → apart k.dropped (apart k.named items) ≡ keep accepts ledger (unnamed ids items)
+  apart_left ledger ids items k rising is =
+      ap (λ ts. apart k.dropped (apart ts items)) is.named
+      ∙ ap (apart k.dropped) (apart_named 0 ids items rising)
+      ∙ ap (λ ts. apart ts (unnamed ids items)) is.dropped
+      ∙ apart_dropped accepts (get ledger.utxo) ledger.tick 0 (unnamed ids items) (rising_unnamed 0 ids items rising)
+
+  apart_synced : (ledger : LedgerState) (items : List (ℕ × Transaction)) (k : Kept) → IsRising items → IsKeptOf accepts ledger items [] k → apart k.dropped items ≡ keep accepts ledger (unnamed [] items)
+  apart_synced ledger items k rising is =
+      ap (apart k.dropped) (sym (none_named items))
+      ∙ ap (λ ts. apart ts (unnamed [] items)) is.dropped
+      ∙ apart_dropped accepts (get ledger.utxo) ledger.tick 0 (unnamed [] items) (rising_unnamed 0 [] items rising)
+
+  -- what a step of keeping leads to
+  leads_left : (p : Pool) (ledger : LedgerState) (ids : List (List ℕ)) (k : Kept) (q : Prepared) → IsRising p.items → IsKeptOf accepts ledger p.items ids k → q.change ≡ Keep k.overlay k.kept
+      → leads_to p q ≡ pool_upon p ledger (keep accepts ledger (unnamed ids p.items))
+  leads_left p ledger ids k q rising is keeps =
+      ap (changed p) keeps ∙ ap (λ l. pool_upon p l (among k.kept p.items)) is.base ∙ ap (pool_upon p ledger) (among_kept ledger ids p.items k.kept rising is.kept)
+
   yes_next : (p : Pool) (c : Command) (r : Reply) → answer accepts p c ≡ Ok r → next accepts p c ≡ done accepts p c
   unfolding next
   yes_next p c r e = ap (λ a. cond (is_ok a) (done accepts p c) p) e
@@ -154,13 +172,15 @@ module _ (accepts : Accepts) where
   ready_removed h ids k q change rising is command reply keeps =
       let yes : answer accepts h.pool (Remove ids) ≡ Ok (Removed k.named k.dropped) = removed h.pool ids k (within h.pool.limit h.pool.changes change) is in
       let left = among_kept h.pool.ledger ids h.pool.items k.kept rising is.kept in
+      let leads = leads_left h.pool h.pool.ledger ids k q rising is keeps in
       record {
         command = command;
         reply = yes ∙ sym (ap Ok reply);
-        leads = yes_next h.pool (Remove ids) _ yes ∙ sym (ap (changed h.pool) keeps ∙ ap (λ l. pool_upon h.pool l (among k.kept h.pool.items)) is.base ∙ ap (pool_upon h.pool h.pool.ledger) left);
+        leads = yes_next h.pool (Remove ids) _ yes ∙ sym leads;
         prepared = record {
           change = change;
           fits = subst (CanChange h) (sym keeps) (is.applied ∙ sym (ap transactions left));
+          tells = leads ∙ sym (ap (λ c. told h.pool c q.reply) command ∙ ap (told h.pool (Remove ids)) reply ∙ ap (pool_upon h.pool h.pool.ledger) (apart_left h.pool.ledger ids h.pool.items k rising is));
         };
       }
 
@@ -170,14 +190,15 @@ module _ (accepts : Accepts) where
   ready_synced h ledger k q change rising is command reply keeps =
       let yes : answer accepts h.pool (Sync ledger) ≡ Ok (Synced k.kept k.dropped) = synced h.pool ledger k (within h.pool.limit h.pool.changes change) is in
       let left = among_kept ledger [] h.pool.items k.kept rising is.kept in
+      let leads = leads_left h.pool ledger [] k q rising is keeps in
       record {
         command = command;
         reply = yes ∙ sym (ap Ok reply);
-        leads = yes_next h.pool (Sync ledger) _ yes
-            ∙ sym (ap (changed h.pool) keeps ∙ ap (λ l. pool_upon h.pool l (among k.kept h.pool.items)) is.base ∙ ap (pool_upon h.pool ledger) (left ∙ ap (keep accepts ledger) (none_named h.pool.items)));
+        leads = yes_next h.pool (Sync ledger) _ yes ∙ sym (leads ∙ ap (λ items. pool_upon h.pool ledger (keep accepts ledger items)) (none_named h.pool.items));
         prepared = record {
           change = change;
           fits = subst (CanChange h) (sym keeps) (is.applied ∙ sym (ap transactions left));
+          tells = leads ∙ sym (ap (λ c. told h.pool c q.reply) command ∙ ap (told h.pool (Sync ledger)) reply ∙ ap (pool_upon h.pool ledger) (apart_synced ledger h.pool.items k rising is));
         };
       }
 

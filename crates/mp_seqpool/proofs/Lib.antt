@@ -3,6 +3,7 @@ pub mod Submits
 pub mod Noting
 pub mod Keeping
 pub mod Histories
+pub mod Apart
 pub mod Left
 pub mod Forgetting
 pub mod Staying

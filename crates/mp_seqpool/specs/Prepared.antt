@@ -1,14 +1,17 @@
 -- Steps that are ready to be taken.
-use Rattle.std.specs.Prelude.{◌≡◌, ℕ, ◌<◌, List, None, Ok}
+use Rattle.std.specs.Prelude.{◌≡◌, ℕ, ◌<◌, not, List, None, Ok}
+use Rattle.std.specs.List.{filter}
+use Rattle.mp_tx.specs.Transaction.{Transaction}
 use Rattle.mp_tx.specs.Spelling.{id_of}
 use Rattle.mp_utxo.specs.Overlay.{Overlay, HasRoomFor}
 use Rattle.mp_rules.specs.Verifier.{Accepts}
 use Rattle.mp_rules.specs.Checked.{ScriptsAccept}
-use Rattle.mp_tickets.specs.Tickets.{among}
+use Rattle.mp_tickets.specs.Tickets.{has_ticket, among}
 use Rattle.mp_resync.specs.Item.{Item}
 use Rattle.mp_resync.specs.Keep.{transactions}
 use Rattle.mp_seqpool.specs.declared.command.Reply.{Reply}
-use Rattle.mp_seqpool.specs.Command.{Command}
+use Rattle.mp_seqpool.specs.declared.command.Reply.TheVariants.{Removed, Synced}
+use Rattle.mp_seqpool.specs.Command.{Command, Submit, Remove, Sync}
 use Rattle.mp_seqpool.specs.Pool.{Pool, Holding}
 use Rattle.mp_seqpool.specs.SlowPool.{ticket_of, pool_with, pool_upon, HasPlace, answer, next}
 
@@ -32,6 +35,17 @@ changed p (Keep overlay kept) = pool_upon p overlay.ledger (among kept p.items)
 abbrev pub leads_to : Pool → Prepared → Pool
 leads_to p q = changed p q.change
 
+-- the items without these tickets
+abbrev pub apart : List ℕ → List (ℕ × Transaction) → List (ℕ × Transaction)
+apart tickets items = filter (λ i. not (has_ticket tickets i.0)) items
+
+-- the state that a command leads to, told by the reply to it
+abbrev pub told : Pool → Command → Reply → Pool
+told p (Submit t) reply = pool_with p t
+told p (Remove ids) (Removed named dropped) = pool_upon p p.ledger (apart dropped (apart named p.items))
+told p (Sync ledger) (Synced kept dropped) = pool_upon p ledger (apart dropped p.items)
+told p c reply = p
+
 -- the pool can take the item in without memory, and without a look at its rules
 pub record CanAppend (h : Holding) (item : Item) : Type 0 where
   pub place : HasPlace h.pool item.tx
@@ -43,11 +57,13 @@ abbrev pub CanChange : Holding → Change → Type 0
 CanChange h (Append item) = CanAppend h item
 CanChange h (Keep overlay kept) = overlay.applied ≡ transactions (among kept h.pool.items)
 
--- The pool can take the step: so it is where the last step that was prepared on it is this one.
+-- The pool can take the step: so it is from the call that prepared it until the next one on this pool.
 pub record IsPrepared (h : Holding) (q : Prepared) : Type 0 where
   -- one more change may be made
   pub change : h.pool.changes < h.pool.limit
   pub fits : CanChange h q.change
+  -- it does what its command and its reply tell
+  pub tells : leads_to h.pool q ≡ told h.pool q.command q.reply
 
 -- The step is the slow pool's: it has the command and the reply to it, and leads to the state after it.
 pub record Prepares (accepts : Accepts) (h : Holding) (c : Command) (q : Prepared) : Type 0 where

@@ -119,16 +119,16 @@ fn sync_step(adopted: Ledger, left: Kept) -> Result<Prepared, NoMemory>
 }
 
 impl SeqPool {
-    ghost use Rattle.std.specs.Prelude.{◌≡◌, ◌≢◌, ◌+◌, ◌≤◌, ◌^◌, ◌==◌, List, [], length, None, IfNone, IfOk, IfErr, OnOk, OnErr, Ok};
+    ghost use Rattle.std.specs.Prelude.{◌≡◌, ◌≢◌, ◌+◌, ◌≤◌, ◌^◌, ◌==◌, List, [], length, All, None, IfNone, IfOk, IfErr, OnOk, OnErr, Ok};
     ghost use Rattle.std.specs.Arc.{arc_value};
     ghost use Rattle.std.specs.Map.Iter.{ShowsInOrder};
     ghost use Rattle.mp_tx.specs.Spelling.{id_of};
     ghost use Rattle.mp_rules.specs.FirstFault.{first_fault};
     ghost use Rattle.mp_rules.specs.Checked.{IsChecked, ScriptsAccept};
-    ghost use Rattle.mp_tickets.specs.Tickets.{among, shown};
+    ghost use Rattle.mp_tickets.specs.Tickets.{IsRising, among, shown};
     ghost use Rattle.mp_resync.specs.Item as resync;
     ghost use Rattle.mp_resync.specs.Item.{ticketed};
-    ghost use Rattle.mp_resync.specs.Keep.{transactions};
+    ghost use Rattle.mp_resync.specs.Keep.{transactions, tickets};
     ghost use Rattle.mp_resync.specs.Kept.{IsKeptOf};
     ghost use Rattle.mp_seqpool.specs.Inside.Place.{misplaced};
     ghost use Rattle.mp_seqpool.specs.Inside.Rules.{IsBrokenRule};
@@ -513,9 +513,10 @@ impl SeqPool {
         self.changes = 0;
     }
 
-    /// The transactions with their tickets, oldest first.
+    /// The transactions with their tickets, oldest first: tickets rise, and are all above 0.
     pub fn contents(&self) -> Iter<'_, Item>
         ensures all { ticketed result ≡ self.now.pool.items }
+        ensures rising { IsRising self.now.pool.items }
         ensures runs { ShowsInOrder (shown {T = resync.Item}) }
     {
         self.items.iter()
@@ -542,9 +543,10 @@ impl SeqPool {
         self.overlay.ledger()
     }
 
-    /// The last ticket that was given, or that of the configuration.
+    /// The last ticket that was given, or that of the configuration. No transaction has a greater one.
     pub fn last_ticket(&self) -> u64
-        ensures { result ≡ self.now.pool.last }
+        ensures last { result ≡ self.now.pool.last }
+        ensures given { All (λ k. k ≤ result) (tickets self.now.pool.items) }
     {
         self.last
     }

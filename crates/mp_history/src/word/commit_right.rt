@@ -1,19 +1,20 @@
 //! The right to lengthen a history.
-ghost use Rattle.std.specs.Prelude.{◌≡◌, ◌<◌, ◌^◌, ◌++◌, ◌∷◌, [], length};
-ghost use mathlib.Core.List.{IsPrefix};
+ghost use Rattle.std.specs.Prelude.{◌≡◌, ◌<◌, ◌^◌, [], length};
+ghost use Rattle.mp_history.specs.Log.{Begins, entered};
 ghost use Rattle.mp_history.specs.PoolName.{head_of};
 
 use crate::entry::Entry;
 use crate::word::front::Front;
 use crate::word::new_name::{NewName, add_cell};
 use crate::word::pool_name::PoolName;
-use crate::word::rule::{Addition, Commits, Covers, FirstPens, Law, Noted, Nothing, Opens};
+use crate::word::rule::{Addition, Commits, Covers, Law, Noted, Nothing, Opening, Opens};
 use logbook::{Offer, Pen, Seen, Word};
+use mp_seqpool::SeqPool;
 use std::marker::{Model, PhantomData};
 
 /// The right to lengthen the pool's history. There is one for each history: it comes with it, it
-/// can't be cloned, and nothing else makes one. Contracts see it as the entries of the whole
-/// history, since nobody else can enter any: `covers` says so of each front.
+/// can't be cloned, and nothing else makes one. Contracts see it as the whole history, since nobody
+/// else can enter anything: `covers` says so of each front.
 #[derive(Drop)]
 pub struct CommitRight<N: PoolName> {
     // A word of the book that no history has: an exchange upon it sees the book as it is.
@@ -26,30 +27,31 @@ pub struct CommitRight<N: PoolName> {
 }
 
 impl<N: PoolName> Model for CommitRight<N> {
-    ghost use Rattle.std.specs.Prelude.{◌≡◌, List};
+    ghost use Rattle.std.specs.Prelude.{◌≡◌};
     ghost use Rattle.std.specs.Coded.{codes};
     ghost use Rattle.std.specs.FinMap as finite;
-    ghost use Rattle.mp_history.specs.Entry as told;
     ghost use Rattle.mp_history.specs.PoolName.{head_of};
-    ghost use Rattle.mp_history.specs.Inside.Noted.{history};
+    ghost use Rattle.mp_history.specs.Log.{Log};
+    ghost use Rattle.mp_history.specs.Inside.Noted.{log_of};
     ghost use Rattle.mp_history.specs.Inside.Turn.{IsTurn};
 
-    ghost Value = { List told.Entry };
+    ghost Value = { Log };
 
     ghost coded = { Prim.hlevel (codes, finite.code) };
 
-    ghost view = { λ r. history N.root r.seen.log };
+    ghost view = { λ r. log_of N.root r.seen.log };
 
     ghost invariant = { λ r. (r.own ≡ head_of N.book 0) × ((r.seen.book ≡ N.book)
         × ((r.pen.book ≡ N.book) × IsTurn N.root r.count r.seen.log r.pen.nib)) };
 }
 
 impl<N: PoolName> CommitRight<N> {
-    /// Opens the history of this name: its word, and the right that stands after no entry.
-    pub(crate) fn first(name: NewName) -> (Word<Noted, u64, Law>, CommitRight<N>)
+    /// Opens the history of this name with the pool: its word, and the right that stands after no
+    /// entry.
+    pub(crate) fn first(name: NewName, pool: &SeqPool) -> (Word<Noted, u64, Law>, CommitRight<N>)
         requires { name ≡ head_of N.book N.root }
         ensures head { result.0 ≡ head_of N.book N.root }
-        ensures empty { result.1 ≡ [] }
+        ensures opening { result.1 ≡ record { opening = pool.now.pool; entries = [] } }
     {
         let NewName {
             own,
@@ -59,14 +61,13 @@ impl<N: PoolName> CommitRight<N> {
         let head = Word::tracked(0, &mut pen);
         let mut next = add_cell(&own, &seen);
         let _word: Word<Noted, u64, Law> = Word::tracked(0, &mut next);
-        let mut offer: Offer<Noted, u64, Law, Nothing> = seen.plain::<
-            Nothing,
-            FirstPens<'_>,
-            Opens,
-        >(&FirstPens {
-            head: &pen,
-            next: &next,
-        });
+        let mut offer: Offer<Noted, u64, Law, Nothing> = seen.plain::<Nothing, Opening<'_>, Opens>(
+            &Opening {
+                head: &pen,
+                next: &next,
+                pool,
+            },
+        );
         own.compare_exchange::<Opens, Nothing>(0, 0, &mut seen, &mut offer, &mut pen);
         (
             head,
@@ -84,8 +85,8 @@ impl<N: PoolName> CommitRight<N> {
     /// upon the history's word raises the number of entries.
     pub(crate) fn enter(&mut self, head: &Word<Noted, u64, Law>, entry: &Entry)
         requires head { head.now ≡ head_of N.book N.root }
-        requires room { length self.old < 2 ^ 32 }
-        ensures { self.new ≡ self.old ++ entry.now ∷ [] }
+        requires room { length self.old.entries < 2 ^ 32 }
+        ensures { self.new ≡ entered self.old entry.now }
     {
         let mut next = add_cell(&self.own, &self.seen);
         let _word: Word<Noted, u64, Law> = Word::tracked(0, &mut next);
@@ -124,7 +125,7 @@ impl<N: PoolName> CommitRight<N> {
     /// seen more than it has. It is an exchange that changes nothing, and takes no memory.
     pub fn covers(&mut self, front: &Front<N>)
         ensures same { self.new ≡ self.old }
-        ensures covers { IsPrefix front.now self.new }
+        ensures covers { Begins front.now self.new }
     {
         let mut later = self.seen.again();
         later.learn(&front.seen);

@@ -1,6 +1,6 @@
 //! What was seen of a history.
 ghost use Rattle.std.specs.Prelude.{◌≡◌, ◌≤◌, length};
-ghost use mathlib.Core.List.{IsPrefix};
+ghost use Rattle.mp_history.specs.Log.{Begins};
 ghost use Rattle.mp_history.specs.Front.{AreOfOneLog};
 
 use crate::word::pool_name::PoolName;
@@ -8,8 +8,8 @@ use crate::word::rule::{Law, Noted};
 use logbook::Seen;
 use std::marker::{Model, PhantomData};
 
-/// A beginning of the pool's history that was seen. Contracts see it as its entries; the program
-/// keeps their number alone.
+/// A beginning of the pool's history that was seen. Contracts see it as the state that the pool
+/// opened with and the entries; the program keeps their number alone.
 #[derive(Drop)]
 pub struct Front<N: PoolName> {
     pub(crate) count: u64,
@@ -18,26 +18,26 @@ pub struct Front<N: PoolName> {
 }
 
 impl<N: PoolName> Model for Front<N> {
-    ghost use Rattle.std.specs.Prelude.{◌≡◌, List, length};
+    ghost use Rattle.std.specs.Prelude.{◌≡◌, ◌<◌, length};
     ghost use Rattle.std.specs.Coded.{codes};
     ghost use Rattle.std.specs.FinMap as finite;
-    ghost use Rattle.mp_history.specs.Entry as told;
-    ghost use Rattle.mp_history.specs.Inside.Noted.{history};
+    ghost use Rattle.mp_history.specs.Log.{Log};
+    ghost use Rattle.mp_history.specs.Inside.Noted.{notes_of, history, log_of};
 
-    ghost Value = { List told.Entry };
+    ghost Value = { Log };
 
     ghost coded = { Prim.hlevel (codes, finite.code) };
 
-    ghost view = { λ f. history N.root f.seen.log };
+    ghost view = { λ f. log_of N.root f.seen.log };
 
     ghost invariant = { λ f. (f.count ≡ length (history N.root f.seen.log))
-        × (f.seen.book ≡ N.book) };
+        × ((f.seen.book ≡ N.book) × (0 < length (notes_of N.root f.seen.log))) };
 }
 
 impl<N: PoolName> Front<N> {
     /// How many entries it has.
     pub fn len(&self) -> u64
-        ensures { result ≡ length self.now }
+        ensures { result ≡ length self.now.entries }
     {
         self.count
     }
@@ -55,8 +55,10 @@ impl<N: PoolName> Front<N> {
 
     /// Of two fronts of one pool the shorter begins the longer. That costs nothing when it runs.
     pub fn compare(&self, other: &Front<N>)
-        ensures this { length self.now ≤ length other.now → IsPrefix self.now other.now }
-        ensures that { length other.now ≤ length self.now → IsPrefix other.now self.now }
+        ensures this { length self.now.entries ≤ length other.now.entries
+            → Begins self.now other.now }
+        ensures that { length other.now.entries ≤ length self.now.entries
+            → Begins other.now self.now }
     {
         let mut both = self.seen.again();
         both.learn(&other.seen);

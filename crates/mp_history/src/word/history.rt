@@ -1,6 +1,7 @@
 //! The word that the callers of a pool share.
-ghost use Rattle.std.specs.Prelude.{◌≡◌, ◌<◌, ◌≤◌, ◌^◌, [], ◌∷◌, ◌++◌, length, IfOk};
+ghost use Rattle.std.specs.Prelude.{◌≡◌, ◌<◌, ◌≤◌, ◌^◌, [], length, IfOk};
 ghost use Rattle.std.specs.List.{range_with_len};
+ghost use Rattle.mp_history.specs.Log.{entered};
 ghost use Rattle.mp_history.specs.PoolName.{head_of};
 
 use crate::entry::Entry;
@@ -11,6 +12,7 @@ use crate::word::pool_name::PoolName;
 use crate::word::rule::{Law, Noted};
 use logbook::Word;
 use mp_memory::{Memory, NoMemory};
+use mp_seqpool::SeqPool;
 use std::marker::PhantomData;
 
 /// The pool's history: one word, the number of its entries. The entries themselves are seen by
@@ -24,23 +26,25 @@ pub struct History<N: PoolName> {
 }
 
 impl<N: PoolName> History<N> {
-    /// Opens a pool's history under its name, for 1 to 1,024 callers: an empty history, the right
-    /// to lengthen it, and the tokens of the callers 0, 1, .. in order. Without memory for the
-    /// tokens the name is lost.
+    /// Opens a pool's history under its name, for 1 to 1,024 callers, with what the pool is now: a
+    /// history without entries, the right to lengthen it, and the tokens of the callers 0, 1, .. in
+    /// order. Without memory for the tokens the name is lost.
     pub fn open(
         name: NewName,
         memory: Memory,
         callers: u32,
+        pool: &SeqPool,
     ) -> Result<(History<N>, CommitRight<N>, Vec<Caller<N>, Memory>), NoMemory>
         requires name { name ≡ head_of N.book N.root }
         requires number { callers ≡ N.callers }
         requires some { 1 ≤ callers }
         requires most { callers ≤ 1024 }
-        ensures empty { IfOk result (λ opened. opened.1 ≡ []) }
+        ensures opening { IfOk result (λ opened. opened.1
+            ≡ record { opening = pool.now.pool; entries = [] }) }
         ensures callers { IfOk result (λ opened. opened.2.items ≡ range_with_len 0 callers) }
     {
         let tokens = Caller::all(memory, callers)?;
-        let (head, right) = CommitRight::first(name);
+        let (head, right) = CommitRight::first(name, pool);
         Ok((
             History {
                 head,
@@ -54,9 +58,9 @@ impl<N: PoolName> History<N> {
     /// Enters the caller's entry last, always: it can't be refused, and takes no memory. The
     /// history may have up to 2^32 entries.
     pub fn commit(&self, right: &mut CommitRight<N>, caller: &Caller<N>, entry: &Entry)
-        requires room { length right.old < 2 ^ 32 }
+        requires room { length right.old.entries < 2 ^ 32 }
         requires own { entry.now.caller ≡ caller.now }
-        ensures { right.new ≡ right.old ++ entry.now ∷ [] }
+        ensures { right.new ≡ entered right.old entry.now }
     {
         let _ = caller;
         right.enter(&self.head, entry);

@@ -9,6 +9,7 @@ use std::marker::Brand;
 pub trait PoolName {
     ghost use Rattle.std.specs.Prelude.{ℕ};
     ghost use Rattle.logbook.specs.Pages.{Book};
+    ghost use Rattle.mp_rules.specs.Verifier.{Accepts};
 
     // The book that keeps its history, in proofs alone.
     ghost book: { Book };
@@ -16,12 +17,18 @@ pub trait PoolName {
     ghost root: { ℕ };
     // How many callers it has.
     ghost callers: { ℕ };
+    // Which signatures its verifier accepts.
+    ghost accepts: { Accepts };
 }
 
 impl PoolName for Brand {
+    ghost use Rattle.std.specs.Prelude.{false};
+
     ghost book = { record { number = 0; log_name = 0; cells_name = 0 } };
 
     ghost root = { 0 };
 
     ghost callers = { 0 };
+
+    ghost accepts = { λ _ _ _. false };
 }

@@ -1,6 +1,7 @@
 //! The rule of the words that a history has, and the steps that they make.
 use crate::entry::Entry;
 use logbook::{Gain, Pen, Plain, Play, Rule, Word};
+use mp_seqpool::SeqPool;
 use std::marker::{Model, PhantomData};
 
 /// What a book of histories is made of. It is in no program: proofs alone speak of its values.
@@ -18,7 +19,13 @@ impl Model for Noted {
 
     ghost coded = { Prim.hlevel (codes, finite.code) };
 
-    ghost view = { λ n. record { root = 0; used = 0; next = 0; entries = [] } };
+    ghost view = { λ n. record {
+      root = 0;
+      used = 0;
+      next = 0;
+      opening = noted.no_state;
+      entries = [];
+    } };
 }
 
 /// What holds of the words of histories between any two steps.
@@ -53,8 +60,15 @@ impl Gain<Noted, u64> for Nothing {
 
 impl Plain<(), Noted, u64> for Nothing {
     ghost use Rattle.std.specs.Prelude.{None, []};
+    ghost use Rattle.mp_history.specs.Inside.Noted.{no_state};
 
-    ghost ask = { λ _. record { root = 0; used = 0; next = 0; entries = [] } };
+    ghost ask = { λ _. record {
+      root = 0;
+      used = 0;
+      next = 0;
+      opening = no_state;
+      entries = [];
+    } };
 
     ghost state = { λ _. None };
 }
@@ -68,11 +82,12 @@ impl Play<Noted, u64> for Adds {
     ghost then = { told.Adds };
 }
 
-/// The pens that a history opens with: that of its word, and that of the first right.
+/// What a history opens with: the pen of its word, that of the first right, and the pool.
 #[derive(Clone, Copy)]
-pub struct FirstPens<'a> {
+pub struct Opening<'a> {
     pub head: &'a Pen,
     pub next: &'a Pen,
+    pub pool: &'a SeqPool,
 }
 
 /// A step that opens a history.
@@ -84,13 +99,14 @@ impl Play<Noted, u64> for Opens {
     ghost then = { told.Opens };
 }
 
-impl<'a> Plain<FirstPens<'a>, Noted, u64> for Opens {
+impl<'a> Plain<Opening<'a>, Noted, u64> for Opens {
     ghost use Rattle.std.specs.Prelude.{None, []};
 
     ghost ask = { λ p. record {
       root = p.head.now.nib.key;
       used = p.head.now.nib.key;
       next = p.next.now.nib.key;
+      opening = p.pool.now.pool;
       entries = [];
     } };
 
@@ -117,11 +133,13 @@ impl Play<Noted, u64> for Commits {
 
 impl<'a> Plain<Addition<'a>, Noted, u64> for Commits {
     ghost use Rattle.std.specs.Prelude.{None, [], ◌∷◌};
+    ghost use Rattle.mp_history.specs.Inside.Noted.{no_state};
 
     ghost ask = { λ a. record {
       root = a.head.now.key;
       used = a.used.now.nib.key;
       next = a.next.now.nib.key;
+      opening = no_state;
       entries = a.entry.now ∷ [];
     } };
 

@@ -16,5 +16,5 @@ compare_exchange-requires g c =
       book,
       head.1 ∙ (c.name.invariant.1.0 ∙ book),
       offer.0,
-      rw (ap (λ w. w.key) own, offer.1, turn, offer.3) (opens_moves c.name.inside.seen.log p c.tracked-word.new.pen.nib.key),
+      rw (ap (λ w. w.key) own, offer.1, turn, offer.3) (opens_moves c.name.inside.seen.log p c.tracked-word.new.pen.nib.key c.args.pool.now.pool),
     )

@@ -1,0 +1,4 @@
+pub mod Inside
+pub mod Item
+pub mod Reading
+pub mod Version

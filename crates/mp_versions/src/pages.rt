@@ -1,0 +1,11 @@
+//! Pages: what is read of them, and those that come of them.
+
+mod building;
+mod growing;
+mod reading;
+mod removal;
+
+pub(crate) use building::of_pool;
+pub(crate) use growing::grown;
+pub(crate) use reading::{bytes_among, chunk_at, find, run_after, run_of};
+pub(crate) use removal::without;
