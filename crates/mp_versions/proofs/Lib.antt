@@ -1,0 +1,4 @@
+pub mod Ascents
+pub mod Blocks
+pub mod Parts
+pub mod Withins

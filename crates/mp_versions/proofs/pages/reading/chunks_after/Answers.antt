@@ -1,0 +1,24 @@
+use Rattle.std.proofs.Common.{rules, ◌≡◌, ◌≤◌, ◌+◌, ◌^◌, ◌++◌, option_map, option_copied, slice_get, All, ℕ, ◌-◌, ◌*◌, ◌<◌, length, ◌/◌, ◌%◌, Bool, true, false, nat_eq, nat_lt, List, [], ◌∷◌, slice_index_or, slice_set, bit_and, bit_or, Fits, w8, w32, w64, Bor, MutBor}
+use Rattle.std.specs.Option.{ForSome}
+use Rattle.std.specs.List.Sorted.{IsStrictlyIncreasing}
+use Rattle.mp_tickets.specs.Tickets.{IsRising, after, item_at, among}
+use Rattle.mp_versions.specs.Item.{items_of, shown}
+use Rattle.mp_versions.specs.Reading.{bytes_of}
+use Rattle.mp_versions.specs.Inside.Pages.{flattened, chunks_of, joined, IsFilled, AreFilled, size_in}
+use Rattle.mp_versions.proofs.pages.reading.chunks_after.Goals as goal
+
+-- src/pages/reading.rt:34:35
+pub items_after-requires : goal.items_after-requires
+items_after-requires c = ?
+
+-- src/pages/reading.rt:26:1
+pub returns-in-Some-clause-all : goal.returns-in-Some-clause-all
+returns-in-Some-clause-all c = ?
+
+-- src/pages/reading.rt:26:1
+pub returns-in-Some-clause-filled : goal.returns-in-Some-clause-filled
+returns-in-Some-clause-filled c = ?
+
+-- src/pages/reading.rt:26:1
+pub returns-in-None-clause-all : goal.returns-in-None-clause-all
+returns-in-None-clause-all c = ?
