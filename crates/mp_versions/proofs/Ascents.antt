@@ -52,3 +52,8 @@ pub outside : (first last : ℕ) (ts : List ℕ) (i : ℕ) → Ascends ts → Al
 outside first last [] i s a b = tt
 outside first last (t ∷ ts) zero s a b = let k : last < t = b in ((λ f h. omega arith), beyond first last t ts b s.0)
 outside first last (t ∷ ts) (suc i) s a b = let k = ltb-true t first a.0 in ((λ f h. omega arith), outside first last ts i s.1 a.1 b)
+
+pub ascends-drop : (ts : List ℕ) (i : ℕ) → Ascends ts → Ascends (drop i ts)
+ascends-drop ts zero s = s
+ascends-drop [] (suc i) s = tt
+ascends-drop (t ∷ ts) (suc i) s = ascends-drop ts i s.1

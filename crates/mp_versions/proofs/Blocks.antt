@@ -50,6 +50,10 @@ module _ {B : Type 0} (items : B → List (ℕ × Transaction)) (last : B → �
   abbrev pub Ends : B → Type 0
   Ends b = (low : ℕ) → last_by ticket_in low (items b) ≡ last b
 
+  pub all_ends : (P : B → Type 0) → ((b : B) → P b → Ends b) → (bs : List B) → AllByRecursion P bs → AllByRecursion Ends bs
+  all_ends P h [] a = tt
+  all_ends P h (b ∷ bs) a = (h b a.0, all_ends P h bs a.1)
+
   pub blocks_climb : (low : ℕ) (bs : List B) → AllByRecursion Ends bs → IsRisingFrom low (flat_map items bs) → Climbs last low bs
   blocks_climb low [] e r = tt
   blocks_climb low (b ∷ bs) e r =
@@ -136,6 +140,9 @@ pub page_spans : (p : List (List (ℕ × Transaction))) → IsPage p → IsRisin
 page_spans p f r =
     subst (λ n. Spans n (last_by last_ticket 0 p) (flattened p)) (first_in p f)
     (subst (λ n. Spans (first_ticket (flattened p)) n (flattened p)) (page_ends p f 0) (chunk_spans (flattened p) r))
+
+pub spans_as : (a b l m : ℕ) (xs : List (ℕ × Transaction)) → a ≡ b → l ≡ m → Spans a l xs → Spans b m xs
+spans_as a b l m xs e f s = subst (λ n. Spans b n xs) f (subst (λ n. Spans n l xs) e s)
 
 has_not : (n : ℕ) (ts : List ℕ) → AllByRecursion (λ t. t ≡ n → ⊥) ts → has_ticket ts n ≡ false
 has_not n [] a = refl
