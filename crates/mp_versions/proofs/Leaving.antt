@@ -20,6 +20,9 @@ here_on xs i x l e =
     let n : i + 1 ≡ suc i = omega arith in
     drop_more xs i x l ∙ ap (λ k. get_or xs i x ∷ drop k xs) n ∙ ap (λ y. y ∷ drop (suc i) xs) (sym e)
 
+pub here_at : {X : Type 0} (xs : List X) (i : ℕ) (x : X) → i < length xs → x ≡ get_or xs i x → drop i xs ≡ x ∷ drop (i + 1) xs
+here_at xs i x l e = drop_more xs i x l ∙ ap (λ y. y ∷ drop (i + 1) xs) (sym e)
+
 -- those up to the element at the index
 pub up_to : {X : Type 0} (xs : List X) (i : ℕ) (x : X) → i < length xs → x ≡ get_or xs i x → take (i + 1) xs ≡ take i xs ++ x ∷ []
 up_to xs i x l e = take_more xs i x l ∙ ap (λ y. take i xs ++ y ∷ []) (sym e)

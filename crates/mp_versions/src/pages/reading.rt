@@ -70,7 +70,9 @@ pub(crate) fn find(pages: &[Page], ticket: u64) -> Option<&Item>
     if ticket == 0 {
         return None;
     }
-    let item = run_after(pages, ticket - 1).next()?;
+    let Some(item) = run_after(pages, ticket - 1).next() else {
+        return None;
+    };
     if item.ticket == ticket {
         Some(item)
     } else {
