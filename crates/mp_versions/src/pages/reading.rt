@@ -67,8 +67,12 @@ pub(crate) fn find(pages: &[Page], ticket: u64) -> Option<&Item>
     ensures tx { option_map (λ i. (shown i).1) result ≡ item_at (joined pages.now) ticket }
     ensures ticket { ForSome result (λ i. i.now.ticket ≡ ticket) }
 {
-    let before = ticket.checked_sub(1)?;
-    let item = run_after(pages, before).next()?;
+    if ticket == 0 {
+        return None;
+    }
+    let Some(item) = run_after(pages, ticket - 1).next() else {
+        return None;
+    };
     if item.ticket == ticket {
         Some(item)
     } else {
