@@ -1,9 +1,8 @@
 -- Items in blocks: chunks, or pages, which are seen as their items.
-use Rattle.std.proofs.Common.{◌≡◌, ℕ, zero, suc, ◌+◌, ◌<◌, ◌≤◌, Bool, true, false, cond, List, [], ◌∷◌, ◌++◌, length, take, drop, map, Option, Some, None, refl, sym, ap, ◌∙◌, subst, arith}
-use Rattle.std.specs.Prelude.{not, nat_le, nat_lt, ◌==◌, ◌||◌}
-use Rattle.std.specs.List.{All, AllByRecursion, flat_map, filter}
-use Rattle.std.proofs.lemmas.Bool.{leb-true, leb-false, eq-eqb, ne_eqb}
-use Rattle.std.proofs.lemmas.List.{append-nil}
+use Rattle.std.proofs.Common.{◌≡◌, ℕ, zero, suc, ◌<◌, ◌≤◌, true, false, cond, List, [], ◌∷◌, ◌++◌, length, take, drop, refl, sym, ap, ◌∙◌, subst, arith}
+use Rattle.std.specs.Prelude.{not, nat_le, ◌||◌}
+use Rattle.std.specs.List.{AllByRecursion, flat_map}
+use Rattle.std.proofs.lemmas.Bool.{leb-true, leb-false, ne_eqb}
 use Rattle.std.proofs.lemmas.List.Elements.{filter-append, recursion_from_All}
 use Rattle.mp_tx.specs.Transaction.{Transaction}
 use Rattle.mp_tickets.specs.Tickets.{IsRisingFrom, IsRising, has_ticket, after}
@@ -11,8 +10,8 @@ use Rattle.mp_tickets.proofs.Rising.{after-append, after-none, after-all}
 use Rattle.mp_seqpool.specs.Prepared.{apart}
 use Rattle.mp_versions.specs.Item.{item_of, items_of}
 use Rattle.mp_versions.specs.declared.item.Item.{Item}
-use Rattle.mp_versions.specs.Inside.Pages.{flattened, joined, IsFilled, IsPage, last_by, first_by, first_ticket, last_ticket}
-use Rattle.mp_versions.proofs.Parts.{last_by-append, Climbs, FirstFails, flat_flat}
+use Rattle.mp_versions.specs.Inside.Pages.{flattened, IsFilled, IsPage, last_by, first_by, first_ticket, last_ticket}
+use Rattle.mp_versions.proofs.Parts.{last_by-append, Climbs, FirstFails}
 
 abbrev pub ticket_in : ℕ × Transaction → ℕ
 ticket_in i = i.0

@@ -1,5 +1,5 @@
 -- Pages that are built get one chunk or one item more.
-use Rattle.std.proofs.Common.{◌≡◌, ℕ, ◌+◌, ◌<◌, ◌≤◌, List, [], ◌∷◌, ◌++◌, length, map, refl, sym, ap, ◌∙◌, subst, arith}
+use Rattle.std.proofs.Common.{◌≡◌, ℕ, ◌<◌, ◌≤◌, List, [], ◌∷◌, ◌++◌, length, sym, ap, ◌∙◌, subst, arith}
 use Rattle.std.proofs.lemmas.List.{append-nil, append_assoc, length-map, map_push}
 use Rattle.mp_tx.specs.Transaction.{Transaction}
 use Rattle.mp_versions.specs.Item.{item_of, items_of}
@@ -19,7 +19,7 @@ chunk_closed all ps cs ds is js c a e d j =
 pub chunk_filled : (is : List Item) (c : List (ℕ × Transaction)) → c ≡ items_of is → 0 < length is → length is ≤ 64 → IsFilled c
 chunk_filled is c e l m =
     let k = length-map is item_of in
-    subst IsFilled (sym e) (record { least = omega arith; most = omega arith; })
+    subst IsFilled (sym e) (record { least = omega arith; most = omega arith })
 
 pub item_put : (all : List (ℕ × Transaction)) (ps : List (List (List (ℕ × Transaction)))) (cs : List (List (ℕ × Transaction))) (is js : List Item) (i : Item)
     → joined ps ++ (flattened cs ++ items_of is) ≡ all → js ≡ is ++ i ∷ [] → joined ps ++ (flattened cs ++ items_of js) ≡ all ++ item_of i ∷ []

@@ -1,7 +1,7 @@
 -- Chunks and pages, one more of which is looked through.
-use Rattle.std.proofs.Common.{◌≡◌, ℕ, suc, ◌+◌, ◌<◌, ◌≤◌, Bool, true, false, cond, List, [], ◌∷◌, ◌++◌, length, take, drop, map, get_or, Option, Some, None, refl, sym, ap, ◌∙◌, subst, arith}
+use Rattle.std.proofs.Common.{◌≡◌, ℕ, suc, ◌+◌, ◌<◌, ◌≤◌, Bool, true, false, cond, List, [], ◌∷◌, ◌++◌, length, take, drop, get_or, Option, Some, None, refl, sym, ap, ◌∙◌, subst, arith}
 use Rattle.std.specs.Prelude.{not, option_to_list}
-use Rattle.std.specs.List.{All, filter}
+use Rattle.std.specs.List.{All}
 use Rattle.std.proofs.lemmas.List.{length-map, length_push, take_more, drop_more, append-nil}
 use Rattle.std.proofs.lemmas.List.Elements.{All-push}
 use Rattle.mp_tx.specs.Transaction.{Transaction}
@@ -68,12 +68,14 @@ chunks_kept ts ks news cs i c left k l n h e =
 page_kept : (ts : List ℕ) (ks ps : List (List (List (ℕ × Transaction)))) (p : List (List (ℕ × Transaction))) (left : Option (List (List (ℕ × Transaction))))
     → (joined ks ≡ apart ts (joined ps)) × AreFilled ks → IsLeftPage (apart ts (flattened p)) left
     → (joined (ks ++ option_to_list left) ≡ apart ts (joined (ps ++ p ∷ []))) × AreFilled (ks ++ option_to_list left)
-page_kept ts ks ps p None k l =
-    (ap joined (append-nil ks) ∙ k.0 ∙ sym (append-nil (apart ts (joined ps))) ∙ ap (λ is. apart ts (joined ps) ++ is) (sym l) ∙ sym (ap (apart ts) (joined-push ps p) ∙ apart-append ts (joined ps) (flattened p)),
-    subst AreFilled (sym (append-nil ks)) k.1)
-page_kept ts ks ps p (Some left) k l =
-    (joined-push ks left ∙ ap (λ is. is ++ flattened left) k.0 ∙ ap (λ is. apart ts (joined ps) ++ is) l.0 ∙ sym (ap (apart ts) (joined-push ps p) ∙ apart-append ts (joined ps) (flattened p)),
-    All-push IsPage ks left k.1 l.1)
+page_kept ts ks ps p None k l = (
+  ap joined (append-nil ks) ∙ k.0 ∙ sym (append-nil (apart ts (joined ps))) ∙ ap (λ is. apart ts (joined ps) ++ is) (sym l) ∙ sym (ap (apart ts) (joined-push ps p) ∙ apart-append ts (joined ps) (flattened p)),
+  subst AreFilled (sym (append-nil ks)) k.1,
+)
+page_kept ts ks ps p (Some left) k l = (
+  joined-push ks left ∙ ap (λ is. is ++ flattened left) k.0 ∙ ap (λ is. apart ts (joined ps) ++ is) l.0 ∙ sym (ap (apart ts) (joined-push ps p) ∙ apart-append ts (joined ps) (flattened p)),
+  All-push IsPage ks left k.1 l.1,
+)
 
 pub pages_kept : (ts : List ℕ) (ks news ps : List (List (List (ℕ × Transaction)))) (i : ℕ) (p : List (List (ℕ × Transaction))) (left : Option (List (List (ℕ × Transaction))))
     → (joined ks ≡ apart ts (joined (take i ps))) × AreFilled ks → IsLeftPage (apart ts (flattened p)) left → news ≡ ks ++ option_to_list left → i < length ps → p ≡ get_or ps i p

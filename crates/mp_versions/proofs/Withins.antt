@@ -1,5 +1,5 @@
 -- The longest beginning within a number of bytes.
-use Rattle.std.proofs.Common.{◌≡◌, ℕ, suc, ◌+◌, ◌-◌, ◌<◌, ◌≤◌, Bool, true, false, cond, List, [], ◌∷◌, ◌++◌, length, refl, sym, ap, ◌∙◌, subst, arith}
+use Rattle.std.proofs.Common.{◌≡◌, ℕ, suc, ◌+◌, ◌-◌, ◌≤◌, Bool, true, false, cond, List, [], ◌∷◌, ◌++◌, length, refl, ap, arith}
 use Rattle.std.specs.Prelude.{nat_le}
 use Rattle.mp_tx.specs.Transaction.{Transaction}
 use Rattle.mp_tx.specs.Spelling.{size_of}
@@ -44,4 +44,4 @@ longest bytes (i ∷ is) (o ∷ os) p h =
     omega arith
 
 pub longest_within : (bytes : ℕ) (items : List (ℕ × Transaction)) → IsLongestWithin bytes items (within bytes items)
-longest_within bytes items = record { begins = begins bytes items; fits = fits bytes items; longest = longest bytes items; }
+longest_within bytes items = record { begins = begins bytes items; fits = fits bytes items; longest = longest bytes items }

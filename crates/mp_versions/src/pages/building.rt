@@ -25,7 +25,8 @@ pub struct Built {
 // Makes a page of the chunks.
 fn close_page(memory: Memory, built: &mut Built) -> Result<(), NoMemory>
     requires some { 0 < length built.old.chunks.items }
-    ensures built { (all : List (ℕ × Transaction)) → IsBuilt all built.old → OnOk result (IsBuilt all built.new) }
+    ensures built { (all : List (ℕ × Transaction)) → IsBuilt all built.old
+        → OnOk result (IsBuilt all built.new) }
     ensures chunks { OnOk result (built.new.chunks.items ≡ []) }
     ensures items { OnOk result (built.new.items ≡ built.old.items) }
 {

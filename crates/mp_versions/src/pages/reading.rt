@@ -26,7 +26,8 @@ fn items_after(items: &[Item], ticket: u64) -> &[Item]
 fn chunks_after(chunks: &[Chunk], ticket: u64) -> (&[Item], &[Chunk])
     requires filled { All IsFilled chunks.now }
     requires rising { IsRising (flattened chunks.now) }
-    ensures all { items_of result.0.now ++ flattened result.1.now ≡ after (flattened chunks.now) ticket }
+    ensures all { items_of result.0.now ++ flattened result.1.now
+        ≡ after (flattened chunks.now) ticket }
     ensures filled { All IsFilled result.1.now }
 {
     let at = chunks.partition_point(|chunk| chunk.last_ticket() <= ticket);

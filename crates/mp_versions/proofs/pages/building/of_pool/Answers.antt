@@ -14,14 +14,17 @@ loop-ticket-init c = (tt, tt, none_built _ c.new.ensures.items c.new-2.ensures.i
 pub loop-ticket-preserved : goal.loop-ticket-preserved
 loop-ticket-preserved c =
     let seen = ticketed (map shown c.loop-ticket.yielded) in
-    let same = c.in_ok-tx.ensures ∙ ap (λ (i : resync.Item). i.tx) c.item.view_is in
-    (tt, tt, subst (λ l. IsBuilt l c.put.new.built) (ap (λ t. seen ++ (c.in-Some.ticket, t) ∷ []) same ∙ sym (ticketed-last c.loop-ticket.yielded (c.in-Some.ticket, c.in-Some.item)))
-    (c.in_ok-put.ensures seen c.loop-ticket.invariant.2))
+    let same = c.in_ok-tx.ensures ∙ ap (λ (i : resync.Item). i.tx) c.item.view_is in (
+      tt,
+      tt,
+      subst (λ l. IsBuilt l c.put.new.built) (ap (λ t. seen ++ (c.in-Some.ticket, t) ∷ []) same ∙ sym (ticketed-last c.loop-ticket.yielded (c.in-Some.ticket, c.in-Some.item)))
+          (c.in_ok-put.ensures seen c.loop-ticket.invariant.2),
+    )
 
 pub returns-clause-joined : goal.returns-clause-joined
 returns-clause-joined c =
     let ended = (iter_end shown c.contents-ticket-items.result c.loop-ticket.yielded c.into_iter-ticket-iterator.result c.loop-ticket.ticket-iterator c.next.new.self c.next.result
-        c.into_iter-ticket-iterator.ensures.into_iter_gives c.loop-ticket.yielded_by c.in-None.is c.next.ensures.steps).0 in
+    c.into_iter-ticket-iterator.ensures.into_iter_gives c.loop-ticket.yielded_by c.in-None.is c.next.ensures.steps).0 in
     c.finished.ensures.joined c.args.pool.now.pool.items (subst (λ l. IsBuilt l c.loop-ticket.built) (ap ticketed ended ∙ c.contents-ticket-items.ensures.all) c.loop-ticket.invariant.2)
 
 pub returns-clause-filled : goal.returns-clause-filled

@@ -1,4 +1,4 @@
-use Rattle.std.proofs.Common.{◌≡◌, ◌≤◌, ◌+◌, length, ap, ◌∙◌, arith}
+use Rattle.std.proofs.Common.{length, ap, arith}
 use Rattle.std.proofs.lemmas.List.{length_push}
 use Rattle.mp_versions.proofs.Building.{item_put}
 use Rattle.mp_versions.proofs.pages.building.put.Goals as goal

@@ -1,8 +1,8 @@
-use Rattle.std.proofs.Common.{◌≡◌, ◌+◌, ◌^◌, ◌≤◌, [], drop, get_or, ap, ◌∙◌, arith}
+use Rattle.std.proofs.Common.{◌≡◌, ◌+◌, drop, get_or, ap, ◌∙◌, arith}
 use Rattle.std.proofs.lemmas.List.{drop_all, drop_more}
-use Rattle.mp_tickets.specs.Tickets.{item_at, among}
+use Rattle.mp_tickets.specs.Tickets.{among}
 use Rattle.mp_versions.specs.Reading.{bytes_of}
-use Rattle.mp_versions.specs.Inside.Pages.{joined, size_in}
+use Rattle.mp_versions.specs.Inside.Pages.{joined}
 use Rattle.mp_versions.proofs.Ascents.{ascends, ascends-drop}
 use Rattle.mp_versions.proofs.Finding.{ticket_step, no_more, among_none}
 use Rattle.mp_versions.proofs.pages.reading.bytes_among.Goals as goal

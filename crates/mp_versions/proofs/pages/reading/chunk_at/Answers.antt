@@ -1,4 +1,4 @@
-use Rattle.std.proofs.Common.{◌≡◌, ◌+◌, ◌-◌, ◌≤◌, Some, ◌∷◌, drop, length, slice_get, ltb, sym, ap, subst, ◌∙◌, arith}
+use Rattle.std.proofs.Common.{◌≡◌, ◌+◌, ◌-◌, ◌≤◌, Some, drop, length, slice_get, sym, ap, ◌∙◌, arith}
 use Rattle.std.proofs.lemmas.Bool.{ltb-true, ltb-false}
 use Rattle.std.proofs.lemmas.Option.{slice_get-get_or}
 use Rattle.mp_versions.specs.Inside.Pages.{chunks_of}
@@ -15,7 +15,7 @@ returns-in-Some c =
     let chunks = c.as_slice-chunks.result.now in
     let chunk = c.in-Some.chunk.now in
     let there : slice_get chunks left ≡ Some chunk =
-        slice_get-get_or chunks left chunk (ltb-true left (length chunks) (sym c.in-Some.ensures.lookup.0)) ∙ ap Some (sym c.in-Some.ensures.lookup.1) in
+    slice_get-get_or chunks left chunk (ltb-true left (length chunks) (sym c.in-Some.ensures.lookup.0)) ∙ ap Some (sym c.in-Some.ensures.lookup.1) in
     ap Some c.as_slice.ensures
     ∙ sym (c.loop-page.invariant ∙ ap (λ ps. slice_get (chunks_of ps) left) (here_at pages i page c.loop-page-test.true c.page-item.is)
     ∙ get_front page (chunks_of (drop (i + 1) pages)) left chunk (ap (λ l. slice_get l left) (sym c.as_slice-chunks.ensures) ∙ there))

@@ -13,6 +13,6 @@ returns c =
     let at = c.partition_point-at.result in
     let t = c.args.ticket in
     let p = IsPartitionPoint-from_clause (λ (x : Item). nat_le x.ticket t) xs at c.partition_point-at.ensures.partitioned
-        (IsPartitionedBy-leb (λ (x : Item). x.ticket) xs t (climbs (λ (x : Item). x.ticket) 0 xs (items_climb 0 xs c.requires))) (λ a r f k. search rules) in
+    (IsPartitionedBy-leb (λ (x : Item). x.ticket) xs t (climbs (λ (x : Item). x.ticket) 0 xs (items_climb 0 xs c.requires))) (λ a r f k. search rules) in
     ap items_of (take_rest xs at)
     ∙ after_items 0 t xs at c.requires (passes (λ (x : Item). nat_le x.ticket t) xs at c.partition_point-at.ensures.bound p.0) (fails (λ (x : Item). nat_le x.ticket t) xs at p.1)

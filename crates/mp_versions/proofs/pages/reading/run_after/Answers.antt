@@ -7,7 +7,7 @@ use Rattle.mp_tickets.specs.Tickets.{IsRising, after}
 use Rattle.mp_versions.specs.Item.{items_of}
 use Rattle.mp_versions.specs.Inside.Pages.{flattened, joined, IsFilled, IsPage, last_by, last_ticket}
 use Rattle.mp_versions.proofs.Parts.{climbs, flat_flat}
-use Rattle.mp_versions.proofs.Blocks.{blocks_climb, all_ends, page_ends, Ends}
+use Rattle.mp_versions.proofs.Blocks.{blocks_climb, all_ends, page_ends}
 use Rattle.mp_versions.proofs.Parting.{parted, rising_there, first_is, others_are}
 use Rattle.mp_versions.proofs.pages.reading.run_after.Goals as goal
 
@@ -35,7 +35,7 @@ returns-in-Some c =
     let rising = subst IsRising (flat_flat xs) c.requires.rising in
     let ends = all_ends (λ l. flattened l) (last_by last_ticket 0) IsPage page_ends xs (recursion_from_All IsPage xs c.requires.filled) in
     let p = IsPartitionPoint-from_clause (λ x. nat_le (last_by last_ticket 0 x) t) xs at c.partition_point-at.ensures.partitioned
-        (IsPartitionedBy-leb (last_by last_ticket 0) xs t (climbs (last_by last_ticket 0) 0 xs (blocks_climb (λ l. flattened l) (last_by last_ticket 0) 0 xs ends rising))) (λ a r f k. search rules) in
+    (IsPartitionedBy-leb (last_by last_ticket 0) xs t (climbs (last_by last_ticket 0) 0 xs (blocks_climb (λ l. flattened l) (last_by last_ticket 0) 0 xs ends rising))) (λ a r f k. search rules) in
     c.of.ensures
     ∙ sym (append_assoc (items_of c.chunks_after.result.0.now) (flattened c.chunks_after.result.1.now) (joined others))
     ∙ ap (λ l. l ++ joined others) (c.chunks_after.ensures.all ∙ ap (λ l. after (flattened l) t) c.as_slice.ensures)
@@ -51,7 +51,7 @@ returns-in-None c =
     let rising = subst IsRising (flat_flat xs) c.requires.rising in
     let ends = all_ends (λ l. flattened l) (last_by last_ticket 0) IsPage page_ends xs (recursion_from_All IsPage xs c.requires.filled) in
     let p = IsPartitionPoint-from_clause (λ x. nat_le (last_by last_ticket 0 x) t) xs at c.partition_point-at.ensures.partitioned
-        (IsPartitionedBy-leb (last_by last_ticket 0) xs t (climbs (last_by last_ticket 0) 0 xs (blocks_climb (λ l. flattened l) (last_by last_ticket 0) 0 xs ends rising))) (λ a r f k. search rules) in
+    (IsPartitionedBy-leb (last_by last_ticket 0) xs t (climbs (last_by last_ticket 0) 0 xs (blocks_climb (λ l. flattened l) (last_by last_ticket 0) 0 xs ends rising))) (λ a r f k. search rules) in
     c.of-in-None.ensures
     ∙ sym (parted (λ l. flattened l) (last_by last_ticket 0) 0 t xs [] at ends rising c.partition_point-at.ensures.bound p (nil_from_length _ c.in-None.ensures.cases))
     ∙ ap (λ l. after l t) (sym (flat_flat xs))

@@ -1,4 +1,4 @@
-use Rattle.std.proofs.Common.{sym, ap, subst, ◌∙◌, arith, rules, length, ◌≤◌, ◌≡◌, take}
+use Rattle.std.proofs.Common.{ap, ◌∙◌, rules}
 use Rattle.std.proofs.lemmas.List.{take_all}
 use Rattle.mp_seqpool.specs.Prepared.{apart}
 use Rattle.mp_versions.specs.Item.{items_of}

@@ -11,6 +11,7 @@ returns-then-not-any_within c =
     let first = c.first_ticket.result in
     let last = c.last_ticket.result in
     let none = c.if-not-any_within.ensures in
-    let spans = spans_as _ first _ last (flattened page) (sym c.first_ticket.ensures) (sym c.last_ticket.ensures) (page_spans page c.requires.filled c.requires.rising) in
-    (ap flattened c.in_ok-share.ensures ∙ sym (untouched first last ts (flattened page) spans (recursion_from_All (λ t. first ≤ t → t ≤ last → ⊥) ts none)),
-    subst IsPage (sym c.in_ok-share.ensures) c.requires.filled)
+    let spans = spans_as _ first _ last (flattened page) (sym c.first_ticket.ensures) (sym c.last_ticket.ensures) (page_spans page c.requires.filled c.requires.rising) in (
+      ap flattened c.in_ok-share.ensures ∙ sym (untouched first last ts (flattened page) spans (recursion_from_All (λ t. first ≤ t → t ≤ last → ⊥) ts none)),
+      subst IsPage (sym c.in_ok-share.ensures) c.requires.filled,
+    )
