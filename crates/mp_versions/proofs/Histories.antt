@@ -50,7 +50,7 @@ module _ (accepts : Accepts) where
       let cs : List Command = commands (es ++ rest) in
       let law = (obeys accepts p cs legal.lawful).lasting m (length cs) (shorter es rest) in
       let of_one : Lasts (pool_of accepts p es) (pool_of accepts p (es ++ rest)) =
-          subst (λ ds. Lasts (pool_after accepts p ds) (pool_after accepts p cs)) (first_part es rest)
-          (subst (λ ds. Lasts (pool_after accepts p (take m cs)) (pool_after accepts p ds)) (take-length cs) law) in
+      subst (λ ds. Lasts (pool_after accepts p ds) (pool_after accepts p cs)) (first_part es rest)
+      (subst (λ ds. Lasts (pool_after accepts p (take m cs)) (pool_after accepts p ds)) (take-length cs) law) in
       subst (λ q. Lasts (pool_of accepts q es) (pool_of accepts p b.entries)) (sym begins.opening)
       (subst (λ ds. Lasts (pool_of accepts p es) (pool_of accepts p ds)) begins.entries.1 of_one)

@@ -29,7 +29,7 @@ changes_it p c e = not_itself p.changes (sym (one_more p c) ∙ ap (λ (q : Pool
 place : (h : Holding) (c : Change) (t : Transaction) → CanChange h c → changed h.pool c ≡ pool_with h.pool t → HasPlace h.pool t
 place h (Append item) t can e =
     let more : bytes_held h.pool + size_of item.tx ≡ bytes_held h.pool + size_of t =
-        sym (sum-last h.pool.items (h.pool.last + 1, item.tx)) ∙ ap bytes_held e ∙ sum-last h.pool.items (h.pool.last + 1, t) in
+    sym (sum-last h.pool.items (h.pool.last + 1, item.tx)) ∙ ap bytes_held e ∙ sum-last h.pool.items (h.pool.last + 1, t) in
     let most = can.place.bytes in
     record { ticket = can.place.ticket; change = can.place.change; bytes = subst (λ n. n ≤ 2 ^ 40) more most }
 place h (Keep overlay kept) t can e = absurd (not_itself h.pool.last (sym (ap (λ (q : Pool). q.last) e)))

@@ -60,12 +60,7 @@ struct Rest {
 }
 
 // Takes out the items with these tickets. The bytes are those of all items together.
-fn take_out(
-    memory: Memory,
-    pages: &[Page],
-    bytes: u64,
-    tickets: &[u64],
-) -> Result<Rest, NoMemory>
+fn take_out(memory: Memory, pages: &[Page], bytes: u64, tickets: &[u64]) -> Result<Rest, NoMemory>
     requires filled { AreFilled pages.now }
     requires rising { IsRising (joined pages.now) }
     requires tickets { IsStrictlyIncreasing tickets.now }
@@ -81,12 +76,7 @@ fn take_out(
 }
 
 // What the reply to a remove or a sync leaves.
-fn rest_after(
-    memory: Memory,
-    pages: &[Page],
-    bytes: u64,
-    reply: &Reply,
-) -> Result<Rest, NoMemory>
+fn rest_after(memory: Memory, pages: &[Page], bytes: u64, reply: &Reply) -> Result<Rest, NoMemory>
     requires filled { AreFilled pages.now }
     requires rising { IsRising (joined pages.now) }
     requires bytes { bytes ≡ bytes_of (joined pages.now) }
