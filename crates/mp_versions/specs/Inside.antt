@@ -4,3 +4,4 @@ pub mod End
 pub mod Left
 pub mod Pages
 pub mod Run
+pub mod Version

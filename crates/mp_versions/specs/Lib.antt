@@ -1,4 +1,5 @@
 pub mod Inside
 pub mod Item
 pub mod Reading
+pub mod Shown
 pub mod Version

@@ -1,8 +1,25 @@
-//! What holds of what is read of versions. These functions have no body: what counts is that their contracts are proved.
+//! What holds of versions, and of what is read of them.
 
-ghost use Rattle.std.specs.Prelude.{ℕ, List};
+ghost use Rattle.std.specs.Prelude.{◌≡◌, ◌≤◌, ℕ, List, length, slice_get, option_map, All, flat_map};
 ghost use Rattle.mp_tx.specs.Transaction.{Transaction};
+ghost use Rattle.mp_versions.specs.Item.{items_of};
 ghost use Rattle.mp_versions.specs.Reading.{within, IsLongestWithin};
+
+use crate::item::Item;
+use crate::pages::chunk_at;
+use crate::version::Version;
+
+/// The chunk at this place, counted from 0, of those that make up the version's items: joined in
+/// order they are its items, and each has 1 to 64. Versions share the chunks that don't change
+/// between them.
+pub fn chunk(version: &Version, place: usize) -> Option<&[Item]>
+    ensures which { option_map (λ c. items_of c.now) result ≡ slice_get version.now.chunks place }
+    ensures joined { flat_map (λ c. c) version.now.chunks ≡ version.now.pool.items }
+    ensures least { All (λ c. 1 ≤ length c) version.now.chunks }
+    ensures most { All (λ c. length c ≤ 64) version.now.chunks }
+{
+    chunk_at(&version.pages, place)
+}
 
 /// What is read within a number of bytes is the longest beginning that has no more bytes.
 pub fn longest_within()

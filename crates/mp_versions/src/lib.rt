@@ -1,6 +1,7 @@
 //! Versions of a pool, which never change: each shares nearly everything with the versions before it.
 #![tactic(auto)]
 
+mod board;
 mod chunk;
 mod item;
 mod items;
@@ -8,7 +9,15 @@ pub mod laws;
 mod page;
 mod pages;
 mod run;
+mod searching;
+mod shown;
+mod snapshot;
+mod version;
 
+pub use board::Board;
 pub use item::Item;
 pub use items::Items;
 pub use run::{Run, RunWithin};
+pub use shown::Shown;
+pub use snapshot::Snapshot;
+pub use version::Version;

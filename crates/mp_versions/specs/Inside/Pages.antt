@@ -1,8 +1,9 @@
 -- Items in chunks, and chunks in pages.
-use Rattle.std.specs.Prelude.{ℕ, ◌<◌, ◌≤◌, List, [], ◌∷◌, length, Option, Some, None}
-use Rattle.std.specs.List.{All, flat_map}
+use Rattle.std.specs.Prelude.{ℕ, nat_eq, Bool, ◌<◌, ◌≤◌, List, [], ◌∷◌, length, Option, Some, None}
+use Rattle.std.specs.List.{All, flat_map, list_any}
+use Rattle.std.specs.Cmp.Lexicographic.{pointwise}
 use Rattle.mp_tx.specs.Transaction.{Transaction}
-use Rattle.mp_tx.specs.Spelling.{size_of}
+use Rattle.mp_tx.specs.Spelling.{id_of, size_of}
 
 -- the lists, end to end
 abbrev pub flattened : {T : Type 0} → List (List T) → List T
@@ -50,3 +51,11 @@ last_ticket chunk = last_by (λ i. i.0) 0 chunk
 abbrev pub size_in : Option Transaction → ℕ
 size_in None = 0
 size_in (Some t) = size_of t
+
+-- whether the item's transaction has this id
+abbrev pub is_of : List ℕ → ℕ × Transaction → Bool
+is_of id i = pointwise nat_eq id (id_of i.1)
+
+-- whether one of them has it
+abbrev pub has_id : List ℕ → List (ℕ × Transaction) → Bool
+has_id id items = list_any (is_of id) items

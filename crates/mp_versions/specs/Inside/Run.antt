@@ -1,9 +1,8 @@
 -- A run: items, then chunks, then pages.
 use Rattle.std.specs.Prelude.{ℕ, List, ◌++◌}
-use Rattle.std.specs.List.{All}
 use Rattle.mp_tx.specs.Transaction.{Transaction}
 use Rattle.mp_versions.specs.Item.{items_of}
-use Rattle.mp_versions.specs.Inside.Pages.{flattened, joined, IsFilled, AreFilled}
+use Rattle.mp_versions.specs.Inside.Pages.{flattened, joined}
 use Rattle.mp_versions.specs.declared.item.Item.{Item}
 
 abbrev pub run_of : List Item → List (List (ℕ × Transaction)) → List (List (List (ℕ × Transaction))) → List (ℕ × Transaction)

@@ -25,7 +25,8 @@ pub struct Built {
 // Makes a page of the chunks.
 fn close_page(memory: Memory, built: &mut Built) -> Result<(), NoMemory>
     requires some { 0 < length built.old.chunks.items }
-    ensures built { (all : List (ℕ × Transaction)) → IsBuilt all built.old → OnOk result (IsBuilt all built.new) }
+    ensures built { (all : List (ℕ × Transaction)) → IsBuilt all built.old
+        → OnOk result (IsBuilt all built.new) }
     ensures chunks { OnOk result (built.new.chunks.items ≡ []) }
     ensures items { OnOk result (built.new.items ≡ built.old.items) }
 {
@@ -34,18 +35,43 @@ fn close_page(memory: Memory, built: &mut Built) -> Result<(), NoMemory>
     Ok(())
 }
 
-// Makes a chunk of the items.
-fn close_chunk(memory: Memory, built: &mut Built) -> Result<(), NoMemory>
-    requires some { 0 < length built.old.items.items }
-    ensures built { (all : List (ℕ × Transaction)) → IsBuilt all built.old → OnOk result (IsBuilt all built.new) }
-    ensures items { OnOk result (built.new.items.items ≡ []) }
-    ensures some { OnOk result (0 < length built.new.chunks.items) }
+// Makes room for one more chunk.
+fn make_chunk_room(memory: Memory, built: &mut Built) -> Result<(), NoMemory>
+    ensures built { (all : List (ℕ × Transaction)) → IsBuilt all built.old
+        → OnOk result (IsBuilt all built.new) }
+    ensures room { (all : List (ℕ × Transaction)) → IsBuilt all built.old
+        → OnOk result (length built.new.chunks.items < 64) }
+    ensures items { OnOk result (built.new.items ≡ built.old.items) }
 {
     if built.chunks.len() == MAX_CHUNKS {
         close_page(memory, built)?;
     }
+    Ok(())
+}
+
+// Makes a chunk of the items.
+fn close_chunk(memory: Memory, built: &mut Built) -> Result<(), NoMemory>
+    requires some { 0 < length built.old.items.items }
+    ensures built { (all : List (ℕ × Transaction)) → IsBuilt all built.old
+        → OnOk result (IsBuilt all built.new) }
+    ensures items { OnOk result (built.new.items.items ≡ []) }
+{
+    make_chunk_room(memory, built)?;
     let items = mem::replace(&mut built.items, Vec::new(memory));
     built.chunks.push(Chunk::of(memory, items)?)?;
+    Ok(())
+}
+
+// Makes room for one more item.
+fn make_item_room(memory: Memory, built: &mut Built) -> Result<(), NoMemory>
+    ensures built { (all : List (ℕ × Transaction)) → IsBuilt all built.old
+        → OnOk result (IsBuilt all built.new) }
+    ensures room { (all : List (ℕ × Transaction)) → IsBuilt all built.old
+        → OnOk result (length built.new.items.items < 64) }
+{
+    if built.items.len() == MAX_ITEMS {
+        close_chunk(memory, built)?;
+    }
     Ok(())
 }
 
@@ -54,10 +80,33 @@ fn put(memory: Memory, built: &mut Built, item: Item) -> Result<(), NoMemory>
     ensures { (all : List (ℕ × Transaction)) → IsBuilt all built.old
         → OnOk result (IsBuilt (all ++ item_of item ∷ []) built.new) }
 {
-    if built.items.len() == MAX_ITEMS {
+    make_item_room(memory, built)?;
+    built.items.push(item)?;
+    Ok(())
+}
+
+// Makes a chunk of the items, where there are some.
+fn close_items(memory: Memory, built: &mut Built) -> Result<(), NoMemory>
+    ensures built { (all : List (ℕ × Transaction)) → IsBuilt all built.old
+        → OnOk result (IsBuilt all built.new) }
+    ensures items { OnOk result (built.new.items.items ≡ []) }
+{
+    if !built.items.is_empty() {
         close_chunk(memory, built)?;
     }
-    built.items.push(item)?;
+    Ok(())
+}
+
+// Makes a page of the chunks, where there are some.
+fn close_chunks(memory: Memory, built: &mut Built) -> Result<(), NoMemory>
+    ensures built { (all : List (ℕ × Transaction)) → IsBuilt all built.old
+        → OnOk result (IsBuilt all built.new) }
+    ensures chunks { OnOk result (built.new.chunks.items ≡ []) }
+    ensures items { OnOk result (built.new.items ≡ built.old.items) }
+{
+    if !built.chunks.is_empty() {
+        close_page(memory, built)?;
+    }
     Ok(())
 }
 
@@ -68,12 +117,8 @@ fn finished(memory: Memory, mut built: Built) -> Result<Vec<Page, Memory>, NoMem
     ensures filled { (all : List (ℕ × Transaction)) → IsBuilt all built
         → IfOk result (λ pages. AreFilled pages.items) }
 {
-    if !built.items.is_empty() {
-        close_chunk(memory, &mut built)?;
-    }
-    if !built.chunks.is_empty() {
-        close_page(memory, &mut built)?;
-    }
+    close_items(memory, &mut built)?;
+    close_chunks(memory, &mut built)?;
     Ok(built.pages)
 }
 

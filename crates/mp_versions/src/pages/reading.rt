@@ -26,7 +26,8 @@ fn items_after(items: &[Item], ticket: u64) -> &[Item]
 fn chunks_after(chunks: &[Chunk], ticket: u64) -> (&[Item], &[Chunk])
     requires filled { All IsFilled chunks.now }
     requires rising { IsRising (flattened chunks.now) }
-    ensures all { items_of result.0.now ++ flattened result.1.now ≡ after (flattened chunks.now) ticket }
+    ensures all { items_of result.0.now ++ flattened result.1.now
+        ≡ after (flattened chunks.now) ticket }
     ensures filled { All IsFilled result.1.now }
 {
     let at = chunks.partition_point(|chunk| chunk.last_ticket() <= ticket);
@@ -67,8 +68,12 @@ pub(crate) fn find(pages: &[Page], ticket: u64) -> Option<&Item>
     ensures tx { option_map (λ i. (shown i).1) result ≡ item_at (joined pages.now) ticket }
     ensures ticket { ForSome result (λ i. i.now.ticket ≡ ticket) }
 {
-    let before = ticket.checked_sub(1)?;
-    let item = run_after(pages, before).next()?;
+    if ticket == 0 {
+        return None;
+    }
+    let Some(item) = run_after(pages, ticket - 1).next() else {
+        return None;
+    };
     if item.ticket == ticket {
         Some(item)
     } else {

@@ -1,0 +1,21 @@
+use Rattle.std.proofs.Common.{◌≡◌, ◌+◌, sym, ap, ◌∙◌, arith}
+use Rattle.mp_tickets.specs.Tickets.{among}
+use Rattle.mp_seqpool.specs.Prepared.{apart}
+use Rattle.mp_versions.specs.Reading.{bytes_of}
+use Rattle.mp_versions.specs.Inside.Pages.{joined}
+use Rattle.mp_versions.proofs.Gone.{bytes_parted, less_gone}
+use Rattle.mp_versions.proofs.version.take_out.Goals as goal
+
+pub overflow_sub-result : goal.overflow_sub-result
+overflow_sub-result c =
+    let all = bytes_parted c.args.tickets.now (joined c.args.pages.now) in
+    let bytes = c.requires.bytes in
+    let gone = c.bytes_among-gone.ensures in
+    omega (arith, all, bytes, gone)
+
+pub returns : goal.returns
+returns c = record {
+  all = c.in_ok-without.ensures.joined;
+  filled = c.in_ok-without.ensures.filled;
+  bytes = less_gone c.args.tickets.now (joined c.args.pages.now) c.args.bytes c.bytes_among-gone.result c.requires.bytes c.bytes_among-gone.ensures;
+}

@@ -1,0 +1,54 @@
+-- What a version keeps.
+use Rattle.std.specs.Prelude.{◌≡◌, ℕ, ◌≤◌, ◌^◌, List, [], length, All}
+use Rattle.mp_tx.specs.Transaction.{Transaction}
+use Rattle.mp_tickets.specs.Tickets.{IsRising}
+use Rattle.mp_resync.specs.Keep.{tickets}
+use Rattle.mp_seqpool.specs.declared.command.Reply.{Reply}
+use Rattle.mp_seqpool.specs.declared.command.Reply.TheVariants.{Accepted, Removed, Synced}
+use Rattle.mp_seqpool.specs.Pool.{Pool}
+use Rattle.mp_seqpool.specs.Prepared.{apart}
+use Rattle.mp_versions.specs.declared.version.Version.TheInside.{Inside}
+use Rattle.mp_versions.specs.declared.version.Rest.{Rest}
+use Rattle.mp_versions.specs.Version.{Version}
+use Rattle.mp_versions.specs.Reading.{bytes_of}
+use Rattle.mp_versions.specs.Inside.Pages.{chunks_of, joined, AreFilled}
+
+abbrev pub state : Inside → Pool
+state v = record {
+  ledger = v.ledger;
+  items = joined v.pages.items;
+  last = v.last;
+  changes = v.changes;
+  limit = v.config.limit;
+  opening_ticket = v.config.last;
+}
+
+abbrev pub version : Inside → Version
+version v = record { pool = state v; chunks = chunks_of v.pages.items }
+
+-- What is kept along the way is right, and pages and chunks are neither empty nor too long.
+pub record IsCounted (v : Inside) : Type 0 where
+  pub filled : AreFilled v.pages.items
+  -- tickets rise, and none is 0
+  pub rising : IsRising (joined v.pages.items)
+  -- no ticket is above the last one
+  pub given : All (λ k. k ≤ v.last) (tickets (joined v.pages.items))
+  pub count : v.count ≡ length (joined v.pages.items)
+  -- the bytes are those of all its transactions together
+  pub bytes : v.bytes ≡ bytes_of (joined v.pages.items)
+  -- no pool can hold more
+  pub most : v.bytes ≤ 2 ^ 40
+  -- no more changes were made than there may be
+  pub changes : v.changes ≤ v.config.limit
+
+-- the items that the reply leaves
+abbrev pub left_by : Reply → List (ℕ × Transaction) → List (ℕ × Transaction)
+left_by (Accepted ticket) items = items
+left_by (Removed named dropped) items = apart dropped (apart named items)
+left_by (Synced kept dropped) items = apart dropped items
+
+-- what is left of items that are these
+pub record IsRestOf (items : List (ℕ × Transaction)) (r : Rest) : Type 0 where
+  pub all : joined r.pages.items ≡ items
+  pub filled : AreFilled r.pages.items
+  pub bytes : r.bytes ≡ bytes_of items

@@ -1,0 +1,17 @@
+//! Pages that are shared as they are.
+
+ghost use Rattle.std.specs.Prelude.{◌≡◌, IfOk};
+
+use crate::page::Page;
+use mp_memory::{Memory, NoMemory};
+
+/// The same pages, each of them shared.
+pub(crate) fn share_all(memory: Memory, pages: &[Page]) -> Result<Vec<Page, Memory>, NoMemory>
+    ensures { IfOk result (λ all. all.items ≡ pages.now) }
+{
+    let mut all = Vec::with_capacity(memory, pages.len())?;
+    for page in pages {
+        all.push(page.share()?)?;
+    }
+    Ok(all)
+}

@@ -1,0 +1,283 @@
+//! States of a pool that stay as they are.
+ghost use Rattle.std.specs.Prelude.{◌≡◌, ◌==◌, ◌<◌, ◌≤◌, ◌^◌, length, is_some, option_map, All, IfOk};
+ghost use Rattle.std.specs.List.Sorted.{IsStrictlyIncreasing};
+ghost use Rattle.std.specs.Arc.{arc_value};
+ghost use Rattle.mp_tickets.specs.Tickets.{IsRising, after, item_at};
+ghost use Rattle.mp_resync.specs.Keep.{tickets};
+ghost use Rattle.mp_seqpool.specs.Config.{renewed};
+ghost use Rattle.mp_seqpool.specs.SlowPool.{HasPlace, bytes_held, pool_with, pool_upon, ticket_of};
+ghost use Rattle.mp_seqpool.specs.Prepared.{IsPrepared, apart, leads_to};
+ghost use Rattle.mp_versions.specs.Inside.Pages.{AreFilled, joined};
+ghost use Rattle.mp_versions.specs.Reading.{bytes_of, within};
+ghost use Rattle.mp_versions.specs.Inside.Version.{left_by, IsRestOf};
+
+use crate::item::Item;
+use crate::page::Page;
+use crate::pages::{
+    bytes_among, count_of, find, grown, of_pool, run_after, run_of, share_all, without,
+};
+use crate::run::{Run, RunWithin};
+use crate::searching::pages_have;
+use mp_memory::{Memory, NoMemory};
+use mp_seqpool::{Command, Config, Prepared, Reply, SeqPool};
+use mp_tx::{Ledger, Tx, TxId};
+use std::marker::Model;
+use std::sync::Arc;
+
+/// A state of the pool, which stays as it is. It shares nearly everything with the version that it
+/// was made from. Contracts see it as the slow pool's state and the chunks that make up its items.
+#[derive(Drop)]
+pub struct Version {
+    pub(crate) pages: Vec<Page, Memory>,
+    ledger: Ledger,
+    config: Config,
+    last: u64,
+    count: usize,
+    bytes: u64,
+    changes: u64,
+}
+
+impl Model for Version {
+    ghost use Rattle.std.specs.Coded.{codes};
+    ghost use Rattle.std.specs.FinMap as finite;
+    ghost use Rattle.mp_versions.specs.Version as told;
+    ghost use Rattle.mp_versions.specs.Inside.Version.{version, IsCounted};
+
+    ghost Value = { told.Version };
+
+    ghost coded = { Prim.hlevel (codes, finite.code) };
+
+    ghost view = { version };
+
+    ghost invariant = { IsCounted };
+}
+
+// What is left of a version's items.
+#[derive(Drop)]
+struct Rest {
+    pages: Vec<Page, Memory>,
+    bytes: u64,
+}
+
+// Takes out the items with these tickets. The bytes are those of all items together.
+fn take_out(memory: Memory, pages: &[Page], bytes: u64, tickets: &[u64]) -> Result<Rest, NoMemory>
+    requires filled { AreFilled pages.now }
+    requires rising { IsRising (joined pages.now) }
+    requires tickets { IsStrictlyIncreasing tickets.now }
+    requires bytes { bytes ≡ bytes_of (joined pages.now) }
+    requires most { bytes ≤ 2 ^ 40 }
+    ensures { IfOk result (λ rest. IsRestOf (apart tickets.now (joined pages.now)) rest) }
+{
+    let gone = bytes_among(pages, tickets);
+    Ok(Rest {
+        pages: without(memory, pages, tickets)?,
+        bytes: bytes - gone,
+    })
+}
+
+// What the reply to a remove or a sync leaves.
+fn rest_after(memory: Memory, pages: &[Page], bytes: u64, reply: &Reply) -> Result<Rest, NoMemory>
+    requires filled { AreFilled pages.now }
+    requires rising { IsRising (joined pages.now) }
+    requires bytes { bytes ≡ bytes_of (joined pages.now) }
+    requires most { bytes ≤ 2 ^ 40 }
+    ensures { IfOk result (λ rest. IsRestOf (left_by reply.now (joined pages.now)) rest) }
+{
+    match reply {
+        Reply::Accepted { .. } => take_out(memory, pages, bytes, &[]),
+        Reply::Synced { dropped, .. } => take_out(memory, pages, bytes, dropped.as_slice()),
+        Reply::Removed { named, dropped } => {
+            let rest = take_out(memory, pages, bytes, named.as_slice())?;
+            take_out(memory, &rest.pages, rest.bytes, dropped.as_slice())
+        }
+    }
+}
+
+// How many items the pages have: no more than the last ticket says.
+fn count_up_to(pages: &[Page], last: u64) -> usize
+    requires rising { IsRising (joined pages.now) }
+    requires given { All (λ k. k ≤ last) (tickets (joined pages.now)) }
+    ensures { result ≡ length (joined pages.now) }
+{
+    count_of(pages)
+}
+
+impl Version {
+    /// The version of the pool as it is.
+    pub fn of(memory: Memory, pool: &SeqPool) -> Result<Version, NoMemory>
+        ensures { IfOk result (λ v. v.pool ≡ pool.now.pool) }
+    {
+        // Its contract says that tickets rise.
+        let _ = pool.contents();
+        Ok(Version {
+            pages: of_pool(memory, pool)?,
+            ledger: pool.ledger().share()?,
+            config: pool.config(),
+            last: pool.last_ticket(),
+            count: pool.len(),
+            bytes: pool.bytes(),
+            changes: pool.changes(),
+        })
+    }
+
+    // The transaction last, under the next ticket.
+    fn with_tx(&self, memory: Memory, tx: &Arc<Tx, Memory>) -> Result<Version, NoMemory>
+        requires { HasPlace self.now.pool (arc_value tx.now) }
+        ensures { IfOk result (λ v. v.pool ≡ pool_with self.now.pool (arc_value tx.now)) }
+    {
+        let ticket = self.last + 1;
+        let bytes = self.bytes + tx.size();
+        let item = Item {
+            ticket,
+            tx: Arc::try_clone(tx)?,
+        };
+        Ok(Version {
+            pages: grown(memory, &self.pages, item)?,
+            ledger: self.ledger.share()?,
+            config: self.config,
+            last: ticket,
+            count: self.count + 1,
+            bytes,
+            changes: self.changes + 1,
+        })
+    }
+
+    // What the reply to a remove or a sync leaves, upon this ledger state.
+    fn upon(&self, memory: Memory, ledger: &Ledger, reply: &Reply) -> Result<Version, NoMemory>
+        requires { self.now.pool.changes < self.now.pool.limit }
+        ensures { IfOk result (λ v. v.pool
+            ≡ pool_upon self.now.pool ledger.now (left_by reply.now self.now.pool.items)) }
+    {
+        let rest = rest_after(memory, &self.pages, self.bytes, reply)?;
+        Ok(Version {
+            count: count_up_to(&rest.pages, self.last),
+            pages: rest.pages,
+            ledger: ledger.share()?,
+            config: self.config,
+            last: self.last,
+            bytes: rest.bytes,
+            changes: self.changes + 1,
+        })
+    }
+
+    /// The version of the pool as `SeqPool::finish` will leave it with this step, where this is the
+    /// version of the pool as it is. Of the items only those are made anew that stand beside what
+    /// comes or goes; all others are shared.
+    pub fn after(
+        &self,
+        memory: Memory,
+        pool: &SeqPool,
+        prepared: &Prepared,
+    ) -> Result<Version, NoMemory>
+        requires of { self.now.pool ≡ pool.now.pool }
+        requires prepared { IsPrepared pool.now prepared.now }
+        ensures { IfOk result (λ v. v.pool ≡ leads_to pool.now.pool prepared.now) }
+    {
+        let _ = pool;
+        match prepared.command() {
+            Command::Submit(tx) => self.with_tx(memory, tx),
+            Command::Remove(_) => self.upon(memory, &self.ledger, prepared.reply()),
+            Command::Sync(ledger) => self.upon(memory, ledger, prepared.reply()),
+        }
+    }
+
+    /// The version of the pool as `SeqPool::renew` leaves it: no change was made, and there may be so
+    /// many (1 to 2^32). All items are shared.
+    pub fn renewed(&self, memory: Memory, limit: u64) -> Result<Version, NoMemory>
+        requires least { 1 ≤ limit }
+        requires greatest { limit ≤ 2 ^ 32 }
+        ensures { IfOk result (λ v. v.pool ≡ renewed limit self.now.pool) }
+    {
+        Ok(Version {
+            pages: share_all(memory, &self.pages)?,
+            ledger: self.ledger.share()?,
+            config: Config {
+                limit,
+                last: self.last,
+            },
+            last: self.last,
+            count: self.count,
+            bytes: self.bytes,
+            changes: 0,
+        })
+    }
+
+    /// The transactions with their tickets, oldest first.
+    pub fn contents(&self) -> Run<'_>
+        ensures { result ≡ self.now.pool.items }
+    {
+        run_of(&self.pages)
+    }
+
+    /// Those with a greater ticket, oldest first.
+    pub fn after_ticket(&self, ticket: u64) -> Run<'_>
+        ensures { result ≡ after self.now.pool.items ticket }
+    {
+        run_after(&self.pages, ticket)
+    }
+
+    /// The transactions from the oldest on, as long as they fit into so many bytes together.
+    pub fn within(&self, bytes: u64) -> RunWithin<'_>
+        ensures { result ≡ within bytes self.now.pool.items }
+    {
+        run_of(&self.pages).within(bytes)
+    }
+
+    /// The transaction under the ticket.
+    pub fn lookup(&self, ticket: u64) -> Option<&Arc<Tx, Memory>>
+        ensures { option_map (λ tx. arc_value tx.now) result
+            ≡ item_at self.now.pool.items ticket }
+    {
+        Some(&find(&self.pages, ticket)?.tx)
+    }
+
+    /// Whether a transaction with this id is there. It is a walk over all.
+    pub fn has(&self, id: &TxId) -> bool
+        ensures { result ≡ is_some (ticket_of id.now self.now.pool.items) }
+    {
+        pages_have(&self.pages, id)
+    }
+
+    /// The adopted ledger state.
+    pub fn ledger(&self) -> &Ledger
+        ensures { result.now ≡ self.now.pool.ledger }
+    {
+        &self.ledger
+    }
+
+    /// The last ticket that was given.
+    pub fn last_ticket(&self) -> u64
+        ensures { result ≡ self.now.pool.last }
+    {
+        self.last
+    }
+
+    /// How many transactions there are.
+    pub fn len(&self) -> usize
+        ensures { result ≡ length self.now.pool.items }
+    {
+        self.count
+    }
+
+    /// Whether there is none.
+    pub fn is_empty(&self) -> bool
+        ensures { result ≡ (length self.now.pool.items == 0) }
+    {
+        self.count == 0
+    }
+
+    /// How many bytes the transactions have together, at most 2^40.
+    pub fn bytes(&self) -> u64
+        ensures bytes { result ≡ bytes_held self.now.pool }
+        ensures most { result ≤ 2 ^ 40 }
+    {
+        self.bytes
+    }
+
+    /// How many changes were made since the pool opened: the entries of its history.
+    pub fn number(&self) -> u64
+        ensures { result ≡ self.now.pool.changes }
+    {
+        self.changes
+    }
+}
