@@ -4,7 +4,7 @@ ghost use Rattle.mp_seqpool.specs.Prepared.{IsPrepared, leads_to};
 
 use mp_memory::{Memory, NoMemory};
 use mp_seqpool::{Config, Ids, Prepared, Refusal, SeqPool, Verifier};
-use mp_testing::{opening, transaction};
+use mp_testing::{ledger, opening, transaction};
 use mp_tx::{Key, Ledger, Sig, Tx, TxId};
 use mp_versions::Version;
 use std::sync::Arc;
@@ -14,6 +14,9 @@ pub const CONFIG: Config = Config {
     limit: 1_000_000,
     last: 0,
 };
+
+/// Block bytes of a ledger state with room for all that is submitted here.
+pub const ROOMY: u64 = 1_000_000;
 
 /// Accepts each signature.
 pub struct AcceptsAll;
@@ -115,4 +118,10 @@ pub fn with_openings(memory: Memory, both: Both, first: u16, end: u16) -> Result
         all = take(memory, submit(all, &tx)?)?;
     }
     Ok(all)
+}
+
+/// A pool with 129 transactions of 181 bytes each.
+pub fn of_129(memory: Memory) -> Result<Both, Fail> {
+    let both = start(memory, &ledger(memory, 130, ROOMY)?)?;
+    with_openings(memory, both, 0, 129)
 }

@@ -8,4 +8,6 @@ mod out_of_memory;
 #[cfg(test)]
 mod reading;
 #[cfg(test)]
+mod sharing;
+#[cfg(test)]
 mod told;

@@ -1,31 +1,17 @@
 //! What is read of versions that were made one from another, and where chunks and pages end.
-use crate::both::{AcceptsAll, Both, CONFIG, remove, start, take, whole, with_openings};
-use crate::told::{chunk_len, ends, ends_within};
+use crate::both::{AcceptsAll, Both, CONFIG, ROOMY, of_129, remove, take, whole, with_openings};
+use crate::told::{chunk_len, ends, ends_within, ids_under};
 use mp_memory::Memory;
-use mp_seqpool::{Ids, SeqPool};
+use mp_seqpool::SeqPool;
 use mp_testing::{ledger, opening, transaction};
-use mp_tx::TxId;
 use mp_versions::Version;
-use std::sync::Arc;
 use std::test::Fail;
-
-const ROOMY: u64 = 1_000_000;
-
-// The id of the transaction under the ticket, or zeros.
-fn id_under(version: &Version, ticket: u64) -> TxId {
-    match version.lookup(ticket) {
-        Some(tx) => *tx.id(),
-        None => [0; 32],
-    }
-}
 
 // 129 transactions of 181 bytes each, without those under the tickets 64 and 65.
 fn of_127(memory: Memory) -> Result<Both, Fail> {
-    let both = start(memory, &ledger(memory, 129, ROOMY)?)?;
-    let all = with_openings(memory, both, 0, 129)?;
-    let two = [id_under(&all.version, 64), id_under(&all.version, 65)];
-    let ids = Arc::new(memory, Ids::of(Vec::from_slice(memory, &two)?))?;
-    Ok(take(memory, remove(all, &ids)?)?)
+    let all = of_129(memory)?;
+    let two = ids_under(memory, &all.version, &[64, 65])?;
+    Ok(take(memory, remove(all, &two)?)?)
 }
 
 fn chunks_of(version: &Version) -> [usize; 4] {

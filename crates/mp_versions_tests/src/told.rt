@@ -1,5 +1,8 @@
 //! Versions, as far as the tests compare them.
+use mp_memory::{Memory, NoMemory};
+use mp_seqpool::Ids;
 use mp_versions::{Run, RunWithin, Version, laws};
+use std::sync::Arc;
 
 /// How many items there are, their bytes, the last ticket, the number, the ledger state's block bytes, and the tickets as the
 /// digits of a number: 1 and 2 are 12, and 0 is none.
@@ -57,4 +60,19 @@ pub fn chunk_len(version: &Version, place: usize) -> usize {
         Some(items) => items.len(),
         None => 0,
     }
+}
+
+/// The ids of the transactions under these tickets. A ticket with no transaction gives none.
+pub fn ids_under(
+    memory: Memory,
+    version: &Version,
+    tickets: &[u64],
+) -> Result<Arc<Ids, Memory>, NoMemory> {
+    let mut ids = Vec::new(memory);
+    for ticket in tickets {
+        if let Some(tx) = version.lookup(*ticket) {
+            ids.push(*tx.id())?;
+        }
+    }
+    Ok(Arc::new(memory, Ids::of(ids))?)
 }
