@@ -220,7 +220,7 @@ impl Version {
     pub fn within(&self, bytes: u64) -> RunWithin<'_>
         ensures { result ≡ within bytes self.now.pool.items }
     {
-        run_of(&self.pages).within(bytes)
+        self.contents().within(bytes)
     }
 
     /// The transaction under the ticket.
@@ -263,7 +263,7 @@ impl Version {
     pub fn is_empty(&self) -> bool
         ensures { result ≡ (length self.now.pool.items == 0) }
     {
-        self.count == 0
+        self.len() == 0
     }
 
     /// How many bytes the transactions have together, at most 2^40.
