@@ -3,10 +3,8 @@ use Rattle.std.proofs.Common.{◌≡◌, ℕ, zero, suc, ◌+◌, ◌-◌, ◌<�
 use Rattle.std.specs.Prelude.{◌==◌, ◌||◌, nat_lt, slice_get}
 use Rattle.std.specs.List.{AllByRecursion}
 use Rattle.std.proofs.lemmas.Bool.{eq-eqb, ne_eqb, eqb-false, ltb-true, ltb-false, cases_eq}
-use Rattle.std.proofs.lemmas.List.Sums.{sum_by-cons}
 use Rattle.mp_tx.specs.Transaction.{Transaction}
 use Rattle.mp_tx.specs.Spelling.{size_of}
-use Rattle.mp_resync.specs.Keep.{transactions}
 use Rattle.mp_tickets.specs.Tickets.{IsRisingFrom, IsRising, has_ticket, item_at, after, among}
 use Rattle.mp_tickets.proofs.Rising.{not_after, item_at-none}
 use Rattle.mp_versions.specs.Reading.{bytes_of}
@@ -14,6 +12,7 @@ use Rattle.mp_versions.specs.Inside.Pages.{size_in}
 use mathlib.Core.Logic.{◌⊎◌}
 use Rattle.mp_versions.proofs.Ascents.{Ascends}
 use Rattle.mp_versions.proofs.Blocks.{above}
+use Rattle.mp_versions.proofs.Withins.{more_bytes}
 
 -- the first item, where its ticket is this one
 abbrev pub first_under : ℕ → List (ℕ × Transaction) → Option Transaction
@@ -48,9 +47,6 @@ found low t (x ∷ xs) p r = found_step (nat_lt (t - 1) x.0) t x xs refl p r.1 (
 
 pub no_bytes : bytes_of [] ≡ 0
 no_bytes = refl
-
-more_bytes : (i : ℕ × Transaction) (is : List (ℕ × Transaction)) → bytes_of (i ∷ is) ≡ size_of i.1 + bytes_of is
-more_bytes i is = sum_by-cons size_of i.1 (transactions is)
 
 less_step : (c : Bool) (x : ℕ × Transaction) (ys xs : List (ℕ × Transaction)) → bytes_of ys ≤ bytes_of xs → bytes_of (cond c (x ∷ ys) ys) ≤ bytes_of (x ∷ xs)
 less_step true x ys xs h = let m = more_bytes x ys in let n = more_bytes x xs in omega arith

@@ -15,11 +15,6 @@ use Rattle.mp_versions.proofs.Parts.{flattened-push, joined-push}
 use Rattle.mp_versions.proofs.Blocks.{apart-append}
 
 -- the element at the index, and those behind it
-pub here_on : {X : Type 0} (xs : List X) (i : ℕ) (x : X) → i < length xs → x ≡ get_or xs i x → drop i xs ≡ x ∷ drop (suc i) xs
-here_on xs i x l e =
-    let n : i + 1 ≡ suc i = omega arith in
-    drop_more xs i x l ∙ ap (λ k. get_or xs i x ∷ drop k xs) n ∙ ap (λ y. y ∷ drop (suc i) xs) (sym e)
-
 pub here_at : {X : Type 0} (xs : List X) (i : ℕ) (x : X) → i < length xs → x ≡ get_or xs i x → drop i xs ≡ x ∷ drop (i + 1) xs
 here_at xs i x l e = drop_more xs i x l ∙ ap (λ y. y ∷ drop (i + 1) xs) (sym e)
 
@@ -27,13 +22,13 @@ here_at xs i x l e = drop_more xs i x l ∙ ap (λ y. y ∷ drop (i + 1) xs) (sy
 pub up_to : {X : Type 0} (xs : List X) (i : ℕ) (x : X) → i < length xs → x ≡ get_or xs i x → take (i + 1) xs ≡ take i xs ++ x ∷ []
 up_to xs i x l e = take_more xs i x l ∙ ap (λ y. take i xs ++ y ∷ []) (sym e)
 
-kept_step : (c : Bool) (n m : ℕ) (x : ℕ × Transaction) (is : List (ℕ × Transaction)) → length is ≤ n → length (cond c (x ∷ is) is) ≤ suc n
-kept_step true n m x is h = let more : length (x ∷ is) ≡ suc (length is) = refl in omega arith
-kept_step false n m x is h = omega arith
+kept_step : (c : Bool) (n : ℕ) (x : ℕ × Transaction) (is : List (ℕ × Transaction)) → length is ≤ n → length (cond c (x ∷ is) is) ≤ suc n
+kept_step true n x is h = let more : length (x ∷ is) ≡ suc (length is) = refl in omega arith
+kept_step false n x is h = omega arith
 
 fewer : (ts : List ℕ) (is : List (ℕ × Transaction)) → length (apart ts is) ≤ length is
 fewer ts [] = omega arith
-fewer ts (i ∷ is) = kept_step (not (has_ticket ts i.0)) (length is) 0 i (apart ts is) (fewer ts is)
+fewer ts (i ∷ is) = kept_step (not (has_ticket ts i.0)) (length is) i (apart ts is) (fewer ts is)
 
 pub no_longer : (ts : List ℕ) (vs is : List Item) → items_of vs ≡ apart ts (items_of is) → length vs ≤ length is
 no_longer ts vs is e =

@@ -1,5 +1,5 @@
 -- What a binary search of blocks by their last tickets finds.
-use Rattle.std.proofs.Common.{◌≡◌, ℕ, zero, suc, ◌-◌, ◌≤◌, true, false, List, [], ◌∷◌, length, take, drop, refl, sym, ap, ◌∙◌, subst, arith}
+use Rattle.std.proofs.Common.{◌≡◌, ℕ, zero, suc, ◌+◌, ◌-◌, ◌≤◌, true, false, List, [], ◌∷◌, length, take, drop, refl, sym, ap, ◌∙◌, subst, arith}
 use Rattle.std.specs.Prelude.{nat_le}
 use Rattle.std.specs.List.{All, AllByRecursion, flat_map}
 use Rattle.std.specs.List.Sorted.{IsPartitionPoint}
@@ -29,8 +29,8 @@ module _ {B : Type 0} (items : B → List (ℕ × Transaction)) (last : B → �
   pub rising_there : (low : ℕ) (bs : List B) (i : ℕ) (b : B) (rest : List B) → IsRisingFrom low (flat_map items bs) → take (length bs - i) (drop i bs) ≡ b ∷ rest → IsRising (items b)
   rising_there low bs i b rest r e = rising_at low bs i b rest r (sym (take_rest bs i) ∙ e)
 
-  pub rising_item : (low : ℕ) (bs : List B) (i : ℕ) (b : B) → IsRisingFrom low (flat_map items bs) → drop i bs ≡ b ∷ drop (suc i) bs → IsRising (items b)
-  rising_item low bs i b r e = rising_at low bs i b (drop (suc i) bs) r e
+  pub rising_item : (low : ℕ) (bs : List B) (i : ℕ) (b : B) → IsRisingFrom low (flat_map items bs) → drop i bs ≡ b ∷ drop (i + 1) bs → IsRising (items b)
+  rising_item low bs i b r e = rising_at low bs i b (drop (i + 1) bs) r e
 
 module _ {B : Type 0} (P : B → Type 0) where
   pub first_is : (bs : List B) (i : ℕ) (b : B) (rest : List B) → All P bs → take (length bs - i) (drop i bs) ≡ b ∷ rest → P b

@@ -1,16 +1,15 @@
 -- The longest beginning within a number of bytes.
-use Rattle.std.proofs.Common.{◌≡◌, ℕ, suc, ◌+◌, ◌-◌, ◌≤◌, Bool, true, false, cond, List, [], ◌∷◌, ◌++◌, length, refl, ap, arith}
+use Rattle.std.proofs.Common.{◌≡◌, ℕ, suc, ◌+◌, ◌-◌, ◌≤◌, Bool, true, false, cond, List, [], ◌∷◌, ◌++◌, length, get_or, drop, refl, ap, arith}
 use Rattle.std.specs.Prelude.{nat_le}
 use Rattle.mp_tx.specs.Transaction.{Transaction}
 use Rattle.mp_tx.specs.Spelling.{size_of}
 use Rattle.mp_versions.specs.Reading.{within, bytes_of, IsLongestWithin}
-use Rattle.std.proofs.Common.{get_or, drop}
 use Rattle.std.proofs.lemmas.Bool.{leb-true, le-leb}
 use Rattle.std.proofs.lemmas.List.Sums.{sum_by-cons}
 use Rattle.mp_resync.specs.Keep.{transactions}
 use mathlib.Core.List.{IsPrefix}
 
-more_bytes : (i : ℕ × Transaction) (is : List (ℕ × Transaction)) → bytes_of (i ∷ is) ≡ size_of i.1 + bytes_of is
+pub more_bytes : (i : ℕ × Transaction) (is : List (ℕ × Transaction)) → bytes_of (i ∷ is) ≡ size_of i.1 + bytes_of is
 more_bytes i is = sum_by-cons size_of i.1 (transactions is)
 
 begins_step : (c : Bool) (i : ℕ × Transaction) (is ws : List (ℕ × Transaction)) → IsPrefix ws is → IsPrefix (cond c (i ∷ ws) []) (i ∷ is)

@@ -5,7 +5,7 @@ use Rattle.std.proofs.lemmas.List.Elements.{All-from_recursion}
 use Rattle.std.proofs.lemmas.List.Sorted.{IsPartitionedBy-ltb, IsPartitionPoint-from_clause}
 use Rattle.mp_versions.proofs.Parts.{passes}
 use Rattle.mp_versions.proofs.Ascents.{ascends, falls_not, BeginsAbove, outside}
-use Rattle.mp_versions.proofs.Leaving.{here_on}
+use Rattle.mp_versions.proofs.Leaving.{here_at}
 use Rattle.mp_versions.proofs.pages.removal.any_within.Goals as goal
 
 pub returns-in-Some : goal.returns-in-Some
@@ -17,7 +17,7 @@ returns-in-Some c =
     OnFalse_from (leb c.in-Some.ticket.now c.args.last) _
     (λ f. All-from_recursion (λ t. c.args.first ≤ t → t ≤ c.args.last → ⊥) ts
     (outside c.args.first c.args.last ts at (ascends ts c.requires) (passes (λ t. ltb t c.args.first) ts at c.partition_point-at.ensures.bound p.0)
-    (subst (BeginsAbove c.args.last) (sym (here_on ts at c.in-Some.ticket.now (ltb-true at (length ts) (sym c.in-Some.ensures.lookup.0)) c.in-Some.ensures.lookup.1)) (leb-false c.in-Some.ticket.now c.args.last f))))
+    (subst (BeginsAbove c.args.last) (sym (here_at ts at c.in-Some.ticket.now (ltb-true at (length ts) (sym c.in-Some.ensures.lookup.0)) c.in-Some.ensures.lookup.1)) (leb-false c.in-Some.ticket.now c.args.last f))))
 
 pub returns-in-None : goal.returns-in-None
 returns-in-None c =

@@ -1,13 +1,13 @@
 use Rattle.std.proofs.Common.{take}
 use Rattle.mp_versions.specs.Inside.Pages.{last_ticket}
 use Rattle.mp_versions.proofs.Parting.{rising_item}
-use Rattle.mp_versions.proofs.Leaving.{here_on, KeepsChunks, chunks_kept}
+use Rattle.mp_versions.proofs.Leaving.{here_at, KeepsChunks, chunks_kept}
 use Rattle.mp_versions.proofs.pages.removal.left_chunks.Goals as goal
 
 pub left_chunk-requires-clause-rising : goal.left_chunk-requires-clause-rising
 left_chunk-requires-clause-rising c =
     rising_item (λ l. l) last_ticket 0 c.args.chunks.now c.loop-chunk.chunk-index c.chunk-item.result c.requires.rising
-    (here_on c.args.chunks.now c.loop-chunk.chunk-index c.chunk-item.result c.loop-chunk-test.true c.chunk-item.is)
+    (here_at c.args.chunks.now c.loop-chunk.chunk-index c.chunk-item.result c.loop-chunk-test.true c.chunk-item.is)
 
 pub loop-chunk-preserved : goal.loop-chunk-preserved
 loop-chunk-preserved c =

@@ -3,13 +3,13 @@ use Rattle.mp_tickets.specs.Tickets.{IsRising}
 use Rattle.mp_versions.specs.Inside.Pages.{flattened, last_by, last_ticket}
 use Rattle.mp_versions.proofs.Parts.{flat_flat}
 use Rattle.mp_versions.proofs.Parting.{rising_item}
-use Rattle.mp_versions.proofs.Leaving.{here_on, pages_kept}
+use Rattle.mp_versions.proofs.Leaving.{here_at, pages_kept}
 use Rattle.mp_versions.proofs.pages.removal.without.Goals as goal
 
 pub left_page-requires-clause-rising : goal.left_page-requires-clause-rising
 left_page-requires-clause-rising c =
     rising_item (λ l. flattened l) (last_by last_ticket 0) 0 c.args.pages.now c.loop-page.page-index c.page-item.result (subst IsRising (flat_flat c.args.pages.now) c.requires.rising)
-    (here_on c.args.pages.now c.loop-page.page-index c.page-item.result c.loop-page-test.true c.page-item.is)
+    (here_at c.args.pages.now c.loop-page.page-index c.page-item.result c.loop-page-test.true c.page-item.is)
 
 pub loop-page-preserved : goal.loop-page-preserved
 loop-page-preserved c =
