@@ -1,7 +1,7 @@
 -- What a measurement is called.
 use Rattle.std.specs.Prelude.{ℕ, List, codes}
 use Rattle.mp_bench.specs.declared.measurement.Measurement.{Measurement}
-use Rattle.mp_bench.specs.declared.measurement.Measurement.TheVariants.{TicketPush, TicketGet, TicketUnlink, TicketIterate, Decode181, Digests181, Decode431, Digests431, Decode642, Digests642, Encode181, OfParts181, LedgerHit, LedgerMiss, Check181, Check277, Check281, OverlayApply, PoolSubmit, PoolChain10, PoolChain1000, PoolRemove, PoolSyncAll, PoolSyncHalf}
+use Rattle.mp_bench.specs.declared.measurement.Measurement.TheVariants.{TicketPush, TicketGet, TicketUnlink, TicketIterate, Decode181, Digests181, Decode431, Digests431, Decode642, Digests642, Encode181, OfParts181, LedgerHit, LedgerMiss, Check181, Check277, Check281, OverlayApply, PoolSubmit, PoolChain10, PoolChain1000, PoolRemove, PoolSyncAll, PoolSyncHalf, VersionSubmit, VersionRemove, VersionLookup, VersionAfter, VersionHas}
 
 abbrev pub name_of : Measurement → List ℕ
 name_of TicketPush = codes "ticket-push"
@@ -28,3 +28,8 @@ name_of PoolChain1000 = codes "pool-chain-1000"
 name_of PoolRemove = codes "pool-remove"
 name_of PoolSyncAll = codes "pool-sync-all"
 name_of PoolSyncHalf = codes "pool-sync-half"
+name_of VersionSubmit = codes "version-submit"
+name_of VersionRemove = codes "version-remove"
+name_of VersionLookup = codes "version-lookup"
+name_of VersionAfter = codes "version-after"
+name_of VersionHas = codes "version-has"

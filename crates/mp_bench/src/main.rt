@@ -10,6 +10,7 @@ mod rules;
 mod ticket_list;
 mod timing;
 mod transaction;
+mod version;
 
 use anyhow::{Result, bail};
 use measurement::{Measurement, SIZES};

@@ -56,11 +56,21 @@ pub enum Measurement {
     PoolSyncAll,
     /// The same, where every other one isn't valid.
     PoolSyncHalf,
+    /// A version is made that stands after a submit to a pool with so many, and dropped.
+    VersionSubmit,
+    /// The same after a remove of one in the middle.
+    VersionRemove,
+    /// A transaction is looked up in a version by its ticket, in no order.
+    VersionLookup,
+    /// The last ten of so many are gone over.
+    VersionAfter,
+    /// An id is looked for that none of so many has: what it takes for each of them.
+    VersionHas,
 }
 
 impl Measurement {
     /// Each of them, in the order in which they are taken.
-    pub const ALL: [Measurement; 24] = [
+    pub const ALL: [Measurement; 29] = [
         Measurement::TicketPush,
         Measurement::TicketGet,
         Measurement::TicketUnlink,
@@ -85,6 +95,11 @@ impl Measurement {
         Measurement::PoolRemove,
         Measurement::PoolSyncAll,
         Measurement::PoolSyncHalf,
+        Measurement::VersionSubmit,
+        Measurement::VersionRemove,
+        Measurement::VersionLookup,
+        Measurement::VersionAfter,
+        Measurement::VersionHas,
     ];
 }
 
@@ -120,6 +135,11 @@ impl fmt::Display for Measurement {
             Measurement::PoolRemove => "pool-remove",
             Measurement::PoolSyncAll => "pool-sync-all",
             Measurement::PoolSyncHalf => "pool-sync-half",
+            Measurement::VersionSubmit => "version-submit",
+            Measurement::VersionRemove => "version-remove",
+            Measurement::VersionLookup => "version-lookup",
+            Measurement::VersionAfter => "version-after",
+            Measurement::VersionHas => "version-has",
         })
     }
 }

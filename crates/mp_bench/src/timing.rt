@@ -3,7 +3,7 @@
 use crate::measurement::Measurement;
 use crate::rules::Kind;
 use crate::transaction::{self, Sample};
-use crate::{ledger, pool, resync, rules, ticket_list};
+use crate::{ledger, pool, resync, rules, ticket_list, version};
 use anyhow::Result;
 use mp_memory::Memory;
 use std::fmt;
@@ -55,6 +55,11 @@ fn round(
         Measurement::PoolRemove => resync::remove_first(clock, memory, size),
         Measurement::PoolSyncAll => resync::sync(clock, memory, 1, size),
         Measurement::PoolSyncHalf => resync::sync(clock, memory, 2, size),
+        Measurement::VersionSubmit => version::after_submit(clock, memory, size),
+        Measurement::VersionRemove => version::after_remove(clock, memory, size),
+        Measurement::VersionLookup => version::look_up(clock, memory, size),
+        Measurement::VersionAfter => version::read_last(clock, memory, size),
+        Measurement::VersionHas => version::search(clock, memory, size),
     }
 }
 
