@@ -69,7 +69,7 @@ fn first_of<'a>(chunks: &'a [Chunk], pages: &'a [Page]) -> (&'a [Item], &'a [Chu
 }
 
 impl<'a> Run<'a> {
-    // These items, the items of these chunks, and those of these pages.
+    /// These items, the items of these chunks, and those of these pages.
     pub(crate) fn of(items: &'a [Item], chunks: &'a [Chunk], pages: &'a [Page]) -> Run<'a>
         requires chunks { All IsFilled chunks.now }
         requires pages { AreFilled pages.now }
