@@ -1,5 +1,5 @@
 //! A chunk that a step leaves as it is is shared: its transactions get no further owner.
-use crate::both::{Ready, next, of_129, remove, submit, sync, take};
+use crate::both::{Ready, next, of_129, remove, submit, sync};
 use crate::told::ids_under;
 use mp_memory::Memory;
 use mp_testing::{ledger, opening, transaction};
@@ -41,21 +41,41 @@ fn made_anew(memory: Memory, ready: &Ready) -> Result<[bool; 3], Fail> {
     Ok(are_made_anew(&ready.version, before))
 }
 
-// The chunks of 129 have 64, 64 and 1 transactions. The sync has outputs for those up to ticket 100.
+fn after_submit(memory: Memory) -> Result<[bool; 3], Fail> {
+    let tx = transaction(memory, &[opening(129)], &[100])?;
+    let ready = submit(of_129(memory)?, &tx)?;
+    made_anew(memory, &ready)
+}
+
+fn after_remove(memory: Memory) -> Result<[bool; 3], Fail> {
+    let both = of_129(memory)?;
+    let one = ids_under(memory, &both.version, &[70])?;
+    let ready = remove(both, &one)?;
+    made_anew(memory, &ready)
+}
+
+// A sync that has outputs for those up to ticket 100.
+fn after_sync(memory: Memory) -> Result<[bool; 3], Fail> {
+    let ledger = ledger(memory, 100, 500_000)?;
+    let ready = sync(of_129(memory)?, &ledger)?;
+    made_anew(memory, &ready)
+}
+
+// Whether the renewed version shares all.
+fn is_renewed_shared(memory: Memory) -> Result<bool, Fail> {
+    let both = of_129(memory)?;
+    let before = owners_of_three(&both.version);
+    let _renewed = both.version.renewed(memory, 9)?;
+    Ok(owners_of_three(&both.version) == before)
+}
+
+// The chunks of 129 have 64, 64 and 1 transactions.
 #[test]
 fn what_a_step_leaves_is_shared(rt: HostRuntime) -> Result<(), Fail> {
     let memory = Memory::new(rt.alloc())?;
-    let tx = transaction(memory, &[opening(129)], &[100])?;
-    let ready = submit(of_129(memory)?, &tx)?;
-    assert_eq!(rt; made_anew(memory, &ready)?, [false, false, true]);
-    let both = take(memory, ready)?;
-    let before = owners_of_three(&both.version);
-    let _renewed = both.version.renewed(memory, 9)?;
-    assert_eq!(rt; owners_of_three(&both.version), before);
-    let one = ids_under(memory, &both.version, &[70])?;
-    let ready = remove(both, &one)?;
-    assert_eq!(rt; made_anew(memory, &ready)?, [false, true, false]);
-    let ready = sync(take(memory, ready)?, &ledger(memory, 100, 500_000)?)?;
-    assert_eq!(rt; made_anew(memory, &ready)?, [false, true, false]);
+    assert_eq!(rt; after_submit(memory)?, [false, false, true]);
+    assert_eq!(rt; after_remove(memory)?, [false, true, false]);
+    assert_eq!(rt; after_sync(memory)?, [false, true, false]);
+    assert!(rt; is_renewed_shared(memory)?);
     Ok(())
 }
