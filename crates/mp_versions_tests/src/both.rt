@@ -1,12 +1,14 @@
 //! Pools, each with the version of it.
-ghost use Rattle.std.specs.Prelude.{◌≡◌, true, IfOk};
-ghost use Rattle.mp_seqpool.specs.Prepared.{IsPrepared, leads_to};
+ghost use Rattle.std.specs.Prelude.{◌≡◌, true};
+ghost use Rattle.std.specs.Coded.{codes};
+ghost use Rattle.std.specs.FinMap as finite;
 
 use mp_memory::{Memory, NoMemory};
 use mp_seqpool::{Config, Ids, Prepared, Refusal, SeqPool, Verifier};
 use mp_testing::{ledger, opening, transaction};
 use mp_tx::{Key, Ledger, Sig, Tx, TxId};
 use mp_versions::Version;
+use std::marker::Model;
 use std::sync::Arc;
 use std::test::Fail;
 
@@ -34,17 +36,31 @@ impl Verifier for AcceptsAll {
 pub struct Both {
     pub pool: SeqPool,
     pub version: Version,
-    ghost same: { version.pool ≡ pool.pool },
+    ghost same: { version.pool ≡ pool.pool } by { Prim.hlevel (codes, finite.code) },
 }
 
-/// The same, and a step that the pool can take.
+/// A pool, the version of it, and a step that the pool can take. Contracts see the pool's state.
 #[derive(Drop)]
 pub struct Ready {
     pub pool: SeqPool,
     pub version: Version,
     pub prepared: Prepared,
-    ghost same: { version.pool ≡ pool.pool },
-    ghost can: { IsPrepared pool prepared },
+}
+
+impl Model for Ready {
+    ghost use Rattle.std.specs.Prelude.{◌≡◌};
+    ghost use Rattle.std.specs.Coded.{codes};
+    ghost use Rattle.std.specs.FinMap as finite;
+    ghost use Rattle.mp_seqpool.specs.Pool.{Pool};
+    ghost use Rattle.mp_seqpool.specs.Prepared.{IsPrepared};
+
+    ghost Value = { Pool };
+
+    ghost coded = { Prim.hlevel (codes, finite.code) };
+
+    ghost view = { λ r. r.pool.pool };
+
+    ghost invariant = { λ r. (r.version.pool ≡ r.pool.pool) × IsPrepared r.pool r.prepared };
 }
 
 /// A pool with no transaction.
@@ -92,20 +108,18 @@ pub fn sync(both: Both, ledger: &Ledger) -> Result<Ready, Refusal> {
 }
 
 /// The version after the step.
-pub fn next(memory: Memory, ready: &Ready) -> Result<Version, NoMemory>
-    ensures { IfOk result (λ v. v.pool ≡ leads_to ready.now.pool.pool ready.now.prepared) }
-{
+pub fn next(memory: Memory, ready: &Ready) -> Result<Version, NoMemory> {
     ready.version.after(memory, &ready.pool, &ready.prepared)
 }
 
 /// Takes the step. The version is made from the one before.
 pub fn take(memory: Memory, ready: Ready) -> Result<Both, NoMemory> {
-    let version = next(memory, &ready)?;
     let Ready {
         mut pool,
-        version: _,
+        version,
         prepared,
     } = ready;
+    let version = version.after(memory, &pool, &prepared)?;
     pool.finish(prepared);
     Ok(Both { pool, version })
 }

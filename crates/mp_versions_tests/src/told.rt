@@ -16,6 +16,7 @@ fn digits(run: Run<'_>) -> u64 {
     digits
 }
 
+/// What is compared of the version.
 pub fn look_at(version: &Version) -> Standing {
     [
         version.len() as u64,
@@ -38,6 +39,7 @@ fn with_ticket(ends: Ends, ticket: u64) -> Ends {
     (count.saturating_add(1), first, ticket)
 }
 
+/// The ends of a run.
 pub fn ends(run: Run<'_>) -> Ends {
     let mut ends = (0, 0, 0);
     for item in run {
@@ -46,6 +48,7 @@ pub fn ends(run: Run<'_>) -> Ends {
     ends
 }
 
+/// The ends of a run within a number of bytes.
 pub fn ends_within(run: RunWithin<'_>) -> Ends {
     let mut ends = (0, 0, 0);
     for item in run {
