@@ -96,12 +96,16 @@ fn on_a_board<N: PoolName + Send + Sync, R: Threads + Wait + Abort + Sync>(
     read_while_shown(rt, &board, shown)
 }
 
-// Showing under each refused growth: the version comes back and the board shows nothing, and then it shows the version.
+// A board is refused where its first growth is. Showing under each refused growth: the version comes back and the board shows
+// nothing, and then it shows the version.
 fn refuse_each<N: PoolName, R: Wait + Abort>(
     rt: &R,
     memory: Memory,
     shown: &Shown<N>,
 ) -> Result<(), Fail> {
+    memory.refuse(1);
+    assert!(rt; Board::<N>::new(memory).is_err());
+    assert!(rt; !memory.waits());
     let done = under_each_refusal(
         &memory,
         || Board::<N>::new(memory).ok(),
