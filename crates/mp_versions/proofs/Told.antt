@@ -1,14 +1,11 @@
 -- What a prepared step says of the pool, read off its command and its reply.
-use Rattle.std.proofs.Common.{◌≡◌, ℕ, ◌+◌, ◌≤◌, ◌^◌, List, [], ◌∷◌, ◌++◌, refl, sym, ap, subst, ◌∙◌, arith}
-use Rattle.std.specs.Prelude.{sum_by}
-use Rattle.std.proofs.lemmas.List.{map-append}
+use Rattle.std.proofs.Common.{◌≡◌, ℕ, ◌+◌, ◌≤◌, ◌^◌, List, refl, sym, ap, subst, ◌∙◌, arith}
 use Rattle.mp_tx.specs.Transaction.{Transaction}
 use Rattle.mp_tx.specs.Spelling.{size_of}
 use Rattle.mp_tx.specs.Ledger.{LedgerState}
-use Rattle.mp_resync.specs.Keep.{transactions}
 use Rattle.mp_seqpool.specs.declared.command.Reply.{Reply}
 use Rattle.mp_seqpool.specs.declared.command.Reply.TheVariants.{Accepted, Removed, Synced}
-use Rattle.mp_seqpool.specs.Command.{Command, Submit, Remove, Sync}
+use Rattle.mp_seqpool.specs.Command.{Submit, Remove, Sync}
 use Rattle.mp_seqpool.specs.Pool.{Pool, Holding}
 use Rattle.mp_seqpool.specs.SlowPool.{HasPlace, bytes_held, pool_with, pool_upon}
 use Rattle.mp_seqpool.specs.Prepared.{Prepared, Change, Append, Keep, changed, leads_to, told, CanChange, IsPrepared}

@@ -1,6 +1,5 @@
-use Rattle.std.proofs.Common.{◌≡◌, ◌≤◌, List, length, ap, sym, subst, ◌∙◌}
+use Rattle.std.proofs.Common.{◌≤◌, length, subst}
 use Rattle.std.specs.List.{All}
-use Rattle.std.specs.Prelude.{slice_get}
 use Rattle.mp_versions.specs.Version.{Version}
 use Rattle.mp_versions.specs.Inside.Pages.{chunks_of}
 use Rattle.mp_versions.proofs.Chunks.{all_chunks, all_least, all_most}

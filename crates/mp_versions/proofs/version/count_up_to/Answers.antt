@@ -1,4 +1,4 @@
-use Rattle.std.proofs.Common.{◌≤◌, arith}
+use Rattle.std.proofs.Common.{arith}
 use Rattle.mp_versions.specs.Inside.Pages.{joined}
 use Rattle.mp_versions.proofs.Gone.{count_within}
 use Rattle.mp_versions.proofs.version.count_up_to.Goals as goal

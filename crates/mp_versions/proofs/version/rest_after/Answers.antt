@@ -1,7 +1,5 @@
-use Rattle.std.proofs.Common.{◌≡◌, sym, ap, subst, ◌∙◌, arith}
-use Rattle.std.specs.Prelude.{List, IfOk}
-use Rattle.mp_tickets.specs.Tickets.{IsRising}
-use Rattle.mp_seqpool.specs.Prepared.{apart}
+use Rattle.std.proofs.Common.{subst, arith}
+use Rattle.std.specs.Prelude.{IfOk}
 use Rattle.mp_versions.specs.Inside.Pages.{joined}
 use Rattle.mp_versions.specs.Inside.Version.{IsRestOf}
 use Rattle.mp_versions.specs.declared.version.Rest.{Rest}

@@ -1,7 +1,4 @@
-use Rattle.std.proofs.Common.{◌≡◌, ◌+◌, sym, ap, ◌∙◌, arith}
-use Rattle.mp_tickets.specs.Tickets.{among}
-use Rattle.mp_seqpool.specs.Prepared.{apart}
-use Rattle.mp_versions.specs.Reading.{bytes_of}
+use Rattle.std.proofs.Common.{arith}
 use Rattle.mp_versions.specs.Inside.Pages.{joined}
 use Rattle.mp_versions.proofs.Gone.{bytes_parted, less_gone}
 use Rattle.mp_versions.proofs.version.take_out.Goals as goal

@@ -1,6 +1,5 @@
-use Rattle.std.proofs.Common.{◌≡◌, ◌+◌, ◌≤◌, List, take, length, sym, ap, subst, ◌∙◌, arith}
-use Rattle.mp_versions.specs.Inside.Pages.{flattened, joined}
-use Rattle.mp_versions.specs.declared.page.Page.{Page}
+use Rattle.std.proofs.Common.{length, ap, arith}
+use Rattle.mp_versions.specs.Inside.Pages.{flattened}
 use Rattle.mp_versions.proofs.Lengths.{page_length}
 use Rattle.mp_versions.proofs.pages.counting.count_of.Goals as goal
 

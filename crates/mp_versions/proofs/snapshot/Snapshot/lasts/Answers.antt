@@ -1,5 +1,3 @@
-use Rattle.std.proofs.Common.{◌≡◌, ◌≤◌, length}
-use Rattle.mp_history.specs.Log.{Log}
 use Rattle.mp_versions.proofs.Histories.{lasts}
 use Rattle.mp_versions.proofs.snapshot.Snapshot.lasts.Goals as goal
 

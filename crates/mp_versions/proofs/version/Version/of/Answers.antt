@@ -1,4 +1,4 @@
-use Rattle.std.proofs.Common.{◌≤◌, sym, ap, subst, ◌∙◌}
+use Rattle.std.proofs.Common.{◌≤◌, sym, subst}
 use Rattle.mp_versions.proofs.Counting.{counted}
 use Rattle.mp_versions.proofs.version.Version.of.Goals as goal
 
