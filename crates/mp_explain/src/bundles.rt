@@ -2,13 +2,11 @@
 
 use crate::reason::Reason;
 use crate::values::{check_datum, check_script};
-use mp_bundle::{PolicyId, Token};
+use mp_bundle::{MAX_NAME_BYTES, PolicyId, Token};
 use mp_lines::Names;
 use mp_text::quantity;
 
 const COIN: &str = "coin";
-
-const MAX_NAME_BYTES: usize = 32;
 
 fn check_quantity(word: &str) -> Result<(), Reason<'_>> {
     let digits = word.strip_prefix('-').unwrap_or(word);

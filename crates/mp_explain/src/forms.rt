@@ -1,6 +1,7 @@
 //! The forms of lines.
 
 use crate::reason::Reason;
+use mp_tx::MAX_BLOCK_BYTES;
 
 /// What the words of a line are.
 #[derive(Clone, Copy)]
@@ -40,7 +41,7 @@ static FORMS: [Form; 12] = [
         most: 1,
         kind: Kind::Setting {
             least: 1,
-            most: 1 << 39,
+            most: MAX_BLOCK_BYTES,
         },
     },
     Form {

@@ -10,9 +10,8 @@ use hex::FromHexError;
 use mp_memory::Memory;
 use mp_script::{Data, DataFault, Script, ScriptFault};
 use mp_text::MAX_LINE_BYTES;
+use mp_tx::MAX_BLOCK_BYTES;
 use std::str;
-
-const MAX_BLOCK_BYTES: u64 = 1 << 39;
 
 // The first word of the text, and the text after it. Where there is no word both are empty.
 fn split_word(text: &str) -> (&str, &str) {

@@ -8,6 +8,7 @@ ghost use Rattle.mp_versions.specs.Inside.End.{IsEnd};
 use crate::chunk::{Chunk, MAX_ITEMS};
 use crate::item::Item;
 use crate::page::{MAX_CHUNKS, Page};
+use crate::pages::sharing::share_all;
 use mp_memory::{Memory, NoMemory};
 
 /// Where the next item goes: behind these pages, these chunks of the last page, and these items of its last chunk.
@@ -91,10 +92,7 @@ fn longer_page(memory: Memory, chunks: &[Chunk], chunk: Chunk) -> Result<Page, N
 fn longer(memory: Memory, pages: &[Page], page: Page) -> Result<Vec<Page, Memory>, NoMemory>
     ensures { IfOk result (λ all. all.items ≡ pages.now ++ page ∷ []) }
 {
-    let mut all = Vec::new(memory);
-    for other in pages {
-        all.push(other.share()?)?;
-    }
+    let mut all = share_all(memory, pages)?;
     all.push(page)?;
     Ok(all)
 }
