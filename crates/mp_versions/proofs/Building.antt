@@ -1,4 +1,5 @@
 -- Pages that are built get one chunk or one item more.
+use Rattle.std.specs.Prelude.{Result, Ok, Err, IfOk}
 use Rattle.std.proofs.Common.{◌≡◌, ℕ, ◌<◌, ◌≤◌, List, [], ◌∷◌, ◌++◌, length, sym, ap, ◌∙◌, subst, arith}
 use Rattle.std.proofs.lemmas.List.{append-nil, append_assoc, length-map, map_push}
 use Rattle.mp_tx.specs.Transaction.{Transaction}
@@ -39,3 +40,8 @@ none_built b p c i =
       few_chunks = omega arith;
       few_items = omega arith;
     }
+
+-- what holds of a result holds of it in other words
+pub in_other_words : {A E : Type 0} (P Q : A → Type 0) → ((a : A) → P a → Q a) → (r : Result A E) → IfOk r P → IfOk r Q
+in_other_words P Q f (Ok a) h = f a h
+in_other_words P Q f (Err e) h = tt

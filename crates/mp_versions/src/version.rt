@@ -107,8 +107,6 @@ impl Version {
     pub fn of(memory: Memory, pool: &SeqPool) -> Result<Version, NoMemory>
         ensures { IfOk result (λ v. v.pool ≡ pool.now.pool) }
     {
-        // Its contract says that tickets rise.
-        let _ = pool.contents();
         Ok(Version {
             pages: of_pool(memory, pool)?,
             ledger: pool.ledger().share()?,

@@ -2,6 +2,7 @@
 
 ghost use Rattle.std.specs.Prelude.{◌≡◌, [], ◌∷◌, ◌++◌, ◌<◌, List, length, ℕ, OnOk, IfOk};
 ghost use Rattle.mp_tx.specs.Transaction.{Transaction};
+ghost use Rattle.mp_tickets.specs.Tickets.{IsRising};
 ghost use Rattle.mp_versions.specs.Item.{item_of};
 ghost use Rattle.mp_versions.specs.Inside.Pages.{joined, AreFilled};
 ghost use Rattle.mp_versions.specs.Inside.Built.{IsBuilt};
@@ -125,6 +126,7 @@ fn finished(memory: Memory, mut built: Built) -> Result<Vec<Page, Memory>, NoMem
 /// Pages of the pool's items. All but the last page have 64 chunks, and all but the last chunk 64 items.
 pub(crate) fn of_pool(memory: Memory, pool: &SeqPool) -> Result<Vec<Page, Memory>, NoMemory>
     ensures joined { IfOk result (λ pages. joined pages.items ≡ pool.now.pool.items) }
+    ensures rising { IfOk result (λ pages. IsRising (joined pages.items)) }
     ensures filled { IfOk result (λ pages. AreFilled pages.items) }
 {
     let mut built = Built {

@@ -1,11 +1,12 @@
-use Rattle.std.proofs.Common.{ap, map, sym, subst, ◌∙◌, ◌++◌, [], ◌∷◌}
+use Rattle.std.proofs.Common.{◌≡◌, ap, map, sym, subst, ◌∙◌, ◌++◌, [], ◌∷◌}
 use Rattle.std.proofs.lemmas.Map.Iter.{iter_end}
-use Rattle.mp_tickets.specs.Tickets.{shown}
+use Rattle.mp_tickets.specs.Tickets.{IsRising, shown}
 use Rattle.mp_resync.specs.Item as resync
 use Rattle.mp_resync.specs.Item.{ticketed}
 use Rattle.mp_resync.proofs.Turns.{ticketed-last}
 use Rattle.mp_versions.specs.Inside.Built.{IsBuilt}
-use Rattle.mp_versions.proofs.Building.{none_built}
+use Rattle.mp_versions.specs.Inside.Pages.{joined}
+use Rattle.mp_versions.proofs.Building.{none_built, in_other_words}
 use Rattle.mp_versions.proofs.pages.building.of_pool.Goals as goal
 
 pub loop-ticket-init : goal.loop-ticket-init
@@ -29,3 +30,8 @@ returns-clause-joined c =
 
 pub returns-clause-filled : goal.returns-clause-filled
 returns-clause-filled c = c.finished.ensures.filled _ c.loop-ticket.invariant.2
+
+pub returns-clause-rising : goal.returns-clause-rising
+returns-clause-rising c =
+    in_other_words (λ pages. joined pages.items ≡ c.args.pool.now.pool.items) (λ pages. IsRising (joined pages.items)) (λ pages is. subst IsRising (sym is) c.contents-ticket-items.ensures.rising)
+    c.finished.result (returns-clause-joined c)
