@@ -1,0 +1,6 @@
+pub mod Entering
+pub mod Entries
+pub mod Places
+pub mod Preparing
+pub mod Points
+pub mod Trials

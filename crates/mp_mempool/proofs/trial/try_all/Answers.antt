@@ -1,0 +1,30 @@
+use Rattle.std.proofs.Common.{◌≤◌, ◌^◌, map, sym, ap, subst, ◌∙◌}
+use Rattle.std.proofs.lemmas.Map.Iter.{iter_end}
+use Rattle.mp_versions.specs.Item.{shown}
+use Rattle.mp_versions.specs.Reading.{bytes_of}
+use Rattle.mp_mempool.specs.Inside.Trial.{HasTried}
+use Rattle.mp_mempool.proofs.Trials.{one_more, room_in_turn, shown-last}
+use Rattle.mp_mempool.proofs.trial.try_all.Goals as goal
+
+pub try_item-requires : goal.try_item-requires
+try_item-requires g c =
+    room_in_turn (g.V.Verifier.accepts c.args.verifier.now) c.args.ledger.now c.contents-item-items.result c.into_iter-item-iterator.result c.loop-item.item-iterator c.next.new.self c.loop-item.yielded c.next.result c.in-Some.item c.loop-item.trial _
+    c.into_iter-item-iterator.ensures.into_iter_gives c.loop-item.yielded_by c.in-Some.is c.next.ensures.steps
+    (subst (λ n. n ≤ 2 ^ 40) (c.bytes-most.ensures.bytes ∙ ap bytes_of (sym c.contents-item-items.ensures)) c.bytes-most.ensures.most)
+    c.loop-item.invariant.2
+
+pub loop-item-preserved : goal.loop-item-preserved
+loop-item-preserved g c =
+    let accepts = g.V.Verifier.accepts c.args.verifier.now in (
+      tt,
+      tt,
+      subst (λ l. HasTried accepts c.args.ledger.now l c.try_item.new.trial) (sym (shown-last c.loop-item.yielded c.in-Some.item))
+          (one_more accepts c.args.ledger.now (map shown c.loop-item.yielded) (shown c.in-Some.item) c.loop-item.trial c.try_item.new.trial c.loop-item.invariant.2 c.in_ok-try_item.ensures),
+    )
+
+pub returns : goal.returns
+returns g c =
+    subst (λ l. HasTried (g.V.Verifier.accepts c.args.verifier.now) c.args.ledger.now l c.loop-item.trial)
+    ((iter_end shown c.contents-item-items.result c.loop-item.yielded c.into_iter-item-iterator.result c.loop-item.item-iterator c.next.new.self c.next.result
+    c.into_iter-item-iterator.ensures.into_iter_gives c.loop-item.yielded_by c.in-None.is c.next.ensures.steps).0 ∙ c.contents-item-items.ensures)
+    c.loop-item.invariant.2

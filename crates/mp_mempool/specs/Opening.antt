@@ -1,0 +1,39 @@
+-- What a pool opens with.
+use Rattle.std.specs.Prelude.{◌≡◌, ℕ, ◌^◌, nat_le, ◌&&◌, [], List, map, Option, None, Some, if◌then◌else◌}
+use Rattle.std.specs.List.{range_with_len}
+use Rattle.mp_tx.specs.Ledger.{LedgerState}
+use Rattle.mp_seqpool.specs.SlowPool.{empty_pool}
+use Rattle.mp_history.specs.Log.{Log}
+use Rattle.mp_mempool.specs.declared.config.Config.{Config}
+use Rattle.mp_mempool.specs.declared.refusal.OpenRefusal.{OpenRefusal}
+use Rattle.mp_mempool.specs.declared.refusal.OpenRefusal.TheVariants.{NoMemory, BadCallers, BadLimit}
+use Rattle.mp_mempool.specs.Pass.{Pass}
+
+-- a pool with no transaction and no entry
+abbrev pub fresh_log : Config → LedgerState → Log
+fresh_log config ledger = record { opening = empty_pool config.limit config.last ledger; entries = [] }
+
+-- the pass of a caller that hasn't asked anything
+abbrev pub fresh_pass : Log → ℕ → Pass
+fresh_pass log caller = record { caller = caller; last = None; front = log }
+
+-- one for each number below that of the callers, in order
+abbrev pub fresh_passes : ℕ → Log → List Pass
+fresh_passes callers log = map (fresh_pass log) (range_with_len 0 callers)
+
+abbrev pub number : OpenRefusal → ℕ
+number NoMemory = 1
+number BadCallers = 2
+number BadLimit = 4
+
+-- why a pool can't be opened, whatever memory there is
+abbrev pub open_fault : Config → ℕ → Option OpenRefusal
+open_fault config callers =
+    if nat_le 1 callers && nat_le callers 1024
+    then (if nat_le 1 config.limit && nat_le config.limit (2 ^ 32) then None else Some BadLimit)
+    else Some BadCallers
+
+-- Memory is told to be wanting only where nothing else is wrong.
+abbrev pub IsOpenFault : Config → ℕ → OpenRefusal → Type 0
+IsOpenFault config callers NoMemory = open_fault config callers ≡ None
+IsOpenFault config callers refusal = open_fault config callers ≡ Some refusal

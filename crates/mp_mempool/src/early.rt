@@ -1,0 +1,56 @@
+//! Looking at a transaction's signatures and scripts before a lock is taken.
+ghost use Rattle.std.specs.Prelude.{◌≡◌, ◌+◌, length, IfSome};
+ghost use Rattle.mp_rules.specs.Checked.{IsChecked};
+
+use mp_memory::Memory;
+use mp_rules::{Checked, Verifier, precheck};
+use mp_tx::{OutRef, Output, Tx};
+use mp_versions::Version;
+
+// An output is looked for in so many of the newest transactions: a walk over all of a large pool would cost more than
+// the scripts.
+const RECENT: u64 = 1024;
+
+// The output under the reference: the ledger state's, else that of one of the newest transactions.
+fn output_of<'a>(version: &'a Version, reference: &OutRef) -> Option<&'a Output> {
+    if let Some(output) = version.ledger().get(reference) {
+        return Some(output);
+    }
+    let oldest = version.last_ticket().saturating_sub(RECENT);
+    let maker = version
+        .after_ticket(oldest)
+        .find(|item| *item.tx.id() == reference.id)?;
+    maker.tx.outputs().get(usize::from(reference.index))
+}
+
+// The outputs that the inputs spend, and then those that the transaction refers to, where all are found.
+fn outputs_of(memory: Memory, version: &Version, tx: &Tx) -> Option<Vec<Output, Memory>>
+    ensures { IfSome result
+        (λ outputs. length outputs.items ≡ length tx.now.inputs + length tx.now.references) }
+{
+    let spent = tx.inputs();
+    let referenced = tx.references();
+    let mut outputs = Vec::with_capacity(memory, spent.len() + referenced.len()).ok()?;
+    for reference in spent.iter().map(|input| &input.from).chain(referenced) {
+        let output = output_of(version, reference)?.share().ok()?;
+        outputs.push(output).ok()?;
+    }
+    Some(outputs)
+}
+
+/// Looks at the transaction's signatures, and runs its scripts upon the outputs that it names, as far as the version
+/// has them. It takes no lock. What is found serves as long as the transaction names these outputs.
+///
+/// None where an output is neither in the ledger state nor made by one of the newest transactions, and where memory is
+/// wanting.
+pub(crate) fn check_early<V: Verifier>(
+    memory: Memory,
+    version: &Version,
+    tx: &Tx,
+    verifier: &V,
+) -> Option<Checked>
+    ensures { IfSome result (IsChecked (V.accepts verifier.now) tx.now) }
+{
+    let outputs = outputs_of(memory, version, tx)?;
+    precheck(memory, tx, &outputs, verifier).ok()
+}

@@ -1,0 +1,23 @@
+//! The mempool that many callers share: any number of threads submit, remove, sync and read, and each answer is that of one
+//! sequential pool at some point of one growing legal history.
+#![tactic(auto)]
+
+mod config;
+mod early;
+pub mod laws;
+mod locked;
+mod mempool;
+mod opening;
+mod pass;
+mod ready;
+mod receipt;
+mod refusal;
+mod trial;
+
+pub use config::Config;
+pub use locked::Locked;
+pub use mempool::Mempool;
+pub use pass::Pass;
+pub use receipt::Receipt;
+pub use refusal::{OpenRefusal, Refusal};
+pub use trial::SnapshotFor;

@@ -1,0 +1,199 @@
+//! How a pool opens.
+ghost use Rattle.std.specs.Prelude.{◌≡◌, ◌≤◌, ◌^◌, [], map, length, replicate, None, Some, IfNone, IfOk};
+ghost use Rattle.mp_history.specs.Log.{IsLegalLog};
+ghost use Rattle.mp_history.specs.PoolName.{head_of};
+ghost use Rattle.mp_mempool.specs.Opening.{fresh_log, fresh_pass, fresh_passes, open_fault};
+
+use crate::config::Config;
+use crate::locked::Locked;
+use crate::pass::Pass;
+use crate::refusal::OpenRefusal;
+use mp_history::{Caller, CommitRight, History, NewName, PoolName};
+use mp_memory::{Memory, NoMemory};
+use mp_seqpool::SeqPool;
+use mp_tx::Ledger;
+use mp_versions::{Board, Shown, Version};
+use std::sync::{Arc, Wait};
+
+// No pool has more callers.
+const MAX_CALLERS: u32 = 1024;
+
+// No pool has more changes.
+const MAX_LIMIT: u64 = 1 << 32;
+
+/// Why a pool can't be opened so, whatever memory there is.
+pub(crate) fn open_fault(config: Config, callers: u32) -> Option<OpenRefusal>
+    ensures fault { result ≡ open_fault config callers }
+    ensures some { IfNone result (1 ≤ callers) }
+    ensures most { IfNone result (callers ≤ 1024) }
+    ensures least { IfNone result (1 ≤ config.limit) }
+    ensures greatest { IfNone result (config.limit ≤ 2 ^ 32) }
+{
+    if callers < 1 || callers > MAX_CALLERS {
+        return Some(OpenRefusal::BadCallers);
+    }
+    if config.limit < 1 || config.limit > MAX_LIMIT {
+        return Some(OpenRefusal::BadLimit);
+    }
+    None
+}
+
+/// All of a pool but its verifier.
+#[derive(Drop)]
+pub(crate) struct Parts<N: PoolName> {
+    pub(crate) history: History<N>,
+    pub(crate) board: Board<N>,
+    pub(crate) locked: Locked<N>,
+    pub(crate) passes: Vec<Pass<N>, Memory>,
+}
+
+// The passes of callers that have seen this version.
+fn give_passes<N: PoolName>(
+    memory: Memory,
+    callers: Vec<Caller<N>, Memory>,
+    shown: &Shown<N>,
+) -> Result<Vec<Pass<N>, Memory>, NoMemory>
+    ensures { IfOk result (λ passes. passes.items ≡ map (fresh_pass shown.now) callers.items) }
+{
+    let mut passes = Vec::with_capacity(memory, callers.len())?;
+    for caller in callers {
+        passes.push(Pass::of(caller, shown.share()?))?;
+    }
+    Ok(passes)
+}
+
+// A board that shows this version.
+fn open_board<N: PoolName>(
+    rt: &impl Wait,
+    memory: Memory,
+    shown: &Shown<N>,
+) -> Result<Board<N>, NoMemory> {
+    let board = Board::new(memory)?;
+    match board.show(rt, shown.share()?) {
+        Ok(()) => Ok(board),
+        Err(_) => Err(NoMemory),
+    }
+}
+
+// So many callers that haven't made an entry.
+fn no_places(memory: Memory, callers: u32) -> Result<Vec<Option<u64>, Memory>, NoMemory>
+    ensures { IfOk result (λ places. places.items ≡ replicate callers None) }
+{
+    let mut places = Vec::with_capacity(memory, callers as usize)?;
+    for _ in 0..callers {
+        places.push(None)?;
+    }
+    Ok(places)
+}
+
+// The version of a pool without transactions, after no entry.
+fn first_version<N: PoolName>(
+    memory: Memory,
+    pool: &SeqPool,
+    right: &CommitRight<N>,
+) -> Result<Shown<N>, NoMemory>
+    requires state { right.now ≡ record { opening = pool.now.pool; entries = [] } }
+    requires legal { IsLegalLog N.accepts N.callers right.now }
+    ensures { IfOk result (λ shown. shown ≡ right.now) }
+{
+    let version = Arc::new(memory, Version::of(memory, pool)?)?;
+    Ok(Shown::of(version, right.front()))
+}
+
+// What callers have of a pool.
+#[derive(Drop)]
+struct Desk<N: PoolName> {
+    passes: Vec<Pass<N>, Memory>,
+    board: Board<N>,
+    places: Vec<Option<u64>, Memory>,
+}
+
+// A pass for each caller, a board that shows the version, and no entry of any of them.
+fn open_desk<N: PoolName>(
+    rt: &impl Wait,
+    memory: Memory,
+    tokens: Vec<Caller<N>, Memory>,
+    shown: &Shown<N>,
+    callers: u32,
+) -> Result<Desk<N>, NoMemory>
+    ensures passes { IfOk result (λ desk. desk.passes.items
+        ≡ map (fresh_pass shown.now) tokens.items) }
+    ensures places { IfOk result (λ desk. desk.places.items ≡ replicate callers None) }
+{
+    let passes = give_passes(memory, tokens, shown)?;
+    let board = open_board(rt, memory, shown)?;
+    let places = no_places(memory, callers)?;
+    Ok(Desk {
+        passes,
+        board,
+        places,
+    })
+}
+
+// What the lock guards at first.
+fn lock_up<N: PoolName>(
+    pool: SeqPool,
+    right: CommitRight<N>,
+    newest: Shown<N>,
+    places: Vec<Option<u64>, Memory>,
+) -> Locked<N>
+    requires state { right ≡ record { opening = pool.pool; entries = [] } }
+    requires legal { IsLegalLog N.accepts N.callers right }
+    requires newest { newest ≡ right }
+    requires places { places.items ≡ replicate N.callers None }
+    ensures { result.log ≡ right }
+{
+    Locked::open(pool, right, newest, places)
+}
+
+// The pool with its history, in parts.
+fn open_upon<N: PoolName>(
+    rt: &impl Wait,
+    memory: Memory,
+    pool: SeqPool,
+    opened: (History<N>, CommitRight<N>, Vec<Caller<N>, Memory>),
+    callers: u32,
+) -> Result<Parts<N>, NoMemory>
+    requires state { opened.1 ≡ record { opening = pool.pool; entries = [] } }
+    requires legal { IsLegalLog N.accepts N.callers opened.1 }
+    requires number { callers ≡ N.callers }
+    ensures { IfOk result (λ parts. parts.passes.items
+        ≡ map (fresh_pass opened.1) opened.2.items) }
+{
+    let (history, right, tokens) = opened;
+    let shown = first_version(memory, &pool, &right)?;
+    let desk = open_desk(rt, memory, tokens, &shown, callers)?;
+    Ok(Parts {
+        history,
+        board: desk.board,
+        locked: lock_up(pool, right, shown, desk.places),
+        passes: desk.passes,
+    })
+}
+
+/// Opens all of a pool but its verifier.
+pub(crate) fn open_parts<N: PoolName>(
+    rt: &impl Wait,
+    memory: Memory,
+    name: NewName,
+    config: Config,
+    ledger: &Ledger,
+    callers: u32,
+) -> Result<Parts<N>, NoMemory>
+    requires name { name ≡ head_of N.book N.root }
+    requires number { callers ≡ N.callers }
+    requires some { 1 ≤ callers }
+    requires most { callers ≤ 1024 }
+    requires least { 1 ≤ config.limit }
+    requires greatest { config.limit ≤ 2 ^ 32 }
+    ensures { IfOk result (λ parts. parts.passes.items
+        ≡ fresh_passes callers (fresh_log config ledger.now)) }
+{
+    let config = mp_seqpool::Config {
+        limit: config.limit,
+        last: config.last,
+    };
+    let pool = SeqPool::start(memory, config, ledger)?;
+    let opened = History::open(name, memory, callers, &pool)?;
+    open_upon(rt, memory, pool, opened, callers)
+}

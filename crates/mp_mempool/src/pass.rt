@@ -1,0 +1,126 @@
+//! The token of one caller.
+ghost use Rattle.std.specs.Prelude.{◌≡◌, ◌<◌, ◌≤◌, length};
+ghost use Rattle.mp_history.specs.Log.{Begins, IsLegalLog};
+ghost use Rattle.mp_mempool.specs.Pass.{IsEntryOf, IsOwn};
+
+use mp_history::{Caller, Front, PoolName};
+use mp_versions::{Shown, Snapshot};
+use std::marker::Model;
+
+/// The token of one caller of the pool: with it the caller asks, and it holds what the caller has seen. It comes with the pool,
+/// one for each caller; it can't be cloned, and nothing else makes one. It never goes back: what it holds is only replaced by
+/// what extends it. Contracts see the caller's number, the place of the last entry that it made, and the history that it has
+/// seen.
+#[derive(Drop)]
+pub struct Pass<N: PoolName> {
+    caller: Caller<N>,
+    last: Option<u64>,
+    shown: Shown<N>,
+}
+
+impl<N: PoolName> Model for Pass<N> {
+    ghost use Rattle.std.specs.Coded.{codes};
+    ghost use Rattle.std.specs.FinMap as finite;
+    ghost use Rattle.mp_mempool.specs.Pass as told;
+
+    ghost Value = { told.Pass };
+
+    ghost coded = { Prim.hlevel (codes, finite.code) };
+
+    ghost view = { λ p. record { caller = p.caller; last = p.last; front = p.shown } };
+
+    ghost invariant = { λ p. told.IsOwn
+        (record { caller = p.caller; last = p.last; front = p.shown }) };
+}
+
+impl<N: PoolName> Pass<N> {
+    ghost use Rattle.std.specs.Prelude.{None, Some, length};
+    ghost use Rattle.mp_mempool.specs.Pass as told;
+
+    /// The pass of a caller that hasn't made an entry.
+    pub(crate) fn of(caller: Caller<N>, shown: Shown<N>) -> Pass<N>
+        ensures { result ≡ record { caller = caller; last = None; front = shown } }
+    {
+        Pass {
+            caller,
+            last: None,
+            shown,
+        }
+    }
+
+    /// The caller made the entry at this place, and has seen the version.
+    pub(crate) fn enter(&mut self, place: u64, shown: Shown<N>)
+        requires { IsEntryOf self.old.caller shown place }
+        ensures { self.new ≡ record self.old { last = Some place; front = shown } }
+    {
+        self.last = Some(place);
+        self.shown = shown;
+    }
+
+    /// The caller has seen the version, which extends what it had seen.
+    pub(crate) fn see(&mut self, shown: Shown<N>)
+        requires { Begins self.old.front shown }
+        ensures { self.new ≡ record self.old { front = shown } }
+    {
+        self.shown = shown;
+    }
+
+    /// Takes the version where its front is longer.
+    pub(crate) fn learn(&mut self, shown: Shown<N>)
+        ensures longer { length self.old.front.entries < length shown.entries
+            → self.new ≡ record self.old { front = shown } }
+        ensures shorter { length shown.entries ≤ length self.old.front.entries
+            → self.new ≡ self.old }
+        ensures begins { Begins self.old.front self.new.front }
+        ensures same { self.new ≡ record self.old { front = self.new.front } }
+    {
+        self.shown.front().compare(shown.front());
+        if self.shown.front().len() < shown.front().len() {
+            self.see(shown);
+        }
+    }
+
+    /// The token of the caller.
+    pub(crate) fn token(&self) -> &Caller<N>
+        ensures { result.now ≡ self.now.caller }
+    {
+        &self.caller
+    }
+
+    /// The number of the caller.
+    pub fn caller(&self) -> u32
+        ensures number { result ≡ self.now.caller }
+        ensures known { self.now.caller < N.callers }
+    {
+        self.caller.number()
+    }
+
+    /// The place of the last entry that the caller made: it is the caller's, and stands in the pass's front.
+    pub fn last(&self) -> Option<u64>
+        ensures last { result ≡ self.now.last }
+        ensures own { IsOwn self.now }
+    {
+        self.last
+    }
+
+    /// The front of what the caller has seen.
+    pub fn front(&self) -> &Front<N>
+        ensures { result.now ≡ self.now.front }
+    {
+        self.shown.front()
+    }
+
+    /// The version that the caller has seen.
+    pub fn shown(&self) -> &Shown<N>
+        ensures { result.now ≡ self.now.front }
+    {
+        &self.shown
+    }
+
+    /// What is read of it.
+    pub fn snapshot(&self) -> Snapshot<'_, N>
+        ensures { result ≡ self.now.front }
+    {
+        Snapshot::of(&self.shown)
+    }
+}

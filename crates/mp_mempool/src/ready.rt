@@ -1,0 +1,29 @@
+//! Steps for which everything is ready.
+
+use mp_history::Entry;
+use mp_memory::Memory;
+use mp_seqpool::Prepared;
+use mp_versions::Version;
+use std::sync::Arc;
+
+/// Owners of one version, one for each who is going to hold it.
+#[derive(Drop)]
+pub(crate) struct Owners {
+    pub(crate) for_pass: Arc<Version, Memory>,
+    pub(crate) for_lock: Arc<Version, Memory>,
+    pub(crate) for_board: Arc<Version, Memory>,
+}
+
+/// What is made before a step is taken: the entry that tells of it, and the version after it.
+#[derive(Drop)]
+pub(crate) struct Outcome {
+    pub(crate) entry: Entry,
+    pub(crate) owners: Owners,
+}
+
+/// A step that can be taken without memory.
+#[derive(Drop)]
+pub(crate) struct Ready {
+    pub(crate) prepared: Prepared,
+    pub(crate) outcome: Outcome,
+}

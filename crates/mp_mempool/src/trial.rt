@@ -1,0 +1,135 @@
+//! What of a pool would stay valid upon another ledger state.
+ghost use Rattle.std.specs.Prelude.{◌≡◌, ◌+◌, ◌≤◌, ◌^◌, IfOk, OnOk};
+ghost use Rattle.mp_tx.specs.Spelling.{size_of};
+ghost use Rattle.mp_utxo.specs.Overlay.{unspent};
+ghost use Rattle.mp_resync.specs.Keep.{is_valid, keep};
+ghost use Rattle.mp_versions.specs.Item.{item_of};
+ghost use Rattle.mp_versions.specs.Reading.{bytes_of};
+ghost use Rattle.mp_mempool.specs.Inside.Trial.{HasTried, IsBegun, Keeps, Tries};
+
+use mp_memory::{Memory, NoMemory};
+use mp_rules::{Invalid, Verifier, check};
+use mp_tx::{Ledger, Tx};
+use mp_utxo::Overlay;
+use mp_versions::{Item, Items, Version};
+use std::sync::Arc;
+
+/// What of a pool's transactions would stay valid upon another ledger state: each that is valid upon it after those
+/// kept before it. Nothing is changed to find that out. The transactions are the pool's own, and shared.
+#[derive(Drop)]
+pub struct SnapshotFor {
+    /// The transactions with their tickets, oldest first.
+    pub items: Items,
+    /// How many bytes they have together.
+    pub bytes: u64,
+    /// How many entries the pool's history had.
+    pub number: u64,
+}
+
+// What was kept so far: the ledger state with it applied, the items, and how many bytes they have.
+#[derive(Drop)]
+struct Trial {
+    overlay: Overlay,
+    items: Vec<Item, Memory>,
+    bytes: u64,
+}
+
+// Nothing yet, upon the ledger state.
+fn begin(memory: Memory, ledger: &Ledger) -> Result<Trial, NoMemory>
+    ensures { IfOk result (IsBegun ledger.now) }
+{
+    Ok(Trial {
+        overlay: Overlay::over(memory, ledger)?,
+        items: Vec::new(memory),
+        bytes: 0,
+    })
+}
+
+// Whether the transaction is valid after what was applied.
+fn is_valid<V: Verifier>(
+    memory: Memory,
+    overlay: &Overlay,
+    tx: &Tx,
+    verifier: &V,
+) -> Result<bool, NoMemory>
+    ensures { IfOk result (λ valid. valid ≡ is_valid (V.accepts verifier.now)
+        (unspent overlay.now) overlay.now.ledger.tick tx.now) }
+{
+    let tick = overlay.ledger().tick();
+    match check(memory, tx, overlay, tick, verifier) {
+        Ok(_) => Ok(true),
+        Err(Invalid::NoMemory) => Err(NoMemory),
+        Err(_) => Ok(false),
+    }
+}
+
+// Applies the item and puts it last.
+fn keep(trial: &mut Trial, item: &Item) -> Result<(), NoMemory>
+    requires { trial.old.bytes + size_of (item_of item.now).1 ≤ 2 ^ 40 }
+    ensures { OnOk result (Keeps trial.old (item_of item.now) trial.new) }
+{
+    trial.overlay.reserve_for(&item.tx)?;
+    trial.overlay.apply(Arc::try_clone(&item.tx)?);
+    trial.items.push(item.share()?)?;
+    trial.bytes += item.tx.size();
+    Ok(())
+}
+
+// Keeps the item where it is valid after those that were kept, and leaves it out where it isn't.
+fn try_item<V: Verifier>(
+    memory: Memory,
+    trial: &mut Trial,
+    item: &Item,
+    verifier: &V,
+) -> Result<(), NoMemory>
+    requires { trial.old.bytes + size_of (item_of item.now).1 ≤ 2 ^ 40 }
+    ensures { OnOk result (Tries (V.accepts verifier.now)
+        trial.old (item_of item.now) trial.new) }
+{
+    if is_valid(memory, &trial.overlay, &item.tx, verifier)? {
+        keep(trial, item)?;
+    }
+    Ok(())
+}
+
+// Tries each of the version's items, oldest first.
+fn try_all<V: Verifier>(
+    memory: Memory,
+    version: &Version,
+    ledger: &Ledger,
+    verifier: &V,
+) -> Result<Trial, NoMemory>
+    ensures { IfOk result (HasTried (V.accepts verifier.now)
+        ledger.now version.now.pool.items) }
+{
+    let _most = version.bytes();
+    let mut trial = begin(memory, ledger)?;
+    for item in version.contents() {
+        try_item(memory, &mut trial, item, verifier)?;
+    }
+    Ok(trial)
+}
+
+/// What of the version's items would stay valid upon the ledger state: each that is valid upon it after those kept
+/// before it. The version stays as it is.
+///
+/// # Errors
+/// `NoMemory`.
+pub(crate) fn keep_valid<V: Verifier>(
+    memory: Memory,
+    version: &Version,
+    ledger: &Ledger,
+    verifier: &V,
+) -> Result<SnapshotFor, NoMemory>
+    ensures items { IfOk result (λ s. s.items
+        ≡ keep (V.accepts verifier.now) ledger.now version.now.pool.items) }
+    ensures bytes { IfOk result (λ s. s.bytes ≡ bytes_of s.items) }
+    ensures number { IfOk result (λ s. s.number ≡ version.now.pool.changes) }
+{
+    let trial = try_all(memory, version, ledger, verifier)?;
+    Ok(SnapshotFor {
+        items: Items::of(trial.items),
+        bytes: trial.bytes,
+        number: version.number(),
+    })
+}
