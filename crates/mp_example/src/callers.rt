@@ -1,0 +1,88 @@
+//! What each caller does in a thread of its own.
+use anyhow::Result;
+use mp_history::{Entry, PoolName};
+use mp_memory::{Memory, NoMemory};
+use mp_mempool::{Mempool, Pass, Receipt};
+use mp_rules::Verifier;
+use mp_testing::{opening, transaction};
+use mp_tx::{Key, Sig, TxId};
+use std::sync::Wait;
+use std::thread::{Threads, map_vec};
+
+/// No transaction here is signed.
+#[derive(Clone, Copy)]
+pub struct RefusesAll;
+
+impl Verifier for RefusesAll {
+    ghost use Rattle.mp_example.specs.Names.{nobody};
+
+    ghost accepts = { λ _. nobody };
+
+    fn verify(&self, _key: &Key, _id: &TxId, _sig: &Sig) -> bool {
+        false
+    }
+}
+
+/// A caller's pass, and the receipts that it got.
+#[derive(Drop)]
+pub struct Caller<N: PoolName> {
+    pub pass: Pass<N>,
+    pub receipts: Vec<Receipt, Memory>,
+}
+
+// Each transaction spends an opening output that no other spends.
+fn submit_two<N: PoolName>(
+    rt: &impl Wait,
+    memory: Memory,
+    mempool: &Mempool<N, RefusesAll>,
+    mut pass: Pass<N>,
+) -> Result<Caller<N>, NoMemory> {
+    let mut receipts = Vec::new(memory);
+    let first = u16::try_from(pass.caller()).unwrap_or(0).saturating_mul(2);
+    for index in [first, first.saturating_add(1)] {
+        let tx = transaction(memory, &[opening(index)], &[100]).map_err(|_| NoMemory)?;
+        if let Ok(receipt) = mempool.submit(rt, &mut pass, &tx) {
+            receipts.push(receipt)?;
+        }
+    }
+    Ok(Caller { pass, receipts })
+}
+
+/// Each caller submits two transactions in a thread of its own.
+pub fn submit_all<N: PoolName + Send + Sync, R: Threads + Wait + Sync>(
+    rt: &R,
+    memory: Memory,
+    mempool: &Mempool<N, RefusesAll>,
+    passes: Vec<Pass<N>, Memory>,
+) -> Result<Vec<Caller<N>, Memory>> {
+    let mut callers = Vec::new(memory);
+    for caller in map_vec(rt, passes, &|pass| submit_two(rt, memory, mempool, pass))? {
+        callers.push(caller?)?;
+    }
+    Ok(callers)
+}
+
+// All receipts, in the order of their places.
+fn receipts_of<N: PoolName>(
+    memory: Memory,
+    callers: Vec<Caller<N>, Memory>,
+) -> Result<Vec<Receipt, Memory>> {
+    let mut receipts = Vec::new(memory);
+    for mut caller in callers {
+        receipts.append(&mut caller.receipts)?;
+    }
+    receipts.sort_by_key(|receipt| receipt.place)?;
+    Ok(receipts)
+}
+
+/// The history: what the receipts of all callers tell of, in the order of their places.
+pub fn history_of<N: PoolName>(
+    memory: Memory,
+    callers: Vec<Caller<N>, Memory>,
+) -> Result<Vec<Entry, Memory>> {
+    let mut entries = Vec::new(memory);
+    for receipt in receipts_of(memory, callers)? {
+        entries.push(receipt.entry)?;
+    }
+    Ok(entries)
+}

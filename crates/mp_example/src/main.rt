@@ -1,0 +1,122 @@
+//! Four threads share one pool: each submits two transactions, a block is filled from what then stands, the pool
+//! adopts the ledger state after that block, and an audit goes through the pool's history. What is printed is the
+//! same in whatever order the threads run.
+#![tactic(auto)]
+
+ghost use Rattle.std.specs.Prelude.{◌≡◌};
+ghost use Rattle.mp_history.specs.PoolName.{head_of};
+ghost use Rattle.mp_example.specs.Names.{nobody};
+
+mod block;
+mod callers;
+
+use anyhow::{Result, bail};
+use block::{fill, ledger_after};
+use callers::{RefusesAll, history_of, submit_all};
+use mp_history::{Entry, NewName, PoolName, audit};
+use mp_memory::Memory;
+use mp_mempool::{Config, Mempool, Pass, Receipt};
+use mp_seqpool::Reply;
+use mp_testing::ledger;
+use mp_tx::Ledger;
+use std::marker::Brand;
+use std::sync::Wait;
+use std::thread::Threads;
+
+const CALLERS: u32 = 4;
+
+// At most a thousand changes, and the first ticket is 1.
+const CONFIG: Config = Config {
+    limit: 1_000,
+    last: 0,
+};
+
+// The opening ledger state has eight outputs, and a block has room for four transactions of 181 bytes.
+const OPENINGS: u16 = 8;
+
+const BLOCK_BYTES: u64 = 724;
+
+// Fills a block from the newest snapshot, and lets the pool adopt the ledger state after it.
+fn make_block<N: PoolName>(
+    rt: &(impl Wait + Print),
+    memory: Memory,
+    mempool: &Mempool<N, RefusesAll>,
+    pass: &mut Pass<N>,
+) -> Result<Receipt> {
+    let snapshot = mempool.snapshot(pass);
+    let (count, bytes) = snapshot.size();
+    println!(rt; "pool {count} transactions {bytes} bytes")?;
+    let block = fill(memory, snapshot.take(BLOCK_BYTES))?;
+    println!(rt;
+        "block {} transactions {} bytes",
+        block.txs.len(),
+        block.bytes
+    )?;
+    adopt(rt, mempool, pass, &ledger_after(memory, OPENINGS, &block)?)
+}
+
+fn adopt<N: PoolName>(
+    rt: &(impl Wait + Print),
+    mempool: &Mempool<N, RefusesAll>,
+    pass: &mut Pass<N>,
+    ledger: &Ledger,
+) -> Result<Receipt> {
+    let Ok(receipt) = mempool.sync(rt, pass, ledger) else {
+        bail!("the pool doesn't adopt the ledger state");
+    };
+    if let Reply::Synced { kept, dropped } = &receipt.entry.reply {
+        let (kept, dropped) = (kept.as_slice().len(), dropped.as_slice().len());
+        println!(rt; "kept {kept} dropped {dropped}")?;
+    }
+    Ok(receipt)
+}
+
+// Prints what the audit of the history finds.
+fn print_audit(rt: &impl Print, memory: Memory, ledger: &Ledger, entries: &[Entry]) -> Result<()> {
+    let config = mp_seqpool::Config {
+        limit: CONFIG.limit,
+        last: CONFIG.last,
+    };
+    let pool = audit(memory, config, ledger, CALLERS, entries, &RefusesAll)?;
+    let (count, last) = (entries.len(), pool.last_ticket());
+    println!(rt; "audit legal {count} entries last ticket {last}")?;
+    Ok(())
+}
+
+fn share<N: PoolName + Send + Sync, R: Threads + Wait + Print + Sync>(
+    rt: &R,
+    memory: Memory,
+    mempool: &Mempool<N, RefusesAll>,
+    passes: Vec<Pass<N>, Memory>,
+    ledger: &Ledger,
+) -> Result<()> {
+    let mut callers = submit_all(rt, memory, mempool, passes)?;
+    let Some(first) = callers.first_mut() else {
+        bail!("no caller");
+    };
+    let receipt = make_block(rt, memory, mempool, &mut first.pass)?;
+    first.receipts.push(receipt)?;
+    print_audit(rt, memory, ledger, &history_of(memory, callers)?)
+}
+
+fn open<N: PoolName + Send + Sync, R: Threads + Wait + Print + Sync>(
+    rt: &R,
+    memory: Memory,
+    name: NewName,
+    ledger: &Ledger,
+) -> Result<()>
+    requires name { name ≡ head_of N.book N.root }
+    requires callers { N.callers ≡ 4 }
+    requires accepts { N.accepts ≡ nobody }
+{
+    match Mempool::<N, _>::open(rt, memory, name, CONFIG, ledger, RefusesAll, CALLERS) {
+        Ok((mempool, passes)) => share(rt, memory, &mempool, passes, ledger),
+        Err((refusal, _)) => bail!("{refusal}"),
+    }
+}
+
+fn main(rt: HostRuntime) -> Result<()> {
+    let memory = Memory::new(rt.alloc())?;
+    let ledger = ledger(memory, OPENINGS, BLOCK_BYTES)?;
+    open::<Brand, _>(&rt, memory, NewName::new(), &ledger)
+}
