@@ -1,36 +1,38 @@
 //! Measures what the product's parts cost. Without an argument it prints the names of its measurements. With `run` it takes
-//! each at several sizes, and prints a line for it: its name, the size, and the nanoseconds that one step took.
+//! each, or the one that is named after it, at several sizes, and prints a line for it: its name, the size, and the nanoseconds
+//! that one step took. With `mempool-hour` it tries a mempool for an hour.
 #![tactic(auto)]
 
+mod asked;
+mod hour;
 mod ledger;
 mod measurement;
+mod mempool;
 mod pool;
 mod resync;
 mod rules;
+mod spinning;
+mod threads;
 mod ticket_list;
 mod timing;
 mod transaction;
 mod version;
+mod watching;
 
-use anyhow::{Result, bail};
+use anyhow::Result;
+use asked::{Asked, read_asked};
 use measurement::{Measurement, SIZES};
 use mp_memory::Memory;
-use std::env::{self, Env};
 use std::rt::Clock;
+use std::sync::Wait;
+use std::thread::Threads;
 use timing::best_per_step;
 
-// Whether the first argument asks for the measurements to be taken.
-fn is_run_asked(rt: &(impl Env + Alloc)) -> Result<bool> {
-    let mut arguments = env::args(rt)?;
-    let _program = arguments.next();
-    match arguments.next() {
-        None => Ok(false),
-        Some(word) if word.as_str() == "run" => Ok(true),
-        Some(word) => bail!("expected nothing or 'run', and not '{word}'"),
-    }
-}
-
-fn take(rt: &(impl Clock + Print), memory: Memory, measurement: Measurement) -> Result<()> {
+fn take<R: Clock + Wait + Threads + Print + Sync>(
+    rt: &R,
+    memory: Memory,
+    measurement: Measurement,
+) -> Result<()> {
     for size in SIZES {
         let per_step = best_per_step(rt, memory, measurement, size)?;
         println!(rt; "{measurement} {size} {per_step}")?;
@@ -38,15 +40,26 @@ fn take(rt: &(impl Clock + Print), memory: Memory, measurement: Measurement) -> 
     Ok(())
 }
 
-fn main(rt: HostRuntime) -> Result<()> {
-    let memory = Memory::new(rt.alloc())?;
-    let is_run_asked = is_run_asked(&rt)?;
+fn take_all<R: Clock + Wait + Threads + Print + Sync>(rt: &R, memory: Memory) -> Result<()> {
     for measurement in Measurement::ALL {
-        if is_run_asked {
-            take(&rt, memory, measurement)?;
-        } else {
-            println!(rt; "{measurement}")?;
-        }
+        take(rt, memory, measurement)?;
     }
     Ok(())
+}
+
+fn print_names(rt: &impl Print) -> Result<()> {
+    for measurement in Measurement::ALL {
+        println!(rt; "{measurement}")?;
+    }
+    Ok(())
+}
+
+fn main(rt: HostRuntime) -> Result<()> {
+    let memory = Memory::new(rt.alloc())?;
+    match read_asked(&rt)? {
+        Asked::Names => print_names(&rt),
+        Asked::All => take_all(&rt, memory),
+        Asked::One(measurement) => take(&rt, memory, measurement),
+        Asked::Hour(trial) => hour::run(&rt, memory, trial),
+    }
 }

@@ -66,11 +66,25 @@ pub enum Measurement {
     VersionAfter,
     /// An id is looked for that none of so many has: what it takes for each of them.
     VersionHas,
+    /// A transaction of 181 bytes is submitted to a mempool with so many.
+    MempoolSubmit,
+    /// The same where each spends what the one before it makes.
+    MempoolChain,
+    /// One is submitted that stands in the mempool, and refused.
+    MempoolAgain,
+    /// A signed transaction of 277 bytes is submitted, by one thread, with a verifier that takes its time.
+    MempoolThreads1,
+    /// The same by four threads at once, each with a quarter of them.
+    MempoolThreads4,
+    /// A snapshot is taken while another thread submits.
+    MempoolSnapshot,
+    /// A version is shared and shown on a board.
+    BoardShow,
 }
 
 impl Measurement {
     /// Each of them, in the order in which they are taken.
-    pub const ALL: [Measurement; 29] = [
+    pub const ALL: [Measurement; 36] = [
         Measurement::TicketPush,
         Measurement::TicketGet,
         Measurement::TicketUnlink,
@@ -100,6 +114,13 @@ impl Measurement {
         Measurement::VersionLookup,
         Measurement::VersionAfter,
         Measurement::VersionHas,
+        Measurement::MempoolSubmit,
+        Measurement::MempoolChain,
+        Measurement::MempoolAgain,
+        Measurement::MempoolThreads1,
+        Measurement::MempoolThreads4,
+        Measurement::MempoolSnapshot,
+        Measurement::BoardShow,
     ];
 }
 
@@ -140,6 +161,13 @@ impl fmt::Display for Measurement {
             Measurement::VersionLookup => "version-lookup",
             Measurement::VersionAfter => "version-after",
             Measurement::VersionHas => "version-has",
+            Measurement::MempoolSubmit => "mempool-submit",
+            Measurement::MempoolChain => "mempool-chain",
+            Measurement::MempoolAgain => "mempool-again",
+            Measurement::MempoolThreads1 => "mempool-threads-1",
+            Measurement::MempoolThreads4 => "mempool-threads-4",
+            Measurement::MempoolSnapshot => "mempool-snapshot",
+            Measurement::BoardShow => "board-show",
         })
     }
 }

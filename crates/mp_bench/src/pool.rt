@@ -14,11 +14,11 @@ use std::time::{Duration, Instant};
 /// A transaction that several hold.
 pub type Shared = Arc<Tx, Memory>;
 
-/// Transactions that spend the outputs from this place on, up to the one before that place.
-pub fn shared(memory: Memory, from: u64, to: u64) -> Result<Vec<Shared, Memory>> {
+/// Transactions of the kind that spend the outputs from this place on, up to the one before that place.
+pub fn shared(memory: Memory, kind: Kind, from: u64, to: u64) -> Result<Vec<Shared, Memory>> {
     let mut all = Vec::new(memory);
     for number in from..to {
-        let tx = spending(memory, Kind::Plain, reference(number, 0))?;
+        let tx = spending(memory, kind, reference(number, 0))?;
         all.push(Arc::new(memory, tx)?)?;
     }
     Ok(all)
@@ -43,11 +43,11 @@ pub fn apply_all(clock: &impl Clock, memory: Memory, size: u64) -> Result<Durati
     let last = size.saturating_add(STEPS);
     let ledger = ledger_of(memory, Kind::Plain, last)?;
     let mut overlay = Overlay::over(memory, &ledger)?;
-    for tx in shared(memory, 0, size)? {
+    for tx in shared(memory, Kind::Plain, 0, size)? {
         overlay.reserve_for(&tx)?;
         overlay.apply(tx);
     }
-    let all = shared(memory, size, last)?;
+    let all = shared(memory, Kind::Plain, size, last)?;
     let start = Instant::now(clock)?;
     for tx in all {
         overlay.reserve_for(&tx)?;
@@ -65,8 +65,8 @@ pub fn apply_all(clock: &impl Clock, memory: Memory, size: u64) -> Result<Durati
 pub fn submit_all(clock: &impl Clock, memory: Memory, size: u64) -> Result<Duration> {
     let last = size.saturating_add(STEPS);
     let ledger = ledger_of(memory, Kind::Plain, last)?;
-    let mut pool = pool_of(memory, &ledger, &shared(memory, 0, size)?)?;
-    let all = shared(memory, size, last)?;
+    let mut pool = pool_of(memory, &ledger, &shared(memory, Kind::Plain, 0, size)?)?;
+    let all = shared(memory, Kind::Plain, size, last)?;
     let start = Instant::now(clock)?;
     for tx in &all {
         pool.submit(tx, &AcceptsAll)?;

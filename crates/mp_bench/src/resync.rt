@@ -13,17 +13,17 @@ use std::rt::Clock;
 use std::sync::Arc;
 use std::time::{Duration, Instant};
 
-// Transactions in chains of this length: the first of each spends an output of the ledger state, and every other one what the
-// one before it makes.
-fn chained(memory: Memory, length: u64, count: u64) -> Result<Vec<Shared, Memory>> {
+/// Transactions in chains of this length, for the outputs from this place on, up to the one before that place: the first of each
+/// chain spends an output of the ledger state, and every other one what the one before it makes.
+pub fn chained(memory: Memory, length: u64, from: u64, to: u64) -> Result<Vec<Shared, Memory>> {
     let mut all = Vec::new(memory);
-    let mut from = reference(0, 0);
-    for number in 0..count {
-        if number % length.max(1) == 0 {
-            from = reference(number, 0);
+    let mut spent = reference(from, 0);
+    for number in from..to {
+        if number.saturating_sub(from) % length.max(1) == 0 {
+            spent = reference(number, 0);
         }
-        let tx = spending(memory, Kind::Plain, from)?;
-        from = OutRef {
+        let tx = spending(memory, Kind::Plain, spent)?;
+        spent = OutRef {
             id: *tx.id(),
             index: 0,
         };
@@ -40,7 +40,7 @@ pub fn submit_chains(
     size: u64,
 ) -> Result<Duration> {
     let ledger = ledger_of(memory, Kind::Plain, size)?;
-    let all = chained(memory, length, size)?;
+    let all = chained(memory, length, 0, size)?;
     let start = Instant::now(clock)?;
     let pool = pool_of(memory, &ledger, &all)?;
     let time = start.elapsed(clock)?;
@@ -51,7 +51,7 @@ pub fn submit_chains(
 /// Removes the first of `size` transactions, none of which depends on another, and tells what it took.
 pub fn remove_first(clock: &impl Clock, memory: Memory, size: u64) -> Result<Duration> {
     let ledger = ledger_of(memory, Kind::Plain, size)?;
-    let all = shared(memory, 0, size)?;
+    let all = shared(memory, Kind::Plain, 0, size)?;
     let mut pool = pool_of(memory, &ledger, &all)?;
     let mut ids = Vec::new(memory);
     for tx in all.iter().take(1) {
@@ -69,22 +69,22 @@ pub fn remove_first(clock: &impl Clock, memory: Memory, size: u64) -> Result<Dur
     Ok(time)
 }
 
-// A ledger state with each such output of `size`.
-fn every(memory: Memory, step: u64, size: u64) -> Result<Ledger> {
+/// A ledger state with each such output of `size`.
+pub fn every(memory: Memory, step: u64, block_bytes: u64, size: u64) -> Result<Ledger> {
     let mut outputs = Vec::new(memory);
     for number in 0..size {
         if number % step.max(1) == 0 {
             outputs.push((reference(number, 0), output(memory, 100)?))?;
         }
     }
-    Ok(Ledger::of_outputs(memory, Salt::new(11), 0, 1 << 39, outputs)?)
+    Ok(Ledger::of_outputs(memory, Salt::new(11), 0, block_bytes, outputs)?)
 }
 
 /// Adopts a ledger state upon which every so manieth of `size` transactions is valid, and tells what it took.
 pub fn sync(clock: &impl Clock, memory: Memory, step: u64, size: u64) -> Result<Duration> {
     let ledger = ledger_of(memory, Kind::Plain, size)?;
-    let next = every(memory, step, size)?;
-    let mut pool = pool_of(memory, &ledger, &shared(memory, 0, size)?)?;
+    let next = every(memory, step, 1 << 39, size)?;
+    let mut pool = pool_of(memory, &ledger, &shared(memory, Kind::Plain, 0, size)?)?;
     let start = Instant::now(clock)?;
     pool.sync(&next, &AcceptsAll)?;
     let time = start.elapsed(clock)?;

@@ -14,12 +14,13 @@ use std::time::{Duration, Instant};
 pub const STEPS: u64 = 1_000;
 
 /// A verifier that accepts each signature at once.
+#[derive(Clone, Copy)]
 pub struct AcceptsAll;
 
 impl Verifier for AcceptsAll {
-    ghost use Rattle.std.specs.Prelude.{true};
+    ghost use Rattle.mp_bench.specs.Signatures.{any};
 
-    ghost accepts = { λ _ _ _ _. true };
+    ghost accepts = { λ _. any };
 
     fn verify(&self, _key: &Key, _id: &TxId, _sig: &Sig) -> bool {
         true

@@ -18,7 +18,7 @@ use std::time::{Duration, Instant};
 // A pool with transactions that spend the outputs up to this place, of one more.
 fn filled(memory: Memory, size: u64) -> Result<SeqPool> {
     let ledger = ledger_of(memory, Kind::Plain, size.saturating_add(1))?;
-    pool_of(memory, &ledger, &shared(memory, 0, size)?)
+    pool_of(memory, &ledger, &shared(memory, Kind::Plain, 0, size)?)
 }
 
 // A transaction that spends the output at this place.
