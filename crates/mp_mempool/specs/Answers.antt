@@ -20,11 +20,11 @@ use Rattle.mp_mempool.specs.Pass.{Pass, IsEntryOf}
 abbrev pub continued : Log → List Entry → Log
 continued log es = record log { entries = log.entries ++ es }
 
--- the caller has seen what others have entered since
+-- the caller has seen these entries too
 abbrev pub seen : Pass → List Entry → Pass
 seen p others = record p { front = continued p.front others }
 
--- and its own entry, which came next
+-- the caller has seen these entries, and then made its own
 abbrev pub with_entry : Pass → List Entry → Entry → Pass
 with_entry p others e = record p { front = entered (continued p.front others) e; last = Some (length (p.front.entries ++ others)) }
 
@@ -70,7 +70,7 @@ module _ (accepts : Accepts) (callers : ℕ) where
     pub legal : IsLegalLog accepts callers after.front
     pub refused : answer accepts (state_after accepts after.front) command ≡ Err refusal
 
-  -- What a refusal says. Where memory is wanting it says nothing.
+  -- What a refusal says. Where memory is wanting, it is only that the pass is as it was.
   abbrev pub IsRefused : {N : Type 0} → Pass → Command → Refusal N → Pass → Type 0
   IsRefused before command (Pool refusals.NoMemory) after = after ≡ before
   IsRefused before command (Pool refusal) after = IsRefusedAt before command refusal after

@@ -38,7 +38,8 @@ use std::sync::{Arc, Mutex, Wait};
 ///
 /// Each caller has a `Pass`, which holds the version of the pool that the caller has seen last. A call that changes the pool
 /// (`submit`, `remove`, `sync`) takes the pool's lock, enters one entry and answers with a `Receipt`, or it is refused and enters
-/// none. Its pass then holds the version at which the answer is the sequential pool's. A call that reads (`snapshot`,
+/// none. Unless memory was wanting or the refusal is `Foreign`, its pass then holds the version at which the answer is the
+/// sequential pool's. A call that reads (`snapshot`,
 /// `snapshot_for`, `learn`) takes no lock and waits for nobody: it reads the newest version that is shown, or the pass's own where
 /// that is longer. Whatever a call does, what its pass holds extends what it held.
 ///
