@@ -22,12 +22,12 @@ use crate::ready::Ready;
 use crate::receipt::Receipt;
 use crate::refusal::{OpenRefusal, Refusal};
 use crate::trial::{SnapshotFor, keep_valid};
-use mp_history::{Caller, History, NewName, PoolName};
+use mp_history::{History, NewName, PoolName};
 use mp_memory::{Memory, NoMemory};
 use mp_rules::{Checked, Verifier};
-use mp_seqpool::{Ids, SeqPool};
+use mp_seqpool::Ids;
 use mp_tx::{Ledger, Tx};
-use mp_versions::{Board, Shown, Snapshot, Version};
+use mp_versions::{Board, Shown, Snapshot};
 use std::sync::{Arc, Mutex, Wait};
 
 /// The mempool that many callers share (the Mempool API of ouroboros-consensus).
