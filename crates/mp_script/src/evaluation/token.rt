@@ -8,10 +8,8 @@ ghost use Rattle.mp_script.specs.Value.{value_of};
 ghost use Rattle.mp_script.specs.Meaning.{on, hash_in, name_in, token_in, amount, bundle_quantity};
 
 use crate::value::Value;
-use mp_bundle::{Bundle, PolicyId, Sum};
+use mp_bundle::{Bundle, MAX_NAME_BYTES, PolicyId, Sum};
 use mp_bytes::Hash;
-
-const MAX_NAME_BYTES: usize = 32;
 
 /// The 32 bytes that a value is, where it is so many.
 pub fn hash_of(value: Value<'_>) -> Option<&Hash>
