@@ -3,7 +3,7 @@ use Rattle.std.proofs.Common.{◌≡◌, ◌≢◌, ℕ, ◌<◌, List, [], ◌+
 use Rattle.std.specs.Prelude.{Result, Ok, Err, Some, IfOk}
 use Rattle.mp_tx.specs.Ledger.{LedgerState}
 use Rattle.mp_rules.specs.Verifier.{Accepts}
-use Rattle.mp_resync.specs.Keep.{keep}
+use Rattle.mp_resync.specs.Keep.{keep, bytes_of}
 use Rattle.mp_seqpool.specs.declared.refusal.Refusal as pool
 use Rattle.mp_seqpool.specs.declared.refusal.Refusal.TheVariants as refusals
 use Rattle.mp_seqpool.specs.Command.{Command}
@@ -20,7 +20,6 @@ use Rattle.mp_mempool.specs.declared.refusal.Refusal.TheVariants.{Pool}
 use Rattle.mp_mempool.specs.Answers.{IsEntered, IsRefusedAt, IsRefused, IsOfLog, IsSeen, IsTrial, continued, with_entry}
 use Rattle.mp_versions.specs.Version.{Version}
 use Rattle.mp_versions.specs.Shown.{IsVersionOf}
-use Rattle.mp_versions.specs.Reading.{bytes_of}
 use Rattle.mp_versions.proofs.Histories.{number_of}
 use Rattle.mp_mempool.specs.declared.trial.SnapshotFor.{SnapshotFor}
 use Rattle.mp_mempool.proofs.Entries.{others, goes_on}

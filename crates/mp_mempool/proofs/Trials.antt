@@ -13,12 +13,11 @@ use Rattle.mp_tx.specs.Spelling.{size_of}
 use Rattle.mp_tx.specs.Ledger.{LedgerState}
 use Rattle.mp_utxo.specs.Apply.{Unspent, apply, after}
 use Rattle.mp_rules.specs.Verifier.{Accepts}
-use Rattle.mp_resync.specs.Keep.{transactions, is_valid, keep_upon, keep}
+use Rattle.mp_resync.specs.Keep.{transactions, is_valid, keep_upon, keep, bytes_of}
 use Rattle.mp_resync.proofs.Keeping.{kept_last}
 use Rattle.mp_seqpool.proofs.Forgetting.{sum-last}
 use Rattle.mp_versions.specs.declared.item.Item.{Item}
 use Rattle.mp_versions.specs.Item.{shown}
-use Rattle.mp_versions.specs.Reading.{bytes_of}
 use Rattle.mp_mempool.specs.declared.trial.Trial.{Trial}
 use Rattle.mp_mempool.specs.Inside.Trial.{Keeps, KeepsOrStays, Tries, HasTried}
 

@@ -2,7 +2,7 @@
 use Rattle.std.specs.Prelude.{◌≡◌, ◌≢◌, ℕ, ◌<◌, List, ◌++◌, length, All, Some, IfSome, Ok, Err}
 use Rattle.mp_tx.specs.Ledger.{LedgerState}
 use Rattle.mp_rules.specs.Verifier.{Accepts}
-use Rattle.mp_resync.specs.Keep.{keep}
+use Rattle.mp_resync.specs.Keep.{keep, bytes_of}
 use Rattle.mp_seqpool.specs.declared.refusal.Refusal as pool
 use Rattle.mp_seqpool.specs.declared.refusal.Refusal.TheVariants as refusals
 use Rattle.mp_seqpool.specs.Refusal as sequential
@@ -10,7 +10,6 @@ use Rattle.mp_seqpool.specs.Command.{Command}
 use Rattle.mp_seqpool.specs.SlowPool.{answer}
 use Rattle.mp_history.specs.Entry.{Entry}
 use Rattle.mp_history.specs.Log.{Log, Begins, IsLegalLog, entered, last_of, state_after}
-use Rattle.mp_versions.specs.Reading.{bytes_of}
 use Rattle.mp_mempool.specs.declared.trial.SnapshotFor.{SnapshotFor}
 use Rattle.mp_mempool.specs.declared.refusal.Refusal.{Refusal}
 use Rattle.mp_mempool.specs.declared.refusal.Refusal.TheVariants.{Pool, Foreign}

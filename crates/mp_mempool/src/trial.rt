@@ -2,9 +2,8 @@
 ghost use Rattle.std.specs.Prelude.{◌≡◌, ◌+◌, ◌≤◌, ◌^◌, IfOk, OnOk};
 ghost use Rattle.mp_tx.specs.Spelling.{size_of};
 ghost use Rattle.mp_utxo.specs.Overlay.{unspent};
-ghost use Rattle.mp_resync.specs.Keep.{is_valid, keep};
+ghost use Rattle.mp_resync.specs.Keep.{is_valid, keep, bytes_of};
 ghost use Rattle.mp_versions.specs.Item.{item_of};
-ghost use Rattle.mp_versions.specs.Reading.{bytes_of};
 ghost use Rattle.mp_mempool.specs.Inside.Trial.{HasTried, IsBegun, Keeps, Tries};
 
 use mp_memory::{Memory, NoMemory};

@@ -1,10 +1,10 @@
 -- Keeping what is still valid.
-use Rattle.std.specs.Prelude.{ℕ, nat_eq, Bool, not, List, [], ◌∷◌, map, is_none, if◌then◌else◌}
+use Rattle.std.specs.Prelude.{ℕ, nat_eq, Bool, not, List, [], ◌∷◌, map, sum_by, is_none, if◌then◌else◌}
 use Rattle.std.specs.List.{filter, list_any}
 use Rattle.std.specs.Cmp.Lexicographic.{pointwise}
 use Rattle.std.specs.FinMap.{get}
 use Rattle.mp_tx.specs.Transaction.{Transaction}
-use Rattle.mp_tx.specs.Spelling.{id_of}
+use Rattle.mp_tx.specs.Spelling.{id_of, size_of}
 use Rattle.mp_tx.specs.Ledger.{LedgerState}
 use Rattle.mp_utxo.specs.Apply.{Unspent, apply}
 use Rattle.mp_rules.specs.Verifier.{Accepts}
@@ -15,6 +15,10 @@ transactions items = map (λ i. i.1) items
 
 abbrev pub tickets : List (ℕ × Transaction) → List ℕ
 tickets items = map (λ i. i.0) items
+
+-- the bytes of all of them together
+abbrev pub bytes_of : List (ℕ × Transaction) → ℕ
+bytes_of items = sum_by size_of (transactions items)
 
 -- whether the transaction's id is one of these
 abbrev pub is_named : List (List ℕ) → Transaction → Bool

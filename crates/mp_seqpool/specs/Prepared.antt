@@ -10,7 +10,7 @@ use Rattle.mp_tickets.specs.Tickets.{has_ticket, among}
 use Rattle.mp_resync.specs.Item.{Item}
 use Rattle.mp_resync.specs.Keep.{transactions}
 use Rattle.mp_seqpool.specs.declared.command.Reply.{Reply}
-use Rattle.mp_seqpool.specs.declared.command.Reply.TheVariants.{Removed, Synced}
+use Rattle.mp_seqpool.specs.declared.command.Reply.TheVariants.{Accepted, Removed, Synced}
 use Rattle.mp_seqpool.specs.Command.{Command, Submit, Remove, Sync}
 use Rattle.mp_seqpool.specs.Pool.{Pool, Holding}
 use Rattle.mp_seqpool.specs.SlowPool.{ticket_of, pool_with, pool_upon, HasPlace, answer, next}
@@ -39,12 +39,17 @@ leads_to p q = changed p q.change
 abbrev pub apart : List ℕ → List (ℕ × Transaction) → List (ℕ × Transaction)
 apart tickets items = filter (λ i. not (has_ticket tickets i.0)) items
 
+-- the items that the reply leaves
+abbrev pub left_by : Reply → List (ℕ × Transaction) → List (ℕ × Transaction)
+left_by (Accepted ticket) items = items
+left_by (Removed named dropped) items = apart dropped (apart named items)
+left_by (Synced kept dropped) items = apart dropped items
+
 -- the state that a command leads to, told by the reply to it
 abbrev pub told : Pool → Command → Reply → Pool
 told p (Submit t) reply = pool_with p t
-told p (Remove ids) (Removed named dropped) = pool_upon p p.ledger (apart dropped (apart named p.items))
-told p (Sync ledger) (Synced kept dropped) = pool_upon p ledger (apart dropped p.items)
-told p c reply = p
+told p (Remove ids) reply = pool_upon p p.ledger (left_by reply p.items)
+told p (Sync ledger) reply = pool_upon p ledger (left_by reply p.items)
 
 -- the pool can take the item in without memory, and without a look at its rules
 pub record CanAppend (h : Holding) (item : Item) : Type 0 where

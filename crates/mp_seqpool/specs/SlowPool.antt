@@ -1,6 +1,6 @@
 -- The slow pool: a list and a map. It computes everything anew from the ledger at each question.
 -- It follows the Mempool API of ouroboros-consensus.
-use Rattle.std.specs.Prelude.{◌≡◌, ℕ, ◌+◌, ◌*◌, ◌-◌, ◌^◌, ◌<◌, ◌≤◌, nat_eq, nat_le, nat_lt, Bool, List, [], ◌∷◌, ◌++◌, sum_by, All, Option, None, Some, Result, Ok, Err, is_ok, if◌then◌else◌}
+use Rattle.std.specs.Prelude.{◌≡◌, ℕ, ◌+◌, ◌*◌, ◌-◌, ◌^◌, ◌<◌, ◌≤◌, nat_eq, nat_le, nat_lt, Bool, List, [], ◌∷◌, ◌++◌, All, Option, None, Some, Result, Ok, Err, is_ok, if◌then◌else◌}
 use Rattle.std.specs.Cmp.Lexicographic.{pointwise}
 use Rattle.std.specs.FinMap.{get}
 use Rattle.mp_tx.specs.Transaction.{Transaction}
@@ -11,7 +11,7 @@ use Rattle.mp_rules.specs.declared.invalid.Invalid.{Invalid}
 use Rattle.mp_rules.specs.Verifier.{Accepts}
 use Rattle.mp_rules.specs.FirstFault.{first_fault}
 use Rattle.mp_rules.specs.Checked.{IsSigned}
-use Rattle.mp_resync.specs.Keep.{transactions, tickets, named, unnamed, keep, dropped}
+use Rattle.mp_resync.specs.Keep.{transactions, tickets, bytes_of, named, unnamed, keep, dropped}
 use Rattle.mp_seqpool.specs.declared.refusal.Refusal.{Refusal}
 use Rattle.mp_seqpool.specs.declared.refusal.Refusal.TheVariants as refusals
 use Rattle.mp_seqpool.specs.declared.command.Reply.{Reply}
@@ -24,7 +24,7 @@ abbrev pub unspent : Pool → Unspent
 unspent p = after (get p.ledger.utxo) (transactions p.items)
 
 abbrev pub bytes_held : Pool → ℕ
-bytes_held p = sum_by size_of (transactions p.items)
+bytes_held p = bytes_of p.items
 
 -- twice the ledger's block bytes, less the bytes held
 abbrev pub free_bytes : Pool → ℕ

@@ -1,27 +1,16 @@
 -- What a prepared step says of the pool, read off its command and its reply.
-use Rattle.std.proofs.Common.{◌≡◌, ℕ, ◌+◌, ◌≤◌, ◌^◌, List, refl, sym, ap, subst, ◌∙◌, arith}
+use Rattle.std.proofs.Common.{◌≡◌, ℕ, ◌+◌, ◌≤◌, ◌^◌, List, sym, ap, subst, ◌∙◌, arith}
 use Rattle.mp_tx.specs.Transaction.{Transaction}
 use Rattle.mp_tx.specs.Spelling.{size_of}
 use Rattle.mp_tx.specs.Ledger.{LedgerState}
-use Rattle.mp_seqpool.specs.declared.command.Reply.{Reply}
-use Rattle.mp_seqpool.specs.declared.command.Reply.TheVariants.{Accepted, Removed, Synced}
 use Rattle.mp_seqpool.specs.Command.{Submit, Remove, Sync}
 use Rattle.mp_seqpool.specs.Pool.{Pool, Holding}
 use Rattle.mp_seqpool.specs.SlowPool.{HasPlace, bytes_held, pool_with, pool_upon}
-use Rattle.mp_seqpool.specs.Prepared.{Prepared, Change, Append, Keep, changed, leads_to, told, CanChange, IsPrepared}
+use Rattle.mp_seqpool.specs.Prepared.{Prepared, Change, Append, Keep, changed, left_by, leads_to, told, CanChange, IsPrepared}
 use Rattle.mp_seqpool.proofs.Forgetting.{sum-last}
-use Rattle.mp_versions.specs.Inside.Version.{left_by}
-
-one_more : (p : Pool) (c : Change) → (changed p c).changes ≡ p.changes + 1
-one_more p (Append item) = refl
-one_more p (Keep overlay kept) = refl
 
 not_itself : (n : ℕ) → n + 1 ≡ n → ⊥
 not_itself n e = absurd (omega (arith, e))
-
--- a step leads elsewhere
-changes_it : (p : Pool) (c : Change) → changed p c ≡ p → ⊥
-changes_it p c e = not_itself p.changes (sym (one_more p c) ∙ ap (λ (q : Pool). q.changes) e)
 
 place : (h : Holding) (c : Change) (t : Transaction) → CanChange h c → changed h.pool c ≡ pool_with h.pool t → HasPlace h.pool t
 place h (Append item) t can e =
@@ -37,18 +26,8 @@ submit_tells h q t command is =
     let leads : leads_to h.pool q ≡ pool_with h.pool t = is.tells ∙ ap (λ c. told h.pool c q.reply) command in
     (place h q.change t is.fits leads, leads)
 
-remove_left : (p : Pool) (c : Change) (ids : List (List ℕ)) (reply : Reply) → changed p c ≡ told p (Remove ids) reply → changed p c ≡ pool_upon p p.ledger (left_by reply p.items)
-remove_left p c ids (Removed named dropped) e = e
-remove_left p c ids (Accepted ticket) e = absurd (changes_it p c e)
-remove_left p c ids (Synced kept dropped) e = absurd (changes_it p c e)
-
-sync_left : (p : Pool) (c : Change) (ledger : LedgerState) (reply : Reply) → changed p c ≡ told p (Sync ledger) reply → changed p c ≡ pool_upon p ledger (left_by reply p.items)
-sync_left p c ledger (Synced kept dropped) e = e
-sync_left p c ledger (Accepted ticket) e = absurd (changes_it p c e)
-sync_left p c ledger (Removed named dropped) e = absurd (changes_it p c e)
-
 pub remove_tells : (h : Holding) (q : Prepared) (ids : List (List ℕ)) → q.command ≡ Remove ids → IsPrepared h q → leads_to h.pool q ≡ pool_upon h.pool h.pool.ledger (left_by q.reply h.pool.items)
-remove_tells h q ids command is = remove_left h.pool q.change ids q.reply (is.tells ∙ ap (λ c. told h.pool c q.reply) command)
+remove_tells h q ids command is = is.tells ∙ ap (λ c. told h.pool c q.reply) command
 
 pub sync_tells : (h : Holding) (q : Prepared) (ledger : LedgerState) → q.command ≡ Sync ledger → IsPrepared h q → leads_to h.pool q ≡ pool_upon h.pool ledger (left_by q.reply h.pool.items)
-sync_tells h q ledger command is = sync_left h.pool q.change ledger q.reply (is.tells ∙ ap (λ c. told h.pool c q.reply) command)
+sync_tells h q ledger command is = is.tells ∙ ap (λ c. told h.pool c q.reply) command

@@ -3,10 +3,10 @@ use Rattle.std.proofs.Common.{◌≡◌, ℕ, suc, ◌+◌, ◌-◌, ◌≤◌, 
 use Rattle.std.specs.Prelude.{nat_le}
 use Rattle.mp_tx.specs.Transaction.{Transaction}
 use Rattle.mp_tx.specs.Spelling.{size_of}
-use Rattle.mp_versions.specs.Reading.{within, bytes_of, IsLongestWithin}
+use Rattle.mp_versions.specs.Reading.{within, IsLongestWithin}
 use Rattle.std.proofs.lemmas.Bool.{leb-true, le-leb}
 use Rattle.std.proofs.lemmas.List.Sums.{sum_by-cons}
-use Rattle.mp_resync.specs.Keep.{transactions}
+use Rattle.mp_resync.specs.Keep.{transactions, bytes_of}
 use mathlib.Core.List.{IsPrefix}
 
 pub more_bytes : (i : ℕ × Transaction) (is : List (ℕ × Transaction)) → bytes_of (i ∷ is) ≡ size_of i.1 + bytes_of is

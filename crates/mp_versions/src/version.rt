@@ -3,13 +3,13 @@ ghost use Rattle.std.specs.Prelude.{◌≡◌, ◌==◌, ◌<◌, ◌≤◌, ◌
 ghost use Rattle.std.specs.List.Sorted.{IsStrictlyIncreasing};
 ghost use Rattle.std.specs.Arc.{arc_value};
 ghost use Rattle.mp_tickets.specs.Tickets.{IsRising, after, item_at};
-ghost use Rattle.mp_resync.specs.Keep.{tickets};
+ghost use Rattle.mp_resync.specs.Keep.{tickets, bytes_of};
 ghost use Rattle.mp_seqpool.specs.Config.{renewed};
 ghost use Rattle.mp_seqpool.specs.SlowPool.{HasPlace, bytes_held, pool_with, pool_upon, ticket_of};
-ghost use Rattle.mp_seqpool.specs.Prepared.{IsPrepared, apart, leads_to};
+ghost use Rattle.mp_seqpool.specs.Prepared.{IsPrepared, apart, left_by, leads_to};
 ghost use Rattle.mp_versions.specs.Inside.Pages.{AreFilled, joined};
-ghost use Rattle.mp_versions.specs.Reading.{bytes_of, within};
-ghost use Rattle.mp_versions.specs.Inside.Version.{left_by, IsRestOf};
+ghost use Rattle.mp_versions.specs.Reading.{within};
+ghost use Rattle.mp_versions.specs.Inside.Version.{IsRestOf};
 
 use crate::item::Item;
 use crate::page::Page;
@@ -187,7 +187,7 @@ impl Version {
         ensures { IfOk result (λ v. v.pool ≡ renewed limit self.now.pool) }
     {
         Ok(Version {
-            pages: share_all(memory, &self.pages)?,
+            pages: share_all(memory, &self.pages, 0)?,
             ledger: self.ledger.share()?,
             config: Config {
                 limit,

@@ -5,9 +5,8 @@ use Rattle.mp_tx.specs.Spelling.{size_of}
 use Rattle.mp_tx.specs.Ledger.{LedgerState}
 use Rattle.mp_utxo.specs.Overlay.{unspent}
 use Rattle.mp_rules.specs.Verifier.{Accepts}
-use Rattle.mp_resync.specs.Keep.{transactions, is_valid, keep}
+use Rattle.mp_resync.specs.Keep.{transactions, is_valid, keep, bytes_of}
 use Rattle.mp_versions.specs.Item.{items_of}
-use Rattle.mp_versions.specs.Reading.{bytes_of}
 use Rattle.mp_mempool.specs.declared.trial.Trial.{Trial}
 
 -- nothing was kept upon the ledger state

@@ -2,15 +2,11 @@
 use Rattle.std.specs.Prelude.{◌≡◌, ℕ, ◌≤◌, ◌^◌, List, length, All}
 use Rattle.mp_tx.specs.Transaction.{Transaction}
 use Rattle.mp_tickets.specs.Tickets.{IsRising}
-use Rattle.mp_resync.specs.Keep.{tickets}
-use Rattle.mp_seqpool.specs.declared.command.Reply.{Reply}
-use Rattle.mp_seqpool.specs.declared.command.Reply.TheVariants.{Accepted, Removed, Synced}
+use Rattle.mp_resync.specs.Keep.{tickets, bytes_of}
 use Rattle.mp_seqpool.specs.Pool.{Pool}
-use Rattle.mp_seqpool.specs.Prepared.{apart}
 use Rattle.mp_versions.specs.declared.version.Version.TheInside.{Inside}
 use Rattle.mp_versions.specs.declared.version.Rest.{Rest}
 use Rattle.mp_versions.specs.Version.{Version}
-use Rattle.mp_versions.specs.Reading.{bytes_of}
 use Rattle.mp_versions.specs.Inside.Pages.{chunks_of, joined, AreFilled}
 
 abbrev pub state : Inside → Pool
@@ -40,12 +36,6 @@ pub record IsCounted (v : Inside) : Type 0 where
   pub most : v.bytes ≤ 2 ^ 40
   -- no more changes were made than there may be
   pub changes : v.changes ≤ v.config.limit
-
--- the items that the reply leaves
-abbrev pub left_by : Reply → List (ℕ × Transaction) → List (ℕ × Transaction)
-left_by (Accepted ticket) items = items
-left_by (Removed named dropped) items = apart dropped (apart named items)
-left_by (Synced kept dropped) items = apart dropped items
 
 -- what is left of items that are these
 pub record IsRestOf (items : List (ℕ × Transaction)) (r : Rest) : Type 0 where

@@ -92,7 +92,7 @@ fn longer_page(memory: Memory, chunks: &[Chunk], chunk: Chunk) -> Result<Page, N
 fn longer(memory: Memory, pages: &[Page], page: Page) -> Result<Vec<Page, Memory>, NoMemory>
     ensures { IfOk result (λ all. all.items ≡ pages.now ++ page ∷ []) }
 {
-    let mut all = share_all(memory, pages)?;
+    let mut all = share_all(memory, pages, 1)?;
     all.push(page)?;
     Ok(all)
 }

@@ -1,7 +1,7 @@
 use Rattle.std.proofs.Common.{◌≤◌, ◌^◌, map, sym, ap, subst, ◌∙◌}
 use Rattle.std.proofs.lemmas.Map.Iter.{iter_end}
 use Rattle.mp_versions.specs.Item.{shown}
-use Rattle.mp_versions.specs.Reading.{bytes_of}
+use Rattle.mp_resync.specs.Keep.{bytes_of}
 use Rattle.mp_mempool.specs.Inside.Trial.{HasTried}
 use Rattle.mp_mempool.proofs.Trials.{one_more, room_in_turn, shown-last}
 use Rattle.mp_mempool.proofs.trial.try_all.Goals as goal

@@ -1,8 +1,8 @@
 use Rattle.std.proofs.Common.{◌<◌, length, sym, ap, subst, ◌∙◌, arith}
 use Rattle.mp_versions.specs.Version.{Version}
-use Rattle.mp_versions.specs.Reading.{bytes_of}
+use Rattle.mp_resync.specs.Keep.{bytes_of}
 use Rattle.mp_versions.specs.Inside.Pages.{joined}
-use Rattle.mp_versions.specs.Inside.Version.{left_by}
+use Rattle.mp_seqpool.specs.Prepared.{left_by}
 use Rattle.mp_versions.proofs.Gone.{rising_left, given_left, bytes_left}
 use Rattle.mp_versions.proofs.Counting.{counted}
 use Rattle.mp_versions.proofs.version.Version.upon.Goals as goal
