@@ -14,7 +14,9 @@ use crate::answers::{answer_line, snapshot_line};
 use crate::openings::Openings;
 use crate::pool::ScenarioPool;
 use crate::settings::Settings;
-use mp_lines::{Binding, BlockBytes, Line, LineFault, Name, Names, NewLedger, Payment, Setting};
+use mp_lines::{
+    Binding, BlockBytes, Line, LineFault, MAX_OUTPUTS, Name, Names, NewLedger, Payment, Setting,
+};
 use mp_memory::{Memory, NoMemory};
 use mp_seqpool::{Command, Ids};
 use mp_tx::{Ledger, LedgerFault, Salt};
@@ -23,8 +25,6 @@ use std::sync::Arc;
 
 // Whoever runs a scenario has written it, so nobody is to be kept from choosing where outputs lie in the table.
 const SALT: u64 = 0;
-
-const MAX_OUTPUTS: usize = 1 << 16;
 
 /// What a line writes: nothing, or one line of text.
 pub type Text = Vec<u8, Memory>;

@@ -1,6 +1,6 @@
 //! What the lines above a line have come to.
 
-use mp_lines::{Binding, Line, LineFault, Name, Names, Payment};
+use mp_lines::{Binding, Line, LineFault, MAX_OUTPUTS, Name, Names, Payment};
 use mp_memory::{Memory, NoMemory};
 use mp_text::first_word;
 use mp_tx::OutRef;
@@ -17,8 +17,6 @@ pub struct Above {
     /// Whether a command came.
     pub is_open: bool,
 }
-
-const MAX_OUTPUTS: u64 = 1 << 16;
 
 impl Above {
     /// No line.
@@ -41,7 +39,7 @@ impl Above {
 
     /// Whether no further output may stand.
     pub fn is_full(&self) -> bool {
-        self.outputs >= MAX_OUTPUTS
+        self.outputs >= MAX_OUTPUTS as u64
     }
 
     fn note_setting(&mut self, line: &[u8]) -> Result<(), NoMemory> {

@@ -24,7 +24,7 @@ mod splitting;
 
 pub use declared_tx::DeclaredTx;
 pub use fault::LineFault;
-pub use line::Line;
+pub use line::{Line, MAX_OUTPUTS};
 pub use names::{Binding, Name, NamedBinding, NamedDatum, NamedScript, Names};
 pub use new_ledger::{NewLedger, Outputs};
 pub use once::set_once;

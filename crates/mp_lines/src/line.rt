@@ -22,6 +22,9 @@ use mp_text::{first_word, is_clean, is_comment_or_blank};
 use mp_tx::{Tx, TxId};
 use std::sync::Arc;
 
+/// So many outputs of the opening ledger state a scenario may have: they have indices of 16 bits.
+pub const MAX_OUTPUTS: usize = 1 << 16;
+
 /// What a line asks.
 #[derive(Debug, Drop)]
 pub enum Line {
