@@ -4,8 +4,8 @@ use mp_rules::Verifier;
 use mp_tx::{Key, Sig, TxId};
 use std::sync::atomic::{AtomicU64, Ordering};
 
-// So many turns took some 40 microseconds on the machine of the figures.
-const TURNS: u32 = 25_000;
+// So many turns took some 50 microseconds on the machine of the figures.
+const TURNS: u32 = 31_250;
 
 /// A verifier that accepts each signature after a fixed number of turns of arithmetic.
 #[derive(Drop)]
