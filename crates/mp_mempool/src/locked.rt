@@ -3,7 +3,7 @@ ghost use Rattle.std.specs.Prelude.{◌≡◌, ◌<◌, ◌≢◌, ◌^◌, true
 ghost use Rattle.std.specs.Arc.{arc_value};
 ghost use Rattle.mp_rules.specs.Checked.{IsChecked};
 ghost use Rattle.mp_seqpool.specs.Command.{Submit, Remove, Sync};
-ghost use Rattle.mp_seqpool.specs.Prepared.{Prepares};
+ghost use Rattle.mp_seqpool.specs.Prepared.{IsPrepared, Prepares, leads_to};
 ghost use Rattle.mp_seqpool.specs.SlowPool as slow;
 ghost use Rattle.mp_seqpool.specs.declared.refusal.Refusal.TheVariants as refusals;
 ghost use Rattle.mp_history.specs.Log.{Begins, IsLegalLog, entered, last_of, state_after};
@@ -80,6 +80,14 @@ fn own_thrice(memory: Memory, version: Version) -> Result<Owners, NoMemory>
         for_lock,
         for_board,
     })
+}
+
+// Takes the step. The entry that tells of it has the reply already.
+fn take_step(pool: &mut SeqPool, prepared: Prepared)
+    requires { IsPrepared pool.old prepared }
+    ensures { pool.new.pool ≡ leads_to pool.old.pool prepared }
+{
+    let _reply = pool.finish(prepared);
 }
 
 impl<N: PoolName> Locked<N> {
@@ -398,7 +406,7 @@ impl<N: PoolName> Locked<N> {
         let Outcome { entry, owners } = outcome;
         let place = self.next_place();
         history.commit(&mut self.right, caller, &entry);
-        let _reply = self.pool.finish(prepared);
+        take_step(&mut self.pool, prepared);
         self.places[caller.number() as usize] = Some(place);
         self.newest = Shown::of(owners.for_lock, self.right.front());
         self.waiting = Some(Shown::of(owners.for_board, self.right.front()));

@@ -5,7 +5,7 @@ use Rattle.mp_mempool.proofs.locked.Locked.commit.Goals as goal
 pub invariant_of-self : goal.invariant_of-self
 invariant_of-self g c =
     is_at_next g.N.PoolName.accepts g.N.PoolName.callers c.args.self.now c.self.inside.right c.self.inside.pool.pool c.self.inside.newest c.self.inside.places.items
-    c.args.ready.outcome.entry c.args.ready.prepared c.number.result c.next_place-place.result c.commit.new.right c.of.result c.finish-reply.new.self.pool
+    c.args.ready.outcome.entry c.args.ready.prepared c.number.result c.next_place-place.result c.commit.new.right c.of.result c.take_step.new.pool.pool
     (ap (λ l. l.log) c.self.view_is) c.self.invariant c.requires.prepares c.requires.tells.asked c.requires.tells.reply
     (subst (λ k. k < g.N.PoolName.callers) (sym c.requires.tells.caller) c.number.ensures.known) (c.number.ensures.number ∙ sym c.requires.tells.caller) c.next_place-place.ensures.place
-    c.commit.ensures c.finish-reply.ensures.pool (c.of.ensures ∙ c.front.ensures)
+    c.commit.ensures c.take_step.ensures (c.of.ensures ∙ c.front.ensures)
