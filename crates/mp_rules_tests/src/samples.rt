@@ -15,6 +15,7 @@ pub struct Counting {
 }
 
 impl Counting {
+    /// None was verified yet.
     pub fn new() -> Counting {
         Counting {
             calls: AtomicU64::new(0),

@@ -26,6 +26,7 @@ pub struct Asked {
     pub guarded_outputs: Vec<Output, Memory>,
 }
 
+/// All that is asked.
 pub fn all_asked(memory: Memory) -> Result<Asked, Fail> {
     let three = Three::of(memory)?;
     Ok(Asked {

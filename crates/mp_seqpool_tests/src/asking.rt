@@ -70,14 +70,17 @@ pub fn try_sync(pool: &SeqPool, ledger: &Ledger) -> Told {
     step_told(pool.prepare_sync(ledger, &AcceptsAll))
 }
 
+/// Submits with a verifier that accepts each signature.
 pub fn submit_to(pool: &mut SeqPool, tx: &Arc<Tx, Memory>) -> Answer {
     pool.submit(tx, &AcceptsAll)
 }
 
+/// Removes with the same verifier.
 pub fn remove_from(pool: &mut SeqPool, ids: &Arc<Ids, Memory>) -> Answer {
     pool.remove(ids, &AcceptsAll)
 }
 
+/// Syncs with the same verifier.
 pub fn sync_with(pool: &mut SeqPool, ledger: &Ledger) -> Answer {
     pool.sync(ledger, &AcceptsAll)
 }

@@ -29,15 +29,18 @@ impl Three {
     }
 }
 
+/// The command to take the transaction in.
 pub fn submit(tx: &Arc<Tx, Memory>) -> Result<Command, NoMemory> {
     Ok(Command::Submit(Arc::try_clone(tx)?))
 }
 
+/// The ids as a command names them.
 pub fn ids_of(memory: Memory, ids: &[TxId]) -> Result<Arc<Ids, Memory>, NoMemory> {
     let ids = Vec::from_slice(memory, ids)?;
     Ok(Arc::new(memory, Ids::of(ids))?)
 }
 
+/// The command to take out the transactions with these ids.
 pub fn remove(memory: Memory, ids: &[TxId]) -> Result<Command, NoMemory> {
     Ok(Command::Remove(ids_of(memory, ids)?))
 }

@@ -25,6 +25,7 @@ fn digits(tickets: &[u64]) -> u64 {
     digits
 }
 
+/// The reply as plain data: its tickets are the digits of a number.
 pub fn read_reply(reply: &Reply) -> Told {
     match reply {
         Reply::Accepted { ticket } => Told::Accepted(*ticket),
@@ -37,6 +38,7 @@ pub fn read_reply(reply: &Reply) -> Told {
     }
 }
 
+/// The answer as plain data.
 pub fn read_answer(answer: &Answer) -> Told {
     match answer {
         Ok(reply) => read_reply(reply),
@@ -71,6 +73,7 @@ pub struct Outcome {
     pub standing: Standing,
 }
 
+/// What came of the play.
 pub fn read_played(memory: Memory, played: &Played) -> Result<Outcome, NoMemory> {
     Ok(Outcome {
         answers: all_told(memory, &played.answers)?,
