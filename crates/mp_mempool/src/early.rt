@@ -9,16 +9,16 @@ use mp_versions::Version;
 
 // An output is looked for in so many of the newest transactions: a walk over all of a large pool would cost more than
 // the scripts.
-const RECENT: u64 = 1024;
+const RECENT: usize = 1024;
 
 // The output under the reference: the ledger state's, else that of one of the newest transactions.
 fn output_of<'a>(version: &'a Version, reference: &OutRef) -> Option<&'a Output> {
     if let Some(output) = version.ledger().get(reference) {
         return Some(output);
     }
-    let oldest = version.last_ticket().saturating_sub(RECENT);
     let maker = version
-        .after_ticket(oldest)
+        .newest_first()
+        .take(RECENT)
         .find(|item| *item.tx.id() == reference.id)?;
     maker.tx.outputs().get(usize::from(reference.index))
 }

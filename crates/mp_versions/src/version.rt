@@ -1,5 +1,5 @@
 //! States of a pool that stay as they are.
-ghost use Rattle.std.specs.Prelude.{◌≡◌, ◌==◌, ◌<◌, ◌≤◌, ◌^◌, length, is_some, option_map, All, IfOk};
+ghost use Rattle.std.specs.Prelude.{◌≡◌, ◌==◌, ◌<◌, ◌≤◌, ◌^◌, length, reverse, is_some, option_map, All, IfOk};
 ghost use Rattle.std.specs.List.Sorted.{IsStrictlyIncreasing};
 ghost use Rattle.std.specs.Arc.{arc_value};
 ghost use Rattle.mp_tickets.specs.Tickets.{IsRising, after, item_at};
@@ -17,6 +17,7 @@ use crate::pages::{
     bytes_among, count_of, find, grown, of_pool, run_after, run_of, share_all, without,
 };
 use crate::run::{Run, RunWithin};
+use crate::run_back::RunBack;
 use crate::searching::pages_have;
 use mp_memory::{Memory, NoMemory};
 use mp_seqpool::{Command, Config, Prepared, Reply, SeqPool};
@@ -205,6 +206,13 @@ impl Version {
         ensures { result ≡ self.now.pool.items }
     {
         run_of(&self.pages)
+    }
+
+    /// The transactions with their tickets, newest first.
+    pub fn newest_first(&self) -> RunBack<'_>
+        ensures { result ≡ reverse self.now.pool.items }
+    {
+        RunBack::of(&self.pages)
     }
 
     /// Those with a greater ticket, oldest first.

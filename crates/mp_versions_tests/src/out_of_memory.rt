@@ -152,6 +152,7 @@ fn reading_takes_no_growth(rt: HostRuntime) -> Result<(), Fail> {
     assert_eq!(rt; look_at(&version), OF_THREE);
     assert!(rt; version.lookup(2).is_some());
     assert!(rt; version.has(asked.three[2].id()));
+    assert!(rt; version.newest_first().next().is_some());
     assert!(rt; version.after_ticket(1).next().is_some());
     assert!(rt; version.within(200).next().is_some());
     assert!(rt; memory.waits());
