@@ -1,9 +1,11 @@
 //! The tests of mp_mempool: what callers are told and see, threads that share a pool, and each call under refusals of
-//! memory.
+//! memory. What callers ask and are told stands in tables, which one function plays on a new pool.
 #![tactic(auto)]
 
 #[cfg(test)]
 mod answers;
+#[cfg(test)]
+mod calls;
 #[cfg(test)]
 mod meeting;
 #[cfg(test)]

@@ -1,25 +1,32 @@
-//! Pools of two or three callers, and what is asked of them.
+//! Pools of some callers, on which tables of calls are played.
 ghost use Rattle.std.specs.Prelude.{◌≡◌};
 ghost use Rattle.mp_history.specs.PoolName.{head_of};
 ghost use Rattle.mp_mempool_tests.specs.Names.{any};
 
-use crate::told::{Told, read_answer, read_kept};
+use crate::calls::{Call, make};
+use crate::samples::{Asked, all_asked};
+use crate::told::Told;
 use mp_history::{NewName, PoolName};
 use mp_memory::{Memory, NoMemory};
-use mp_mempool::{Config, Mempool, Pass};
+use mp_mempool::{Config, Mempool, OpenRefusal, Pass};
 use mp_rules::Verifier;
-use mp_seqpool::Ids;
-use mp_tx::{Key, Ledger, Sig, Tx, TxId};
-use std::sync::{Arc, Wait};
+use mp_tx::{Key, Sig, TxId};
+use std::marker::Brand;
+use std::sync::Wait;
 
 /// More changes than any test makes.
 pub const LONG: u64 = 1_000_000;
 
-/// Accepts each signature.
-#[derive(Clone, Copy)]
-pub struct AcceptsAll;
+/// A trial gives up on a call that makes so many growths.
+pub const MAX_GROWTHS: u64 = 1_000;
 
-impl Verifier for AcceptsAll {
+/// Accepts each signature, and has a mark by which it is known.
+#[derive(Clone, Copy)]
+pub struct Marked {
+    mark: u64,
+}
+
+impl Verifier for Marked {
     ghost use Rattle.mp_mempool_tests.specs.Names.{any};
 
     ghost accepts = { λ _. any };
@@ -29,116 +36,75 @@ impl Verifier for AcceptsAll {
     }
 }
 
-/// The passes of two callers.
-#[derive(Drop)]
-pub struct Two<N: PoolName> {
-    pub first: Pass<N>,
-    pub second: Pass<N>,
+/// The mark of the verifier.
+pub const MARK: u64 = 7;
+
+/// The verifier.
+pub const ACCEPTS_ALL: Marked = Marked { mark: MARK };
+
+/// A line of a table: a caller by its number, what it does, and what it is to be told.
+pub type Line = (usize, Call, Told);
+
+/// What comes of a table.
+#[derive(Clone, Copy, Debug, PartialEq, Eq)]
+pub enum Played {
+    /// All is told as the table says.
+    AsTold,
+    /// The line of this number, from 0, is the first that is told otherwise.
+    Otherwise(usize, Told),
+    /// The pool isn't opened, and the verifier has this mark.
+    NotOpened(OpenRefusal, u64),
 }
 
-/// The passes of three callers.
-#[derive(Drop)]
-pub struct Three<N: PoolName> {
-    pub first: Pass<N>,
-    pub second: Pass<N>,
-    pub third: Pass<N>,
-}
-
-fn two_of<N: PoolName>(mut passes: Vec<Pass<N>, Memory>) -> Result<Two<N>, NoMemory> {
-    match (passes.pop(), passes.pop()) {
-        (Some(second), Some(first)) => Ok(Two { first, second }),
-        _ => Err(NoMemory),
-    }
-}
-
-fn three_of<N: PoolName>(mut passes: Vec<Pass<N>, Memory>) -> Result<Three<N>, NoMemory> {
-    match (passes.pop(), passes.pop(), passes.pop()) {
-        (Some(third), Some(second), Some(first)) => Ok(Three {
-            first,
-            second,
-            third,
-        }),
-        _ => Err(NoMemory),
-    }
-}
-
-/// A pool of two callers with so many changes.
-pub fn open_two<N: PoolName, V: Verifier + Drop>(
+fn play_on<N: PoolName>(
     rt: &impl Wait,
-    memory: Memory,
+    mempool: &Mempool<N, Marked>,
+    passes: &mut Vec<Pass<N>, Memory>,
+    asked: &Asked,
+    lines: &[Line],
+) -> Played {
+    for (number, (caller, call, wanted)) in lines.iter().enumerate() {
+        let told = make(rt, mempool, passes, asked, *caller, *call);
+        if told != *wanted {
+            return Played::Otherwise(number, told);
+        }
+    }
+    Played::AsTold
+}
+
+fn of_name<N: PoolName>(
+    rt: &impl Wait,
     name: NewName,
+    asked: &Asked,
+    callers: u32,
     limit: u64,
-    ledger: &Ledger,
-    verifier: V,
-) -> Result<(Mempool<N, V>, Two<N>), NoMemory>
+    lines: &[Line],
+) -> Played
     requires name { name ≡ head_of N.book N.root }
-    requires callers { N.callers ≡ 2 }
-    requires accepts { V.accepts verifier ≡ N.accepts }
-{
-    let config = Config { limit, last: 0 };
-    match Mempool::open(rt, memory, name, config, ledger, verifier, 2) {
-        Ok((mempool, passes)) => Ok((mempool, two_of(passes)?)),
-        Err(_) => Err(NoMemory),
-    }
-}
-
-/// A pool of three callers.
-pub fn open_three<N: PoolName>(
-    rt: &impl Wait,
-    memory: Memory,
-    name: NewName,
-    ledger: &Ledger,
-) -> Result<(Mempool<N, AcceptsAll>, Three<N>), NoMemory>
-    requires name { name ≡ head_of N.book N.root }
-    requires callers { N.callers ≡ 3 }
+    requires callers { N.callers ≡ callers }
     requires accepts { N.accepts ≡ any }
 {
-    let config = Config {
-        limit: LONG,
-        last: 0,
-    };
-    match Mempool::open(rt, memory, name, config, ledger, AcceptsAll, 3) {
-        Ok((mempool, passes)) => Ok((mempool, three_of(passes)?)),
-        Err(_) => Err(NoMemory),
+    let config = Config { limit, last: 0 };
+    let memory = asked.memory;
+    match Mempool::<N, Marked>::open(rt, memory, name, config, &asked.all, ACCEPTS_ALL, callers) {
+        Ok((mempool, mut passes)) => play_on(rt, &mempool, &mut passes, asked, lines),
+        Err((refusal, verifier)) => Played::NotOpened(refusal, verifier.mark),
     }
 }
 
-/// What a submit is told.
-pub fn submit<N: PoolName, V: Verifier>(
-    rt: &impl Wait,
-    mempool: &Mempool<N, V>,
-    pass: &mut Pass<N>,
-    tx: &Arc<Tx, Memory>,
-) -> Told {
-    read_answer(&mempool.submit(rt, pass, tx))
+/// What comes of the table on a new pool of so many callers, with room for so many changes.
+pub fn play(rt: &impl Wait, asked: &Asked, callers: u32, limit: u64, lines: &[Line]) -> Played {
+    of_name::<Brand>(rt, NewName::new(), asked, callers, limit, lines)
 }
 
-/// What a remove is told.
-pub fn remove<N: PoolName, V: Verifier>(
+/// What comes of the table where it is the only one to be played.
+pub fn play_alone(
     rt: &impl Wait,
-    mempool: &Mempool<N, V>,
-    pass: &mut Pass<N>,
-    ids: &Arc<Ids, Memory>,
-) -> Told {
-    read_answer(&mempool.remove(rt, pass, ids))
-}
-
-/// What a sync is told.
-pub fn sync<N: PoolName, V: Verifier>(
-    rt: &impl Wait,
-    mempool: &Mempool<N, V>,
-    pass: &mut Pass<N>,
-    ledger: &Ledger,
-) -> Told {
-    read_answer(&mempool.sync(rt, pass, ledger))
-}
-
-/// What is told of what would stay upon the ledger state.
-pub fn try_upon<N: PoolName, V: Verifier>(
     memory: Memory,
-    mempool: &Mempool<N, V>,
-    pass: &mut Pass<N>,
-    ledger: &Ledger,
-) -> Told {
-    read_kept(&mempool.snapshot_for(memory, pass, ledger))
+    callers: u32,
+    limit: u64,
+    lines: &[Line],
+) -> Result<Played, NoMemory> {
+    let asked = all_asked(memory)?;
+    Ok(play(rt, &asked, callers, limit, lines))
 }

@@ -1,24 +1,44 @@
-//! Answers, and what callers see, as far as the tests compare them.
+//! What callers are told, as far as the tests compare it.
 use mp_history::PoolName;
 use mp_memory::NoMemory;
-use mp_mempool::{Mempool, Pass, Receipt, Refusal, SnapshotFor};
-use mp_rules::Verifier;
+use mp_mempool::{Receipt, Refusal, SnapshotFor};
 use mp_seqpool::Reply;
 use mp_versions::{Item, Run, Snapshot};
 
-/// What a caller is told: the place of its entry with the ticket or the tickets, or why not. Tickets are told as the
-/// digits of a number: 1 and 2 are 12, and 0 is none.
+/// What a caller is told. Tickets are told as the digits of a number: 1 and 2 are 12, 0 is none, and `MANY` are more
+/// than 19.
 #[derive(Clone, Copy, Debug, PartialEq, Eq)]
 pub enum Told {
+    /// The place of the entry, with the ticket.
     Accepted(u64, u64),
+    /// The place, the tickets that were named, and those that went with them.
     Removed(u64, u64, u64),
+    /// The place, the tickets that stay, and those that don't.
     Synced(u64, u64, u64),
-    /// What would stay: the entries of the history, the tickets, and the bytes.
-    Kept(u64, u64, u64),
     Refused(mp_seqpool::Refusal),
     Foreign,
+    /// What would stay: the entries of the history, the tickets, and the bytes.
+    Kept(u64, u64, u64),
+    /// What is seen: the entries of the history, how many transactions there are, and their tickets.
+    Sees(u64, usize, u64),
+    /// The place of the caller's last entry.
+    Last(Option<u64>),
+    /// Whether the refusal of memory has come.
+    Met(bool),
+    /// So many passes, each with its place as its number, have seen nothing.
+    Fresh(usize),
+    /// The pass at this place isn't so.
+    Unlike(usize),
+    /// There is nothing to tell.
+    Done,
+    /// There is no such caller or sample.
+    Nobody,
 }
 
+/// More than 19 tickets.
+pub const MANY: u64 = u64::MAX;
+
+/// There was no memory.
 pub const NO_MEMORY: Told = Told::Refused(mp_seqpool::Refusal::NoMemory);
 
 fn with_digit(digits: u64, ticket: u64) -> u64 {
@@ -33,7 +53,8 @@ fn digits_of(tickets: &[u64]) -> u64 {
     digits
 }
 
-fn read_receipt(receipt: &Receipt) -> Told {
+/// What is told by a receipt.
+pub fn read_receipt(receipt: &Receipt) -> Told {
     let place = receipt.place;
     match &receipt.entry.reply {
         Reply::Accepted { ticket } => Told::Accepted(place, *ticket),
@@ -50,9 +71,9 @@ fn read_receipt(receipt: &Receipt) -> Told {
     }
 }
 
-/// What is told by the answer.
-pub fn read_answer<N: PoolName>(answer: &Result<Receipt, Refusal<N>>) -> Told {
-    match answer {
+/// What is told by the answer to a change.
+pub fn read_answer<N: PoolName>(answer: Result<Receipt, Refusal<N>>) -> Told {
+    match &answer {
         Ok(receipt) => read_receipt(receipt),
         Err(Refusal::Pool(refusal)) => Told::Refused(*refusal),
         Err(Refusal::Foreign(_)) => Told::Foreign,
@@ -68,8 +89,8 @@ fn digits_of_items(items: &[Item]) -> u64 {
 }
 
 /// What is told of what would stay.
-pub fn read_kept(kept: &Result<SnapshotFor, NoMemory>) -> Told {
-    match kept {
+pub fn read_kept(kept: Result<SnapshotFor, NoMemory>) -> Told {
+    match &kept {
         Ok(kept) => Told::Kept(
             kept.number,
             digits_of_items(kept.items.as_slice()),
@@ -79,9 +100,6 @@ pub fn read_kept(kept: &Result<SnapshotFor, NoMemory>) -> Told {
     }
 }
 
-/// How many entries, and the digits of the tickets.
-pub type Sight = (u64, u64);
-
 fn digits_in(run: Run<'_>) -> u64 {
     let mut digits = 0;
     for item in run {
@@ -90,21 +108,11 @@ fn digits_in(run: Run<'_>) -> u64 {
     digits
 }
 
-fn read_snapshot<N: PoolName>(snapshot: &Snapshot<'_, N>) -> Sight {
-    (snapshot.number(), digits_in(snapshot.txs()))
-}
-
-/// What the caller has seen, without a look at the pool.
-pub fn seen<N: PoolName>(pass: &Pass<N>) -> Sight {
-    read_snapshot(&pass.snapshot())
-}
-
-/// What the caller sees in a snapshot that it takes now.
-pub fn look<N: PoolName, V: Verifier>(mempool: &Mempool<N, V>, pass: &mut Pass<N>) -> Sight {
-    read_snapshot(&mempool.snapshot(pass))
-}
-
-/// How many transactions the caller sees in a snapshot that it takes now.
-pub fn count<N: PoolName, V: Verifier>(mempool: &Mempool<N, V>, pass: &mut Pass<N>) -> usize {
-    mempool.snapshot(pass).size().0
+/// What is seen in the snapshot.
+pub fn read_snapshot<N: PoolName>(snapshot: &Snapshot<'_, N>) -> Told {
+    Told::Sees(
+        snapshot.number(),
+        snapshot.size().0,
+        digits_in(snapshot.txs()),
+    )
 }

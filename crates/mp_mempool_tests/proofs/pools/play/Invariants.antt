@@ -1,5 +1,5 @@
 use Rattle.mp_mempool_tests.specs.Names.{any}
-use Rattle.mp_mempool_tests.proofs.opening.try_opening.Given as goal
+use Rattle.mp_mempool_tests.proofs.pools.play.Given as goal
 
 -- the name that was just made, for so many callers
 abbrev pub ghosts-of_name : goal.ghosts-of_name

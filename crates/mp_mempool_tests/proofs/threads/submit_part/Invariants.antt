@@ -1,5 +1,5 @@
 use Rattle.mp_mempool_tests.specs.Names.{any}
-use Rattle.mp_mempool_tests.proofs.out_of_memory.try_anew.Given as goal
+use Rattle.mp_mempool_tests.proofs.threads.submit_part.Given as goal
 
 -- the name that was just made, for two callers
 abbrev pub ghosts-of_name : goal.ghosts-of_name

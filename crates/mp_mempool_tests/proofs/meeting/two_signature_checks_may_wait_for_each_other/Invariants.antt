@@ -1,6 +1,0 @@
-use Rattle.mp_mempool_tests.specs.Names.{any}
-use Rattle.mp_mempool_tests.proofs.meeting.two_signature_checks_may_wait_for_each_other.Given as goal
-
--- the name that was just made, for two callers
-abbrev pub ghosts-of_name : goal.ghosts-of_name
-ghosts-of_name g a = record { book = a.name.book; root = a.name.key; callers = 2; accepts = any }
