@@ -1,15 +1,15 @@
--- Where the first binding with a name stands.
-use Rattle.std.proofs.Common.{◌≡◌, ℕ, suc, ◌+◌, Bool, true, false, cond, List, [], ◌∷◌, ◌++◌, length, Option, Some, None, nat_eq, refl, sym, ap, subst, ◌∙◌, arith}
-use Rattle.std.specs.Prelude.{option_map, option_and_then, slice_get, find, is_some}
-use Rattle.std.specs.Option.{option_or}
+-- Where the first item with a key stands.
+use Rattle.std.proofs.Common.{◌≡◌, ℕ, suc, ◌+◌, Bool, true, false, cond, List, [], ◌∷◌, ◌++◌, length, Option, Some, None, nat_eq, refl, sym, ap, ◌∙◌, arith}
+use Rattle.std.specs.Prelude.{option_map, option_and_then, slice_get, find}
+use Rattle.std.specs.Option.{option_or, option_map_or}
 use Rattle.std.specs.Map.{lookup}
-use Rattle.std.specs.Cmp.Lexicographic.{pointwise, bytes_decides}
-use Rattle.std.specs.declared.vec.Vec.{Vec}
+use Rattle.std.specs.Cmp.Lexicographic.{pointwise}
+use Rattle.mp_lines.specs.declared.names.Binding.{Binding}
+use Rattle.mp_lines.specs.declared.names.Binding.TheVariants.{Opening, Made}
 use Rattle.mp_lines.specs.declared.names.NamedBinding.{NamedBinding}
-use Rattle.mp_lines.specs.Inside.BindingTable.{place_of, has_name, ArePlaced}
-
-later : Option ℕ → Option ℕ
-later o = option_map (λ k. k + 1) o
+use Rattle.mp_lines.specs.Names.{has_id}
+use Rattle.mp_lines.specs.Inside.PlaceTable.{Noted, noted_at, Notes, place_of, ArePlaced}
+use Rattle.mp_lines.specs.Inside.BindingTable.{has_tx_id, bound_id}
 
 later-or : (o : Option ℕ) (b : Bool) (n : ℕ) → option_map (λ k. k + 1) (option_or o (cond b (Some n) None)) ≡ option_or (option_map (λ k. k + 1) o) (cond b (Some (n + 1)) None)
 later-or None true n = refl
@@ -54,31 +54,21 @@ pub find-place : {X : Type 0} (test : X → Bool) (xs : List X) → find test xs
 find-place test [] = refl
 find-place test (x ∷ xs) = find_more test x xs (test x) refl (find-place test xs)
 
--- a name that no binding had leads to the new one
-pub placed-new : {Z : Type 0} (places : List (Vec ℕ Z × ℕ)) (bindings : List NamedBinding) (k : Vec ℕ Z) (b : NamedBinding) → k.items ≡ b.name
-    → ArePlaced places bindings → ArePlaced (places ++ (k, length bindings) ∷ []) (bindings ++ b ∷ [])
-placed-new places bindings k b is placed = λ word.
-    lookup-push (λ q. pointwise nat_eq word q.items) places k (length bindings)
-    ∙ ap (λ o. option_or o (cond (pointwise nat_eq word k.items) (Some (length bindings)) None)) (placed word)
-    ∙ ap (λ n. option_or (place_of (has_name word) bindings) (cond (pointwise nat_eq word n) (Some (length bindings)) None)) is
-    ∙ sym (place_of-push (has_name word) bindings b)
+-- the item that is put last is found by its key, if it has one, unless an earlier one has it
+pub placed-noted : {X Z : Type 0} (has : List ℕ → X → Bool) (start old new : Noted Z) (xs all : List X) (x : X) (key : Option (List ℕ)) (place : ℕ)
+    → ((q : List ℕ) → has q x ≡ option_map_or (pointwise nat_eq q) key false) → place ≡ length xs → all ≡ xs ++ x ∷ [] → old ≡ start
+    → Notes old key place new → ArePlaced has start xs → ArePlaced has new all
+placed-noted has start old new xs all x key place is at put same notes placed = λ q.
+    notes q
+    ∙ ap (λ o. option_or o (cond (option_map_or (pointwise nat_eq q) key false) (Some place) None)) (ap (λ es. noted_at es q) same ∙ placed q)
+    ∙ ap (λ b. option_or (place_of (has q) xs) (cond b (Some place) None)) (sym (is q))
+    ∙ ap (λ n. option_or (place_of (has q) xs) (cond (has q x) (Some n) None)) at
+    ∙ sym (place_of-push (has q) xs x) ∙ ap (place_of (has q)) (sym put)
 
-or_none : {X : Type 0} (o : Option X) → o ≡ option_or o None
-or_none None = refl
-or_none (Some x) = refl
-
-or_some : {X : Type 0} (o p : Option X) → is_some o ≡ true → o ≡ option_or o p
-or_some None p some = Prim.cc
-or_some (Some x) p some = refl
-
-known_at : (bindings : List NamedBinding) (b : NamedBinding) (word : List ℕ) (t : Bool) → pointwise nat_eq word b.name ≡ t → is_some (place_of (has_name b.name) bindings) ≡ true
-    → place_of (has_name word) bindings ≡ option_or (place_of (has_name word) bindings) (cond t (Some (length bindings)) None)
-known_at bindings b word true is known =
-    or_some _ _ (subst (λ w. is_some (place_of (has_name w) bindings) ≡ true) (sym ((bytes_decides word b.name).0 is)) known)
-known_at bindings b word false is known = or_none _
-
--- a name that a binding has leads to that one still
-pub placed-known : {Z : Type 0} (places : List (Vec ℕ Z × ℕ)) (bindings : List NamedBinding) (b : NamedBinding) → is_some (place_of (has_name b.name) bindings) ≡ true
-    → ArePlaced places bindings → ArePlaced places (bindings ++ b ∷ [])
-placed-known places bindings b known placed = λ word.
-    placed word ∙ known_at bindings b word (pointwise nat_eq word b.name) refl known ∙ sym (place_of-push (has_name word) bindings b)
+-- a transaction is found by its id, and an output by none
+pub has_tx_id-bound_id : (n : NamedBinding) (id : Option (List ℕ)) → id ≡ bound_id n.binding → (q : List ℕ) → has_tx_id q n ≡ option_map_or (pointwise nat_eq q) id false
+has_tx_id-bound_id n id is q = by n.binding ∙ ap (λ o. option_map_or (pointwise nat_eq q) o false) (sym is)
+  where
+    by : (b : Binding) → has_id q b ≡ option_map_or (pointwise nat_eq q) (bound_id b) false
+    by (Opening r p) = refl
+    by (Made t) = refl

@@ -1,38 +1,37 @@
-//! Bindings in the order in which they were declared, found by name without a walk.
+//! Bindings in the order in which they were declared, found by name or by id without a walk.
 
-ghost use Rattle.std.specs.Prelude.{◌≡◌, [], ◌∷◌, ◌++◌, slice_get, option_copied, OnOk, OnErr};
-ghost use Rattle.mp_lines.specs.Inside.BindingTable.{ArePlaced};
+ghost use Rattle.std.specs.Prelude.{◌≡◌, slice_get, option_and_then, option_copied, option_map, IfOk};
+ghost use Rattle.mp_lines.specs.Inside.BindingTable.{bound_id};
 
 use crate::names::{Binding, Name, NamedBinding};
-use indexmap::IndexMap;
+use crate::place_table::{PlaceTable, no_places, note, note_if_any, place_under};
 use mp_memory::{Memory, NoMemory};
-use mp_tx::Salt;
+use mp_tx::TxId;
 use std::fmt;
 use std::marker::Model;
-
-// Whoever runs a scenario has written it, so nobody is to be kept from choosing where names lie in the table.
-const SALT: u64 = 0;
-
-type Places = IndexMap<Vec<u8, Memory>, usize, Salt, Memory>;
 
 /// Bindings with their names. Contracts see the list of them, in the order in which they were declared.
 #[derive(Drop)]
 pub struct BindingTable {
     bindings: Vec<NamedBinding, Memory>,
     // Where the first binding with a name stands.
-    places: Places,
+    names: PlaceTable,
+    // Where the first transaction with an id stands.
+    ids: PlaceTable,
 }
 
 impl Model for BindingTable {
     ghost use Rattle.std.specs.Prelude.{List};
     ghost use Rattle.mp_lines.specs.declared.names.NamedBinding as told;
-    ghost use Rattle.mp_lines.specs.Inside.BindingTable.{ArePlaced};
+    ghost use Rattle.mp_lines.specs.Inside.PlaceTable.{ArePlaced};
+    ghost use Rattle.mp_lines.specs.Inside.BindingTable.{has_name, has_tx_id};
 
     ghost Value = { List told.NamedBinding };
 
     ghost view = { λ t. t.bindings.items };
 
-    ghost invariant = { λ t. ArePlaced t.places.entries t.bindings.items };
+    ghost invariant = { λ t. ArePlaced has_name t.names.entries t.bindings.items
+        × ArePlaced has_tx_id t.ids.entries t.bindings.items };
 }
 
 impl fmt::Debug for BindingTable {
@@ -41,34 +40,26 @@ impl fmt::Debug for BindingTable {
     }
 }
 
-fn binding_at(bindings: &[NamedBinding], place: usize) -> Option<&NamedBinding>
-    ensures { option_copied result ≡ slice_get bindings.now place }
+fn binding_at(bindings: &[NamedBinding], place: Option<usize>) -> Option<&NamedBinding>
+    ensures { option_copied result ≡ option_and_then (slice_get bindings.now) place }
 {
-    bindings.get(place)
+    bindings.get(place?)
 }
 
-// Notes where the binding stands that is put last, unless an earlier one has its name.
-fn note_place(
-    places: &mut Places,
-    bindings: &[NamedBinding],
-    named: &NamedBinding,
-) -> Result<(), NoMemory>
-    requires { ArePlaced places.old.entries bindings.now }
-    ensures ok { OnOk result (ArePlaced places.new.entries (bindings.now ++ named.now ∷ [])) }
-    ensures err { OnErr result (places.new.entries ≡ places.old.entries) }
+// The bytes of a transaction's id. An output of the opening ledger state has none.
+fn id_bytes(memory: Memory, binding: &Binding) -> Result<Option<Vec<u8, Memory>>, NoMemory>
+    ensures { IfOk result (λ id. option_map (λ v. v.items) id ≡ bound_id binding.now) }
 {
-    if places.contains_key(named.name.as_bytes()) {
-        return Ok(());
+    match binding {
+        Binding::Opening(_, _) => Ok(None),
+        Binding::Made(declared) => Ok(Some(Vec::from_slice(memory, declared.tx().id())?)),
     }
-    let key = named.name.to_bytes()?;
-    places.insert(key, bindings.len())?;
-    Ok(())
 }
 
 impl BindingTable {
     ghost use Rattle.std.specs.Prelude.{◌≡◌, [], ◌∷◌, ◌++◌, find, nat_eq, option_copied, OnOk, OnErr};
     ghost use Rattle.std.specs.Cmp.Lexicographic.{pointwise};
-    ghost use Rattle.mp_lines.specs.Inside.BindingTable.{place_of, has_name};
+    ghost use Rattle.mp_lines.specs.Names.{has_id};
 
     /// No binding.
     pub fn new(memory: Memory) -> BindingTable
@@ -76,25 +67,23 @@ impl BindingTable {
     {
         BindingTable {
             bindings: Vec::new(memory),
-            places: IndexMap::with_hasher(memory, Salt::new(SALT)),
+            names: no_places(memory),
+            ids: no_places(memory),
         }
-    }
-
-    // Where the first binding with this name stands.
-    fn place(&self, word: &[u8]) -> Option<usize>
-        ensures { result ≡ place_of (has_name word.now) self.now }
-    {
-        self.places.get(word).copied()
     }
 
     /// The first binding with this name.
     pub fn get(&self, word: &[u8]) -> Option<&NamedBinding>
         ensures { option_copied result ≡ find (λ n. pointwise nat_eq word.now n.name) self.now }
     {
-        match self.place(word) {
-            Some(place) => binding_at(&self.bindings, place),
-            None => None,
-        }
+        binding_at(&self.bindings, place_under(&self.names, word))
+    }
+
+    /// The first binding of a transaction with this id.
+    pub fn get_by_id(&self, id: &TxId) -> Option<&NamedBinding>
+        ensures { option_copied result ≡ find (λ n. has_id id.now n.binding) self.now }
+    {
+        binding_at(&self.bindings, place_under(&self.ids, id))
     }
 
     /// Puts the binding last. After an `Err` the table is as it was.
@@ -103,17 +92,15 @@ impl BindingTable {
             ≡ self.old ++ record { name = name; binding = binding } ∷ []) }
         ensures err { OnErr result (self.new ≡ self.old) }
     {
+        let word = name.to_bytes()?;
+        let id = id_bytes(*self.bindings.allocator(), &binding)?;
         self.bindings.reserve(1)?;
-        let named = NamedBinding { name, binding };
-        note_place(&mut self.places, &self.bindings, &named)?;
-        self.bindings.push_reserved(named);
+        self.names.reserve(1)?;
+        self.ids.reserve(1)?;
+        let place = self.bindings.len();
+        note(&mut self.names, word, place);
+        note_if_any(&mut self.ids, id, place);
+        self.bindings.push_reserved(NamedBinding { name, binding });
         Ok(())
-    }
-
-    /// All bindings, in the order in which they were declared.
-    pub fn as_slice(&self) -> &[NamedBinding]
-        ensures { result.now ≡ self.now }
-    {
-        &self.bindings
     }
 }

@@ -16,6 +16,7 @@ mod new_ledger;
 mod once;
 mod payment;
 mod payments;
+mod place_table;
 mod references;
 mod rising;
 mod settings;

@@ -1,7 +1,7 @@
 //! What the names of a scenario stand for.
 
 ghost use Rattle.std.specs.Prelude.{◌≡◌, find, option_copied, IfOk};
-ghost use Rattle.mp_lines.specs.Names.{has_id, has_hash};
+ghost use Rattle.mp_lines.specs.Names.{has_hash};
 
 use crate::binding_table::BindingTable;
 use crate::declared_tx::DeclaredTx;
@@ -121,21 +121,6 @@ fn datum_of(memory: Memory, name: &[u8], bytes: &[u8]) -> Result<NamedDatum, NoM
     Ok(NamedDatum { name, datum })
 }
 
-fn has_id(binding: &Binding, id: &TxId) -> bool
-    ensures { result ≡ has_id id.now binding.now }
-{
-    match binding {
-        Binding::Made(declared) => *id == *declared.tx().id(),
-        Binding::Opening(_, _) => false,
-    }
-}
-
-fn first_with_id<'a>(bindings: &'a [NamedBinding], id: &TxId) -> Option<&'a NamedBinding>
-    ensures { option_copied result ≡ find (λ n. has_id id.now n.binding) bindings.now }
-{
-    bindings.iter().find(|named| has_id(&named.binding, id))
-}
-
 fn first_with_hash<'a>(scripts: &'a [NamedScript], hash: &Hash) -> Option<&'a NamedScript>
     ensures { option_copied result ≡ find (λ n. has_hash hash.now n.script) scripts.now }
 {
@@ -200,7 +185,7 @@ impl Names {
     pub fn name_of(&self, id: &TxId) -> &[u8]
         ensures { result.now ≡ name_of id.now self.now }
     {
-        match first_with_id(self.bindings.as_slice(), id) {
+        match self.bindings.get_by_id(id) {
             Some(named) => named.name.as_bytes(),
             None => &[],
         }
