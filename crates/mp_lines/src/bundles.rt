@@ -12,7 +12,7 @@ ghost use Rattle.mp_lines.specs.Fault.{Reads, Gives};
 
 use crate::fault::LineFault;
 use crate::names::{COIN, Names};
-use crate::rising::put_entry;
+use crate::rising::insert_rising;
 use crate::splitting::split_once;
 use mp_bundle::{Bundle, Entry, MAX_NAME_BYTES, PolicyId, Token};
 use mp_memory::Memory;
@@ -158,7 +158,7 @@ fn entries_of(memory: Memory, names: &Names, word: &[u8]) -> Result<Vec<Entry, M
         let Some(entry) = entry_of(names, first) else {
             return Err(LineFault::Bad);
         };
-        put_entry(&mut entries, entry)?;
+        insert_rising(&mut entries, entry)?;
         rest = others;
     }
     Ok(entries)

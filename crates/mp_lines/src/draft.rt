@@ -13,7 +13,7 @@ use crate::items::{Item, Signer, item_of};
 use crate::names::Names;
 use crate::once::set_once;
 use crate::payment::Payment;
-use crate::rising::{put_input, put_reference, put_script};
+use crate::rising::insert_rising;
 use crate::signing::signatures_of;
 use mp_bundle::Bundle;
 use mp_memory::{Memory, NoMemory};
@@ -71,13 +71,13 @@ impl Draft {
         ensures bad { IsErrOf result LineFault.Bad → with_item self.old item ≡ None }
     {
         match item {
-            Item::Spends(input) => put_input(&mut self.inputs, input)?,
-            Item::LooksAt(reference) => put_reference(&mut self.references, reference)?,
+            Item::Spends(input) => insert_rising(&mut self.inputs, input)?,
+            Item::LooksAt(reference) => insert_rising(&mut self.references, reference)?,
             Item::Pays(payment) => self.payments.push(payment)?,
             Item::From(tick) => set_once(&mut self.from, tick)?,
             Item::To(tick) => set_once(&mut self.to, tick)?,
             Item::Forges(bundle) => set_once(&mut self.forge, bundle)?,
-            Item::Carries(script) => put_script(&mut self.scripts, script)?,
+            Item::Carries(script) => insert_rising(&mut self.scripts, script)?,
             Item::Signs(signer) => self.signers.push(signer)?,
         }
         Ok(())

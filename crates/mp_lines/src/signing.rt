@@ -4,7 +4,7 @@ ghost use Rattle.std.specs.Prelude.{◌≡◌, [], IfOk};
 ghost use Rattle.mp_lines.specs.Draft.{flip, first_byte, signature_of, signatures_of};
 
 use crate::items::Signer;
-use crate::rising::put_signature;
+use crate::rising::insert_rising;
 use mp_memory::{Memory, NoMemory};
 use mp_tx::{Signature, TxId};
 
@@ -52,7 +52,7 @@ pub fn signatures_of(
 {
     let mut signatures = Vec::new(memory);
     for signer in signers {
-        put_signature(&mut signatures, signature_of(id, *signer))?;
+        insert_rising(&mut signatures, signature_of(id, *signer))?;
     }
     Ok(signatures)
 }

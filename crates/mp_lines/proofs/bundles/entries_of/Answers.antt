@@ -14,6 +14,6 @@ returns-in_default-entry_of c =
 pub loop-rest-preserved : goal.loop-rest-preserved
 loop-rest-preserved c =
     let left = ap (λ r. put_entries c.args.names.now c.loop-rest.entries.items (parts_left 44 (option_copied r))) (sym c.in-Some.is) ∙ c.loop-rest.invariant in
-    put-more c.args.names.now c.loop-rest.entries.items c.put_entry.new.entries.items c.in-Some.part.now c.split_once.result.0.now
+    put-more c.args.names.now c.loop-rest.entries.items c.insert_rising.new.items.items c.in-Some.part.now c.split_once.result.0.now
     (option_copied c.split_once.result.1) _ c.in-Some-entry_of.entry left c.split_once.ensures.before c.split_once.ensures.after
     (sym c.entry_of.ensures ∙ c.in-Some-entry_of.is) (Prim.search rules)
