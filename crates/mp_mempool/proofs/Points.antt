@@ -17,7 +17,7 @@ use Rattle.mp_history.proofs.Logs.{legal-append, pool_of-append}
 use Rattle.mp_mempool.specs.Locked.{Locked, holding}
 use Rattle.mp_mempool.specs.Pass.{Pass, IsOwn}
 use Rattle.mp_mempool.specs.declared.refusal.Refusal.TheVariants.{Pool}
-use Rattle.mp_mempool.specs.Answers.{IsEntered, IsRefusedAt, IsRefused, IsOfLog, IsSeen, IsTrial, continued, with_entry}
+use Rattle.mp_mempool.specs.Answers.{IsEntered, IsRefusedAt, IsRefused, IsSeen, IsTrial, continued, with_entry}
 use Rattle.mp_versions.specs.Version.{Version}
 use Rattle.mp_versions.specs.Shown.{IsVersionOf}
 use Rattle.mp_versions.proofs.Histories.{number_of}
@@ -132,15 +132,6 @@ module _ (accepts : Accepts) where
   refusal_told N callers before after log (refusals.AlreadyInPool k) c other own b known legal is refused = is_refused callers before after log c (refusals.AlreadyInPool k) own b known legal refused is
   refusal_told N callers before after log (refusals.Full need free) c other own b known legal is refused = is_refused callers before after log c (refusals.Full need free) own b known legal refused is
   refusal_told N callers before after log (refusals.Invalid fault) c other own b known legal is refused = is_refused callers before after log c (refusals.Invalid fault) own b known legal refused is
-
--- where each refusal but want of memory stands
-pub refusal_there : (N : Type 0) (log : Log) (r : pool.Refusal) (after : Pass) → after.front ≡ log → IsOfLog {N = N} log (Pool r) after
-refusal_there N log refusals.NoMemory after is = tt
-refusal_there N log refusals.HistoryFull after is = is
-refusal_there N log refusals.TicketsSpent after is = is
-refusal_there N log (refusals.AlreadyInPool k) after is = is
-refusal_there N log (refusals.Full need free) after is = is
-refusal_there N log (refusals.Invalid fault) after is = is
 
 -- what stays valid upon another ledger state, of a version
 pub is_trial : (a accepts : Accepts) (callers : ℕ) (log front_now : Log) (v : Version) (ledger : LedgerState) (s : SnapshotFor) → a ≡ accepts → IsLegalLog accepts callers log

@@ -82,9 +82,9 @@ module _ (accepts : Accepts) (callers : ℕ) where
     pub pass : after ≡ seen before more
     pub legal : IsLegalLog accepts callers after.front
 
--- the refusal tells of this history, or its caller has now seen it
+-- the refusal tells of this history, or its caller has now seen it; where memory is wanting, its pass knows all its entries there
 abbrev pub IsOfLog : {N : Type 0} → Log → Refusal N → Pass → Type 0
-IsOfLog log (Pool refusals.NoMemory) after = Unit {0}
+IsOfLog log (Pool refusals.NoMemory) after = last_of after.caller log.entries ≡ after.last
 IsOfLog log (Pool refusal) after = after.front ≡ log
 IsOfLog log (Foreign front) after = front ≡ log
 

@@ -2,8 +2,8 @@
 ghost use Rattle.std.specs.Prelude.{◌≡◌, IfSome, IfOk, IfErr, OnOk, OnErr};
 ghost use Rattle.std.specs.Arc.{arc_value};
 ghost use Rattle.mp_rules.specs.Checked.{IsChecked};
-ghost use Rattle.mp_seqpool.specs.Command.{Submit, Remove, Sync};
-ghost use Rattle.mp_history.specs.Log.{entered};
+ghost use Rattle.mp_seqpool.specs.Command.{Command, Submit, Remove, Sync};
+ghost use Rattle.mp_history.specs.Log.{Begins, entered, last_of};
 ghost use Rattle.mp_mempool.specs.Answers.{IsEntered, IsRefused, IsOfLog};
 
 use crate::locked::Locked;
@@ -17,6 +17,23 @@ use mp_rules::{Checked, Verifier};
 use mp_seqpool::Ids;
 use mp_tx::{Ledger, Tx};
 use std::sync::{Arc, Wait};
+
+// The pass knows all entries of its caller; or else a front shows one that it doesn't know.
+fn require_known<N: PoolName>(locked: &mut Locked<N>, pass: &Pass<N>) -> Result<(), Refusal<N>>
+    ensures same { locked.new ≡ locked.old }
+    ensures begins { Begins pass.now.front locked.new.log }
+    ensures known { OnOk result
+        (last_of pass.now.caller locked.new.log.entries ≡ pass.now.last) }
+    ensures foreign { IfErr result (λ r. (c : Command)
+        → IsRefused N.accepts N.callers pass.now c r pass.now) }
+    ensures there { IfErr result (λ r. IsOfLog locked.new.log r pass.now) }
+{
+    if locked.is_known_to(pass) {
+        Ok(())
+    } else {
+        Err(Refusal::Foreign(locked.front()))
+    }
+}
 
 /// What `Mempool::submit` does under the lock, with what was found of the transaction before.
 pub fn submit_in<N: PoolName, V: Verifier>(
@@ -37,9 +54,7 @@ pub fn submit_in<N: PoolName, V: Verifier>(
     ensures there { IfErr result (λ r. IsOfLog locked.old.log r pass.new) }
     ensures same { OnErr result (locked.new.log ≡ locked.old.log) }
 {
-    if !locked.is_known_to(pass) {
-        return Err(Refusal::Foreign(locked.front()));
-    }
+    require_known(locked, pass)?;
     match mempool.prepare_submit(locked, pass, tx, checked) {
         Ok(ready) => Ok(mempool.enter(rt, locked, pass, ready)),
         Err(refusal) => Err(mempool.refuse(rt, locked, pass, refusal)),
@@ -63,9 +78,7 @@ pub fn remove_in<N: PoolName, V: Verifier>(
     ensures there { IfErr result (λ r. IsOfLog locked.old.log r pass.new) }
     ensures same { OnErr result (locked.new.log ≡ locked.old.log) }
 {
-    if !locked.is_known_to(pass) {
-        return Err(Refusal::Foreign(locked.front()));
-    }
+    require_known(locked, pass)?;
     match mempool.prepare_remove(locked, pass, ids) {
         Ok(ready) => Ok(mempool.enter(rt, locked, pass, ready)),
         Err(refusal) => Err(mempool.refuse(rt, locked, pass, refusal)),
@@ -89,9 +102,7 @@ pub fn sync_in<N: PoolName, V: Verifier>(
     ensures there { IfErr result (λ r. IsOfLog locked.old.log r pass.new) }
     ensures same { OnErr result (locked.new.log ≡ locked.old.log) }
 {
-    if !locked.is_known_to(pass) {
-        return Err(Refusal::Foreign(locked.front()));
-    }
+    require_known(locked, pass)?;
     match mempool.prepare_sync(locked, pass, ledger) {
         Ok(ready) => Ok(mempool.enter(rt, locked, pass, ready)),
         Err(refusal) => Err(mempool.refuse(rt, locked, pass, refusal)),

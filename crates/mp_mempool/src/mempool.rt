@@ -54,18 +54,6 @@ pub struct Mempool<N: PoolName, V: Verifier> {
     ghost accepts: { V.accepts verifier ≡ N.accepts },
 }
 
-// The one with the longer front, or the pass's own.
-fn longer<'a, N: PoolName>(own: &'a Shown<N>, shown: &'a Shown<N>) -> &'a Shown<N>
-    ensures { Begins own.now result.now }
-{
-    own.front().compare(shown.front());
-    if own.front().len() < shown.front().len() {
-        shown
-    } else {
-        own
-    }
-}
-
 // Whether memory was wanting.
 fn wants_memory(refusal: &mp_seqpool::Refusal) -> bool
     ensures wanting { result ≡ true → refusal.now ≡ refusals.NoMemory }
@@ -79,6 +67,15 @@ fn look_at<N: PoolName>(pass: &Pass<N>)
     ensures { IsLegalLog N.accepts N.callers pass.now.front }
 {
     let _version = pass.shown().version();
+}
+
+// The caller has seen the version, which extends what it had seen.
+fn see<N: PoolName>(pass: &mut Pass<N>, shown: Shown<N>)
+    requires { Begins pass.old.front shown }
+    ensures { IsSeen N.accepts N.callers pass.old pass.new }
+{
+    pass.see(shown);
+    look_at(pass);
 }
 
 impl<N: PoolName, V: Verifier> Mempool<N, V> {
@@ -267,7 +264,7 @@ impl<N: PoolName, V: Verifier> Mempool<N, V> {
     ///
     /// # Errors
     /// `Refusal::Foreign`, or else the sequential pool's: the history is full, the tickets are spent, the transaction is in the
-    /// pool, the pool is full, or the first rule that fails. Want of memory may be told in place of any of these.
+    /// pool, the pool is full, or the first rule that fails. Want of memory may be told in place of any of the latter.
     pub fn submit(
         &self,
         rt: &impl Wait,
@@ -288,7 +285,7 @@ impl<N: PoolName, V: Verifier> Mempool<N, V> {
     /// them. It is an entry, also where nothing goes. The call may wait for other callers.
     ///
     /// # Errors
-    /// `Refusal::Foreign`, or else that the history is full. Want of memory may be told in place of either.
+    /// `Refusal::Foreign`, or else that the history is full. Want of memory may be told in place of the latter.
     pub fn remove(
         &self,
         rt: &impl Wait,
@@ -324,14 +321,33 @@ impl<N: PoolName, V: Verifier> Mempool<N, V> {
         sync_in(self, rt, &mut locked, pass, ledger)
     }
 
+    // The newest version that is shown, where it is longer than the pass's own.
+    fn later(&self, pass: &Pass<N>) -> Option<&Shown<N>>
+        ensures { IfSome result (λ shown. Begins pass.now.front shown.now) }
+    {
+        let shown = self.board.newest()?;
+        pass.front().compare(shown.front());
+        if pass.front().len() < shown.front().len() {
+            Some(shown)
+        } else {
+            None
+        }
+    }
+
+    // A share of that.
+    fn share_later(&self, pass: &Pass<N>) -> Option<Shown<N>>
+        ensures { IfSome result (Begins pass.now.front) }
+    {
+        self.later(pass)?.share().ok()
+    }
+
     // The newest version that is shown, or the pass's own where that is longer.
     fn newest<'a>(&'a self, pass: &'a Pass<N>) -> &'a Shown<N>
         ensures { Begins pass.now.front result.now }
     {
-        let own = pass.shown();
-        match self.board.newest() {
-            Some(shown) => longer(own, shown),
-            None => own,
+        match self.later(pass) {
+            Some(shown) => shown,
+            None => pass.shown(),
         }
     }
 
@@ -354,9 +370,9 @@ impl<N: PoolName, V: Verifier> Mempool<N, V> {
     pub fn refresh(&self, pass: &mut Pass<N>)
         ensures seen { IsSeen N.accepts N.callers pass.old pass.new }
     {
-        match self.share_newest(pass) {
-            Ok(shown) => self.learn(pass, shown),
-            Err(NoMemory) => look_at(pass),
+        match self.share_later(pass) {
+            Some(shown) => see(pass, shown),
+            None => look_at(pass),
         }
     }
 

@@ -75,8 +75,8 @@ fn open_board<N: PoolName>(
     }
 }
 
-// So many callers that haven't made an entry.
-fn no_places(memory: Memory, callers: u32) -> Result<Vec<Option<u64>, Memory>, NoMemory>
+// For each of so many callers, that it hasn't made an entry.
+fn unset_places(memory: Memory, callers: u32) -> Result<Vec<Option<u64>, Memory>, NoMemory>
     ensures { IfOk result (λ places. places.items ≡ replicate callers None) }
 {
     let mut places = Vec::with_capacity(memory, callers as usize)?;
@@ -122,7 +122,7 @@ fn open_desk<N: PoolName>(
 {
     let passes = give_passes(memory, tokens, shown)?;
     let board = open_board(rt, memory, shown)?;
-    let places = no_places(memory, callers)?;
+    let places = unset_places(memory, callers)?;
     Ok(Desk {
         passes,
         board,

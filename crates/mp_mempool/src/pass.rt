@@ -117,7 +117,7 @@ impl<N: PoolName> Pass<N> {
         &self.shown
     }
 
-    /// What is read of it.
+    /// What is read of the version that the caller has seen, without a look at what others have shown since.
     pub fn snapshot(&self) -> Snapshot<'_, N>
         ensures { result ≡ self.now.front }
     {

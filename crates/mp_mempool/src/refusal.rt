@@ -14,6 +14,7 @@ use thiserror::Error;
 /// others holds.
 #[derive(Clone, Copy, Debug, PartialEq, Eq, Error)]
 pub enum OpenRefusal {
+    /// Memory was wanting.
     #[error("no memory")]
     NoMemory,
     /// The number of callers isn't 1 to 1,024.
