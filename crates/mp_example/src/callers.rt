@@ -1,7 +1,7 @@
 //! What each caller does in a thread of its own.
-use anyhow::Result;
+use anyhow::{Result, bail};
 use mp_history::{Entry, PoolName};
-use mp_memory::{Memory, NoMemory};
+use mp_memory::Memory;
 use mp_mempool::{Mempool, Pass, Receipt};
 use mp_rules::Verifier;
 use mp_testing::{opening, transaction};
@@ -36,13 +36,14 @@ fn submit_two<N: PoolName>(
     memory: Memory,
     mempool: &Mempool<N, RefusesAll>,
     mut pass: Pass<N>,
-) -> Result<Caller<N>, NoMemory> {
+) -> Result<Caller<N>> {
     let mut receipts = Vec::new(memory);
     let first = u16::try_from(pass.caller()).unwrap_or(0).saturating_mul(2);
     for index in [first, first.saturating_add(1)] {
-        let tx = transaction(memory, &[opening(index)], &[100]).map_err(|_| NoMemory)?;
-        if let Ok(receipt) = mempool.submit(rt, &mut pass, &tx) {
-            receipts.push(receipt)?;
+        let tx = transaction(memory, &[opening(index)], &[100])?;
+        match mempool.submit(rt, &mut pass, &tx) {
+            Ok(receipt) => receipts.push(receipt)?,
+            Err(refusal) => bail!("{refusal}"),
         }
     }
     Ok(Caller { pass, receipts })

@@ -61,8 +61,9 @@ fn adopt<N: PoolName>(
     pass: &mut Pass<N>,
     ledger: &Ledger,
 ) -> Result<Receipt> {
-    let Ok(receipt) = mempool.sync(rt, pass, ledger) else {
-        bail!("the pool doesn't adopt the ledger state");
+    let receipt = match mempool.sync(rt, pass, ledger) {
+        Ok(receipt) => receipt,
+        Err(refusal) => bail!("{refusal}"),
     };
     if let Reply::Synced { kept, dropped } = &receipt.entry.reply {
         let (kept, dropped) = (kept.as_slice().len(), dropped.as_slice().len());
@@ -99,6 +100,9 @@ fn share<N: PoolName + Send + Sync, R: Threads + Wait + Print + Sync>(
     print_audit(rt, memory, ledger, &history_of(memory, callers)?)
 }
 
+// `N` is the pool's name, a type that keeps the parts of one pool apart from those of another. Whoever opens a pool says
+// what it stands for: a new name, the number of callers, and which signatures the verifier accepts. `main` passes `Brand`,
+// and `proofs/main/Invariants.antt` says these three of it.
 fn open<N: PoolName + Send + Sync, R: Threads + Wait + Print + Sync>(
     rt: &R,
     memory: Memory,

@@ -1,7 +1,7 @@
 //! Signatures are checked before the lock is taken: two checks that wait for each other both come through.
 ghost use Rattle.mp_mempool_tests.specs.Names.{any};
 
-use crate::samples::SIGNED;
+use crate::samples::{RIVAL, SIGNED};
 use crate::threads::{Part, Shared, share};
 use mp_memory::{Memory, NoMemory};
 use mp_rules::Verifier;
@@ -83,20 +83,36 @@ impl Verifier for Meeting {
     }
 }
 
+// Both spend outputs of the ledger state.
+const ON_LEDGER: Part = Part {
+    before: SIGNED,
+    from: SIGNED,
+    middle: SIGNED + 1,
+    to: SIGNED + 2,
+};
+
+// Both spend outputs of a transaction in the pool, of which neither caller was told.
+const ON_POOL: Part = Part {
+    before: RIVAL,
+    from: RIVAL + 1,
+    middle: RIVAL + 2,
+    to: RIVAL + 3,
+};
+
+// All of so many submits are accepted, and both checks have met.
+fn all_met(submits: u64) -> Shared {
+    Shared {
+        receipts: submits as usize,
+        in_turn: submits,
+        last_ticket: submits,
+        met: 2,
+    }
+}
+
 #[test]
 fn two_signature_checks_may_wait_for_each_other(rt: HostRuntime) -> Result<(), Fail> {
     let memory = Memory::new(rt.alloc())?;
-    let part = Part {
-        from: SIGNED,
-        middle: SIGNED + 1,
-        to: SIGNED + 2,
-    };
-    let wanted = Shared {
-        receipts: 2,
-        in_turn: 2,
-        last_ticket: 2,
-        met: 2,
-    };
-    assert_eq!(rt; share(&rt, memory, part)?, wanted);
+    assert_eq!(rt; share(&rt, memory, ON_LEDGER)?, all_met(2));
+    assert_eq!(rt; share(&rt, memory, ON_POOL)?, all_met(3));
     Ok(())
 }

@@ -4,21 +4,25 @@ use crate::pools::{LONG, Line, MAX_GROWTHS, Played, play};
 use crate::samples::{Asked, CHAINED, all_asked};
 use crate::told::{NO_MEMORY, Told};
 use mp_memory::{Memory, NoMemory};
+use mp_seqpool::Refusal;
 use std::sync::Wait;
 use std::test::Fail;
 
 // Both transactions that stand before the call.
 const BOTH: Told = Told::Sees(2, 2, 12);
 
-// A call on a pool in which two transactions stand, what it is told, and whether it is answered where only the look
-// before the lock has no memory.
-type Case = (Call, Told, bool);
+// A call on a pool in which two transactions stand, what it is told, and what a submit of sample 0 is told after it.
+type Case = (Call, Told, Told);
+
+const SUBMIT: Call = Call::Submit(0);
+
+const AGAIN: Told = Told::Refused(Refusal::AlreadyInPool(3));
 
 const CASES: [Case; 4] = [
-    (Call::Submit(0), Told::Accepted(2, 3), true),
-    (Call::Remove, Told::Removed(2, 1, 2), false),
-    (Call::Sync(Upon::Part), Told::Synced(2, 0, 12), false),
-    (Call::SnapshotFor(Upon::All), Told::Kept(2, 12, 362), false),
+    (SUBMIT, Told::Accepted(2, 3), AGAIN),
+    (Call::Remove, Told::Removed(2, 1, 2), Told::Accepted(3, 3)),
+    (Call::Sync(Upon::Part), Told::Synced(2, 0, 12), Told::Accepted(3, 3)),
+    (Call::SnapshotFor(Upon::All), Told::Kept(2, 12, 362), Told::Accepted(2, 3)),
 ];
 
 // The call is answered although that growth is refused. Where there is no such growth, the last line is told otherwise.
@@ -34,10 +38,10 @@ fn answered(rt: &impl Wait, asked: &Asked, case: &Case, nth: u64) -> Played {
     play(rt, asked, 2, LONG, &lines)
 }
 
-// The call is refused, both callers see what stood before it, and then it is answered.
+// The call is refused, both callers see what stood before it, and then it is answered, and so is the next change.
 fn refused(rt: &impl Wait, asked: &Asked, case: &Case, nth: u64) -> Played {
-    let (call, wanted, _) = *case;
-    let lines: [Line; 9] = [
+    let (call, wanted, next) = *case;
+    let lines: [Line; 10] = [
         (0, Call::Submit(1), Told::Accepted(0, 1)),
         (0, Call::Submit(CHAINED), Told::Accepted(1, 2)),
         (0, Call::Refuse(nth), Told::Done),
@@ -47,6 +51,7 @@ fn refused(rt: &impl Wait, asked: &Asked, case: &Case, nth: u64) -> Played {
         (0, Call::Last, Told::Last(Some(1))),
         (1, Call::Snapshot, BOTH),
         (0, call, wanted),
+        (0, SUBMIT, next),
     ];
     play(rt, asked, 2, LONG, &lines)
 }
@@ -84,7 +89,8 @@ fn is_right(counts: Option<(u64, u64)>, is_looked_at_before: bool) -> bool {
 // How many calls are right, up to the first that isn't.
 fn count_right(rt: &impl Wait, asked: &Asked) -> usize {
     for (number, case) in CASES.iter().enumerate() {
-        if !is_right(try_all(rt, asked, case), case.2) {
+        // A submit alone is answered where only the look before the lock has no memory.
+        if !is_right(try_all(rt, asked, case), number == 0) {
             return number;
         }
     }

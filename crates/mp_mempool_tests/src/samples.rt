@@ -8,14 +8,15 @@ use std::sync::Arc;
 /// So many samples spend an opening output each: sample 0 the first one, and so on. Each pays 100.
 pub const SPENDING: u16 = 100;
 
-/// The sample that spends the same output as sample 1, and pays 60 and 40.
-pub const RIVAL: usize = 100;
-
 /// The sample that spends what sample 1 pays.
-pub const CHAINED: usize = 101;
+pub const CHAINED: usize = 100;
 
 /// The first of two samples that spend the first two opening outputs, and are signed by keys of 0 and of 1.
-pub const SIGNED: usize = 102;
+pub const SIGNED: usize = 101;
+
+/// The sample that spends the same output as sample 1, and pays 60 and 40. Behind it stand two samples that spend these,
+/// and are signed by keys of 0 and of 1.
+pub const RIVAL: usize = 103;
 
 type Samples = Vec<Arc<Tx, Memory>, Memory>;
 
@@ -61,11 +62,14 @@ fn push_samples(memory: Memory, txs: &mut Samples) -> Result<Arc<Ids, Memory>, N
     for index in 0..SPENDING {
         push(memory, txs, opening(index), &[100])?;
     }
-    push(memory, txs, opening(1), &[60, 40])?;
-    let id = second_id(txs);
+    let id = id_of(txs, 1);
     push(memory, txs, output_of(&id, 0), &[100])?;
-    push_signed(memory, txs, 0)?;
-    push_signed(memory, txs, 1)?;
+    push_signed(memory, txs, opening(0), 100, 0)?;
+    push_signed(memory, txs, opening(1), 100, 1)?;
+    push(memory, txs, opening(1), &[60, 40])?;
+    let rival = id_of(txs, RIVAL);
+    push_signed(memory, txs, output_of(&rival, 0), 60, 0)?;
+    push_signed(memory, txs, output_of(&rival, 1), 40, 1)?;
     only(memory, id)
 }
 
@@ -77,24 +81,30 @@ fn push(memory: Memory, txs: &mut Samples, spent: OutRef, paid: &[u32]) -> Resul
     }
 }
 
-fn second_id(txs: &[Arc<Tx, Memory>]) -> TxId {
-    match txs.get(1) {
+fn id_of(txs: &[Arc<Tx, Memory>], place: usize) -> TxId {
+    match txs.get(place) {
         Some(tx) => *tx.id(),
         None => [0; 32],
     }
 }
 
-// The transaction spends the opening output, and a key that begins with this number has signed it.
-fn push_signed(memory: Memory, txs: &mut Samples, by: u8) -> Result<(), NoMemory> {
-    match Tx::of_parts(memory, signed(memory, by)?) {
+// The transaction spends the output and pays so much, and a key that begins with this number has signed it.
+fn push_signed(
+    memory: Memory,
+    txs: &mut Samples,
+    spent: OutRef,
+    paid: u32,
+    by: u8,
+) -> Result<(), NoMemory> {
+    match Tx::of_parts(memory, signed(memory, spent, paid, by)?) {
         Ok(tx) => Ok(txs.push(Arc::new(memory, tx)?)?),
         Err(_) => Err(NoMemory),
     }
 }
 
-fn signed(memory: Memory, by: u8) -> Result<TxParts, NoMemory> {
+fn signed(memory: Memory, spent: OutRef, paid: u32, by: u8) -> Result<TxParts, NoMemory> {
     let (key, sig) = ([by; 32], [6; 64]);
-    let mut parts = parts(memory, &[opening(u16::from(by))], &[100])?;
+    let mut parts = parts(memory, &[spent], &[paid])?;
     parts.signatures.push(Signature { key, sig })?;
     Ok(parts)
 }

@@ -5,9 +5,10 @@ use crate::told::Told;
 use mp_memory::Memory;
 use std::test::Fail;
 
-// The first caller makes two changes. The second learns the first of them from it, and looks at the pool last. The
-// third looks after each, and is told nothing. The fourth never looks, so the first can't learn from it.
-const LINES: [Line; 12] = [
+// The first caller makes two changes. The second learns the first of them from it, tries another ledger state, which
+// changes nothing, and makes the third change. The third looks after each, and is told nothing. The fourth never looks,
+// so the first can't learn from it.
+const LINES: [Line; 14] = [
     (0, Call::Submit(1), Told::Accepted(0, 1)),
     (0, Call::Snapshot, Told::Sees(1, 1, 1)),
     (1, Call::Learn(0), Told::Done),
@@ -18,6 +19,8 @@ const LINES: [Line; 12] = [
     (1, Call::Seen, Told::Sees(1, 1, 1)),
     (1, Call::SnapshotFor(Upon::Part), Told::Kept(2, 2, 181)),
     (1, Call::Snapshot, Told::Sees(2, 2, 12)),
+    (1, Call::Submit(2), Told::Accepted(2, 3)),
+    (2, Call::Snapshot, Told::Sees(3, 3, 123)),
     (0, Call::Learn(3), Told::Done),
     (0, Call::Seen, Told::Sees(2, 2, 12)),
 ];

@@ -16,9 +16,11 @@ use std::sync::{Arc, Wait};
 use std::test::Fail;
 use std::thread::{Threads, join};
 
-/// Which samples two threads submit: the first from the first number to before the middle, and the second from there.
+/// Which samples are submitted: those from `before` to `from` by a caller that tells nobody, and then by two threads those
+/// to the middle and those from there.
 #[derive(Clone, Copy)]
 pub struct Part {
+    pub before: usize,
     pub from: usize,
     pub middle: usize,
     pub to: usize,
@@ -102,7 +104,26 @@ fn submit_by_each<N: PoolName + Send + Sync, R: Threads + Wait + Sync>(
     }
 }
 
-// A pool of two callers.
+// The first caller submits, and then the others do.
+fn submit_all<N: PoolName + Send + Sync, R: Threads + Wait + Sync>(
+    rt: &R,
+    mempool: &Mempool<N, Meeting>,
+    passes: &mut [Pass<N>],
+    asked: &Asked,
+    part: Part,
+    receipts: &mut Receipts,
+) -> Result<(), NoMemory> {
+    match passes.split_first_mut() {
+        Some((first, others)) => {
+            let txs = asked.txs(part.before, part.from);
+            append(receipts, submit_some(rt, asked.memory, mempool, first, txs))?;
+            submit_by_each(rt, mempool, others, asked, part, receipts)
+        }
+        None => Err(NoMemory),
+    }
+}
+
+// A pool of three callers.
 fn of_name<N: PoolName + Send + Sync, R: Threads + Wait + Sync>(
     rt: &R,
     name: NewName,
@@ -112,16 +133,16 @@ fn of_name<N: PoolName + Send + Sync, R: Threads + Wait + Sync>(
     receipts: &mut Receipts,
 ) -> Result<(), NoMemory>
     requires name { name ≡ head_of N.book N.root }
-    requires callers { N.callers ≡ 2 }
+    requires callers { N.callers ≡ 3 }
     requires accepts { N.accepts ≡ any }
 {
     let config = Config {
         limit: LONG,
         last: 0,
     };
-    match Mempool::<N, Meeting>::open(rt, asked.memory, name, config, &asked.all, verifier, 2) {
+    match Mempool::<N, Meeting>::open(rt, asked.memory, name, config, &asked.all, verifier, 3) {
         Ok((mempool, mut passes)) => {
-            submit_by_each(rt, &mempool, passes.as_mut_slice(), asked, part, receipts)
+            submit_all(rt, &mempool, passes.as_mut_slice(), asked, part, receipts)
         }
         Err(_) => Err(NoMemory),
     }
@@ -161,13 +182,13 @@ fn entries_of(memory: Memory, receipts: Receipts) -> Result<Vec<Entry, Memory>, 
     Ok(entries)
 }
 
-// The last ticket that the audit of a history of two callers comes to, or 0 where it finds a fault.
+// The last ticket that the audit of a history of three callers comes to, or 0 where it finds a fault.
 fn last_ticket(asked: &Asked, entries: &[Entry]) -> u64 {
     let config = mp_seqpool::Config {
         limit: LONG,
         last: 0,
     };
-    match audit(asked.memory, config, &asked.all, 2, entries, &ACCEPTS_ALL) {
+    match audit(asked.memory, config, &asked.all, 3, entries, &ACCEPTS_ALL) {
         Ok(pool) => pool.last_ticket(),
         Err(_) => 0,
     }
@@ -181,7 +202,7 @@ fn audited(asked: &Asked, receipts: Receipts) -> u64 {
     }
 }
 
-/// Two threads submit the samples on a new pool.
+/// What comes of these submits on a new pool.
 pub fn share<R: Threads + Wait + Sync>(
     rt: &R,
     memory: Memory,
@@ -202,6 +223,7 @@ pub fn share<R: Threads + Wait + Sync>(
 fn two_threads_share_one_history(rt: HostRuntime) -> Result<(), Fail> {
     let memory = Memory::new(rt.alloc())?;
     let part = Part {
+        before: 0,
         from: 0,
         middle: 50,
         to: 100,
