@@ -86,10 +86,7 @@ fn place_of<T: Rising>(item: &T, items: &[T]) -> usize
 }
 
 /// Puts it before the first that is greater.
-pub fn insert_rising<T: Rising + Drop>(
-    items: &mut Vec<T, Memory>,
-    item: T,
-) -> Result<(), NoMemory>
+pub fn insert_rising<T: Rising + Drop>(items: &mut Vec<T, Memory>, item: T) -> Result<(), NoMemory>
     ensures { OnOk result (items.new.items ≡ insert_rising T.order item items.old.items) }
 {
     let place = place_of(&item, items);

@@ -21,8 +21,16 @@ const AGAIN: Told = Told::Refused(Refusal::AlreadyInPool(3));
 const CASES: [Case; 4] = [
     (SUBMIT, Told::Accepted(2, 3), AGAIN),
     (Call::Remove, Told::Removed(2, 1, 2), Told::Accepted(3, 3)),
-    (Call::Sync(Upon::Part), Told::Synced(2, 0, 12), Told::Accepted(3, 3)),
-    (Call::SnapshotFor(Upon::All), Told::Kept(2, 12, 362), Told::Accepted(2, 3)),
+    (
+        Call::Sync(Upon::Part),
+        Told::Synced(2, 0, 12),
+        Told::Accepted(3, 3),
+    ),
+    (
+        Call::SnapshotFor(Upon::All),
+        Told::Kept(2, 12, 362),
+        Told::Accepted(2, 3),
+    ),
 ];
 
 // The call is answered although that growth is refused. Where there is no such growth, the last line is told otherwise.
