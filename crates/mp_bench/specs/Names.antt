@@ -1,7 +1,7 @@
 -- What a measurement is called.
 use Rattle.std.specs.Prelude.{ℕ, List, codes}
 use Rattle.mp_bench.specs.declared.measurement.Measurement.{Measurement}
-use Rattle.mp_bench.specs.declared.measurement.Measurement.TheVariants.{TicketPush, TicketGet, TicketUnlink, TicketIterate, Decode181, Digests181, Decode431, Digests431, Decode642, Digests642, Encode181, OfParts181, LedgerHit, LedgerMiss, Check181, Check277, Check281, OverlayApply, PoolSubmit, PoolChain10, PoolChain1000, PoolRemove, PoolSyncAll, PoolSyncHalf, VersionSubmit, VersionRemove, VersionLookup, VersionAfter, VersionHas, MempoolSubmit, MempoolChain, MempoolAgain, MempoolThreads1, MempoolThreads4, MempoolSnapshot, BoardShow}
+use Rattle.mp_bench.specs.declared.measurement.Measurement.TheVariants.{TicketPush, TicketGet, TicketUnlink, TicketIterate, Decode181, Digests181, Decode431, Digests431, Decode642, Digests642, Encode181, OfParts181, LedgerHit, LedgerMiss, Check181, Check277, Check281, OverlayApply, PoolSubmit, PoolChain10, PoolChain1000, PoolRemove, PoolSyncAll, PoolSyncHalf, VersionSubmit, VersionRemove, VersionLookup, VersionAfter, VersionHas, HistoryCommit, MempoolSubmit, MempoolChain, MempoolAgain, MempoolThreads1, MempoolThreads4, MempoolSnapshot, BoardShow}
 
 abbrev pub name_of : Measurement → List ℕ
 name_of TicketPush = codes "ticket-push"
@@ -33,6 +33,7 @@ name_of VersionRemove = codes "version-remove"
 name_of VersionLookup = codes "version-lookup"
 name_of VersionAfter = codes "version-after"
 name_of VersionHas = codes "version-has"
+name_of HistoryCommit = codes "history-commit"
 name_of MempoolSubmit = codes "mempool-submit"
 name_of MempoolChain = codes "mempool-chain"
 name_of MempoolAgain = codes "mempool-again"

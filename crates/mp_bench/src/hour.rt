@@ -228,6 +228,7 @@ pub fn run<R: Clock + Wait + Threads + Print + Sync>(
     let ledger = opening(memory)?;
     let made = open::<Brand, _>(rt, memory, NewName::new(), &ledger, trial.callers, trial)?;
     print_counts(rt, &made.counts)?;
+    ensure!(made.counts.strange == 0, "what must not come has come");
     let entries = history_of(memory, made.receipts)?;
     let last = audit_all(memory, &ledger, trial.callers, &entries)?;
     println!(rt;

@@ -4,6 +4,7 @@
 #![tactic(auto)]
 
 mod asked;
+mod history;
 mod hour;
 mod ledger;
 mod measurement;

@@ -66,6 +66,8 @@ pub enum Measurement {
     VersionAfter,
     /// An id is looked for that none of so many has: what it takes for each of them.
     VersionHas,
+    /// An entry is committed to a history of so many.
+    HistoryCommit,
     /// A transaction of 181 bytes is submitted to a mempool with so many.
     MempoolSubmit,
     /// The same where each spends what the one before it makes.
@@ -84,7 +86,7 @@ pub enum Measurement {
 
 impl Measurement {
     /// Each of them, in the order in which they are taken.
-    pub const ALL: [Measurement; 36] = [
+    pub const ALL: [Measurement; 37] = [
         Measurement::TicketPush,
         Measurement::TicketGet,
         Measurement::TicketUnlink,
@@ -114,6 +116,7 @@ impl Measurement {
         Measurement::VersionLookup,
         Measurement::VersionAfter,
         Measurement::VersionHas,
+        Measurement::HistoryCommit,
         Measurement::MempoolSubmit,
         Measurement::MempoolChain,
         Measurement::MempoolAgain,
@@ -161,6 +164,7 @@ impl fmt::Display for Measurement {
             Measurement::VersionLookup => "version-lookup",
             Measurement::VersionAfter => "version-after",
             Measurement::VersionHas => "version-has",
+            Measurement::HistoryCommit => "history-commit",
             Measurement::MempoolSubmit => "mempool-submit",
             Measurement::MempoolChain => "mempool-chain",
             Measurement::MempoolAgain => "mempool-again",

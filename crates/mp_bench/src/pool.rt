@@ -3,7 +3,7 @@
 use crate::ledger::reference;
 use crate::rules::{AcceptsAll, Kind, STEPS, ledger_of, scaled, spending};
 use anyhow::{Result, ensure};
-use mp_memory::Memory;
+use mp_memory::{Memory, NoMemory};
 use mp_seqpool::{Config, SeqPool};
 use mp_tx::{Ledger, Tx};
 use mp_utxo::{Overlay, Utxo};
@@ -37,27 +37,36 @@ pub fn pool_of(memory: Memory, ledger: &Ledger, all: &[Shared]) -> Result<SeqPoo
     Ok(pool)
 }
 
+fn apply_each(overlay: &mut Overlay, all: Vec<Shared, Memory>) -> Result<(), NoMemory> {
+    for tx in all {
+        overlay.reserve_for(&tx)?;
+        overlay.apply(tx);
+    }
+    Ok(())
+}
+
+// Whether the outputs up to this place are spent.
+fn all_spent(overlay: &Overlay, last: u64) -> bool {
+    for number in 0..last {
+        if overlay.get(&reference(number, 0)).is_some() {
+            return false;
+        }
+    }
+    true
+}
+
 /// Makes room in an overlay with `size` transactions for a thousand more and applies them, one after the other, and tells
 /// what `size` of this take.
 pub fn apply_all(clock: &impl Clock, memory: Memory, size: u64) -> Result<Duration> {
     let last = size.saturating_add(STEPS);
     let ledger = ledger_of(memory, Kind::Plain, last)?;
     let mut overlay = Overlay::over(memory, &ledger)?;
-    for tx in shared(memory, Kind::Plain, 0, size)? {
-        overlay.reserve_for(&tx)?;
-        overlay.apply(tx);
-    }
+    apply_each(&mut overlay, shared(memory, Kind::Plain, 0, size)?)?;
     let all = shared(memory, Kind::Plain, size, last)?;
     let start = Instant::now(clock)?;
-    for tx in all {
-        overlay.reserve_for(&tx)?;
-        overlay.apply(tx);
-    }
+    apply_each(&mut overlay, all)?;
     let time = start.elapsed(clock)?;
-    for number in 0..last {
-        let from = reference(number, 0);
-        ensure!(overlay.get(&from).is_none(), "an output is still there");
-    }
+    ensure!(all_spent(&overlay, last), "an output is still there");
     Ok(scaled(time, size))
 }
 

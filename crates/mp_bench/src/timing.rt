@@ -4,7 +4,7 @@ use crate::measurement::Measurement;
 use crate::mempool::{Work, work_in_pool};
 use crate::rules::Kind;
 use crate::transaction::{self, Sample};
-use crate::{ledger, pool, resync, rules, ticket_list, version};
+use crate::{history, ledger, pool, resync, rules, ticket_list, version};
 use anyhow::Result;
 use mp_memory::Memory;
 use std::fmt;
@@ -63,6 +63,7 @@ fn round<R: Clock + Wait + Threads + Sync>(
         Measurement::VersionLookup => version::look_up(rt, memory, size),
         Measurement::VersionAfter => version::read_last(rt, memory, size),
         Measurement::VersionHas => version::search(rt, memory, size),
+        Measurement::HistoryCommit => history::commit_all(rt, memory, size),
         Measurement::MempoolSubmit => work_in_pool(rt, memory, Work::Submit, size),
         Measurement::MempoolChain => work_in_pool(rt, memory, Work::Chain, size),
         Measurement::MempoolAgain => work_in_pool(rt, memory, Work::Again, size),

@@ -151,6 +151,29 @@ fn look<N: PoolName>(mempool: &Mempool<N, AcceptsAll>, player: &mut Player<N>) {
     }
 }
 
+// Looks at what would stay upon another ledger state.
+fn look_upon<N: PoolName>(
+    memory: Memory,
+    mempool: &Mempool<N, AcceptsAll>,
+    table: &Table,
+    player: &mut Player<N>,
+) -> Result<(), NoMemory> {
+    let least = player.pass.front().len();
+    let Some(ledger) = player.dice.pick(&table.ledgers) else {
+        return Ok(());
+    };
+    if mempool
+        .snapshot_for(memory, &mut player.pass, ledger)?
+        .number
+        >= least
+    {
+        player.counts.snapshots = player.counts.snapshots.saturating_add(1);
+    } else {
+        player.counts.strange = player.counts.strange.saturating_add(1);
+    }
+    Ok(())
+}
+
 fn read<N: PoolName>(rt: &impl Wait, post: &Mutex<Shown<N>>) -> Result<Shown<N>, NoMemory> {
     post.lock(rt).share()
 }
@@ -194,6 +217,7 @@ pub fn step<N: PoolName>(
         3..=8 => submit(rt, mempool, table, player),
         9 | 10 => learn(rt, mempool, posts, player),
         11 => tell(rt, posts, &player.pass),
+        12 => look_upon(memory, mempool, table, player),
         _ => {
             look(mempool, player);
             Ok(())
