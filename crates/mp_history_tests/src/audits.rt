@@ -1,7 +1,8 @@
-//! Histories of two submits: the first spends an opening output, the second what the first pays.
+//! Histories of two submits and a removal: the first submit spends an opening output, the second what the first pays, and the
+//! removal takes out the first, so the second goes with it.
 use mp_history::{AuditFault, Entry, audit};
-use mp_memory::Memory;
-use mp_seqpool::{Command, Config, Reply, Verifier};
+use mp_memory::{Memory, NoMemory};
+use mp_seqpool::{Command, Config, Ids, Reply, Tickets, Verifier};
 use mp_testing::{ledger, opening, output_of, transaction, under_each_refusal};
 use mp_tx::{Key, Ledger, Sig, Tx, TxFault, TxId};
 use std::sync::Arc;
@@ -25,7 +26,7 @@ impl Verifier for RefusesAll {
     }
 }
 
-fn entry_of(caller: u32, tx: Arc<Tx, Memory>, ticket: u64) -> Entry {
+fn submit(caller: u32, tx: Arc<Tx, Memory>, ticket: u64) -> Entry {
     Entry {
         caller,
         command: Command::Submit(tx),
@@ -33,16 +34,38 @@ fn entry_of(caller: u32, tx: Arc<Tx, Memory>, ticket: u64) -> Entry {
     }
 }
 
-fn two_submits(
+fn only(memory: Memory, ticket: u64) -> Result<Tickets, NoMemory> {
+    let mut tickets = Tickets::new(memory);
+    tickets.push(ticket)?;
+    Ok(tickets)
+}
+
+// Caller 0 removes the transaction, which stood under ticket 1.
+fn removal(memory: Memory, id: TxId, dropped: u64) -> Result<Entry, NoMemory> {
+    let ids = Ids::of(Vec::from_slice(memory, &[id])?);
+    Ok(Entry {
+        caller: 0,
+        command: Command::Remove(Arc::new(memory, ids)?),
+        reply: Reply::Removed {
+            named: only(memory, 1)?,
+            dropped: only(memory, dropped)?,
+        },
+    })
+}
+
+fn three_entries(
     memory: Memory,
     callers: [u32; 2],
     tickets: [u64; 2],
-) -> Result<[Entry; 2], TxFault> {
+    dropped: u64,
+) -> Result<[Entry; 3], TxFault> {
     let first = transaction(memory, &[opening(0)], &[100])?;
     let second = transaction(memory, &[output_of(first.id(), 0)], &[100])?;
+    let third = removal(memory, *first.id(), dropped)?;
     Ok([
-        entry_of(callers[0], first, tickets[0]),
-        entry_of(callers[1], second, tickets[1]),
+        submit(callers[0], first, tickets[0]),
+        submit(callers[1], second, tickets[1]),
+        third,
     ])
 }
 
@@ -61,22 +84,24 @@ fn outcome(
 #[test]
 fn the_first_bad_place_is_told(rt: HostRuntime) -> Result<(), Fail> {
     let memory = Memory::new(rt.alloc())?;
-    for (by, tickets, callers, wanted) in [
-        ([0, 0], [1, 2], 1, Ok(2)),
-        ([5, 0], [1, 2], 6, Ok(2)),
+    for (by, tickets, dropped, callers, wanted) in [
+        ([0, 0], [1, 2], 2, 1, Ok(2)),
+        ([5, 0], [1, 2], 2, 6, Ok(2)),
         // a ticket that the pool wouldn't give
-        ([0, 0], [1, 3], 1, Err(AuditFault::WrongReply(1))),
-        ([0, 0], [2, 3], 1, Err(AuditFault::WrongReply(0))),
+        ([0, 0], [1, 3], 2, 1, Err(AuditFault::WrongReply(1))),
+        ([0, 0], [2, 3], 2, 1, Err(AuditFault::WrongReply(0))),
         // a caller past the last one, also where the reply is wrong
-        ([5, 0], [1, 2], 1, Err(AuditFault::StrangeCaller(0))),
-        ([5, 0], [1, 2], 5, Err(AuditFault::StrangeCaller(0))),
-        ([0, 1], [1, 3], 1, Err(AuditFault::StrangeCaller(1))),
+        ([5, 0], [1, 2], 2, 1, Err(AuditFault::StrangeCaller(0))),
+        ([5, 0], [1, 2], 2, 5, Err(AuditFault::StrangeCaller(0))),
+        ([0, 1], [1, 3], 2, 1, Err(AuditFault::StrangeCaller(1))),
         // a wrong reply before a strange caller
-        ([0, 1], [3, 2], 1, Err(AuditFault::WrongReply(0))),
+        ([0, 1], [3, 2], 2, 1, Err(AuditFault::WrongReply(0))),
+        // another one goes with the first
+        ([0, 0], [1, 2], 3, 1, Err(AuditFault::WrongReply(2))),
     ] {
-        let entries = two_submits(memory, by, tickets)?;
+        let entries = three_entries(memory, by, tickets, dropped)?;
         let found = outcome(memory, CONFIG, callers, &entries)?;
-        assert_eq!(rt; found, wanted, "{by:?} {tickets:?} of {callers}");
+        assert_eq!(rt; found, wanted, "{by:?} {tickets:?} {dropped} of {callers}");
     }
     Ok(())
 }
@@ -84,7 +109,7 @@ fn the_first_bad_place_is_told(rt: HostRuntime) -> Result<(), Fail> {
 #[test]
 fn a_history_may_be_short_or_too_long(rt: HostRuntime) -> Result<(), Fail> {
     let memory = Memory::new(rt.alloc())?;
-    let legal = two_submits(memory, [0, 0], [1, 2])?;
+    let legal = three_entries(memory, [0, 0], [1, 2], 2)?;
     let all: &[Entry] = &legal;
     assert_eq!(rt; outcome(memory, CONFIG, 0, &[])?, Ok(0));
     let wrong = Err(AuditFault::WrongReply(0));
@@ -113,7 +138,7 @@ fn counts(memory: Memory, ledger: &Ledger, entries: &[Entry]) -> Result<(usize, 
 fn an_audit_says_no_memory_at_each_refused_growth(rt: HostRuntime) -> Result<(), Fail> {
     let memory = Memory::new(rt.alloc())?;
     let ledger = ledger(memory, 1, 500_000)?;
-    let entries = two_submits(memory, [0, 0], [1, 2])?;
+    let entries = three_entries(memory, [0, 0], [1, 2], 2)?;
     let done = under_each_refusal(
         &memory,
         || Some(()),
@@ -123,7 +148,7 @@ fn an_audit_says_no_memory_at_each_refused_growth(rt: HostRuntime) -> Result<(),
     );
     assert_eq!(rt;
         done.map(|d| (d.answer, d.growths > 1)),
-        Ok((Ok((2, 2)), true))
+        Ok((Ok((0, 2)), true))
     );
     Ok(())
 }
