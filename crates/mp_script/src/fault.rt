@@ -24,7 +24,7 @@ pub enum DataFault {
 }
 
 impl DataFault {
-    /// Its number.
+    /// The number of the fault: 1 to 5.
     pub const fn number(self) -> u64
         ensures { result ≡ data_number self }
     {
@@ -66,7 +66,7 @@ pub enum ScriptFault {
 }
 
 impl ScriptFault {
-    /// Its number.
+    /// The number of the fault: 1 to 7.
     pub const fn number(self) -> u64
         ensures { result ≡ script_number self }
     {

@@ -1,4 +1,4 @@
-//! Why bytes or parts make no transaction, and outputs no ledger state.
+//! Why bytes or parts make no transaction.
 
 ghost use Rattle.std.specs.Prelude.{◌≡◌};
 ghost use Rattle.mp_tx.specs.declared.fault.TxFault.TheVariants as tx_faults;
