@@ -1,10 +1,11 @@
 //! What each caller does in a thread of its own.
+use crate::ledger::opening;
+use crate::payment::pay_on;
 use anyhow::{Result, bail};
 use mp_history::{Entry, PoolName};
 use mp_memory::Memory;
 use mp_mempool::{Mempool, Pass, Receipt};
 use mp_rules::Verifier;
-use mp_testing::{opening, transaction};
 use mp_tx::{Key, Sig, TxId};
 use std::sync::Wait;
 use std::thread::{Threads, map_vec};
@@ -40,7 +41,7 @@ fn submit_two<N: PoolName>(
     let mut receipts = Vec::new(memory);
     let first = u16::try_from(pass.caller()).unwrap_or(0).saturating_mul(2);
     for index in [first, first.saturating_add(1)] {
-        let tx = transaction(memory, &[opening(index)], &[100])?;
+        let tx = pay_on(memory, opening(index))?;
         match mempool.submit(rt, &mut pass, &tx) {
             Ok(receipt) => receipts.push(receipt)?,
             Err(refusal) => bail!("{refusal}"),

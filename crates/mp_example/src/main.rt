@@ -9,15 +9,17 @@ ghost use Rattle.mp_example.specs.Names.{nobody};
 
 mod block;
 mod callers;
+mod ledger;
+mod payment;
 
 use anyhow::{Result, bail};
-use block::{fill, ledger_after};
+use block::fill;
 use callers::{RefusesAll, history_of, submit_all};
+use ledger::{BLOCK_BYTES, ledger_after, opening_ledger};
 use mp_history::{Entry, NewName, PoolName, audit};
 use mp_memory::Memory;
 use mp_mempool::{Config, Mempool, Pass, Receipt};
 use mp_seqpool::Reply;
-use mp_testing::ledger;
 use mp_tx::Ledger;
 use std::marker::Brand;
 use std::sync::Wait;
@@ -30,11 +32,6 @@ const CONFIG: Config = Config {
     limit: 1_000,
     last: 0,
 };
-
-// The opening ledger state has eight outputs, and a block has room for four transactions of 181 bytes.
-const OPENINGS: u16 = 8;
-
-const BLOCK_BYTES: u64 = 724;
 
 // Fills a block from the newest snapshot, and lets the pool adopt the ledger state after it.
 fn make_block<N: PoolName>(
@@ -52,7 +49,7 @@ fn make_block<N: PoolName>(
         block.txs.len(),
         block.bytes
     )?;
-    adopt(rt, mempool, pass, &ledger_after(memory, OPENINGS, &block)?)
+    adopt(rt, mempool, pass, &ledger_after(memory, &block)?)
 }
 
 fn adopt<N: PoolName>(
@@ -121,6 +118,6 @@ fn open<N: PoolName + Send + Sync, R: Threads + Wait + Print + Sync>(
 
 fn main(rt: HostRuntime) -> Result<()> {
     let memory = Memory::new(rt.alloc())?;
-    let ledger = ledger(memory, OPENINGS, BLOCK_BYTES)?;
+    let ledger = opening_ledger(memory)?;
     open::<Brand, _>(&rt, memory, NewName::new(), &ledger)
 }
