@@ -1,7 +1,7 @@
 -- What a measurement is called.
 use Rattle.std.specs.Prelude.{ℕ, List, codes}
 use Rattle.mp_bench.specs.declared.measurement.Measurement.{Measurement}
-use Rattle.mp_bench.specs.declared.measurement.Measurement.TheVariants.{TicketPush, TicketGet, TicketUnlink, TicketIterate, Decode181, Digests181, Decode431, Digests431, Decode642, Digests642, Encode181, OfParts181, LedgerHit, LedgerMiss, Check181, Check277, Check281, OverlayApply, PoolSubmit, PoolChain10, PoolChain1000, PoolRemove, PoolSyncAll, PoolSyncHalf, VersionSubmit, VersionRemove, VersionLookup, VersionAfter, VersionHas, HistoryCommit, MempoolSubmit, MempoolChain, MempoolAgain, MempoolThreads1, MempoolThreads4, MempoolSnapshot, BoardShow}
+use Rattle.mp_bench.specs.declared.measurement.Measurement.TheVariants.{TicketPush, TicketGet, TicketUnlink, TicketIterate, Decode181, Digests181, Decode431, Digests431, Decode642, Digests642, Encode181, OfParts181, LedgerHit, LedgerMiss, Check181, Check277, Check281, OverlayApply, PoolSubmit, PoolChain10, PoolChain1000, PoolRemove, PoolSyncAll, PoolSyncHalf, VersionSubmit, VersionRemove, VersionLookup, VersionAfter, VersionHas, HistoryCommit, MempoolSubmit, MempoolChain, MempoolAgain, MempoolThreads1, MempoolThreads4, MempoolSnapshot, MempoolNewer, BoardShow}
 
 abbrev pub name_of : Measurement → List ℕ
 name_of TicketPush = codes "ticket-push"
@@ -40,4 +40,5 @@ name_of MempoolAgain = codes "mempool-again"
 name_of MempoolThreads1 = codes "mempool-threads-1"
 name_of MempoolThreads4 = codes "mempool-threads-4"
 name_of MempoolSnapshot = codes "mempool-snapshot"
+name_of MempoolNewer = codes "mempool-snapshot-newer"
 name_of BoardShow = codes "board-show"

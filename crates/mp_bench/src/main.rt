@@ -9,6 +9,7 @@ mod hour;
 mod ledger;
 mod measurement;
 mod mempool;
+mod newer;
 mod pool;
 mod resync;
 mod rules;

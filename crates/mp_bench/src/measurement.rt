@@ -80,13 +80,15 @@ pub enum Measurement {
     MempoolThreads4,
     /// A snapshot is taken while another thread submits.
     MempoolSnapshot,
+    /// A snapshot is taken by a caller who hasn't seen any of so many transactions.
+    MempoolNewer,
     /// A version is shared and shown on a board.
     BoardShow,
 }
 
 impl Measurement {
     /// Each of them, in the order in which they are taken.
-    pub const ALL: [Measurement; 37] = [
+    pub const ALL: [Measurement; 38] = [
         Measurement::TicketPush,
         Measurement::TicketGet,
         Measurement::TicketUnlink,
@@ -123,6 +125,7 @@ impl Measurement {
         Measurement::MempoolThreads1,
         Measurement::MempoolThreads4,
         Measurement::MempoolSnapshot,
+        Measurement::MempoolNewer,
         Measurement::BoardShow,
     ];
 }
@@ -171,6 +174,7 @@ impl fmt::Display for Measurement {
             Measurement::MempoolThreads1 => "mempool-threads-1",
             Measurement::MempoolThreads4 => "mempool-threads-4",
             Measurement::MempoolSnapshot => "mempool-snapshot",
+            Measurement::MempoolNewer => "mempool-snapshot-newer",
             Measurement::BoardShow => "board-show",
         })
     }

@@ -21,7 +21,8 @@ use std::sync::Wait;
 use std::thread::Threads;
 use std::time::{Duration, Instant};
 
-const CONFIG: Config = Config {
+/// As many changes as there may be, and the first ticket is 1.
+pub const CONFIG: Config = Config {
     limit: 1 << 32,
     last: 0,
 };

@@ -4,7 +4,7 @@ use crate::measurement::Measurement;
 use crate::mempool::{Work, work_in_pool};
 use crate::rules::Kind;
 use crate::transaction::{self, Sample};
-use crate::{history, ledger, pool, resync, rules, ticket_list, version};
+use crate::{history, ledger, newer, pool, resync, rules, ticket_list, version};
 use anyhow::Result;
 use mp_memory::Memory;
 use std::fmt;
@@ -70,6 +70,7 @@ fn round<R: Clock + Wait + Threads + Sync>(
         Measurement::MempoolThreads1 => work_in_pool(rt, memory, Work::OneThread, size),
         Measurement::MempoolThreads4 => work_in_pool(rt, memory, Work::FourThreads, size),
         Measurement::MempoolSnapshot => work_in_pool(rt, memory, Work::Snapshot, size),
+        Measurement::MempoolNewer => newer::look_at_newer(rt, memory, size),
         Measurement::BoardShow => work_in_pool(rt, memory, Work::Show, size),
     }
 }
