@@ -7,6 +7,8 @@ mod answers;
 #[cfg(test)]
 mod calls;
 #[cfg(test)]
+mod drops;
+#[cfg(test)]
 mod meeting;
 #[cfg(test)]
 mod opening;

@@ -18,6 +18,9 @@ pub const SIGNED: usize = 101;
 /// and are signed by keys of 0 and of 1.
 pub const RIVAL: usize = 103;
 
+/// So many samples there are.
+pub const SAMPLES: usize = 106;
+
 type Samples = Vec<Arc<Tx, Memory>, Memory>;
 
 /// What callers ask for.

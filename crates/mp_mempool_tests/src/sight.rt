@@ -6,9 +6,10 @@ use mp_memory::Memory;
 use std::test::Fail;
 
 // The first caller makes two changes. The second learns the first of them from it, tries another ledger state, which
-// changes nothing, and makes the third change. The third looks after each, and is told nothing. The fourth never looks,
-// so the first can't learn from it.
-const LINES: [Line; 14] = [
+// changes nothing, and makes the third change. The third looks after each, and is told nothing. The fourth doesn't look,
+// so the first can't learn from it. At last the fourth looks, and the first learns, while the next growth would be
+// refused: neither makes one.
+const LINES: [Line; 19] = [
     (0, Call::Submit(1), Told::Accepted(0, 1)),
     (0, Call::Snapshot, Told::Sees(1, 1, 1)),
     (1, Call::Learn(0), Told::Done),
@@ -23,6 +24,11 @@ const LINES: [Line; 14] = [
     (2, Call::Snapshot, Told::Sees(3, 3, 123)),
     (0, Call::Learn(3), Told::Done),
     (0, Call::Seen, Told::Sees(2, 2, 12)),
+    (0, Call::Refuse(1), Told::Done),
+    (3, Call::Snapshot, Told::Sees(3, 3, 123)),
+    (0, Call::Learn(3), Told::Done),
+    (0, Call::Seen, Told::Sees(3, 3, 123)),
+    (0, Call::Met, Told::Met(false)),
 ];
 
 #[test]
