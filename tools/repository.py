@@ -1,0 +1,69 @@
+"""What crates.txt says of the repository's crates, for the programs of this folder."""
+
+import os
+import shutil
+import sys
+
+TOP = os.path.dirname(os.path.dirname(os.path.abspath(__file__)))
+# The folders of a crate that the prover reads.
+SOURCES = ("src", "specs", "proofs")
+
+
+def read_crates():
+    """Returns the line of each crate, and the repository's crates that it names behind the colon."""
+    lines, named = {}, {}
+    with open(f"{TOP}/crates.txt", encoding="utf-8") as file:
+        for line in file:
+            words, colon, libraries = line.partition("#")[0].partition(":")
+            if colon:
+                name = words.split()[0]
+                lines[name], named[name] = line, libraries.split()
+    return lines, {name: [it for it in libraries if it in lines] for name, libraries in named.items()}
+
+
+def with_all_below(names, below):
+    """Returns the crates with all that they stand on, each behind what it stands on."""
+    found = []
+
+    def add(name):
+        if name not in found:
+            for lower in below[name]:
+                add(lower)
+            found.append(name)
+
+    for name in names:
+        add(name)
+    return found
+
+
+def stop_on_unknown(names, known):
+    """Ends with status 2 where a name is no crate."""
+    unknown = [name for name in names if name not in known]
+    if unknown:
+        print(f"{os.path.basename(sys.argv[0])}: crates.txt has no crate {', '.join(unknown)}", file=sys.stderr)
+        sys.exit(2)
+
+
+def link(source, target):
+    """Has a file stand at a second place too, or copies it where the two are on different devices."""
+    try:
+        os.link(source, target)
+    except OSError:
+        shutil.copy2(source, target)
+
+
+def copy_built(name, to):
+    """Has what was built of a library stand in a copy of the repository too."""
+    built = f"crates/{name}/out/rlib"
+    if os.path.isdir(f"{TOP}/{built}"):
+        shutil.copytree(f"{TOP}/{built}", f"{to}/{built}", copy_function=link)
+
+
+def tell_usage(usage, is_enough):
+    """Prints a program's own account of itself where that is asked for, or ends with status 2 where words are wanting."""
+    if sys.argv[1:2] in (["--help"], ["-h"]):
+        print(usage.strip())
+        sys.exit(0)
+    if not is_enough:
+        print(usage.strip(), file=sys.stderr)
+        sys.exit(2)
