@@ -67,3 +67,25 @@ def tell_usage(usage, is_enough):
     if not is_enough:
         print(usage.strip(), file=sys.stderr)
         sys.exit(2)
+
+
+def apply_edit(folder, edit):
+    """Returns the files of a crate as an edit makes them, by their paths, or raises ValueError where it can't be made."""
+    texts, path, old = {}, None, None
+    with open(edit, encoding="utf-8") as file:
+        lines = file.read().split("\n")
+    for line in lines:
+        if line.startswith("file: "):
+            path = line[len("file: ") :].strip()
+            with open(f"{folder}/{path}", encoding="utf-8") as file:
+                texts.setdefault(path, file.read())
+        elif line.startswith("old: "):
+            old = line[len("old: ") :]
+            if path is None or texts[path].count(old) != 1:
+                raise ValueError(f"'{old}' doesn't stand once in {path}")
+        elif line.startswith("new:"):
+            new = line[len("new:") :]
+            texts[path] = texts[path].replace(old, new[new.startswith(" ") :])
+    if not old:
+        raise ValueError("it turns nothing")
+    return texts
