@@ -1,6 +1,7 @@
 //! Bindings in the order in which they were declared, found by name or by id without a walk.
 
-ghost use Rattle.std.specs.Prelude.{◌≡◌, slice_get, option_and_then, option_copied, option_map, IfOk};
+ghost use Rattle.std.specs.Prelude.{◌≡◌, ◌<◌, slice_get, option_and_then, option_copied, option_map, vec_len, vec_capacity, IfOk, OnOk};
+ghost use Rattle.indexmap.specs.IndexMap.{spare};
 ghost use Rattle.mp_lines.specs.Inside.BindingTable.{bound_id};
 
 use crate::names::{Binding, Name, NamedBinding};
@@ -40,6 +41,9 @@ impl fmt::Debug for BindingTable {
     }
 }
 
+// The bytes of a name, and of an id where there is one.
+type Keys = (Vec<u8, Memory>, Option<Vec<u8, Memory>>);
+
 fn binding_at(bindings: &[NamedBinding], place: Option<usize>) -> Option<&NamedBinding>
     ensures { option_copied result ≡ option_and_then (slice_get bindings.now) place }
 {
@@ -54,6 +58,34 @@ fn id_bytes(memory: Memory, binding: &Binding) -> Result<Option<Vec<u8, Memory>>
         Binding::Opening(_, _) => Ok(None),
         Binding::Made(declared) => Ok(Some(Vec::from_slice(memory, declared.tx().id())?)),
     }
+}
+
+// Makes room for one more in each.
+fn make_room(
+    bindings: &mut Vec<NamedBinding, Memory>,
+    names: &mut PlaceTable,
+    ids: &mut PlaceTable,
+) -> Result<(), NoMemory>
+    ensures bindings { bindings.new.items ≡ bindings.old.items }
+    ensures names { names.new.entries ≡ names.old.entries }
+    ensures ids { ids.new.entries ≡ ids.old.entries }
+    ensures room { OnOk result (vec_len bindings.new < vec_capacity bindings.new) }
+    ensures spare { OnOk result (0 < spare names.new × 0 < spare ids.new) }
+{
+    bindings.reserve(1)?;
+    names.reserve(1)?;
+    ids.reserve(1)?;
+    Ok(())
+}
+
+// The bytes under which a binding is found: its name's, and its id's.
+fn keys_of(memory: Memory, name: &Name, binding: &Binding) -> Result<Keys, NoMemory>
+    ensures name { IfOk result (λ k. k.0.items ≡ name.now) }
+    ensures id { IfOk result (λ k. option_map (λ v. v.items) k.1 ≡ bound_id binding.now) }
+{
+    let word = name.to_bytes()?;
+    let id = id_bytes(memory, binding)?;
+    Ok((word, id))
 }
 
 impl BindingTable {
@@ -92,11 +124,8 @@ impl BindingTable {
             ≡ self.old ++ record { name = name; binding = binding } ∷ []) }
         ensures err { OnErr result (self.new ≡ self.old) }
     {
-        let word = name.to_bytes()?;
-        let id = id_bytes(*self.bindings.allocator(), &binding)?;
-        self.bindings.reserve(1)?;
-        self.names.reserve(1)?;
-        self.ids.reserve(1)?;
+        make_room(&mut self.bindings, &mut self.names, &mut self.ids)?;
+        let (word, id) = keys_of(*self.bindings.allocator(), &name, &binding)?;
         let place = self.bindings.len();
         note(&mut self.names, word, place);
         note_if_any(&mut self.ids, id, place);

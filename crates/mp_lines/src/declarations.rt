@@ -77,8 +77,8 @@ fn script_by(memory: Memory, names: &Names, name: &[u8], digits: &[u8]) -> Resul
     if !names.is_new_script(name) {
         return Err(LineFault::Bad);
     }
-    let script = script_of(memory, digits)?;
     let name = Name::of(memory, name)?;
+    let script = script_of(memory, digits)?;
     Ok(Line::Script(NamedScript { name, script }))
 }
 
@@ -88,8 +88,8 @@ fn data_by(memory: Memory, names: &Names, name: &[u8], digits: &[u8]) -> Result<
     if !names.is_new_datum(name) {
         return Err(LineFault::Bad);
     }
-    let datum = datum_of(memory, digits)?;
     let name = Name::of(memory, name)?;
+    let datum = datum_of(memory, digits)?;
     Ok(Line::Data(NamedDatum { name, datum }))
 }
 
@@ -99,8 +99,9 @@ fn output_by(memory: Memory, names: &Names, name: &[u8], word: &[u8]) -> Result<
     if !names.is_new_binding(name) {
         return Err(LineFault::Bad);
     }
+    let name = Name::of(memory, name)?;
     let payment = payment_of(memory, names, word)?;
-    Ok(Line::Out(Name::of(memory, name)?, payment))
+    Ok(Line::Out(name, payment))
 }
 
 /// script NAME HEX
@@ -143,7 +144,8 @@ pub fn tx_line(memory: Memory, names: &Names, words: &[u8]) -> Result<Line, Line
     if first_word(items).is_none() || !names.is_new_binding(name) {
         return Err(LineFault::Bad);
     }
+    let name = Name::of(memory, name)?;
     let draft = draft_of(memory, names, items)?;
     let declared = declared_of(memory, draft)?;
-    Ok(Line::Tx(Name::of(memory, name)?, declared))
+    Ok(Line::Tx(name, declared))
 }

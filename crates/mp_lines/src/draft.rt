@@ -1,10 +1,11 @@
 //! Items put together.
 
-ghost use Rattle.std.specs.Prelude.{◌≡◌, Some, None, IfOk};
+ghost use Rattle.std.specs.Prelude.{◌≡◌, [], Some, None, option_and_then, IfOk, OnOk, IsErrOf};
+ghost use Rattle.std.specs.Arc.{arc_value};
 ghost use Rattle.mp_text.specs.Words.{words_of};
 ghost use Rattle.mp_tx.specs.TxFault.{parts_of};
 ghost use Rattle.mp_lines.specs.Draft.{empty_draft, draft_of, transaction_of, if_fits, signed, declared_of};
-ghost use Rattle.mp_lines.specs.Fault.{Reads};
+ghost use Rattle.mp_lines.specs.Fault.{Reads, Gives};
 
 use crate::copies::{copy_inputs, copy_scripts, outputs_of};
 use crate::declared_tx::DeclaredTx;
@@ -84,17 +85,28 @@ impl Draft {
     }
 }
 
-/// The items that the words are, put together.
-pub fn draft_of(memory: Memory, names: &Names, words: &[u8]) -> Result<Draft, LineFault>
-    ensures { Reads (draft_of names.now empty_draft (words_of words.now)) result }
+// Puts in the items that the words are.
+fn fill(draft: &mut Draft, memory: Memory, names: &Names, words: &[u8]) -> Result<(), LineFault>
+    ensures ok { OnOk result
+        (draft_of names.now draft.old (words_of words.now) ≡ Some draft.new) }
+    ensures bad { IsErrOf result LineFault.Bad
+        → draft_of names.now draft.old (words_of words.now) ≡ None }
 {
-    let mut draft = Draft::new(memory);
     let mut rest = words;
     while let Some((word, others)) = first_word(rest) {
         let item = item_of(memory, names, word)?;
         draft.add(item)?;
         rest = others;
     }
+    Ok(())
+}
+
+/// The items that the words are, put together.
+pub fn draft_of(memory: Memory, names: &Names, words: &[u8]) -> Result<Draft, LineFault>
+    ensures { Reads (draft_of names.now empty_draft (words_of words.now)) result }
+{
+    let mut draft = Draft::new(memory);
+    fill(&mut draft, memory, names, words)?;
     Ok(draft)
 }
 
@@ -140,15 +152,29 @@ fn sign(memory: Memory, draft: &Draft, unsigned: &Tx) -> Result<Tx, LineFault>
     put_together(memory, parts)
 }
 
-/// The transaction of the draft. It is made twice: first without signatures, for its id.
+fn make_unsigned(memory: Memory, draft: &Draft) -> Result<Tx, LineFault>
+    ensures { Reads (if_fits (transaction_of draft.now [])) result }
+{
+    let parts = parts_of(memory, draft, Vec::new(memory))?;
+    put_together(memory, parts)
+}
+
+// It is made twice: first without signatures, for its id.
+fn make_signed(memory: Memory, draft: &Draft) -> Result<Arc<Tx, Memory>, LineFault>
+    ensures { Gives arc_value
+        (option_and_then (signed draft.now) (if_fits (transaction_of draft.now []))) result }
+{
+    let unsigned = make_unsigned(memory, draft)?;
+    let tx = sign(memory, draft, &unsigned)?;
+    Ok(Arc::new(memory, tx)?)
+}
+
+/// The transaction of the draft.
 #[tactic(auto, unfolding(crate::specs::Draft::declared_of))]
 pub fn declared_of(memory: Memory, draft: Draft) -> Result<DeclaredTx, LineFault>
     ensures { Reads (declared_of draft) result }
 {
-    let parts = parts_of(memory, &draft, Vec::new(memory))?;
-    let unsigned = put_together(memory, parts)?;
-    let tx = sign(memory, &draft, &unsigned)?;
-    let tx = Arc::new(memory, tx)?;
+    let tx = make_signed(memory, &draft)?;
     let Draft { payments, .. } = draft;
     Ok(DeclaredTx::of(tx, payments))
 }

@@ -1,7 +1,7 @@
 //! What the names of a scenario stand for.
 
 ghost use Rattle.std.specs.Prelude.{◌≡◌, find, option_copied, IfOk};
-ghost use Rattle.mp_lines.specs.Names.{has_hash};
+ghost use Rattle.mp_lines.specs.Names.{first_names, has_hash};
 
 use crate::binding_table::BindingTable;
 use crate::declared_tx::DeclaredTx;
@@ -121,6 +121,23 @@ fn datum_of(memory: Memory, name: &[u8], bytes: &[u8]) -> Result<NamedDatum, NoM
     Ok(NamedDatum { name, datum })
 }
 
+fn first_scripts(memory: Memory) -> Result<Vec<NamedScript, Memory>, NoMemory>
+    ensures { IfOk result (λ v. v.items ≡ first_names.scripts) }
+{
+    let mut scripts = Vec::with_capacity(memory, 2)?;
+    scripts.push(script_of(memory, b"yes", &[0x01])?)?;
+    scripts.push(script_of(memory, b"no", &[0x00])?)?;
+    Ok(scripts)
+}
+
+fn first_datums(memory: Memory) -> Result<Vec<NamedDatum, Memory>, NoMemory>
+    ensures { IfOk result (λ v. v.items ≡ first_names.datums) }
+{
+    let mut datums = Vec::with_capacity(memory, 1)?;
+    datums.push(datum_of(memory, b"unit", &[0x03, 0x00, 0x00])?)?;
+    Ok(datums)
+}
+
 fn first_with_hash<'a>(scripts: &'a [NamedScript], hash: &Hash) -> Option<&'a NamedScript>
     ensures { option_copied result ≡ find (λ n. has_hash hash.now n.script) scripts.now }
 {
@@ -141,11 +158,8 @@ impl Names {
     pub fn new(memory: Memory) -> Result<Names, NoMemory>
         ensures { IfOk result (λ n. n ≡ first_names) }
     {
-        let mut scripts = Vec::with_capacity(memory, 2)?;
-        scripts.push(script_of(memory, b"yes", &[0x01])?)?;
-        scripts.push(script_of(memory, b"no", &[0x00])?)?;
-        let mut datums = Vec::with_capacity(memory, 1)?;
-        datums.push(datum_of(memory, b"unit", &[0x03, 0x00, 0x00])?)?;
+        let scripts = first_scripts(memory)?;
+        let datums = first_datums(memory)?;
         Ok(Names {
             bindings: BindingTable::new(memory),
             scripts,
