@@ -15,15 +15,14 @@ use std::io::{Read, Write};
 // Does the lines of a text in order, writing each line's answer.
 fn answer_from<W: Write>(
     memory: Memory,
-    scene: Scene,
+    scene: &mut Scene,
     text: &[u8],
     writer: &mut W,
 ) -> Result<(), Fault>
-    requires empty { scene_of scene ≡ empty_scene }
+    requires empty { scene_of scene.old ≡ empty_scene }
     requires short { length text.now ≤ MAX_BYTES }
     ensures { Ended text.now (W.contents writer.old) (W.contents writer.new) result }
 {
-    let mut scene = scene;
     let mut rest = text;
     let mut number = 1u64;
     while let Some((line, after)) = first_line(rest) {
@@ -46,7 +45,7 @@ fn answer_lines<W: Write>(memory: Memory, text: &[u8], writer: &mut W) -> Result
     ensures { Ended text.now (W.contents writer.old) (W.contents writer.new) result }
 {
     match Scene::new(memory) {
-        Ok(scene) => answer_from(memory, scene, text, writer),
+        Ok(mut scene) => answer_from(memory, &mut scene, text, writer),
         Err(_) => Err(Fault::NoMemory),
     }
 }
