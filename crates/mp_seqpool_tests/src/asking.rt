@@ -1,11 +1,11 @@
 //! What is asked of a pool where every signature is accepted.
 ghost use Rattle.std.specs.Prelude.{true};
 
-use crate::told::{Outcome, Told, read_answer, read_played, read_reply};
+use crate::told::{Told, read_answer, read_refusal, read_reply};
 use mp_memory::{Memory, NoMemory};
 use mp_rules::precheck;
-use mp_seqpool::{Answer, Command, Config, Ids, Prepared, Refusal, SeqPool, Verifier, play};
-use mp_tx::{Key, Ledger, Output, Sig, Tx, TxId};
+use mp_seqpool::{Command, Prepared, Refusal, SeqPool, Verifier};
+use mp_tx::{Key, Output, Sig, Tx, TxId};
 use std::sync::Arc;
 
 /// Accepts each signature.
@@ -19,76 +19,72 @@ impl Verifier for AcceptsAll {
     }
 }
 
-/// What comes of the commands on a new pool.
-pub fn run(
-    memory: Memory,
-    config: Config,
-    ledger: &Ledger,
-    commands: &[Command],
-) -> Result<Outcome, NoMemory> {
-    read_played(
-        memory,
-        &play(memory, config, ledger, commands, &AcceptsAll)?,
-    )
-}
-
-fn step_told(prepared: Result<Prepared, Refusal>) -> Told {
+fn read_step(prepared: &Result<Prepared, Refusal>) -> Told {
     match prepared {
         Ok(step) => read_reply(step.reply()),
-        Err(refusal) => Told::Refused(refusal),
+        Err(refusal) => read_refusal(refusal),
     }
 }
 
-/// What a submit would be told. It is prepared and dropped.
-pub fn try_submit(pool: &mut SeqPool, tx: &Arc<Tx, Memory>) -> Told {
-    step_told(pool.prepare_submit(tx, &AcceptsAll))
+/// What the command would be told. It is prepared and dropped.
+pub fn prepare(pool: &mut SeqPool, command: &Command) -> Told {
+    match command {
+        Command::Submit(tx) => read_step(&pool.prepare_submit(tx, &AcceptsAll)),
+        Command::Remove(ids) => read_step(&pool.prepare_remove(ids, &AcceptsAll)),
+        Command::Sync(ledger) => read_step(&pool.prepare_sync(ledger, &AcceptsAll)),
+    }
 }
 
-/// The same, with what is found upon these outputs before.
-pub fn try_submit_with(
+/// What a submit would be told, with what is found upon these outputs before.
+pub fn prepare_with(
     memory: Memory,
     pool: &mut SeqPool,
     tx: &Arc<Tx, Memory>,
     before: &[Output],
 ) -> Told {
     if before.len() != tx.inputs().len() + tx.references().len() {
-        return Told::Accepted(0);
+        return Told::Otherwise;
     }
     match precheck(memory, tx, before, &AcceptsAll) {
-        Ok(checked) => step_told(pool.prepare_submit_with(tx, &checked, &AcceptsAll)),
-        Err(NoMemory) => Told::Refused(Refusal::NoMemory),
+        Ok(checked) => read_step(&pool.prepare_submit_with(tx, &checked, &AcceptsAll)),
+        Err(NoMemory) => Told::NoMemory,
     }
 }
 
-/// What a remove would be told.
-pub fn try_remove(pool: &SeqPool, ids: &Arc<Ids, Memory>) -> Told {
-    step_told(pool.prepare_remove(ids, &AcceptsAll))
-}
-
-/// What a sync would be told.
-pub fn try_sync(pool: &SeqPool, ledger: &Ledger) -> Told {
-    step_told(pool.prepare_sync(ledger, &AcceptsAll))
-}
-
-/// Submits with a verifier that accepts each signature.
-pub fn submit_to(pool: &mut SeqPool, tx: &Arc<Tx, Memory>) -> Answer {
-    pool.submit(tx, &AcceptsAll)
-}
-
-/// Removes with the same verifier.
-pub fn remove_from(pool: &mut SeqPool, ids: &Arc<Ids, Memory>) -> Answer {
-    pool.remove(ids, &AcceptsAll)
-}
-
-/// Syncs with the same verifier.
-pub fn sync_with(pool: &mut SeqPool, ledger: &Ledger) -> Answer {
-    pool.sync(ledger, &AcceptsAll)
+/// What the command is told by the call of its kind.
+pub fn call(pool: &mut SeqPool, command: &Command) -> Told {
+    match command {
+        Command::Submit(tx) => read_answer(&pool.submit(tx, &AcceptsAll)),
+        Command::Remove(ids) => read_answer(&pool.remove(ids, &AcceptsAll)),
+        Command::Sync(ledger) => read_answer(&pool.sync(ledger, &AcceptsAll)),
+    }
 }
 
 /// What the command is told as one step.
-pub fn step_with(pool: &mut SeqPool, command: &Command) -> Told {
+pub fn step(pool: &mut SeqPool, command: &Command) -> Told {
     match pool.step(command, &AcceptsAll) {
         Ok(answer) => read_answer(&answer),
-        Err(NoMemory) => Told::Refused(Refusal::NoMemory),
+        Err(NoMemory) => Told::NoMemory,
     }
+}
+
+// The second of two calls that are to be told the same, or the first where that had no memory.
+fn told_again(first: Told, second: Told) -> Told {
+    if first == second || second == Told::NoMemory {
+        return second;
+    }
+    Told::Otherwise
+}
+
+/// What the command is told where it was twice prepared and dropped before.
+pub fn call_after_drops(pool: &mut SeqPool, command: &Command) -> Told {
+    let first = prepare(pool, command);
+    if first == Told::NoMemory {
+        return first;
+    }
+    let second = told_again(first, prepare(pool, command));
+    if second == Told::NoMemory {
+        return second;
+    }
+    told_again(second, call(pool, command))
 }

@@ -1,4 +1,4 @@
-//! The tests of mp_seqpool: its calls under each refusal of memory, and answers that were worked out by hand.
+//! The tests of mp_seqpool: its calls under each refusal of memory, and answers to what no scenario can ask for.
 #![tactic(auto)]
 
 #[cfg(test)]
