@@ -11,5 +11,5 @@ pub use reader::FailingReader;
 pub use samples::{
     COIN, coin, input, ledger, opening, output, output_of, parts, script, transaction, unit,
 };
-pub use trial::{MAX_GROWTHS, Refusals, TrialFault, Trialled, under_each_refusal};
+pub use trial::{Call, MAX_GROWTHS, Refusals, Seen, TrialFault, Trialled, under_each_refusal};
 pub use writer::FailingWriter;

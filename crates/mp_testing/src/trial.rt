@@ -1,15 +1,11 @@
-//! A call tried under every refusal of memory: the helper for the tests of each crate.
-ghost use Rattle.std.specs.Prelude.{◌<◌, false, IfOk, IfErr};
-ghost use Rattle.std.specs.Fn.{FnOnceReturnsAtMut, FnReturnsAt};
-ghost use Rattle.mp_testing.specs.Trial.{MayAnswer, IsTrialFault};
-ghost use Rattle.mp_testing.specs.Inside.Trial.{IsEarlyFault};
+//! A call tried under each refusal of memory: the helper for the tests of each crate.
+ghost use Rattle.std.specs.Prelude.{◌<◌, IfOk};
 
 use mp_memory::Metered;
 use std::alloc::Allocator;
 use thiserror::Error;
 
-/// What a trial arms. It is a trait so that the trial's signature names no handle, and so no lifetime of one: the call
-/// may then borrow what it likes.
+/// What a trial arms. It is a trait so that the trial's signature names no handle, and so no lifetime of one.
 pub trait Refusals {
     /// Arms the refusal of the `nth` growth from now. At 0 none is refused.
     fn refuse(&self, nth: u64);
@@ -28,14 +24,32 @@ impl<B: Allocator> Refusals for Metered<B> {
     }
 }
 
+/// What is seen of a value or an answer, as numbers.
+pub type Seen = [u64; 6];
+
+/// A call that is tried, with what it is called on.
+pub trait Call {
+    /// What it is called on.
+    type Value: Drop;
+
+    /// A new value, if one can be made.
+    fn make(&self) -> Option<Self::Value>;
+
+    /// What the call answers, or that it had no memory.
+    fn call(&self, value: &mut Self::Value) -> Option<Seen>;
+
+    /// What is seen of the value.
+    fn look(&self, value: &Self::Value) -> Seen;
+}
+
 /// A trial gives up on a call that makes as many growths, since it makes more than half their square.
 pub const MAX_GROWTHS: u64 = 10_000;
 
 /// What a trial came to where the call stood each refusal.
-#[derive(Debug, PartialEq, Eq, Drop)]
-pub struct Trialled<A> {
+#[derive(Clone, Copy, Debug, PartialEq, Eq)]
+pub struct Trialled {
     /// What the call answers where no growth is refused.
-    pub answer: A,
+    pub answer: Seen,
     /// How many growths the call makes on a new value, each of which was refused once.
     pub growths: u64,
 }
@@ -59,192 +73,77 @@ pub enum TrialFault {
     Endless,
 }
 
-fn made<S, M: Fn() -> Option<S>>(make: &M) -> Option<S>
-    requires { M.IsAlwaysCallable make.now }
-    ensures { M.post make.now result }
-{
-    make()
+// What a call on a new value was seen to do while the refusal of one growth waited.
+#[derive(Clone, Copy)]
+struct Try {
+    // Whether the refusal came.
+    is_met: bool,
+    answer: Option<Seen>,
+    is_changed: bool,
+    // What the same call answers once no refusal waits.
+    next: Option<Seen>,
 }
 
-fn answered<S, A, C: Fn(&mut S) -> A>(call: &C, value: &mut S) -> A
-    requires { C.IsAlwaysCallable call.now }
-    ensures { FnOnceReturnsAtMut C.FnOnce call.now value.old result value.new }
-{
-    call(value)
-}
-
-fn told<A, N: Fn(&A) -> bool>(is_no_memory: &N, answer: &A) -> bool
-    requires { N.IsAlwaysCallable is_no_memory.now }
-    ensures { FnReturnsAt N.Fn is_no_memory.now answer.now result }
-{
-    is_no_memory(answer)
-}
-
-fn compared<S, U: Fn(&S) -> bool>(is_unchanged: &U, value: &S) -> bool
-    requires { U.IsAlwaysCallable is_unchanged.now }
-    ensures { FnReturnsAt U.Fn is_unchanged.now value.now result }
-{
-    is_unchanged(value)
-}
-
-// The answer of the call on a new value, where no growth is refused.
-fn answer_of<R, S, A, M, C, N>(
-    memory: &R,
-    make: &M,
-    call: &C,
-    is_no_memory: &N,
-) -> Result<A, TrialFault>
-where
-    R: Refusals,
-    S: Drop,
-    A: Drop,
-    M: Fn() -> Option<S>,
-    C: Fn(&mut S) -> A,
-    N: Fn(&A) -> bool,
-    requires makes { M.IsAlwaysCallable make.now }
-    requires calls { C.IsAlwaysCallable call.now }
-    requires tells { N.IsAlwaysCallable is_no_memory.now }
-    ensures called { IfOk result (MayAnswer M.Fn C.FnOnce make.now call.now) }
-    ensures told { IfOk result (λ answer. FnReturnsAt N.Fn is_no_memory.now answer false) }
-    ensures fault { IfErr result
-        (IsEarlyFault M.Fn C.FnOnce N.Fn make.now call.now is_no_memory.now) }
-{
+fn try_on<R: Refusals, C: Call>(memory: &R, call: &C, value: &mut C::Value, nth: u64) -> Try {
+    let before = call.look(value);
+    memory.refuse(nth);
+    let answer = call.call(value);
+    let is_met = !memory.waits();
     memory.refuse(0);
-    let Some(mut value) = made(make) else {
-        return Err(TrialFault::NotMade);
-    };
-    let answer = answered(call, &mut value);
-    if told(is_no_memory, &answer) {
-        return Err(TrialFault::Unasked);
+    let is_changed = call.look(value) != before;
+    let next = if is_met { call.call(value) } else { answer };
+    Try {
+        is_met,
+        answer,
+        is_changed,
+        next,
     }
-    Ok(answer)
+}
+
+fn try_once<R: Refusals, C: Call>(memory: &R, call: &C, nth: u64) -> Option<Try> {
+    let mut value = call.make()?;
+    Some(try_on(memory, call, &mut value, nth))
 }
 
 // Whether the call met the refusal of its growth `nth`, and stood it.
-fn stands<R, S, A, M, C, N, U>(
-    memory: &R,
-    nth: u64,
-    make: &M,
-    call: &C,
-    is_no_memory: &N,
-    is_unchanged: &U,
-    answer: &A,
-) -> Result<bool, TrialFault>
-where
-    R: Refusals,
-    S: Drop,
-    A: Drop + PartialEq,
-    M: Fn() -> Option<S>,
-    C: Fn(&mut S) -> A,
-    N: Fn(&A) -> bool,
-    U: Fn(&S) -> bool,
-    requires makes { M.IsAlwaysCallable make.now }
-    requires calls { C.IsAlwaysCallable call.now }
-    requires tells { N.IsAlwaysCallable is_no_memory.now }
-    requires compares { U.IsAlwaysCallable is_unchanged.now }
-    ensures fault { IfErr result
-        (IsTrialFault M.Fn C.FnOnce N.Fn U.Fn
-        make.now call.now is_no_memory.now is_unchanged.now) }
-{
-    let Some(mut value) = made(make) else {
-        return Err(TrialFault::NotMade);
-    };
-    memory.refuse(nth);
-    let refused = answered(call, &mut value);
-    let is_met = !memory.waits();
-    memory.refuse(0);
-    if !is_met {
-        return if refused == *answer {
-            Ok(false)
-        } else {
-            Err(TrialFault::Unsteady)
-        };
-    }
-    if !told(is_no_memory, &refused) {
-        return Err(TrialFault::Swallowed(nth));
-    }
-    if !compared(is_unchanged, &value) {
-        return Err(TrialFault::Changed(nth));
-    }
-    if answered(call, &mut value) == *answer {
-        Ok(true)
-    } else {
-        Err(TrialFault::Differs(nth))
+fn stands(tried: Try, nth: u64, wanted: Seen) -> Result<bool, TrialFault> {
+    match tried {
+        Try {
+            is_met: false,
+            answer,
+            ..
+        } if answer != Some(wanted) => Err(TrialFault::Unsteady),
+        Try { is_met: false, .. } => Ok(false),
+        Try {
+            answer: Some(_),
+            ..
+        } => Err(TrialFault::Swallowed(nth)),
+        Try {
+            is_changed: true,
+            ..
+        } => Err(TrialFault::Changed(nth)),
+        Try { next, .. } if next != Some(wanted) => Err(TrialFault::Differs(nth)),
+        _ => Ok(true),
     }
 }
 
-// How many growths the call makes, where it stands the refusal of each.
-fn growths_of<R, S, A, M, C, N, U>(
+/// Tries the call under the refusal of each of its growths in turn, each time on a new value. After each refusal it has to
+/// say that it had no memory, the value has to look as before, and the same call on it has to answer as it does where
+/// nothing is refused. An `Err` says what did not hold. At `NotMade` and `Unasked` the system itself may have had no
+/// memory. No refusal waits afterwards.
+pub fn under_each_refusal<R: Refusals, C: Call>(
     memory: &R,
-    make: &M,
     call: &C,
-    is_no_memory: &N,
-    is_unchanged: &U,
-    answer: &A,
-) -> Result<u64, TrialFault>
-where
-    R: Refusals,
-    S: Drop,
-    A: Drop + PartialEq,
-    M: Fn() -> Option<S>,
-    C: Fn(&mut S) -> A,
-    N: Fn(&A) -> bool,
-    U: Fn(&S) -> bool,
-    requires makes { M.IsAlwaysCallable make.now }
-    requires calls { C.IsAlwaysCallable call.now }
-    requires tells { N.IsAlwaysCallable is_no_memory.now }
-    requires compares { U.IsAlwaysCallable is_unchanged.now }
-    ensures counted { IfOk result (λ growths. growths < MAX_GROWTHS) }
-    ensures fault { IfErr result
-        (IsTrialFault M.Fn C.FnOnce N.Fn U.Fn
-        make.now call.now is_no_memory.now is_unchanged.now) }
+) -> Result<Trialled, TrialFault>
+    ensures { IfOk result (λ done. done.growths < MAX_GROWTHS) }
 {
+    let first = try_once(memory, call, 0).ok_or(TrialFault::NotMade)?;
+    let answer = first.answer.ok_or(TrialFault::Unasked)?;
     for growths in 0..MAX_GROWTHS {
-        if !stands(
-            memory,
-            growths + 1,
-            make,
-            call,
-            is_no_memory,
-            is_unchanged,
-            answer,
-        )? {
-            return Ok(growths);
+        let tried = try_once(memory, call, growths + 1).ok_or(TrialFault::NotMade)?;
+        if !stands(tried, growths + 1, answer)? {
+            return Ok(Trialled { answer, growths });
         }
     }
     Err(TrialFault::Endless)
-}
-
-/// Tries `call` on a value of `make` under the refusal of each of its growths in turn, each time on a new value.
-/// After each refusal the call has to say no memory, `is_unchanged` has to hold of the value, and the same call on it
-/// has to answer as the call does where nothing is refused. An `Err` says what did not hold. At `NotMade` and `Unasked`
-/// the system itself may have had no memory. No refusal waits afterwards.
-pub fn under_each_refusal<R, S, A, M, C, N, U>(
-    memory: &R,
-    make: M,
-    call: C,
-    is_no_memory: N,
-    is_unchanged: U,
-) -> Result<Trialled<A>, TrialFault>
-where
-    R: Refusals,
-    S: Drop,
-    A: Drop + PartialEq,
-    M: Fn() -> Option<S>,
-    C: Fn(&mut S) -> A,
-    N: Fn(&A) -> bool,
-    U: Fn(&S) -> bool,
-    requires makes { M.IsAlwaysCallable make }
-    requires calls { C.IsAlwaysCallable call }
-    requires tells { N.IsAlwaysCallable is_no_memory }
-    requires compares { U.IsAlwaysCallable is_unchanged }
-    ensures called { IfOk result (λ done. MayAnswer M.Fn C.FnOnce make call done.answer) }
-    ensures told { IfOk result (λ done. FnReturnsAt N.Fn is_no_memory done.answer false) }
-    ensures counted { IfOk result (λ done. done.growths < MAX_GROWTHS) }
-    ensures fault { IfErr result
-        (IsTrialFault M.Fn C.FnOnce N.Fn U.Fn make call is_no_memory is_unchanged) }
-{
-    let answer = answer_of(memory, &make, &call, &is_no_memory)?;
-    let growths = growths_of(memory, &make, &call, &is_no_memory, &is_unchanged, &answer)?;
-    Ok(Trialled { answer, growths })
 }
