@@ -26,9 +26,9 @@ fn words<R: Env + AllocGlobal>(rt: &R) -> Result<Vec<String>> {
     Ok(words)
 }
 
-fn named<R: AllocGlobal>(rt: &R, word: &str) -> Result<Measurement> {
+fn named(word: &str) -> Result<Measurement> {
     for measurement in Measurement::ALL {
-        if format!(in rt.alloc(); "{measurement}")?.as_str() == word {
+        if measurement.name() == word {
             return Ok(measurement);
         }
     }
@@ -63,7 +63,7 @@ pub fn read_asked<R: Env + AllocGlobal>(rt: &R) -> Result<Asked> {
     };
     match (first.as_str(), words.get(2)) {
         ("run", None) => Ok(Asked::All),
-        ("run", Some(name)) => Ok(Asked::One(named(rt, name.as_str())?)),
+        ("run", Some(name)) => Ok(Asked::One(named(name.as_str())?)),
         ("mempool-hour", _) => Ok(Asked::Hour(trial(&words)?)),
         (word, _) => bail!("expected nothing, 'run' or 'mempool-hour', and not '{word}'"),
     }

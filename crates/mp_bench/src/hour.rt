@@ -9,7 +9,7 @@ mod player;
 mod span;
 mod table;
 
-use crate::rules::AcceptsAll;
+use crate::samples::AcceptsAll;
 use anyhow::{Result, bail, ensure};
 use dice::Dice;
 use mp_history::{Entry, NewName, PoolName, audit};

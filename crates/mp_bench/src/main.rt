@@ -4,21 +4,15 @@
 #![tactic(auto)]
 
 mod asked;
-mod history;
 mod hour;
-mod ledger;
 mod measurement;
 mod mempool;
 mod newer;
 mod pool;
-mod resync;
-mod rules;
+mod samples;
 mod spinning;
 mod threads;
-mod ticket_list;
 mod timing;
-mod transaction;
-mod version;
 mod watching;
 
 use anyhow::Result;
@@ -37,7 +31,7 @@ fn take<R: Clock + Wait + Threads + Print + Sync>(
 ) -> Result<()> {
     for size in SIZES {
         let per_step = best_per_step(rt, memory, measurement, size)?;
-        println!(rt; "{measurement} {size} {per_step}")?;
+        println!(rt; "{} {size} {per_step}", measurement.name())?;
     }
     Ok(())
 }
@@ -51,7 +45,7 @@ fn take_all<R: Clock + Wait + Threads + Print + Sync>(rt: &R, memory: Memory) ->
 
 fn print_names(rt: &impl Print) -> Result<()> {
     for measurement in Measurement::ALL {
-        println!(rt; "{measurement}")?;
+        println!(rt; "{}", measurement.name())?;
     }
     Ok(())
 }

@@ -3,18 +3,16 @@ ghost use Rattle.std.specs.Prelude.{◌≡◌};
 ghost use Rattle.mp_history.specs.PoolName.{head_of};
 ghost use Rattle.mp_bench.specs.Signatures.{any};
 
-use crate::pool::{Shared, shared};
-use crate::resync::chained;
-use crate::rules::{Kind, STEPS, ledger_of, scaled};
+use crate::samples::{STEPS, Shared, ledger_of, plain, signed};
 use crate::spinning::Spinning;
 use crate::threads::share_out;
+use crate::timing::{end, scale};
 use crate::watching::watch;
-use anyhow::{Result, bail, ensure};
+use anyhow::{Result, bail};
 use mp_history::{NewName, PoolName};
 use mp_memory::Memory;
 use mp_mempool::{Config, Mempool, Pass};
-use mp_tx::Ledger;
-use mp_versions::{Board, Shown};
+use mp_tx::{Ledger, TxFault};
 use std::marker::Brand;
 use std::rt::Clock;
 use std::sync::Wait;
@@ -35,8 +33,6 @@ const CALLERS: u32 = 4;
 pub enum Work {
     /// A transaction is submitted that spends an output of the ledger state.
     Submit,
-    /// The same where each spends what the one before it makes.
-    Chain,
     /// One is submitted that stands in the pool.
     Again,
     /// A signed one is submitted, all by one thread.
@@ -45,8 +41,6 @@ pub enum Work {
     FourThreads,
     /// A snapshot is taken while another thread submits.
     Snapshot,
-    /// A version is shown on a board.
-    Show,
 }
 
 /// The passes of four callers.
@@ -104,60 +98,35 @@ fn time_submits<N: PoolName>(
     wanted: u64,
 ) -> Result<Duration> {
     let start = Instant::now(rt)?;
-    let accepted = submit_each(rt, mempool, pass, all);
-    let time = start.elapsed(rt)?;
-    ensure!(accepted == wanted, "{accepted} of {wanted} accepted");
-    Ok(time)
-}
-
-// How often the version is shown, of a thousand times.
-fn show_often<N: PoolName>(rt: &impl Wait, board: &Board<N>, shown: &Shown<N>) -> u64 {
-    let mut count: u64 = 0;
-    for _ in 0..STEPS {
-        if is_shown(rt, board, shown) {
-            count = count.saturating_add(1);
-        }
-    }
-    count
-}
-
-fn is_shown<N: PoolName>(rt: &impl Wait, board: &Board<N>, shown: &Shown<N>) -> bool {
-    match shown.share() {
-        Ok(shown) => board.show(rt, shown).is_ok(),
-        Err(_) => false,
-    }
-}
-
-fn time_shows<N: PoolName>(
-    rt: &(impl Clock + Wait),
-    board: &Board<N>,
-    shown: &Shown<N>,
-) -> Result<Duration> {
-    let start = Instant::now(rt)?;
-    let count = show_often(rt, board, shown);
-    let time = start.elapsed(rt)?;
-    ensure!(count == STEPS, "{count} shown");
-    Ok(time)
+    end(rt, start, submit_each(rt, mempool, pass, all), wanted)
 }
 
 // What a thousand steps take.
 fn time_work<N: PoolName + Send + Sync, R: Clock + Wait + Threads + Sync>(
     rt: &R,
-    memory: Memory,
     mempool: &Mempool<N, Spinning>,
     four: &mut Four<N>,
     work: Work,
     all: &[Shared],
 ) -> Result<Duration> {
     match work {
-        Work::Submit | Work::Chain | Work::OneThread => {
-            time_submits(rt, mempool, &mut four.first, all, STEPS)
-        }
+        Work::Submit | Work::OneThread => time_submits(rt, mempool, &mut four.first, all, STEPS),
         Work::Again => time_submits(rt, mempool, &mut four.first, all, 0),
         Work::FourThreads => share_out(rt, mempool, four, all),
         Work::Snapshot => watch(rt, mempool, four, all),
-        Work::Show => time_shows(rt, &Board::new(memory)?, four.first.shown()),
     }
+}
+
+/// Has the pool take in so many transactions, one after the other.
+pub fn fill<N: PoolName>(
+    rt: &(impl Clock + Wait),
+    memory: Memory,
+    mempool: &Mempool<N, Spinning>,
+    pass: &mut Pass<N>,
+    size: u64,
+) -> Result<Duration> {
+    let all = plain(memory, 0, size)?;
+    time_submits(rt, mempool, pass, &all, size)
 }
 
 // Fills the pool with so many transactions, and tells what a thousand steps take then.
@@ -169,20 +138,18 @@ fn fill_and_time<N: PoolName + Send + Sync, R: Clock + Wait + Threads + Sync>(
     work: Work,
     size: u64,
 ) -> Result<Duration> {
-    let before = shared(memory, Kind::Plain, 0, size)?;
-    time_submits(rt, mempool, &mut four.first, &before, size)?;
+    fill(rt, memory, mempool, &mut four.first, size)?;
     let all = asked(memory, work, size)?;
-    time_work(rt, memory, mempool, four, work, &all)
+    time_work(rt, mempool, four, work, &all)
 }
 
 // The transactions of a thousand steps.
-fn asked(memory: Memory, work: Work, size: u64) -> Result<Vec<Shared, Memory>> {
+fn asked(memory: Memory, work: Work, size: u64) -> Result<Vec<Shared, Memory>, TxFault> {
     let last = size.saturating_add(STEPS);
     match work {
-        Work::Again => shared(memory, Kind::Plain, 0, STEPS),
-        Work::Chain => chained(memory, STEPS, size, last),
-        Work::OneThread | Work::FourThreads => shared(memory, Kind::Signed, size, last),
-        Work::Submit | Work::Snapshot | Work::Show => shared(memory, Kind::Plain, size, last),
+        Work::Again => plain(memory, 0, STEPS),
+        Work::OneThread | Work::FourThreads => signed(memory, size, last),
+        Work::Submit | Work::Snapshot => plain(memory, size, last),
     }
 }
 
@@ -213,7 +180,7 @@ pub fn work_in_pool<R: Clock + Wait + Threads + Sync>(
     work: Work,
     size: u64,
 ) -> Result<Duration> {
-    let ledger = ledger_of(memory, Kind::Plain, size.saturating_add(STEPS))?;
+    let ledger = ledger_of(memory, size.saturating_add(STEPS))?;
     let time = open::<Brand, _>(rt, memory, NewName::new(), &ledger, work, size)?;
-    Ok(scaled(time, size))
+    Ok(scale(time, size))
 }

@@ -3,11 +3,11 @@ ghost use Rattle.std.specs.Prelude.{◌≡◌};
 ghost use Rattle.mp_history.specs.PoolName.{head_of};
 ghost use Rattle.mp_bench.specs.Signatures.{any};
 
-use crate::mempool::{CONFIG, submit_each};
-use crate::pool::shared;
-use crate::rules::{Kind, STEPS, ledger_of, scaled};
+use crate::mempool::{CONFIG, fill};
+use crate::samples::{STEPS, ledger_of};
 use crate::spinning::Spinning;
-use anyhow::{Result, bail, ensure};
+use crate::timing::{end, scale};
+use anyhow::{Result, bail};
 use mp_history::{NewName, PoolName};
 use mp_memory::Memory;
 use mp_mempool::{Mempool, Pass};
@@ -37,20 +37,16 @@ fn fill_and_look<N: PoolName>(
     rt: &(impl Clock + Wait),
     memory: Memory,
     mempool: &Mempool<N, Spinning>,
-    mut passes: Vec<Pass<N>, Memory>,
+    passes: &mut [Pass<N>],
     size: u64,
 ) -> Result<Duration> {
-    let Some(mut submitter) = passes.pop() else {
+    let Some((submitter, readers)) = passes.split_first_mut() else {
         bail!("no caller");
     };
-    let all = shared(memory, Kind::Plain, 0, size)?;
-    let accepted = submit_each(rt, mempool, &mut submitter, &all);
-    ensure!(accepted == size, "{accepted} of {size} accepted");
+    fill(rt, memory, mempool, submitter, size)?;
     let start = Instant::now(rt)?;
-    let entries = look_each(mempool, &mut passes);
-    let time = start.elapsed(rt)?;
-    ensure!(entries == size.saturating_mul(STEPS), "{entries} entries");
-    Ok(time)
+    let entries = look_each(mempool, readers);
+    end(rt, start, entries, size.saturating_mul(STEPS))
 }
 
 fn open<N: PoolName>(
@@ -65,7 +61,7 @@ fn open<N: PoolName>(
     requires accepts { N.accepts ≡ any }
 {
     match Mempool::<N, _>::open(rt, memory, name, CONFIG, ledger, Spinning::new(), CALLERS) {
-        Ok((mempool, passes)) => fill_and_look(rt, memory, &mempool, passes, size),
+        Ok((mempool, mut passes)) => fill_and_look(rt, memory, &mempool, &mut passes, size),
         Err((refusal, _)) => bail!("{refusal}"),
     }
 }
@@ -73,7 +69,7 @@ fn open<N: PoolName>(
 /// Takes a thousand snapshots of a pool that has `size` transactions, by callers who have seen it empty, and tells what `size` of
 /// this take.
 pub fn look_at_newer(rt: &(impl Clock + Wait), memory: Memory, size: u64) -> Result<Duration> {
-    let ledger = ledger_of(memory, Kind::Plain, size)?;
+    let ledger = ledger_of(memory, size)?;
     let time = open::<Brand>(rt, memory, NewName::new(), &ledger, size)?;
-    Ok(scaled(time, size))
+    Ok(scale(time, size))
 }

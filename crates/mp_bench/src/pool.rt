@@ -1,86 +1,177 @@
-//! Steps of overlays and of the pool. Each round ends in a test of what its steps came to, so none can be left out.
+//! Steps of transactions, of checks and of the pool that one thread calls.
 
-use crate::ledger::reference;
-use crate::rules::{AcceptsAll, Kind, STEPS, ledger_of, scaled, spending};
-use anyhow::{Result, ensure};
-use mp_memory::{Memory, NoMemory};
-use mp_seqpool::{Config, SeqPool};
+use crate::samples::{AcceptsAll, STEPS, Shared, ledger_by, ledger_of, plain};
+use crate::timing::{end, scale};
+use anyhow::{Result, bail};
+use mp_memory::Memory;
+use mp_rules::check;
+use mp_seqpool::{Config, Ids, SeqPool};
 use mp_tx::{Ledger, Tx};
-use mp_utxo::{Overlay, Utxo};
 use std::rt::Clock;
 use std::sync::Arc;
 use std::time::{Duration, Instant};
 
-/// A transaction that several hold.
-pub type Shared = Arc<Tx, Memory>;
+const CONFIG: Config = Config {
+    limit: 1 << 32,
+    last: 0,
+};
 
-/// Transactions of the kind that spend the outputs from this place on, up to the one before that place.
-pub fn shared(memory: Memory, kind: Kind, from: u64, to: u64) -> Result<Vec<Shared, Memory>> {
-    let mut all = Vec::new(memory);
-    for number in from..to {
-        let tx = spending(memory, kind, reference(number, 0))?;
-        all.push(Arc::new(memory, tx)?)?;
-    }
-    Ok(all)
-}
-
-/// A pool upon the ledger state with these transactions.
-pub fn pool_of(memory: Memory, ledger: &Ledger, all: &[Shared]) -> Result<SeqPool> {
-    let config = Config {
-        limit: 1 << 32,
-        last: 0,
-    };
-    let mut pool = SeqPool::start(memory, config, ledger)?;
-    for tx in all {
-        pool.submit(tx, &AcceptsAll)?;
-    }
-    Ok(pool)
-}
-
-fn apply_each(overlay: &mut Overlay, all: Vec<Shared, Memory>) -> Result<(), NoMemory> {
-    for tx in all {
-        overlay.reserve_for(&tx)?;
-        overlay.apply(tx);
-    }
-    Ok(())
-}
-
-// Whether the outputs up to this place are spent.
-fn all_spent(overlay: &Overlay, last: u64) -> bool {
-    for number in 0..last {
-        if overlay.get(&reference(number, 0)).is_some() {
-            return false;
+fn count_decoded(memory: Memory, bytes: &[u8], count: u64) -> u64 {
+    let mut decoded: u64 = 0;
+    for _ in 0..count {
+        if Tx::decode(memory, bytes).is_ok() {
+            decoded = decoded.saturating_add(1);
         }
     }
-    true
+    decoded
 }
 
-/// Makes room in an overlay with `size` transactions for a thousand more and applies them, one after the other, and tells
-/// what `size` of this take.
-pub fn apply_all(clock: &impl Clock, memory: Memory, size: u64) -> Result<Duration> {
-    let last = size.saturating_add(STEPS);
-    let ledger = ledger_of(memory, Kind::Plain, last)?;
-    let mut overlay = Overlay::over(memory, &ledger)?;
-    apply_each(&mut overlay, shared(memory, Kind::Plain, 0, size)?)?;
-    let all = shared(memory, Kind::Plain, size, last)?;
-    let start = Instant::now(clock)?;
-    apply_each(&mut overlay, all)?;
-    let time = start.elapsed(clock)?;
-    ensure!(all_spent(&overlay, last), "an output is still there");
-    Ok(scaled(time, size))
-}
-
-/// Submits a thousand transactions to a pool that has `size`, each of which is accepted, and tells what `size` submits take.
-pub fn submit_all(clock: &impl Clock, memory: Memory, size: u64) -> Result<Duration> {
-    let last = size.saturating_add(STEPS);
-    let ledger = ledger_of(memory, Kind::Plain, last)?;
-    let mut pool = pool_of(memory, &ledger, &shared(memory, Kind::Plain, 0, size)?)?;
-    let all = shared(memory, Kind::Plain, size, last)?;
-    let start = Instant::now(clock)?;
-    for tx in &all {
-        pool.submit(tx, &AcceptsAll)?;
+fn bytes_of(memory: Memory, all: &[Shared]) -> Result<Vec<u8, Memory>> {
+    match all.first() {
+        Some(tx) => Ok(tx.encode(memory)?),
+        None => bail!("no transaction"),
     }
-    let time = start.elapsed(clock)?;
-    ensure!(pool.changes() == last, "{} changes", pool.changes());
-    Ok(scaled(time, size))
+}
+
+/// Decodes the same 181 bytes `count` times.
+pub fn decode(clock: &impl Clock, memory: Memory, count: u64) -> Result<Duration> {
+    let bytes = bytes_of(memory, &plain(memory, 0, 1)?)?;
+    let start = Instant::now(clock)?;
+    end(clock, start, count_decoded(memory, &bytes, count), count)
+}
+
+fn count_valid(memory: Memory, ledger: &Ledger, all: &[Shared]) -> u64 {
+    let mut valid: u64 = 0;
+    for tx in all {
+        if check(memory, tx, ledger, 0, &AcceptsAll).is_ok() {
+            valid = valid.saturating_add(1);
+        }
+    }
+    valid
+}
+
+fn time_checks(
+    clock: &impl Clock,
+    memory: Memory,
+    ledger: &Ledger,
+    all: &[Shared],
+) -> Result<Duration> {
+    let start = Instant::now(clock)?;
+    end(clock, start, count_valid(memory, ledger, all), STEPS)
+}
+
+/// Checks a thousand transactions upon a ledger state of `size` outputs, and tells what `size` checks take.
+pub fn check_all(clock: &impl Clock, memory: Memory, size: u64) -> Result<Duration> {
+    let ledger = ledger_of(memory, size)?;
+    let all = plain(memory, 0, STEPS)?;
+    Ok(scale(time_checks(clock, memory, &ledger, &all)?, size))
+}
+
+fn count_accepted(pool: &mut SeqPool, all: &[Shared]) -> u64 {
+    let mut accepted: u64 = 0;
+    for tx in all {
+        if pool.submit(tx, &AcceptsAll).is_ok() {
+            accepted = accepted.saturating_add(1);
+        }
+    }
+    accepted
+}
+
+// What it takes to submit these, all of which are accepted.
+fn time_submits(clock: &impl Clock, pool: &mut SeqPool, all: &[Shared]) -> Result<Duration> {
+    let start = Instant::now(clock)?;
+    end(clock, start, count_accepted(pool, all), all.len() as u64)
+}
+
+fn start(memory: Memory, outputs: u64) -> Result<SeqPool> {
+    let ledger = ledger_of(memory, outputs)?;
+    Ok(SeqPool::start(memory, CONFIG, &ledger)?)
+}
+
+// Has the pool take transactions in that spend the outputs from this number on, and tells what it took.
+fn fill(
+    clock: &impl Clock,
+    memory: Memory,
+    pool: &mut SeqPool,
+    from: u64,
+    to: u64,
+) -> Result<Duration> {
+    let all = plain(memory, from, to)?;
+    time_submits(clock, pool, &all)
+}
+
+fn fill_twice(
+    clock: &impl Clock,
+    memory: Memory,
+    pool: &mut SeqPool,
+    size: u64,
+) -> Result<Duration> {
+    fill(clock, memory, pool, 0, size)?;
+    fill(clock, memory, pool, size, size.saturating_add(STEPS))
+}
+
+/// Submits a thousand transactions to a pool that has `size`, and tells what `size` submits take.
+pub fn submit_all(clock: &impl Clock, memory: Memory, size: u64) -> Result<Duration> {
+    let mut pool = start(memory, size.saturating_add(STEPS))?;
+    Ok(scale(fill_twice(clock, memory, &mut pool, size)?, size))
+}
+
+fn count_left(pool: &mut SeqPool, ids: &Arc<Ids, Memory>) -> u64 {
+    match pool.remove(ids, &AcceptsAll) {
+        Ok(_) => pool.len() as u64,
+        Err(_) => 0,
+    }
+}
+
+fn remove_one(
+    clock: &impl Clock,
+    memory: Memory,
+    pool: &mut SeqPool,
+    size: u64,
+) -> Result<Duration> {
+    let all = plain(memory, 0, size)?;
+    time_submits(clock, pool, &all)?;
+    let ids = first_id(memory, &all)?;
+    let start = Instant::now(clock)?;
+    end(clock, start, count_left(pool, &ids), size.saturating_sub(1))
+}
+
+fn first_id(memory: Memory, all: &[Shared]) -> Result<Arc<Ids, Memory>> {
+    let mut ids = Vec::new(memory);
+    for tx in all.iter().take(1) {
+        ids.push(*tx.id())?;
+    }
+    Ok(Arc::new(memory, Ids::of(ids))?)
+}
+
+/// Removes the first of `size` transactions, none of which depends on another, and tells what it took.
+pub fn remove_first(clock: &impl Clock, memory: Memory, size: u64) -> Result<Duration> {
+    let mut pool = start(memory, size)?;
+    remove_one(clock, memory, &mut pool, size)
+}
+
+fn count_kept(pool: &mut SeqPool, next: &Ledger) -> u64 {
+    match pool.sync(next, &AcceptsAll) {
+        Ok(_) => pool.len() as u64,
+        Err(_) => 0,
+    }
+}
+
+fn sync_to(
+    clock: &impl Clock,
+    memory: Memory,
+    pool: &mut SeqPool,
+    next: &Ledger,
+    size: u64,
+) -> Result<Duration> {
+    fill(clock, memory, pool, 0, size)?;
+    let start = Instant::now(clock)?;
+    end(clock, start, count_kept(pool, next), size / 2)
+}
+
+/// Adopts a ledger state upon which every other one of `size` transactions is valid, and tells what it took.
+pub fn sync_half(clock: &impl Clock, memory: Memory, size: u64) -> Result<Duration> {
+    let next = ledger_by(memory, 2, 1 << 39, size)?;
+    let mut pool = start(memory, size)?;
+    sync_to(clock, memory, &mut pool, &next, size)
 }

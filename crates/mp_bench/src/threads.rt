@@ -1,9 +1,10 @@
 //! Submits by four threads at once.
 
 use crate::mempool::{Four, submit_each};
-use crate::pool::Shared;
+use crate::samples::Shared;
 use crate::spinning::Spinning;
-use anyhow::{Result, ensure};
+use crate::timing::end;
+use anyhow::Result;
 use mp_history::PoolName;
 use mp_mempool::{Mempool, Pass};
 use std::rt::Clock;
@@ -58,7 +59,5 @@ pub fn share_out<N: PoolName + Send + Sync, R: Clock + Wait + Threads + Sync>(
 ) -> Result<Duration> {
     let start = Instant::now(rt)?;
     let accepted = submit_by_four(rt, mempool, four, all);
-    let time = start.elapsed(rt)?;
-    ensure!(accepted == all.len() as u64, "{accepted} accepted");
-    Ok(time)
+    end(rt, start, accepted, all.len() as u64)
 }

@@ -1,17 +1,17 @@
-//! The best of several rounds.
+//! The best of several rounds. Each round ends in a test of what its steps came to, so none can be left out.
 
 use crate::measurement::Measurement;
 use crate::mempool::{Work, work_in_pool};
-use crate::rules::Kind;
-use crate::transaction::{self, Sample};
-use crate::{history, ledger, newer, pool, resync, rules, ticket_list, version};
-use anyhow::Result;
+use crate::newer::look_at_newer;
+use crate::pool;
+use crate::samples::STEPS;
+use anyhow::{Result, ensure};
 use mp_memory::Memory;
 use std::fmt;
 use std::rt::Clock;
 use std::sync::Wait;
 use std::thread::Threads;
-use std::time::Duration;
+use std::time::{Duration, Instant};
 
 const ROUNDS: u32 = 9;
 
@@ -27,6 +27,21 @@ impl fmt::Display for PerStep {
     }
 }
 
+/// The time since the start, where the steps came to what they should.
+pub fn end(clock: &impl Clock, start: Instant, found: u64, wanted: u64) -> Result<Duration> {
+    let time = start.elapsed(clock)?;
+    ensure!(
+        found == wanted,
+        "the steps came to {found} and not {wanted}"
+    );
+    Ok(time)
+}
+
+/// What `size` steps take, where a thousand took so long.
+pub fn scale(time: Duration, size: u64) -> Duration {
+    time.saturating_mul(u32::try_from(size / STEPS).unwrap_or(u32::MAX))
+}
+
 fn round<R: Clock + Wait + Threads + Sync>(
     rt: &R,
     memory: Memory,
@@ -34,44 +49,17 @@ fn round<R: Clock + Wait + Threads + Sync>(
     size: u64,
 ) -> Result<Duration> {
     match measurement {
-        Measurement::TicketPush => ticket_list::push(rt, memory, size),
-        Measurement::TicketGet => ticket_list::get(rt, memory, size),
-        Measurement::TicketUnlink => ticket_list::unlink(rt, memory, size),
-        Measurement::TicketIterate => ticket_list::iterate(rt, memory, size),
-        Measurement::Decode181 => transaction::decode(rt, memory, Sample::Plain, size),
-        Measurement::Digests181 => transaction::digest_all(rt, memory, Sample::Plain, size),
-        Measurement::Decode431 => transaction::decode(rt, memory, Sample::Signed, size),
-        Measurement::Digests431 => transaction::digest_all(rt, memory, Sample::Signed, size),
-        Measurement::Decode642 => transaction::decode(rt, memory, Sample::Scripted, size),
-        Measurement::Digests642 => transaction::digest_all(rt, memory, Sample::Scripted, size),
-        Measurement::Encode181 => transaction::encode(rt, memory, size),
-        Measurement::OfParts181 => transaction::of_parts(rt, memory, size),
-        Measurement::LedgerHit => ledger::hit(rt, memory, size),
-        Measurement::LedgerMiss => ledger::miss(rt, memory, size),
-        Measurement::Check181 => rules::check_all(rt, memory, Kind::Plain, size),
-        Measurement::Check277 => rules::check_all(rt, memory, Kind::Signed, size),
-        Measurement::Check281 => rules::check_all(rt, memory, Kind::Scripted, size),
-        Measurement::OverlayApply => pool::apply_all(rt, memory, size),
+        Measurement::Decode => pool::decode(rt, memory, size),
+        Measurement::Check => pool::check_all(rt, memory, size),
         Measurement::PoolSubmit => pool::submit_all(rt, memory, size),
-        Measurement::PoolChain10 => resync::submit_chains(rt, memory, 10, size),
-        Measurement::PoolChain1000 => resync::submit_chains(rt, memory, 1_000, size),
-        Measurement::PoolRemove => resync::remove_first(rt, memory, size),
-        Measurement::PoolSyncAll => resync::sync(rt, memory, 1, size),
-        Measurement::PoolSyncHalf => resync::sync(rt, memory, 2, size),
-        Measurement::VersionSubmit => version::after_submit(rt, memory, size),
-        Measurement::VersionRemove => version::after_remove(rt, memory, size),
-        Measurement::VersionLookup => version::look_up(rt, memory, size),
-        Measurement::VersionAfter => version::read_last(rt, memory, size),
-        Measurement::VersionHas => version::search(rt, memory, size),
-        Measurement::HistoryCommit => history::commit_all(rt, memory, size),
+        Measurement::PoolRemove => pool::remove_first(rt, memory, size),
+        Measurement::PoolSync => pool::sync_half(rt, memory, size),
         Measurement::MempoolSubmit => work_in_pool(rt, memory, Work::Submit, size),
-        Measurement::MempoolChain => work_in_pool(rt, memory, Work::Chain, size),
         Measurement::MempoolAgain => work_in_pool(rt, memory, Work::Again, size),
         Measurement::MempoolThreads1 => work_in_pool(rt, memory, Work::OneThread, size),
         Measurement::MempoolThreads4 => work_in_pool(rt, memory, Work::FourThreads, size),
         Measurement::MempoolSnapshot => work_in_pool(rt, memory, Work::Snapshot, size),
-        Measurement::MempoolNewer => newer::look_at_newer(rt, memory, size),
-        Measurement::BoardShow => work_in_pool(rt, memory, Work::Show, size),
+        Measurement::MempoolNewer => look_at_newer(rt, memory, size),
     }
 }
 

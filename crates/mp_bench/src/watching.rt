@@ -1,8 +1,7 @@
 //! Snapshots by one thread while another submits.
 
 use crate::mempool::{Four, submit_each};
-use crate::pool::Shared;
-use crate::rules::STEPS;
+use crate::samples::{STEPS, Shared};
 use crate::spinning::Spinning;
 use anyhow::{Result, bail, ensure};
 use mp_history::PoolName;

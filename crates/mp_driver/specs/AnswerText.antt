@@ -55,15 +55,23 @@ reply_text (Accepted ticket) = codes "accepted" ++ number_text ticket
 reply_text (Removed named dropped) = codes "removed" ++ tickets_text named ++ codes " dropped" ++ tickets_text dropped
 reply_text (Synced kept dropped) = codes "kept" ++ tickets_text kept ++ codes " dropped" ++ tickets_text dropped
 
+-- what is told of an answer
+abbrev pub told_text : Names → Result Reply Refusal → List ℕ
+told_text names (Ok reply) = reply_text reply
+told_text names (Err refusal) = codes "refused " ++ refusal_text names refusal
+
 -- a line feed ends it
 unfoldable pub answer_text : Names → Result Reply Refusal → List ℕ
-answer_text names (Ok reply) = reply_text reply ++ 10 ∷ []
-answer_text names (Err refusal) = codes "refused " ++ refusal_text names refusal ++ 10 ∷ []
+answer_text names answer = told_text names answer ++ 10 ∷ []
 
 -- the ticket, a colon and the name
 abbrev pub item_text : Names → ℕ × Transaction → List ℕ
 item_text names item = number_text item.0 ++ 58 ∷ name_of (id_of item.1) names
 
--- how many transactions, how many bytes, the last ticket, and the items, oldest first
+-- how many transactions, how many bytes, the last ticket
+abbrev pub numbers_text : Pool → List ℕ
+numbers_text p = number_text (length p.items) ++ number_text (bytes_held p) ++ number_text p.last
+
+-- the numbers, and the items, oldest first
 unfoldable pub snapshot_text : Names → Pool → List ℕ
-snapshot_text names p = codes "snapshot" ++ number_text (length p.items) ++ number_text (bytes_held p) ++ number_text p.last ++ flat_map (item_text names) p.items ++ 10 ∷ []
+snapshot_text names p = codes "snapshot" ++ numbers_text p ++ flat_map (item_text names) p.items ++ 10 ∷ []

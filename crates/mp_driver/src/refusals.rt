@@ -1,6 +1,6 @@
 //! The names of refusals, and what is told with them.
 
-ghost use Rattle.std.specs.Prelude.{◌≡◌, ◌++◌, OnOk};
+ghost use Rattle.std.specs.Prelude.{◌≡◌, ◌++◌, OnOk, codes};
 ghost use Rattle.mp_lines.specs.Names.{policy_name};
 ghost use Rattle.mp_driver.specs.AnswerText.{number_text, token_text, invalid_text, refusal_text};
 
@@ -18,6 +18,14 @@ pub fn put_number(memory: Memory, text: &mut Text, number: u64) -> Result<(), No
     text.push(b' ')?;
     let digits = number.to_string(memory)?;
     text.extend_from_slice(digits.as_bytes())?;
+    Ok(())
+}
+
+/// The word.
+pub fn put_word(text: &mut Text, word: &[u8]) -> Result<(), NoMemory>
+    ensures { OnOk result (text.new.items ≡ text.old.items ++ word.now) }
+{
+    text.extend_from_slice(word)?;
     Ok(())
 }
 
@@ -55,6 +63,28 @@ fn put_token(
     Ok(())
 }
 
+// A policy whose tokens are forged and whose script isn't there.
+fn put_no_policy(text: &mut Text, names: &Names, policy: &PolicyId) -> Result<(), NoMemory>
+    ensures { OnOk result (text.new.items
+        ≡ text.old.items ++ (codes "no-policy " ++ policy_name policy.now names.now)) }
+{
+    put_word(text, b"no-policy ")?;
+    put_policy(text, names, policy)
+}
+
+fn put_unbalanced(
+    text: &mut Text,
+    names: &Names,
+    policy: &PolicyId,
+    name: &TokenName,
+) -> Result<(), NoMemory>
+    ensures { OnOk result (text.new.items
+        ≡ text.old.items ++ (codes "unbalanced " ++ token_text names.now policy.now name.now)) }
+{
+    put_word(text, b"unbalanced ")?;
+    put_token(text, names, policy, name)
+}
+
 fn put_invalid(
     memory: Memory,
     text: &mut Text,
@@ -64,28 +94,39 @@ fn put_invalid(
     ensures { OnOk result (text.new.items ≡ text.old.items ++ invalid_text names.now fault.now) }
 {
     match fault {
-        Invalid::NoMemory => text.extend_from_slice(b"memory")?,
-        Invalid::NoInputs => text.extend_from_slice(b"no-inputs")?,
-        Invalid::OutsideInterval => text.extend_from_slice(b"interval")?,
-        Invalid::NegativeOutput(place) => put_place(memory, text, b"negative", *place)?,
-        Invalid::InputMissing(place) => put_place(memory, text, b"missing", *place)?,
-        Invalid::ReferenceMissing(place) => put_place(memory, text, b"reference", *place)?,
-        Invalid::AddressMismatch(place) => put_place(memory, text, b"address", *place)?,
-        Invalid::DatumMismatch(place) => put_place(memory, text, b"datum", *place)?,
-        Invalid::OutputTaken(place) => put_place(memory, text, b"taken", *place)?,
-        Invalid::ForgeWithoutPolicy(policy) => {
-            text.extend_from_slice(b"no-policy ")?;
-            put_policy(text, names, policy)?;
-        }
-        Invalid::Unbalanced(policy, name) => {
-            text.extend_from_slice(b"unbalanced ")?;
-            put_token(text, names, policy, name)?;
-        }
-        Invalid::BadSignature(key) => put_place(memory, text, b"signature", key[0] as usize)?,
-        Invalid::ValidatorRefused(place) => put_place(memory, text, b"validator", *place)?,
-        Invalid::PolicyRefused(place) => put_place(memory, text, b"policy-script", *place)?,
+        Invalid::NoMemory => put_word(text, b"memory"),
+        Invalid::NoInputs => put_word(text, b"no-inputs"),
+        Invalid::OutsideInterval => put_word(text, b"interval"),
+        Invalid::NegativeOutput(place) => put_place(memory, text, b"negative", *place),
+        Invalid::InputMissing(place) => put_place(memory, text, b"missing", *place),
+        Invalid::ReferenceMissing(place) => put_place(memory, text, b"reference", *place),
+        Invalid::AddressMismatch(place) => put_place(memory, text, b"address", *place),
+        Invalid::DatumMismatch(place) => put_place(memory, text, b"datum", *place),
+        Invalid::OutputTaken(place) => put_place(memory, text, b"taken", *place),
+        Invalid::ForgeWithoutPolicy(policy) => put_no_policy(text, names, policy),
+        Invalid::Unbalanced(policy, name) => put_unbalanced(text, names, policy, name),
+        Invalid::BadSignature(key) => put_place(memory, text, b"signature", key[0] as usize),
+        Invalid::ValidatorRefused(place) => put_place(memory, text, b"validator", *place),
+        Invalid::PolicyRefused(place) => put_place(memory, text, b"policy-script", *place),
     }
-    Ok(())
+}
+
+fn put_already(memory: Memory, text: &mut Text, ticket: u64) -> Result<(), NoMemory>
+    ensures { OnOk result (text.new.items
+        ≡ text.old.items ++ (codes "already" ++ number_text ticket)) }
+{
+    put_word(text, b"already")?;
+    put_number(memory, text, ticket)
+}
+
+// The bytes that are wanted, and those that are free.
+fn put_full(memory: Memory, text: &mut Text, need: u64, free: u64) -> Result<(), NoMemory>
+    ensures { OnOk result (text.new.items
+        ≡ text.old.items ++ (codes "full" ++ number_text need ++ number_text free)) }
+{
+    put_word(text, b"full")?;
+    put_number(memory, text, need)?;
+    put_number(memory, text, free)
 }
 
 /// The name of the refusal, and what is told with it.
@@ -99,19 +140,11 @@ pub fn put_refusal(
         (text.new.items ≡ text.old.items ++ refusal_text names.now refusal.now) }
 {
     match refusal {
-        Refusal::NoMemory => text.extend_from_slice(b"memory")?,
-        Refusal::HistoryFull => text.extend_from_slice(b"history")?,
-        Refusal::TicketsSpent => text.extend_from_slice(b"tickets")?,
-        Refusal::AlreadyInPool(ticket) => {
-            text.extend_from_slice(b"already")?;
-            put_number(memory, text, *ticket)?;
-        }
-        Refusal::Full { need, free } => {
-            text.extend_from_slice(b"full")?;
-            put_number(memory, text, *need)?;
-            put_number(memory, text, *free)?;
-        }
-        Refusal::Invalid(fault) => put_invalid(memory, text, names, fault)?,
+        Refusal::NoMemory => put_word(text, b"memory"),
+        Refusal::HistoryFull => put_word(text, b"history"),
+        Refusal::TicketsSpent => put_word(text, b"tickets"),
+        Refusal::AlreadyInPool(ticket) => put_already(memory, text, *ticket),
+        Refusal::Full { need, free } => put_full(memory, text, *need, *free),
+        Refusal::Invalid(fault) => put_invalid(memory, text, names, fault),
     }
-    Ok(())
 }

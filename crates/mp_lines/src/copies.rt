@@ -5,18 +5,42 @@ ghost use Rattle.mp_lines.specs.Payments.{output_of};
 
 use crate::payment::Payment;
 use mp_memory::{Memory, NoMemory};
-use mp_script::Script;
-use mp_tx::{Input, Output};
+use mp_script::{Data, Script};
+use mp_tx::{Input, OutRef, Output};
+
+/// The input that spends the reference with copies of these.
+pub fn make_input(
+    memory: Memory,
+    from: OutRef,
+    validator: &Script,
+    datum: &Data,
+    redeemer: &Data,
+) -> Result<Input, NoMemory>
+    ensures { IfOk result (λ i. i ≡ record {
+      from = from;
+      validator = validator.now;
+      datum = datum.now;
+      redeemer = redeemer.now;
+    }) }
+{
+    Ok(Input {
+        from,
+        validator: validator.copy(memory)?,
+        datum: datum.copy(memory)?,
+        redeemer: redeemer.copy(memory)?,
+    })
+}
 
 fn copy_input(memory: Memory, input: &Input) -> Result<Input, NoMemory>
     ensures { IfOk result (λ i. i ≡ input.now) }
 {
-    Ok(Input {
-        from: input.from,
-        validator: input.validator.copy(memory)?,
-        datum: input.datum.copy(memory)?,
-        redeemer: input.redeemer.copy(memory)?,
-    })
+    make_input(
+        memory,
+        input.from,
+        &input.validator,
+        &input.datum,
+        &input.redeemer,
+    )
 }
 
 /// The same inputs.

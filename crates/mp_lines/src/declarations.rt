@@ -3,9 +3,12 @@
 ghost use Rattle.std.specs.Prelude.{◌≡◌, None, Some, option_map, option_and_then};
 ghost use Rattle.mp_text.specs.Words.{words_of};
 ghost use Rattle.mp_lines.specs.Lines.{bytes_of, if_script, if_datum, two_words, script_by, script_line, data_by, data_line, output_by, output_line, tx_line};
+ghost use Rattle.mp_lines.specs.Lines as lines;
+ghost use Rattle.mp_lines.specs.Draft.{empty_draft, draft_of, declared_of};
 ghost use Rattle.mp_lines.specs.Fault.{Reads, Gives};
 ghost use Rattle.mp_lines.specs.Inside.Line.{to_line};
 
+use crate::declared_tx::DeclaredTx;
 use crate::draft::{declared_of, draft_of};
 use crate::fault::LineFault;
 use crate::line::Line;
@@ -134,6 +137,23 @@ pub fn output_line(memory: Memory, names: &Names, words: &[u8]) -> Result<Line, 
     }
 }
 
+fn declared_by(memory: Memory, names: &Names, items: &[u8]) -> Result<DeclaredTx, LineFault>
+    ensures { Reads (option_and_then declared_of
+        (draft_of names.now empty_draft (words_of items.now))) result }
+{
+    let draft = draft_of(memory, names, items)?;
+    declared_of(memory, draft)
+}
+
+fn tx_by(memory: Memory, names: &Names, name: &[u8], items: &[u8]) -> Result<Line, LineFault>
+    ensures { Gives to_line (option_map (lines.Tx name.now) (option_and_then declared_of
+        (draft_of names.now empty_draft (words_of items.now)))) result }
+{
+    let declared = declared_by(memory, names, items)?;
+    let name = Name::of(memory, name)?;
+    Ok(Line::Tx(name, declared))
+}
+
 /// tx NAME ITEM ..
 pub fn tx_line(memory: Memory, names: &Names, words: &[u8]) -> Result<Line, LineFault>
     ensures { Gives to_line (tx_line names.now (words_of words.now)) result }
@@ -144,8 +164,5 @@ pub fn tx_line(memory: Memory, names: &Names, words: &[u8]) -> Result<Line, Line
     if first_word(items).is_none() || !names.is_new_binding(name) {
         return Err(LineFault::Bad);
     }
-    let name = Name::of(memory, name)?;
-    let draft = draft_of(memory, names, items)?;
-    let declared = declared_of(memory, draft)?;
-    Ok(Line::Tx(name, declared))
+    tx_by(memory, names, name, items)
 }

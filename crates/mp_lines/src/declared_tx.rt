@@ -7,7 +7,7 @@ use std::marker::Model;
 use std::sync::Arc;
 
 /// A transaction, and its outputs with the script and the datum of each.
-#[derive(Debug, Drop)]
+#[derive(Drop)]
 pub struct DeclaredTx {
     tx: Arc<Tx, Memory>,
     payments: Vec<Payment, Memory>,

@@ -1,6 +1,7 @@
 //! Items put together.
 
-ghost use Rattle.std.specs.Prelude.{◌≡◌, [], Some, None, option_and_then, IfOk, OnOk, IsErrOf};
+ghost use Rattle.std.specs.Prelude.{◌≡◌, [], ◌∷◌, ◌++◌, Ok, Some, None, option_and_then, unwrap_or, IfOk, IfErr, OnOk, IsErrOf};
+ghost use Rattle.mp_lines.specs.declared.fault.LineFault.TheVariants as line_faults;
 ghost use Rattle.std.specs.Arc.{arc_value};
 ghost use Rattle.mp_text.specs.Words.{words_of};
 ghost use Rattle.mp_tx.specs.TxFault.{parts_of};
@@ -25,7 +26,7 @@ use std::marker::Model;
 use std::sync::Arc;
 
 /// Items put together: inputs, references and policy scripts rise, and payments and signers keep their order.
-#[derive(Debug, Drop)]
+#[derive(Drop)]
 pub struct Draft {
     inputs: Vec<Input, Memory>,
     references: Vec<OutRef, Memory>,
@@ -44,6 +45,23 @@ impl Model for Draft {
     ghost Value = { told.Draft };
 
     ghost view = { draft };
+}
+
+fn or_fault(done: Result<(), NoMemory>) -> Result<(), LineFault>
+    ensures ok { OnOk result (done ≡ Ok tt) }
+    ensures memory { IfErr result (λ fault. fault ≡ line_faults.NoMemory) }
+{
+    match done {
+        Ok(()) => Ok(()),
+        Err(NoMemory) => Err(LineFault::NoMemory),
+    }
+}
+
+fn put_last<T: Drop>(items: &mut Vec<T, Memory>, item: T) -> Result<(), NoMemory>
+    ensures { OnOk result (items.new.items ≡ items.old.items ++ item ∷ []) }
+{
+    items.push(item)?;
+    Ok(())
 }
 
 impl Draft {
@@ -72,16 +90,15 @@ impl Draft {
         ensures bad { IsErrOf result LineFault.Bad → with_item self.old item ≡ None }
     {
         match item {
-            Item::Spends(input) => insert_rising(&mut self.inputs, input)?,
-            Item::LooksAt(reference) => insert_rising(&mut self.references, reference)?,
-            Item::Pays(payment) => self.payments.push(payment)?,
-            Item::From(tick) => set_once(&mut self.from, tick)?,
-            Item::To(tick) => set_once(&mut self.to, tick)?,
-            Item::Forges(bundle) => set_once(&mut self.forge, bundle)?,
-            Item::Carries(script) => insert_rising(&mut self.scripts, script)?,
-            Item::Signs(signer) => self.signers.push(signer)?,
+            Item::Spends(input) => or_fault(insert_rising(&mut self.inputs, input)),
+            Item::LooksAt(reference) => or_fault(insert_rising(&mut self.references, reference)),
+            Item::Pays(payment) => or_fault(put_last(&mut self.payments, payment)),
+            Item::From(tick) => set_once(&mut self.from, tick),
+            Item::To(tick) => set_once(&mut self.to, tick),
+            Item::Forges(bundle) => set_once(&mut self.forge, bundle),
+            Item::Carries(script) => or_fault(insert_rising(&mut self.scripts, script)),
+            Item::Signs(signer) => or_fault(put_last(&mut self.signers, signer)),
         }
-        Ok(())
     }
 }
 
@@ -110,6 +127,15 @@ pub fn draft_of(memory: Memory, names: &Names, words: &[u8]) -> Result<Draft, Li
     Ok(draft)
 }
 
+fn forge_of(draft: &Draft) -> Result<Bundle, NoMemory>
+    ensures { IfOk result (λ b. b ≡ unwrap_or draft.now.forge []) }
+{
+    match &draft.forge {
+        Some(forge) => forge.share(),
+        None => Ok(Bundle::empty()),
+    }
+}
+
 fn parts_of(
     memory: Memory,
     draft: &Draft,
@@ -117,10 +143,7 @@ fn parts_of(
 ) -> Result<TxParts, NoMemory>
     ensures { IfOk result (λ p. parts_of p ≡ transaction_of draft.now signatures.items) }
 {
-    let forge = match &draft.forge {
-        Some(forge) => forge.share()?,
-        None => Bundle::empty(),
-    };
+    let forge = forge_of(draft)?;
     Ok(TxParts {
         inputs: copy_inputs(memory, &draft.inputs)?,
         references: Vec::from_slice(memory, &draft.references)?,
@@ -160,12 +183,19 @@ fn make_unsigned(memory: Memory, draft: &Draft) -> Result<Tx, LineFault>
 }
 
 // It is made twice: first without signatures, for its id.
-fn make_signed(memory: Memory, draft: &Draft) -> Result<Arc<Tx, Memory>, LineFault>
-    ensures { Gives arc_value
+fn make_signed(memory: Memory, draft: &Draft) -> Result<Tx, LineFault>
+    ensures { Reads
         (option_and_then (signed draft.now) (if_fits (transaction_of draft.now []))) result }
 {
     let unsigned = make_unsigned(memory, draft)?;
-    let tx = sign(memory, draft, &unsigned)?;
+    sign(memory, draft, &unsigned)
+}
+
+fn make_shared(memory: Memory, draft: &Draft) -> Result<Arc<Tx, Memory>, LineFault>
+    ensures { Gives arc_value
+        (option_and_then (signed draft.now) (if_fits (transaction_of draft.now []))) result }
+{
+    let tx = make_signed(memory, draft)?;
     Ok(Arc::new(memory, tx)?)
 }
 
@@ -174,7 +204,7 @@ fn make_signed(memory: Memory, draft: &Draft) -> Result<Arc<Tx, Memory>, LineFau
 pub fn declared_of(memory: Memory, draft: Draft) -> Result<DeclaredTx, LineFault>
     ensures { Reads (declared_of draft) result }
 {
-    let tx = make_signed(memory, &draft)?;
+    let tx = make_shared(memory, &draft)?;
     let Draft { payments, .. } = draft;
     Ok(DeclaredTx::of(tx, payments))
 }

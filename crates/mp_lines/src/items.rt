@@ -7,10 +7,11 @@ ghost use Rattle.mp_lines.specs.Names.{script_named};
 ghost use Rattle.mp_lines.specs.Bundles.{bundle_of};
 ghost use Rattle.mp_lines.specs.Payments.{payment_of};
 ghost use Rattle.mp_lines.specs.References.{ref_of};
-ghost use Rattle.mp_lines.specs.Items.{validator_of, spent_datum_of, input_of, key_of, good_signer, bad_signer, witness_item, limit_item, item_by, item_of};
+ghost use Rattle.mp_lines.specs.Items.{validator_of, spent_datum_of, input_by, input_of, key_of, good_signer, bad_signer, witness_item, limit_item, item_by, item_of};
 ghost use Rattle.mp_lines.specs.Fault.{Reads};
 
 use crate::bundles::bundle_of;
+use crate::copies::make_input;
 use crate::fault::LineFault;
 use crate::names::Names;
 use crate::payment::Payment;
@@ -26,14 +27,14 @@ use mp_tx::{Input, OutRef};
 const KEYS: u64 = 256;
 
 /// Who signs: the number of a key, and whether the signature is good.
-#[derive(Clone, Copy, Debug)]
+#[derive(Clone, Copy)]
 pub struct Signer {
     pub key: u8,
     pub is_good: bool,
 }
 
 /// One item of a transaction.
-#[derive(Debug, Drop)]
+#[derive(Drop)]
 pub enum Item {
     Spends(Input),
     LooksAt(OutRef),
@@ -75,6 +76,32 @@ fn spent_datum_of<'a>(
     }
 }
 
+// Where each of these is there.
+fn input_by(
+    memory: Memory,
+    from: Option<OutRef>,
+    validator: Option<&Script>,
+    datum: Option<&Data>,
+    redeemer: Option<&Data>,
+) -> Result<Input, LineFault>
+    ensures { Reads (input_by from (option_copied validator.entry)
+        (option_copied datum.entry) (option_copied redeemer.entry)) result }
+{
+    let Some(from) = from else {
+        return Err(LineFault::Bad);
+    };
+    let Some(validator) = validator else {
+        return Err(LineFault::Bad);
+    };
+    let Some(datum) = datum else {
+        return Err(LineFault::Bad);
+    };
+    let Some(redeemer) = redeemer else {
+        return Err(LineFault::Bad);
+    };
+    Ok(make_input(memory, from, validator, datum, redeemer)?)
+}
+
 // REF, and behind a colon the script, the datum and the redeemer.
 #[tactic(auto, unfolding(crate::specs::Items::input_of))]
 fn input_of(memory: Memory, names: &Names, word: &[u8]) -> Result<Input, LineFault>
@@ -84,24 +111,13 @@ fn input_of(memory: Memory, names: &Names, word: &[u8]) -> Result<Input, LineFau
     let (validator, data) = lock_words(handed);
     let (datum, redeemer) = lock_words(data);
     let spent = paid_at(names, reference);
-    let Some(from) = ref_of(names, reference) else {
-        return Err(LineFault::Bad);
-    };
-    let Some(validator) = validator_of(names, validator, spent) else {
-        return Err(LineFault::Bad);
-    };
-    let Some(datum) = spent_datum_of(names, datum, spent) else {
-        return Err(LineFault::Bad);
-    };
-    let Some(redeemer) = datum_or_unit(names, redeemer) else {
-        return Err(LineFault::Bad);
-    };
-    Ok(Input {
-        from,
-        validator: validator.copy(memory)?,
-        datum: datum.copy(memory)?,
-        redeemer: redeemer.copy(memory)?,
-    })
+    input_by(
+        memory,
+        ref_of(names, reference),
+        validator_of(names, validator, spent),
+        spent_datum_of(names, datum, spent),
+        datum_or_unit(names, redeemer),
+    )
 }
 
 fn key_of(word: &[u8]) -> Option<u8>

@@ -26,7 +26,7 @@ use std::sync::Arc;
 pub const MAX_OUTPUTS: usize = 1 << 16;
 
 /// What a line asks.
-#[derive(Debug, Drop)]
+#[derive(Drop)]
 pub enum Line {
     /// Nothing: the line has no word, or is a comment.
     Blank,

@@ -18,7 +18,7 @@ use std::marker::Model;
 pub const COIN: &[u8] = b"coin";
 
 /// A name.
-#[derive(Debug, Drop)]
+#[derive(Drop)]
 pub struct Name {
     bytes: Vec<u8, Memory>,
 }
@@ -60,26 +60,26 @@ impl Name {
 }
 
 /// What the name of an output or a transaction stands for.
-#[derive(Debug, Drop)]
+#[derive(Drop)]
 pub enum Binding {
     /// An output of the opening ledger state.
     Opening(OutRef, Payment),
     Made(DeclaredTx),
 }
 
-#[derive(Debug, Drop)]
+#[derive(Drop)]
 pub struct NamedBinding {
     pub name: Name,
     pub binding: Binding,
 }
 
-#[derive(Debug, Drop)]
+#[derive(Drop)]
 pub struct NamedScript {
     pub name: Name,
     pub script: Script,
 }
 
-#[derive(Debug, Drop)]
+#[derive(Drop)]
 pub struct NamedDatum {
     pub name: Name,
     pub datum: Data,
@@ -87,7 +87,7 @@ pub struct NamedDatum {
 
 /// What was declared so far: outputs and transactions, scripts, and data. The scripts `yes` and `no` and the datum `unit` are
 /// declared beforehand.
-#[derive(Debug, Drop)]
+#[derive(Drop)]
 pub struct Names {
     bindings: BindingTable,
     scripts: Vec<NamedScript, Memory>,

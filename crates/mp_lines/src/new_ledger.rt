@@ -12,7 +12,7 @@ use mp_tx::{OutRef, Output};
 use std::marker::Model;
 
 /// The outputs of a ledger state, in the order in which they were named. No reference stands twice.
-#[derive(Debug, Drop)]
+#[derive(Drop)]
 pub struct Outputs {
     entries: Vec<(OutRef, Output), Memory>,
 }
@@ -31,7 +31,7 @@ impl Model for Outputs {
 }
 
 /// A ledger state by its outputs.
-#[derive(Debug, Drop)]
+#[derive(Drop)]
 pub struct NewLedger {
     pub tick: u64,
     /// The bytes that a block may have, where the line tells them.

@@ -6,7 +6,7 @@ use mp_script::{Data, Script};
 use mp_tx::Output;
 
 /// An output with the whole of what it names by hashes: the script that locks it, and its datum.
-#[derive(Debug, Drop)]
+#[derive(Drop)]
 pub struct Payment {
     pub value: Bundle,
     pub script: Script,

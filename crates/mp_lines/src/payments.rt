@@ -1,6 +1,6 @@
 //! Payments, as words write them.
 
-ghost use Rattle.std.specs.Prelude.{◌≡◌, Ok, option_copied};
+ghost use Rattle.std.specs.Prelude.{◌≡◌, Ok, IfOk, option_copied};
 ghost use Rattle.mp_lines.specs.Payments.{script_or_yes, datum_or_unit, lock_words, payment_of};
 ghost use Rattle.mp_lines.specs.Fault.{Reads};
 
@@ -9,7 +9,8 @@ use crate::fault::LineFault;
 use crate::names::Names;
 use crate::payment::Payment;
 use crate::splitting::split_once;
-use mp_memory::Memory;
+use mp_bundle::Bundle;
+use mp_memory::{Memory, NoMemory};
 use mp_script::{Data, Script};
 
 const YES: &[u8] = b"yes";
@@ -50,6 +51,20 @@ pub fn lock_words(word: Option<&[u8]>) -> (Option<&[u8]>, Option<&[u8]>)
     }
 }
 
+fn pay(memory: Memory, value: Bundle, script: &Script, datum: &Data) -> Result<Payment, NoMemory>
+    ensures { IfOk result (λ p. p ≡ record {
+      value = value;
+      script = script.now;
+      datum = datum.now;
+    }) }
+{
+    Ok(Payment {
+        value,
+        script: script.copy(memory)?,
+        datum: datum.copy(memory)?,
+    })
+}
+
 /// The payment that a word is: a bundle, and behind an at sign the script that locks it and its datum.
 #[tactic(auto, unfolding(crate::specs::Payments::payment_of))]
 pub fn payment_of(memory: Memory, names: &Names, word: &[u8]) -> Result<Payment, LineFault>
@@ -57,16 +72,12 @@ pub fn payment_of(memory: Memory, names: &Names, word: &[u8]) -> Result<Payment,
 {
     let (bundle, lock) = split_once(word, b'@');
     let (script, datum) = lock_words(lock);
-    let value = bundle_of(memory, names, bundle)?;
     let Some(script) = script_or_yes(names, script) else {
         return Err(LineFault::Bad);
     };
     let Some(datum) = datum_or_unit(names, datum) else {
         return Err(LineFault::Bad);
     };
-    Ok(Payment {
-        value,
-        script: script.copy(memory)?,
-        datum: datum.copy(memory)?,
-    })
+    let value = bundle_of(memory, names, bundle)?;
+    Ok(pay(memory, value, script, datum)?)
 }

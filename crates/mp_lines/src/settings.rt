@@ -7,7 +7,7 @@ use std::marker::Model;
 const MAX_LIMIT: u64 = 1 << 32;
 
 /// The bytes that a block may have: 1 to 2^39.
-#[derive(Debug, Drop)]
+#[derive(Drop)]
 pub struct BlockBytes {
     bytes: u64,
 }
@@ -50,7 +50,7 @@ impl BlockBytes {
 }
 
 /// The changes that a pool makes: 1 to 2^32.
-#[derive(Debug, Drop)]
+#[derive(Drop)]
 pub struct Limit {
     changes: u64,
 }
@@ -92,7 +92,7 @@ impl Limit {
 }
 
 /// A setting and its value. Each has a value where no line sets it.
-#[derive(Debug, Drop)]
+#[derive(Drop)]
 pub enum Setting {
     BlockBytes(BlockBytes),
     Limit(Limit),

@@ -2,7 +2,7 @@
 
 use super::dice::Dice;
 use super::table::{Table, some_ids};
-use crate::rules::AcceptsAll;
+use crate::samples::AcceptsAll;
 use mp_history::PoolName;
 use mp_memory::{Memory, NoMemory};
 use mp_mempool::{Mempool, Pass, Receipt, Refusal};

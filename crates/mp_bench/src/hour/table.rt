@@ -1,10 +1,7 @@
 //! What callers ask for.
 
 use super::dice::Dice;
-use crate::ledger::reference;
-use crate::pool::Shared;
-use crate::resync::every;
-use crate::rules::{Kind, ledger_of};
+use crate::samples::{Shared, ledger_by, ledger_of, reference};
 use anyhow::Result;
 use mp_memory::{Memory, NoMemory};
 use mp_seqpool::Ids;
@@ -31,13 +28,13 @@ pub struct Table {
 
 /// The ledger state that a pool opens upon.
 pub fn opening(memory: Memory) -> Result<Ledger> {
-    ledger_of(memory, Kind::Plain, OUTPUTS)
+    Ok(ledger_of(memory, OUTPUTS)?)
 }
 
 fn all_txs(memory: Memory) -> Result<Vec<Shared, Memory>> {
     let mut txs = Vec::new(memory);
     for number in 0..OUTPUTS {
-        let spent = [reference(number, 0)];
+        let spent = [reference(number)];
         let first = transaction(memory, &spent, &[100])?;
         let next = transaction(memory, &[output_of(first.id(), 0)], &[100])?;
         txs.push(first)?;
@@ -51,7 +48,7 @@ fn all_txs(memory: Memory) -> Result<Vec<Shared, Memory>> {
 pub fn set_table(memory: Memory) -> Result<Table> {
     let mut ledgers = Vec::new(memory);
     for (step, block_bytes) in [(1, MANY), (1, FEW), (2, MANY), (3, MANY)] {
-        ledgers.push(every(memory, step, block_bytes, OUTPUTS)?)?;
+        ledgers.push(ledger_by(memory, step, block_bytes, OUTPUTS)?)?;
     }
     Ok(Table {
         txs: all_txs(memory)?,
