@@ -8,7 +8,7 @@ const BLOCK_BYTES: u64 = 500_000;
 const LIMIT: u64 = 1_000_000;
 
 /// What was set before the first command, and else what holds where nothing is set.
-#[derive(Debug, Drop)]
+#[derive(Drop)]
 pub struct Settings {
     pub block_bytes: Option<BlockBytes>,
     pub limit: Option<Limit>,
