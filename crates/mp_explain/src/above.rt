@@ -60,20 +60,24 @@ impl Above {
             .declare(name, Binding::Opening(reference, payment))
     }
 
+    fn open(&mut self) -> Result<(), NoMemory> {
+        self.is_open = true;
+        Ok(())
+    }
+
     fn take(&mut self, asked: Line, line: &[u8]) -> Result<(), NoMemory> {
         match asked {
-            Line::Blank => {}
-            Line::Sets(_setting) => self.note_setting(line)?,
-            Line::Script(named) => self.names.declare_script(named)?,
-            Line::Data(named) => self.names.declare_datum(named)?,
-            Line::Out(name, payment) => self.note_output(name, payment)?,
-            Line::Tx(name, declared) => self.names.declare(name, Binding::Made(declared))?,
-            Line::Submit(_tx) => self.is_open = true,
-            Line::Remove(_ids) => self.is_open = true,
-            Line::Sync(_ledger) => self.is_open = true,
-            Line::Snapshot => self.is_open = true,
+            Line::Blank => Ok(()),
+            Line::Sets(_setting) => self.note_setting(line),
+            Line::Script(named) => self.names.declare_script(named),
+            Line::Data(named) => self.names.declare_datum(named),
+            Line::Out(name, payment) => self.note_output(name, payment),
+            Line::Tx(name, declared) => self.names.declare(name, Binding::Made(declared)),
+            Line::Submit(_tx) => self.open(),
+            Line::Remove(_ids) => self.open(),
+            Line::Sync(_ledger) => self.open(),
+            Line::Snapshot => self.open(),
         }
-        Ok(())
     }
 
     /// Takes in a line that isn't bad.

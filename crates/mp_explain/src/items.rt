@@ -61,15 +61,15 @@ fn subject_of<'a>(names: &Names, item: &'a str) -> Result<Subject, Reason<'a>> {
         return Err(Reason::Item(item));
     };
     match kind {
-        "in" => Ok(Subject::Reference(spent_by(names, value)?)),
-        "ref" => Ok(Subject::Reference(reference_of(names, value)?)),
+        "in" => spent_by(names, value).map(Subject::Reference),
+        "ref" => reference_of(names, value).map(Subject::Reference),
         "out" => check_payment(names, value).map(|()| Subject::Nothing),
         "from" => number_from(value, 0, u64::MAX).map(|_| Subject::First),
         "to" => number_from(value, 0, u64::MAX).map(|_| Subject::Last),
         "forge" => check_bundle(names, value).map(|()| Subject::Forged),
         "policy" => policy_of(names, value),
-        "sign" => Ok(Subject::Signature(number_from(value, 0, MAX_KEY)?)),
-        "badsign" => Ok(Subject::BadSignature(number_from(value, 0, MAX_KEY)?)),
+        "sign" => number_from(value, 0, MAX_KEY).map(Subject::Signature),
+        "badsign" => number_from(value, 0, MAX_KEY).map(Subject::BadSignature),
         _ => Err(Reason::Item(item)),
     }
 }

@@ -56,21 +56,27 @@ fn bytes_of(memory: Memory, word: &str) -> Result<Vec<u8, Memory>, Reason<'_>> {
     }
 }
 
+fn script_fault(memory: Memory, bytes: &[u8]) -> Option<ScriptFault> {
+    Script::decode(memory, bytes).err()
+}
+
+fn data_fault(memory: Memory, bytes: &[u8]) -> Option<DataFault> {
+    Data::decode(memory, bytes).err()
+}
+
 fn check_script_bytes<'a>(above: &Above, name: &'a str, word: &'a str) -> Result<(), Reason<'a>> {
     check_name(name, above.names.is_new_script(name.as_bytes()))?;
-    let bytes = bytes_of(above.memory, word)?;
-    match Script::decode(above.memory, &bytes) {
-        Ok(_) | Err(ScriptFault::NoMemory) => Ok(()),
-        Err(fault) => Err(Reason::ScriptBytes(word, fault)),
+    match script_fault(above.memory, &bytes_of(above.memory, word)?) {
+        None | Some(ScriptFault::NoMemory) => Ok(()),
+        Some(fault) => Err(Reason::ScriptBytes(word, fault)),
     }
 }
 
 fn check_data_bytes<'a>(above: &Above, name: &'a str, word: &'a str) -> Result<(), Reason<'a>> {
     check_name(name, above.names.is_new_datum(name.as_bytes()))?;
-    let bytes = bytes_of(above.memory, word)?;
-    match Data::decode(above.memory, &bytes) {
-        Ok(_) | Err(DataFault::NoMemory) => Ok(()),
-        Err(fault) => Err(Reason::DataBytes(word, fault)),
+    match data_fault(above.memory, &bytes_of(above.memory, word)?) {
+        None | Some(DataFault::NoMemory) => Ok(()),
+        Some(fault) => Err(Reason::DataBytes(word, fault)),
     }
 }
 

@@ -1,69 +1,123 @@
 //! What is wrong with a line.
 
 use mp_script::{DataFault, ScriptFault};
-use thiserror::Error;
+use std::fmt;
 
 /// What is wrong with a line. Its text is what the program prints behind the line's number.
-#[derive(Clone, Copy, Debug, Error)]
+#[derive(Clone, Copy)]
 pub enum Reason<'a> {
-    #[error("a line has at most 4096 bytes")]
     LongLine,
-    #[error("it has the byte {0:#04x}, and a line's bytes go from 0x20 to 0x7e")]
     Byte(u8),
-    #[error("no line begins with '{0}'")]
     FirstWord(&'a str),
-    #[error("too few words, expected '{0}'")]
     FewWords(&'static str),
-    #[error("too many words, expected '{0}'")]
     ManyWords(&'static str),
-    #[error("expected '{0}'")]
     Form(&'static str),
-    #[error("'{0}' is no name: a lower-case letter, and then up to 15 lower-case letters or digits")]
     NoName(&'a str),
-    #[error("the name '{0}' is taken")]
     Taken(&'a str),
-    #[error("no transaction '{0}'")]
     NoTransaction(&'a str),
-    #[error("no output '{0}'")]
     NoOutput(&'a str),
-    #[error("no script '{0}'")]
     NoScript(&'a str),
-    #[error("no data '{0}'")]
     NoData(&'a str),
-    #[error("'{word}' is no number from {least} to {most}")]
     Number {
         word: &'a str,
         least: u64,
         most: u64,
     },
-    #[error("'{0}' is no quantity: 1 to 9223372036854775807, in up to 19 digits, behind '-' or not")]
     Quantity(&'a str),
-    #[error("'{0}' is no token's name: 1 to 32 lower-case letters or digits")]
     TokenName(&'a str),
-    #[error("'{0}' isn't pairs of hexadecimal digits")]
     Digits(&'a str),
-    #[error("'{0}' isn't the bytes of a script: {1}")]
     ScriptBytes(&'a str, ScriptFault),
-    #[error("'{0}' isn't the bytes of a datum: {1}")]
     DataBytes(&'a str, DataFault),
-    #[error("'{0}' is no item, expected in=, ref=, out=, from=, to=, forge=, policy=, sign= or badsign=")]
     Item(&'a str),
     /// Two words of the line, where no two may stand for the same.
-    #[error("'{later}' repeats '{earlier}'")]
     Repeats {
         later: &'a str,
         earlier: &'a str,
     },
-    #[error("the interval ends before it begins")]
     Interval,
-    #[error("a transaction has at most 256 inputs, 256 reference inputs, 256 outputs and 16384 bytes")]
     LargeTransaction,
-    #[error("a setting stands above the first command")]
     LateSetting,
-    #[error("'{0}' was set before")]
     SetBefore(&'static str),
-    #[error("an output stands above the first command")]
     LateOutput,
-    #[error("there are at most 65536 outputs")]
     ManyOutputs,
+}
+
+// A text round a word.
+type Told<'a> = (&'static str, &'a str, &'static str);
+
+const NAME: &str =
+    "' is no name: a lower-case letter, and then up to 15 lower-case letters or digits";
+
+const QUANTITY: &str =
+    "' is no quantity: 1 to 9223372036854775807, in up to 19 digits, behind '-' or not";
+
+const TOKEN_NAME: &str = "' is no token's name: 1 to 32 lower-case letters or digits";
+
+const ITEM: &str =
+    "' is no item, expected in=, ref=, out=, from=, to=, forge=, policy=, sign= or badsign=";
+
+const LARGE: &str =
+    "a transaction has at most 256 inputs, 256 reference inputs, 256 outputs and 16384 bytes";
+
+impl<'a> Reason<'a> {
+    // What is told round one word, or with none.
+    fn tell(&self) -> Told<'a> {
+        match *self {
+            Reason::LongLine => ("a line has at most 4096 bytes", "", ""),
+            Reason::FirstWord(word) => ("no line begins with '", word, "'"),
+            Reason::FewWords(form) => ("too few words, expected '", form, "'"),
+            Reason::ManyWords(form) => ("too many words, expected '", form, "'"),
+            Reason::Form(form) => ("expected '", form, "'"),
+            Reason::NoName(word) => ("'", word, NAME),
+            Reason::Taken(word) => ("the name '", word, "' is taken"),
+            Reason::NoTransaction(word) => ("no transaction '", word, "'"),
+            Reason::NoOutput(word) => ("no output '", word, "'"),
+            Reason::NoScript(word) => ("no script '", word, "'"),
+            Reason::NoData(word) => ("no data '", word, "'"),
+            Reason::Number { word, .. } => ("'", word, "' is no number"),
+            Reason::Quantity(word) => ("'", word, QUANTITY),
+            Reason::TokenName(word) => ("'", word, TOKEN_NAME),
+            Reason::Digits(word) => ("'", word, "' isn't pairs of hexadecimal digits"),
+            Reason::ScriptBytes(word, _) => ("'", word, "' isn't the bytes of a script: "),
+            Reason::DataBytes(word, _) => ("'", word, "' isn't the bytes of a datum: "),
+            Reason::Item(word) => ("'", word, ITEM),
+            Reason::Repeats { later, .. } => ("'", later, "' repeats '"),
+            Reason::Interval => ("the interval ends before it begins", "", ""),
+            Reason::LargeTransaction => (LARGE, "", ""),
+            Reason::LateSetting => ("a setting stands above the first command", "", ""),
+            Reason::SetBefore(word) => ("'", word, "' was set before"),
+            Reason::LateOutput => ("an output stands above the first command", "", ""),
+            Reason::ManyOutputs => ("there are at most 65536 outputs", "", ""),
+            Reason::Byte(_) => ("it has the byte ", "", ""),
+        }
+    }
+}
+
+fn put_told<W: fmt::Write>(f: &mut fmt::Formatter<W>, told: Told<'_>) -> fmt::Result {
+    let (before, word, after) = told;
+    f.write_str(before)?;
+    f.write_str(word)?;
+    f.write_str(after)
+}
+
+fn put_range<W: fmt::Write>(f: &mut fmt::Formatter<W>, least: u64, most: u64) -> fmt::Result {
+    write!(f, " from {least} to {most}")
+}
+
+fn put_byte<W: fmt::Write>(f: &mut fmt::Formatter<W>, byte: u8) -> fmt::Result {
+    write!(f, "{byte:#04x}, and a line's bytes go from 0x20 to 0x7e")
+}
+
+impl fmt::Display for Reason<'_> {
+    fn fmt<W: fmt::Write>(&self, f: &mut fmt::Formatter<W>) -> fmt::Result {
+        put_told(f, self.tell())?;
+        match *self {
+            Reason::Byte(byte) => put_byte(f, byte),
+            Reason::Number { least, most, .. } => put_range(f, least, most),
+            Reason::ScriptBytes(_, fault) => write!(f, "{fault}"),
+            Reason::DataBytes(_, fault) => write!(f, "{fault}"),
+            Reason::Repeats { earlier, .. } => put_told(f, ("", earlier, "'")),
+            _ => Ok(()),
+        }
+    }
 }

@@ -1,5 +1,5 @@
 use Rattle.std.proofs.Common.{length}
-use Rattle.mp_explain.proofs.bad_line.explain.Given as goal
+use Rattle.mp_explain.proofs.bad_line.look_at.Given as goal
 
 -- the text that is left gets shorter
 abbrev pub decreases-loop-line : goal.decreases-loop-line
