@@ -1,5 +1,0 @@
-//! The tests of mp_bundle that are no lines of a vector file: its calls under each refusal of memory.
-#![tactic(auto)]
-
-#[cfg(test)]
-mod out_of_memory;
