@@ -1,0 +1,167 @@
+//! Which growth a handle refuses.
+use crate::rows::Row;
+use mp_memory::{Memory, NoMemory};
+use mp_testing::Seen;
+
+// The last of so many growths that is refused, counted from 1, and how many are; and before which the refusal waits.
+fn grow(memory: Memory, growths: u64) -> [u64; 4] {
+    let [mut refused, mut refusals, mut waited, mut waits] = [0u64; 4];
+    for growth in 1..=growths {
+        if memory.waits() {
+            waited = growth;
+            waits = waits.wrapping_add(1);
+        }
+        if Box::new(memory, growth).is_err() {
+            refused = growth;
+            refusals = refusals.wrapping_add(1);
+        }
+    }
+    [refused, refusals, waited, waits]
+}
+
+// What nineteen growths show, whether a refusal waits after them, and how many of eight further growths are refused.
+fn grown(memory: Memory) -> Option<Seen> {
+    let [refused, refusals, waited, waits] = grow(memory, 19);
+    let waits_after = u64::from(memory.waits());
+    let [_, later, _, _] = grow(memory, 8);
+    Some([refused, refusals, waited, waits, waits_after, later])
+}
+
+fn armed(memory: Memory, nth: u64) -> Option<Seen> {
+    memory.refuse(nth);
+    grown(memory)
+}
+
+fn armed_again(memory: Memory, nth: u64) -> Option<Seen> {
+    memory.refuse(2);
+    armed(memory, nth)
+}
+
+// The growths are made by the other, and then the copy doesn't wait either.
+fn armed_by_a_copy(memory: Memory) -> Option<Seen> {
+    let copy = memory;
+    copy.refuse(3);
+    let seen = grown(memory);
+    if copy.waits() { None } else { seen }
+}
+
+/// The numbers are the last growth that is refused, and how many are; the last before which the refusal waits, and before
+/// how many it does; whether it waits afterwards; and how many more are refused then.
+pub fn armings(memory: Memory) -> [Row; 14] {
+    [
+        Row::seen("a new handle", grown(memory), [0, 0, 0, 0, 0, 0]),
+        Row::seen("growth 1", armed(memory, 1), [1, 1, 1, 1, 0, 0]),
+        Row::seen("growth 2", armed(memory, 2), [2, 1, 2, 2, 0, 0]),
+        Row::seen("growth 3", armed(memory, 3), [3, 1, 3, 3, 0, 0]),
+        Row::seen("growth 4", armed(memory, 4), [4, 1, 4, 4, 0, 0]),
+        Row::seen("growth 5", armed(memory, 5), [5, 1, 5, 5, 0, 0]),
+        Row::seen("growth 6", armed(memory, 6), [6, 1, 6, 6, 0, 0]),
+        Row::seen("growth 7", armed(memory, 7), [7, 1, 7, 7, 0, 0]),
+        Row::seen("growth 8", armed(memory, 8), [8, 1, 8, 8, 0, 0]),
+        Row::seen("none after 2", armed_again(memory, 0), [0, 0, 0, 0, 0, 0]),
+        Row::seen(
+            "2^62 after 2",
+            armed_again(memory, 1 << 62),
+            [0, 0, 19, 19, 1, 0],
+        ),
+        Row::seen(
+            "2^62 + 1 after 2",
+            armed_again(memory, (1 << 62) + 1),
+            [0, 0, 0, 0, 0, 0],
+        ),
+        Row::seen(
+            "2^64 - 1 after 2",
+            armed_again(memory, u64::MAX),
+            [0, 0, 0, 0, 0, 0],
+        ),
+        Row::seen("by a copy", armed_by_a_copy(memory), [3, 1, 3, 3, 0, 0]),
+    ]
+}
+
+fn boxed(memory: Memory) -> Result<u8, NoMemory> {
+    Ok(*Box::new(memory, 1u8)?)
+}
+
+// How many growths of the handle are refused, whether the other waits, and whether its own growth is then refused.
+fn armed_apart(memory: Memory, other: Memory) -> Option<[u64; 3]> {
+    other.refuse(1);
+    let [_, refusals, _, _] = grow(memory, 8);
+    let waits = u64::from(other.waits());
+    Some([refusals, waits, u64::from(boxed(other).is_err())])
+}
+
+fn named(memory: Memory) -> Option<[u64; 1]> {
+    let text = format!(in memory; "{memory:?}").ok()?;
+    Some([u64::from(text.as_str() == "Metered")])
+}
+
+// Pushes the item, a second time where it is refused. Gives how often it was refused, and how often that changed the length.
+fn push(items: &mut Vec<u64, Memory>, item: u64) -> [u64; 2] {
+    let before = items.len();
+    if items.push(item).is_ok() {
+        return [0, 0];
+    }
+    let is_changed = u64::from(items.len() != before);
+    [1 + u64::from(items.push(item).is_err()), is_changed]
+}
+
+// A vector grows by a new block, and by larger ones.
+fn push_all(items: &mut Vec<u64, Memory>) -> [u64; 2] {
+    let [mut refusals, mut changes] = [0u64; 2];
+    for item in 0..500 {
+        let [refused, changed] = push(items, item);
+        refusals = refusals.wrapping_add(refused);
+        changes = changes.wrapping_add(changed);
+    }
+    [refusals, changes]
+}
+
+// How many of the items stand at their own places.
+fn in_place(items: &[u64]) -> u64 {
+    let mut right = 0u64;
+    for (at, item) in items.iter().enumerate() {
+        right = right.wrapping_add(u64::from(*item == at as u64));
+    }
+    right
+}
+
+// How many pushes of 500 are refused, how many of these changed the vector, how many items there are then, and how many of
+// them stand in place.
+fn pushed(memory: Memory, nth: u64) -> Option<[u64; 4]> {
+    let mut items = Vec::new(memory);
+    memory.refuse(nth);
+    let [refusals, changes] = push_all(&mut items);
+    Some([refusals, changes, items.len() as u64, in_place(&items)])
+}
+
+// Shrinks a vector, and then asks for more than there is.
+fn shrink(memory: Memory, items: &mut Vec<u64, Memory>) -> [u64; 4] {
+    memory.refuse(1);
+    items.shrink_to_fit();
+    let is_less = u64::from(items.capacity() < 100);
+    let waits = u64::from(memory.waits());
+    let is_refused = u64::from(items.reserve(1000).is_err());
+    let is_same = u64::from(items.as_slice() == [7].as_slice());
+    [is_less, waits, is_refused, is_same]
+}
+
+fn shrunk(memory: Memory) -> Option<[u64; 4]> {
+    let mut items = Vec::with_capacity(memory, 100).ok()?;
+    let _ = items.push(7u64);
+    Some(shrink(memory, &mut items))
+}
+
+/// Growths of two handles, and of vectors.
+pub fn growths(memory: Memory, other: Memory) -> [Row; 9] {
+    [
+        Row::seen("another handle", armed_apart(memory, other), [0, 1, 1]),
+        Row::seen("the name of a handle", named(memory), [1]),
+        Row::seen("growth 1 of a vector", pushed(memory, 1), [1, 0, 500, 500]),
+        Row::seen("growth 2 of a vector", pushed(memory, 2), [1, 0, 500, 500]),
+        Row::seen("growth 3 of a vector", pushed(memory, 3), [1, 0, 500, 500]),
+        Row::seen("growth 4 of a vector", pushed(memory, 4), [1, 0, 500, 500]),
+        Row::seen("growth 5 of a vector", pushed(memory, 5), [1, 0, 500, 500]),
+        Row::seen("growth 6 of a vector", pushed(memory, 6), [1, 0, 500, 500]),
+        Row::seen("a vector that shrinks", shrunk(memory), [1, 1, 1, 1]),
+    ]
+}

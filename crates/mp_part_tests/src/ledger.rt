@@ -1,0 +1,104 @@
+//! Ledger states: which of their calls take memory. One takes five growths, one of no outputs a single one, and a share none.
+use crate::rows::{Row, without_growth};
+use mp_bundle::Bundle;
+use mp_memory::{Memory, NoMemory};
+use mp_testing::Seen;
+use mp_tx::{Ledger, LedgerFault, OutRef, Output, Salt};
+
+const SALT: u64 = 0x5eed;
+
+// Output `index` of the transaction whose id is 32 times a byte.
+fn reference(byte: u8, index: u16) -> OutRef {
+    OutRef {
+        id: [byte; 32],
+        index,
+    }
+}
+
+// An output of no value, with an address of its own.
+fn output(byte: u8) -> Output {
+    Output {
+        address: [byte; 32],
+        datum_hash: [0; 32],
+        value: Bundle::empty(),
+    }
+}
+
+// The first outputs of transactions 0, 1, ..
+fn outputs_to(memory: Memory, end: u8) -> Result<Vec<(OutRef, Output), Memory>, NoMemory> {
+    let mut outputs = Vec::new(memory);
+    for byte in 0..end {
+        outputs.push((reference(byte, 0), output(byte)))?;
+    }
+    Ok(outputs)
+}
+
+fn ledger_of(
+    memory: Memory,
+    outputs: Vec<(OutRef, Output), Memory>,
+) -> Result<Ledger, LedgerFault> {
+    Ledger::of_outputs(memory, Salt::new(SALT), 6, 1, outputs)
+}
+
+// The first byte of an output's address.
+fn address_at(ledger: &Ledger, from: OutRef) -> u64 {
+    match ledger.get(&from) {
+        Some(output) => u64::from(output.address[0]),
+        None => 0,
+    }
+}
+
+// The tick, the bytes of a block, the address of an output, and whether there is a second one of its transaction.
+fn look(ledger: &Ledger) -> [u64; 4] {
+    let has_second = ledger.get(&reference(3, 1)).is_some();
+    let address = address_at(ledger, reference(3, 0));
+    [
+        ledger.tick(),
+        ledger.block_bytes(),
+        address,
+        u64::from(has_second),
+    ]
+}
+
+// The number of the fault, whether the refusal of the growth waits, and what is seen of the ledger.
+fn made(memory: Memory, outputs: u8, nth: u64) -> Option<Seen> {
+    let outputs = outputs_to(memory, outputs).ok()?;
+    memory.refuse(nth);
+    let (fault, [tick, bytes, address, second]) = match ledger_of(memory, outputs) {
+        Ok(ledger) => (0, look(&ledger)),
+        Err(fault) => (fault.number(), [0; 4]),
+    };
+    let waits = u64::from(memory.waits());
+    memory.refuse(0);
+    Some([fault, waits, tick, bytes, address, second])
+}
+
+fn shared(memory: Memory) -> Option<[u64; 4]> {
+    let ledger = ledger_of(memory, outputs_to(memory, 9).ok()?).ok()?;
+    memory.refuse(1);
+    without_growth(memory, look(&ledger.share().ok()?))
+}
+
+/// Ledger states under refusals.
+pub fn ledgers(memory: Memory) -> [Row; 9] {
+    let refused = [1, 0, 0, 0, 0, 0];
+    [
+        Row::seen("growth 1 of a ledger", made(memory, 9, 1), refused),
+        Row::seen("growth 2 of a ledger", made(memory, 9, 2), refused),
+        Row::seen("growth 3 of a ledger", made(memory, 9, 3), refused),
+        Row::seen("growth 4 of a ledger", made(memory, 9, 4), refused),
+        Row::seen("growth 5 of a ledger", made(memory, 9, 5), refused),
+        Row::seen(
+            "growth 6 of a ledger",
+            made(memory, 9, 6),
+            [0, 1, 6, 1, 3, 0],
+        ),
+        Row::seen("growth 1 of an empty ledger", made(memory, 0, 1), refused),
+        Row::seen(
+            "growth 2 of an empty ledger",
+            made(memory, 0, 2),
+            [0, 1, 6, 1, 0, 0],
+        ),
+        Row::seen("a shared ledger", shared(memory), [6, 1, 3, 0]),
+    ]
+}

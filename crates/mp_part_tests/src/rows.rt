@@ -1,0 +1,97 @@
+//! Cases as rows: what was found of each, and what was wanted.
+use mp_memory::Memory;
+use mp_testing::{Seen, TrialFault, Trialled};
+use std::io;
+
+/// What came of a case.
+type Outcome = Result<Trialled, TrialFault>;
+
+/// A case that was tried.
+#[derive(Clone, Copy)]
+pub struct Row {
+    name: &'static str,
+    found: Outcome,
+    wanted: Outcome,
+}
+
+// The numbers, and zeros after them.
+fn padded<const N: usize>(numbers: [u64; N]) -> Seen {
+    let mut seen = [0; 6];
+    for (place, number) in seen.iter_mut().zip(&numbers) {
+        *place = *number;
+    }
+    seen
+}
+
+impl Row {
+    /// A row of what was seen, if the case could be made, and of what was wanted: at most six numbers.
+    pub fn seen<const N: usize>(
+        name: &'static str,
+        seen: Option<[u64; N]>,
+        wanted: [u64; N],
+    ) -> Row {
+        let found = match seen {
+            Some(seen) => Ok(Trialled {
+                answer: padded(seen),
+                growths: 0,
+            }),
+            None => Err(TrialFault::NotMade),
+        };
+        Row::tried(name, found, wanted, 0)
+    }
+
+    /// A row of what a trial came to, and of the first numbers of the answer and how many growths were wanted.
+    pub fn tried<const N: usize>(
+        name: &'static str,
+        found: Outcome,
+        answer: [u64; N],
+        growths: u64,
+    ) -> Row {
+        let answer = padded(answer);
+        Row {
+            name,
+            found,
+            wanted: Ok(Trialled { answer, growths }),
+        }
+    }
+
+    /// A row of what a trial came to, and of the fault that was wanted.
+    pub fn faulty(name: &'static str, found: Outcome, fault: TrialFault) -> Row {
+        Row {
+            name,
+            found,
+            wanted: Err(fault),
+        }
+    }
+}
+
+fn held(rt: &impl Print, rows: &[Row]) -> io::Result<u64> {
+    let mut held = 0u64;
+    for row in rows {
+        if row.found == row.wanted {
+            held = held.wrapping_add(1);
+        } else {
+            println!(rt;
+                "{}: found {:?}, wanted {:?}",
+                row.name, row.found, row.wanted
+            )?;
+        }
+    }
+    Ok(held)
+}
+
+/// Prints the rows of a part that don't hold, and then how many do.
+pub fn tell(rt: &impl Print, part: &str, groups: &[&[Row]]) -> io::Result<()> {
+    let mut all = 0u64;
+    for rows in groups {
+        all = all.wrapping_add(held(rt, rows)?);
+    }
+    println!(rt; "{part} {all}")
+}
+
+/// What was seen, unless a growth was refused meanwhile. No refusal waits afterwards.
+pub fn without_growth<const N: usize>(memory: Memory, seen: [u64; N]) -> Option<[u64; N]> {
+    let waits = memory.waits();
+    memory.refuse(0);
+    if waits { Some(seen) } else { None }
+}

@@ -1,0 +1,125 @@
+//! Reading all of an input: reads that fail, the most bytes, and growths that are refused.
+use crate::rows::Row;
+use mp_memory::Memory;
+use mp_testing::{Call, FailingReader, Seen, TrialFault, Trialled, under_each_refusal};
+use mp_text::{InputFault, MAX_BYTES, read_all};
+
+const BYTES: &[u8] = b"one\ntwo";
+
+// A reader of seven bytes.
+fn reader_of(at_once: usize, fails_at: u64) -> FailingReader {
+    let mut reader = FailingReader::of(BYTES);
+    reader.at_once = at_once;
+    reader.fails_at = fails_at;
+    reader
+}
+
+// A reader of one byte, so many times.
+fn reader_of_filler(filler: usize, at_once: usize) -> FailingReader {
+    let mut reader = FailingReader::of(b"");
+    reader.filler = filler;
+    reader.at_once = at_once;
+    reader
+}
+
+fn fault_number(fault: InputFault) -> u64 {
+    match fault {
+        InputFault::NoMemory => 1,
+        InputFault::Read => 2,
+    }
+}
+
+// How many bytes were read and whether they are the seven, or the number of the fault; and how many reads there were.
+fn read(memory: Memory, at_once: usize, fails_at: u64) -> Option<[u64; 4]> {
+    let mut reader = reader_of(at_once, fails_at);
+    let (length, is_right, fault) = match read_all(memory, &mut reader) {
+        Ok(text) => (text.len() as u64, text.as_slice() == BYTES, 0),
+        Err(fault) => (0, false, fault_number(fault)),
+    };
+    Some([length, u64::from(is_right), fault, reader.reads])
+}
+
+/// So many bytes at once, and at the end a read that finds it; and a read that fails.
+pub fn inputs(memory: Memory) -> [Row; 13] {
+    [
+        Row::seen("1 byte at once", read(memory, 1, 0), [7, 1, 0, 8]),
+        Row::seen("2 bytes at once", read(memory, 2, 0), [7, 1, 0, 5]),
+        Row::seen("3 bytes at once", read(memory, 3, 0), [7, 1, 0, 4]),
+        Row::seen("4 bytes at once", read(memory, 4, 0), [7, 1, 0, 3]),
+        Row::seen("5 bytes at once", read(memory, 5, 0), [7, 1, 0, 3]),
+        Row::seen("6 bytes at once", read(memory, 6, 0), [7, 1, 0, 3]),
+        Row::seen("7 bytes at once", read(memory, 7, 0), [7, 1, 0, 2]),
+        Row::seen("8 bytes at once", read(memory, 8, 0), [7, 1, 0, 2]),
+        Row::seen("read 1 fails", read(memory, 3, 1), [0, 0, 2, 1]),
+        Row::seen("read 2 fails", read(memory, 3, 2), [0, 0, 2, 2]),
+        Row::seen("read 3 fails", read(memory, 3, 3), [0, 0, 2, 3]),
+        Row::seen("read 4 fails", read(memory, 3, 4), [0, 0, 2, 4]),
+        Row::seen("read 5 would fail", read(memory, 3, 5), [7, 1, 0, 4]),
+    ]
+}
+
+// How many of the bytes are `x`.
+fn filler_in(text: &[u8]) -> u64 {
+    let mut filler = 0u64;
+    for byte in text {
+        filler = filler.wrapping_add(u64::from(*byte == b'x'));
+    }
+    filler
+}
+
+// How many bytes were read, how many of them are `x`, and the number of the fault.
+fn read_filler(memory: Memory, filler: usize, at_once: usize) -> [u64; 3] {
+    match read_all(memory, &mut reader_of_filler(filler, at_once)) {
+        Ok(text) => [text.len() as u64, filler_in(&text), 0],
+        Err(fault) => [0, 0, fault_number(fault)],
+    }
+}
+
+fn filled(memory: Memory, filler: usize, at_once: usize) -> Option<[u64; 3]> {
+    Some(read_filler(memory, filler, at_once))
+}
+
+// An input of 20,000 bytes. Room is made for 4,096 bytes, and then for twice as many each time.
+#[derive(Drop)]
+struct Reading {
+    memory: Memory,
+}
+
+impl Call for Reading {
+    type Value = ();
+
+    fn make(&self) -> Option<()> {
+        Some(())
+    }
+
+    fn call(&self, _nothing: &mut ()) -> Option<Seen> {
+        match read_filler(self.memory, 20_000, 4096) {
+            [_, _, 1] => None,
+            [length, filler, fault] => Some([length, filler, fault, 0, 0, 0]),
+        }
+    }
+
+    fn look(&self, _nothing: &()) -> Seen {
+        [0; 6]
+    }
+}
+
+fn tried(memory: Memory) -> Result<Trialled, TrialFault> {
+    under_each_refusal(&memory, &Reading { memory })
+}
+
+/// Inputs that are long.
+pub fn lengths(memory: Memory) -> [Row; 5] {
+    let most = 16_777_216;
+    [
+        Row::seen("the most bytes", Some([MAX_BYTES as u64]), [most]),
+        Row::seen("as many", filled(memory, 16_777_216, 4096), [most, most, 0]),
+        Row::seen("one more", filled(memory, 16_777_217, 4096), [0, 0, 2]),
+        Row::seen(
+            "one at once",
+            filled(memory, 200_000, 1),
+            [200_000, 200_000, 0],
+        ),
+        Row::tried("20,000 bytes", tried(memory), [20_000, 20_000], 4),
+    ]
+}

@@ -1,0 +1,190 @@
+//! Ticket lists: which of their calls take memory. A new list, a node, tickets that grow and a copy of them take one growth
+//! each.
+use crate::rows::{Row, without_growth};
+use mp_memory::{Memory, NoMemory};
+use mp_testing::{Call, Seen, TrialFault, Trialled, under_each_refusal};
+use mp_tickets::{Node, TicketList, Tickets, make_node};
+
+/// Puts the node in under the ticket, if that is greater than each that is there.
+pub fn push<T: Drop>(list: &mut TicketList<T>, ticket: u64, node: Node<T>) {
+    let last = match list.back() {
+        Some((last, _item)) => last,
+        None => 0,
+    };
+    if ticket > last {
+        list.push_node(ticket, node);
+    }
+}
+
+/// Puts the item in under the ticket, if that is greater than each that is there and there is memory.
+pub fn put<T: Drop>(memory: Memory, list: &mut TicketList<T>, ticket: u64, item: T) {
+    if let Ok(node) = make_node(memory, item) {
+        push(list, ticket, node);
+    }
+}
+
+/// A list with the tickets of one bucket. The item of each is its hundredfold.
+pub fn one_bucket(memory: Memory) -> Option<TicketList<u64>> {
+    let mut list = TicketList::new(memory).ok()?;
+    put(memory, &mut list, 1, 100);
+    put(memory, &mut list, 1025, 102_500);
+    put(memory, &mut list, 2049, 204_900);
+    Some(list)
+}
+
+/// Every third ticket from 3 to 6,000.
+pub fn thirds(memory: Memory) -> Result<Tickets, NoMemory> {
+    let mut tickets = Tickets::new(memory);
+    for third in 1..2001u64 {
+        tickets.push(3 * third)?;
+    }
+    Ok(tickets)
+}
+
+// What takes memory.
+#[derive(Clone, Copy)]
+enum Taking {
+    List,
+    Node,
+    Ticket,
+    Copy,
+}
+
+#[derive(Drop)]
+struct Taken {
+    memory: Memory,
+    taking: Taking,
+}
+
+fn new_list(memory: Memory) -> Option<Seen> {
+    let list = TicketList::<u64>::new(memory).ok()?;
+    Some([u64::from(list.is_empty()), 0, 0, 0, 0, 0])
+}
+
+// A refused node hands its item back.
+fn new_node(memory: Memory) -> Option<Seen> {
+    match make_node(memory, 7u64) {
+        Ok(node) => Some([node.into_inner(), 0, 0, 0, 0, 0]),
+        Err(7) => None,
+        Err(_) => Some([0; 6]),
+    }
+}
+
+fn push_ticket(tickets: &mut Tickets) -> Option<Seen> {
+    if tickets.as_slice().is_empty() {
+        tickets.push(3).ok()?;
+    }
+    Some([u64::from(tickets.contains(3)), 0, 0, 0, 0, 0])
+}
+
+fn copy_tickets(tickets: &Tickets) -> Option<Seen> {
+    let copy = tickets.copy().ok()?;
+    Some([u64::from(copy == *tickets), 0, 0, 0, 0, 0])
+}
+
+impl Call for Taken {
+    type Value = Tickets;
+
+    fn make(&self) -> Option<Tickets> {
+        let mut tickets = Tickets::new(self.memory);
+        if matches!(self.taking, Taking::Copy) {
+            tickets.push(3).ok()?;
+        }
+        Some(tickets)
+    }
+
+    fn call(&self, tickets: &mut Tickets) -> Option<Seen> {
+        match self.taking {
+            Taking::List => new_list(self.memory),
+            Taking::Node => new_node(self.memory),
+            Taking::Ticket => push_ticket(tickets),
+            Taking::Copy => copy_tickets(tickets),
+        }
+    }
+
+    fn look(&self, tickets: &Tickets) -> Seen {
+        let length = tickets.as_slice().len() as u64;
+        [length, u64::from(tickets.contains(3)), 0, 0, 0, 0]
+    }
+}
+
+fn tried(memory: Memory, taking: Taking) -> Result<Trialled, TrialFault> {
+    under_each_refusal(&memory, &Taken { memory, taking })
+}
+
+// A ticket and its item.
+fn pair(entry: Option<(u64, &u64)>) -> [u64; 2] {
+    match entry {
+        Some((ticket, item)) => [ticket, *item],
+        None => [0, 0],
+    }
+}
+
+fn ends(list: &TicketList<u64>) -> Seen {
+    let [front, first] = pair(list.front());
+    let [back, last] = pair(list.back());
+    let [next, second] = pair(list.iter_after(1).next());
+    [front, first, back, last, next, second]
+}
+
+fn unlink(list: &mut TicketList<u64>) -> Seen {
+    let found = list.get(2049).copied().unwrap_or(0);
+    let unlinked = list.unlink(1025).unwrap_or(0);
+    let [front, first] = pair(list.iter().next());
+    let is_empty = u64::from(list.is_empty());
+    [found, unlinked, front, first, list.len() as u64, is_empty]
+}
+
+fn keep(list: &mut TicketList<u64>, kept: &Tickets) -> [u64; 3] {
+    list.keep_only(kept);
+    let [back, last] = pair(list.back());
+    [back, last, list.len() as u64]
+}
+
+// The first, the last and the second of a list to which a node was pushed.
+fn pushed(memory: Memory) -> Option<Seen> {
+    let node = make_node(memory, 9).ok()?;
+    let mut list = one_bucket(memory)?;
+    memory.refuse(1);
+    push(&mut list, 3073, node);
+    without_growth(memory, ends(&list))
+}
+
+// What is found, what is taken out, the first, how many are left and whether none is.
+fn unlinked(memory: Memory) -> Option<Seen> {
+    let mut list = one_bucket(memory)?;
+    memory.refuse(1);
+    let seen = unlink(&mut list);
+    without_growth(memory, seen)
+}
+
+// The last and how many are left. The list is dropped too.
+fn kept(memory: Memory) -> Option<[u64; 3]> {
+    let kept = thirds(memory).ok()?;
+    let mut list = one_bucket(memory)?;
+    memory.refuse(1);
+    let seen = keep(&mut list, &kept);
+    drop(list);
+    without_growth(memory, seen)
+}
+
+/// What takes memory, and what takes none.
+pub fn growths(memory: Memory) -> [Row; 7] {
+    [
+        Row::tried("a new list", tried(memory, Taking::List), [1], 1),
+        Row::tried("a node", tried(memory, Taking::Node), [7], 1),
+        Row::tried("a ticket", tried(memory, Taking::Ticket), [1], 1),
+        Row::tried("a copy of tickets", tried(memory, Taking::Copy), [1], 1),
+        Row::seen(
+            "a push to a list",
+            pushed(memory),
+            [1, 100, 3073, 9, 1025, 102_500],
+        ),
+        Row::seen(
+            "an unlink",
+            unlinked(memory),
+            [204_900, 102_500, 1, 100, 2, 0],
+        ),
+        Row::seen("what is kept", kept(memory), [2049, 204_900, 1]),
+    ]
+}
