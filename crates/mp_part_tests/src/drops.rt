@@ -76,11 +76,12 @@ fn fill(memory: Memory, list: &mut Owners, counted: &Rc<u64>) {
     }
 }
 
-// How many of the tickets that are kept stand in the list in their order.
-fn in_order(list: &Owners, kept: &Tickets) -> u64 {
-    let mut right = 0u64;
-    for (entry, ticket) in list.iter().zip(kept.as_slice()) {
-        right = right.wrapping_add(u64::from(entry.0 == *ticket));
+// How many of the thirds stand in the list in their order.
+fn in_order(list: &Owners) -> u64 {
+    let [mut third, mut right] = [0u64; 2];
+    for (ticket, _owner) in list.iter() {
+        third = third.wrapping_add(3);
+        right = right.wrapping_add(u64::from(ticket == third));
     }
     right
 }
@@ -102,7 +103,7 @@ fn keep(list: &mut Owners, kept: &Tickets, none: &Tickets, counted: &Rc<u64>) ->
     let full = owners(counted);
     list.keep_only(kept);
     let [left, length] = [owners(counted), list.len() as u64];
-    let [right, found] = [in_order(list, kept), found(list)];
+    let [right, found] = [in_order(list), found(list)];
     list.keep_only(none);
     let is_empty = list.is_empty();
     [

@@ -6,7 +6,7 @@ use std::alloc::Global;
 
 const BYTES: &[u8] = b"one\ntwo";
 
-// A write fails after as many before it, or none at 0.
+// The write of this number fails, from 1, and none at 0.
 fn writer_of(alloc: Global, at_once: usize, fails_at: u64) -> FailingWriter {
     let mut writer = FailingWriter::new(alloc);
     writer.at_once = at_once;

@@ -1,6 +1,6 @@
 //! Growths of several threads, and values that cross them.
 use crate::rows::Row;
-use crate::tickets::one_bucket;
+use crate::tickets::{one_bucket, pair};
 use mp_memory::Memory;
 use mp_tickets::TicketList;
 use std::sync::Arc;
@@ -83,7 +83,7 @@ fn unlink_there(
 fn list_there(rt: &impl Threads, memory: Memory) -> Option<[u64; 5]> {
     let (mut list, taken) = unlink_there(rt, one_bucket(memory)?)?;
     let then = list.unlink(1).unwrap_or(0);
-    let (front, first) = list.front().map_or((0, 0), |entry| (entry.0, *entry.1));
+    let [front, first] = pair(list.front());
     Some([taken.unwrap_or(0), then, front, first, list.len() as u64])
 }
 

@@ -112,8 +112,8 @@ fn tried(memory: Memory, taking: Taking) -> Result<Trialled, TrialFault> {
     under_each_refusal(&memory, &Taken { memory, taking })
 }
 
-// A ticket and its item.
-fn pair(entry: Option<(u64, &u64)>) -> [u64; 2] {
+/// A ticket and its item, and zeros where there is none.
+pub fn pair(entry: Option<(u64, &u64)>) -> [u64; 2] {
     match entry {
         Some((ticket, item)) => [ticket, *item],
         None => [0, 0],

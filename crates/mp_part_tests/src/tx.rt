@@ -116,8 +116,8 @@ fn output_shared(memory: Memory) -> Option<[u64; 1]> {
     without_growth(memory, [u64::from(is_same)])
 }
 
-/// What takes memory, and what takes none: no transaction that ends before its first part, and no count that promises more than
-/// there is.
+/// What takes memory, and what takes none: bytes of no transaction that end before its first part or count more parts than
+/// there are, and a share.
 pub fn growths(memory: Memory) -> [Row; 11] {
     [
         Row::seen("growth 1 of parts", made(memory, 1), [1, 0, 0]),
