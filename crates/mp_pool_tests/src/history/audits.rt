@@ -1,0 +1,251 @@
+//! Audits that were worked out by hand.
+use crate::history::entries::{Telling, three_entries};
+use crate::rows::{TWO_OR_MORE, Trial, count, count_trial};
+use crate::samples::{PART, Samples};
+use crate::seqpool::CONFIG;
+use crate::told::{Told, read_fault};
+use crate::verifier::ACCEPTS_ALL;
+use mp_history::{Entry, audit};
+use mp_seqpool::Config;
+use mp_testing::{Call, Seen, TrialFault, under_each_refusal};
+use mp_tx::Ledger;
+use std::io;
+
+fn tell_upon(
+    samples: &Samples,
+    ledger: &Ledger,
+    config: Config,
+    callers: u32,
+    entries: &[Entry],
+) -> Told {
+    match audit(
+        samples.memory,
+        config,
+        ledger,
+        callers,
+        entries,
+        &ACCEPTS_ALL,
+    ) {
+        Ok(pool) => Told::Legal(pool.len(), pool.last_ticket()),
+        Err(fault) => read_fault(fault),
+    }
+}
+
+/// What an audit of the entries tells, upon the ledger state of the sample.
+pub fn tell(
+    samples: &Samples,
+    ledger: usize,
+    config: Config,
+    callers: u32,
+    entries: &[Entry],
+) -> Told {
+    match samples.ledger(ledger) {
+        Some(ledger) => tell_upon(samples, ledger, config, callers, entries),
+        None => Told::Otherwise,
+    }
+}
+
+const ONE_CHANGE: Config = Config { limit: 1, last: 0 };
+
+// Who asks for the submits, the tickets of the submits and of what goes with the removal, how many callers there are, whether
+// there may be one change only, which of the entries are looked at, and what the audit tells.
+type Row = (
+    &'static str,
+    [u32; 2],
+    [u64; 3],
+    u32,
+    bool,
+    [usize; 2],
+    Told,
+);
+
+const ALL: [usize; 2] = [0, 3];
+
+const RIGHT: [u64; 3] = [1, 2, 2];
+
+static ROWS: [Row; 12] = [
+    (
+        "a legal history",
+        [0, 0],
+        RIGHT,
+        1,
+        false,
+        ALL,
+        Told::Legal(0, 2),
+    ),
+    (
+        "one of six callers",
+        [5, 0],
+        RIGHT,
+        6,
+        false,
+        ALL,
+        Told::Legal(0, 2),
+    ),
+    (
+        "a ticket that isn't next",
+        [0, 0],
+        [1, 3, 2],
+        1,
+        false,
+        ALL,
+        Told::WrongReply(1),
+    ),
+    (
+        "a first ticket that isn't 1",
+        [0, 0],
+        [2, 3, 2],
+        1,
+        false,
+        ALL,
+        Told::WrongReply(0),
+    ),
+    (
+        "a caller past the last",
+        [5, 0],
+        RIGHT,
+        1,
+        false,
+        ALL,
+        Told::StrangeCaller(0),
+    ),
+    (
+        "the caller behind the last",
+        [5, 0],
+        RIGHT,
+        5,
+        false,
+        ALL,
+        Told::StrangeCaller(0),
+    ),
+    (
+        "both at one place",
+        [0, 1],
+        [1, 3, 2],
+        1,
+        false,
+        ALL,
+        Told::StrangeCaller(1),
+    ),
+    (
+        "a wrong reply before a strange caller",
+        [0, 1],
+        [3, 2, 2],
+        1,
+        false,
+        ALL,
+        Told::WrongReply(0),
+    ),
+    (
+        "another goes with the first",
+        [0, 0],
+        [1, 2, 3],
+        1,
+        false,
+        ALL,
+        Told::WrongReply(2),
+    ),
+    (
+        "no entry of no caller",
+        [0, 0],
+        RIGHT,
+        0,
+        false,
+        [0, 0],
+        Told::Legal(0, 0),
+    ),
+    (
+        "without the first",
+        [0, 0],
+        RIGHT,
+        1,
+        false,
+        [1, 3],
+        Told::WrongReply(0),
+    ),
+    (
+        "past the limit",
+        [0, 0],
+        RIGHT,
+        1,
+        true,
+        ALL,
+        Told::WrongReply(1),
+    ),
+];
+
+fn tell_some(
+    samples: &Samples,
+    config: Config,
+    callers: u32,
+    entries: &[Entry],
+    [from, to]: [usize; 2],
+) -> Told {
+    match entries.get(from..to) {
+        Some(entries) => tell(samples, PART, config, callers, entries),
+        None => Told::Otherwise,
+    }
+}
+
+fn tell_row(samples: &Samples, row: &Row) -> Option<Seen> {
+    let (_, callers, tickets, count, is_short, some, _) = *row;
+    let config = if is_short { ONE_CHANGE } else { CONFIG };
+    let entries = three_entries(samples, Telling { callers, tickets })?;
+    Some(tell_some(samples, config, count, &entries, some).seen())
+}
+
+// An audit of the entries.
+#[derive(Drop)]
+struct Auditing<'a> {
+    samples: &'a Samples,
+    entries: &'a [Entry],
+}
+
+impl Call for Auditing<'_> {
+    type Value = ();
+
+    fn make(&self) -> Option<()> {
+        Some(())
+    }
+
+    fn call(&self, _value: &mut ()) -> Option<Seen> {
+        tell(self.samples, PART, CONFIG, 1, self.entries).answered()
+    }
+
+    fn look(&self, _value: &()) -> Seen {
+        [0; 6]
+    }
+}
+
+fn try_audit(samples: &Samples, entries: &[Entry]) -> Trial {
+    under_each_refusal(&samples.memory, &Auditing { samples, entries })
+}
+
+fn try_legal(samples: &Samples) -> Trial {
+    let legal = Telling {
+        callers: [0, 0],
+        tickets: RIGHT,
+    };
+    match three_entries(samples, legal) {
+        Some(entries) => try_audit(samples, &entries),
+        None => Err(TrialFault::NotMade),
+    }
+}
+
+/// How many cases hold.
+pub fn held_audits(rt: &impl Print, samples: &Samples) -> io::Result<u64> {
+    let wanted = Told::Legal(0, 2).seen();
+    let trial = try_legal(samples);
+    let mut held = count_trial(
+        rt,
+        "an audit at refused growths",
+        trial,
+        wanted,
+        TWO_OR_MORE,
+    )?;
+    for row in &ROWS {
+        let seen = tell_row(samples, row);
+        held = held.wrapping_add(count(rt, row.0, seen, row.6.seen())?);
+    }
+    Ok(held)
+}

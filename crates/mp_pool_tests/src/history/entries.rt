@@ -1,0 +1,79 @@
+//! Histories of two submits and a removal: the first submit spends an opening output, the second what the first pays, and the
+//! removal takes out the first, so the second goes with it.
+use crate::samples::{REMOVE_FIRST, Samples, THREE};
+use mp_history::Entry;
+use mp_memory::{Memory, NoMemory};
+use mp_seqpool::{Reply, Tickets};
+
+/// What the entries of a history tell.
+#[derive(Clone, Copy)]
+pub struct Telling {
+    /// Who asks for the submits. Caller 0 asks for the removal.
+    pub callers: [u32; 2],
+    /// The tickets of the submits, and the one that goes with the first.
+    pub tickets: [u64; 3],
+}
+
+/// Entries in order.
+pub type Entries = Vec<Entry, Memory>;
+
+// The entry of caller `caller` who asks for the sample and is told this.
+fn push_entry(
+    samples: &Samples,
+    entries: &mut Entries,
+    caller: u32,
+    number: usize,
+    reply: Reply,
+) -> Option<()> {
+    let command = samples.command(number)?.share().ok()?;
+    entries
+        .push(Entry {
+            caller,
+            command,
+            reply,
+        })
+        .ok()
+}
+
+fn push_submit(
+    samples: &Samples,
+    entries: &mut Entries,
+    caller: u32,
+    number: usize,
+    ticket: u64,
+) -> Option<()> {
+    push_entry(samples, entries, caller, number, Reply::Accepted { ticket })
+}
+
+fn only(memory: Memory, ticket: u64) -> Result<Tickets, NoMemory> {
+    let mut tickets = Tickets::new(memory);
+    tickets.push(ticket)?;
+    Ok(tickets)
+}
+
+// It stood under ticket 1.
+fn removal(memory: Memory, ticket: u64) -> Result<Reply, NoMemory> {
+    let named = only(memory, 1)?;
+    Ok(Reply::Removed {
+        named,
+        dropped: only(memory, ticket)?,
+    })
+}
+
+fn push_three(samples: &Samples, entries: &mut Entries, telling: Telling) -> Option<()> {
+    let Telling {
+        callers: [one, other],
+        tickets: [first, second, dropped],
+    } = telling;
+    push_submit(samples, entries, one, THREE, first)?;
+    push_submit(samples, entries, other, THREE + 1, second)?;
+    let reply = removal(samples.memory, dropped).ok()?;
+    push_entry(samples, entries, 0, REMOVE_FIRST, reply)
+}
+
+/// The three entries.
+pub fn three_entries(samples: &Samples, telling: Telling) -> Option<Entries> {
+    let mut entries = Vec::new(samples.memory);
+    push_three(samples, &mut entries, telling)?;
+    Some(entries)
+}

@@ -1,0 +1,57 @@
+//! Cases: what is found of each, and what is wanted.
+use mp_testing::{MAX_GROWTHS, Seen, TrialFault, Trialled};
+use std::io;
+
+/// How many growths a call makes, at least and at most.
+pub type Growths = [u64; 2];
+
+pub const NONE: Growths = [0, 0];
+
+pub const ONE: Growths = [1, 1];
+
+pub const TWO: Growths = [2, 2];
+
+/// One at least.
+pub const SOME: Growths = [1, MAX_GROWTHS];
+
+pub const TWO_OR_MORE: Growths = [2, MAX_GROWTHS];
+
+pub const THREE_OR_MORE: Growths = [3, MAX_GROWTHS];
+
+/// Six at least.
+pub const MANY: Growths = [6, MAX_GROWTHS];
+
+/// What comes of a trial of a call.
+pub type Trial = Result<Trialled, TrialFault>;
+
+/// Gives 1 where what is seen of the case is as it is wanted. Otherwise it prints the case, and gives 0.
+pub fn count(rt: &impl Print, name: &str, seen: Option<Seen>, wanted: Seen) -> io::Result<u64> {
+    if seen == Some(wanted) {
+        return Ok(1);
+    }
+    println!(rt; "{name}: found {seen:?}, wanted {wanted:?}")?;
+    Ok(0)
+}
+
+fn holds(trial: &Trial, wanted: Seen, growths: Growths) -> bool {
+    let [least, most] = growths;
+    match trial {
+        Ok(done) => done.answer == wanted && least <= done.growths && done.growths <= most,
+        Err(_) => false,
+    }
+}
+
+/// The same of a call that was tried under each refusal: its answer and the number of its growths are as they are wanted.
+pub fn count_trial(
+    rt: &impl Print,
+    name: &str,
+    trial: Trial,
+    wanted: Seen,
+    growths: Growths,
+) -> io::Result<u64> {
+    if holds(&trial, wanted, growths) {
+        return Ok(1);
+    }
+    println!(rt; "{name}: found {trial:?}, wanted {wanted:?} and {growths:?} growths")?;
+    Ok(0)
+}

@@ -1,0 +1,166 @@
+//! What the pools are asked, made once. What can't be made is `None`.
+mod guarded;
+mod ledgers;
+mod submits;
+
+use crate::samples::guarded::{guarded_outputs, push_guarded};
+use crate::samples::ledgers::push_ledgers;
+use crate::samples::submits::push_submits;
+use mp_memory::Memory;
+use mp_seqpool::{Command, Ids};
+use mp_tx::{Ledger, Output, Tx, TxId, TxParts};
+use std::sync::Arc;
+
+/// So many samples submit a transaction of 181 bytes that spends an opening output and pays 100: sample 0 the first one, and so
+/// on.
+pub const SPENDING: u16 = 130;
+
+/// Submits of three transactions: the first spends opening 0, the second what the first pays, the third opening 1.
+pub const THREE: usize = 130;
+
+/// A submit of a transaction that spends what sample 1 pays.
+pub const CHAINED: usize = 133;
+
+/// The first of two submits that spend the first two opening outputs, and are signed by keys of 0 and of 1.
+pub const SIGNED: usize = 134;
+
+/// A submit that spends the same output as sample 1, and pays 60 and 40. Behind it stand two that spend these, and are signed
+/// by keys of 0 and of 1.
+pub const RIVAL: usize = 136;
+
+/// Before this sample all are submits.
+pub const SUBMITS: usize = 139;
+
+/// Six commands, of which the first and the last submit the guarded transaction. Between them nothing is removed, and a
+/// guarded ledger state is adopted at the ticks 1, 2 and 3, where the guarded output has 100, 120 and 99 coin.
+pub const GUARDED: usize = 139;
+
+/// The guarded ledger state at tick 0, where the guarded output has 100 coin.
+pub const OF_100: usize = 145;
+
+/// The same with 120 coin.
+pub const OF_120: usize = 146;
+
+/// A ledger state at tick 1 of what sample 0 pays alone.
+pub const AFTER_FIRST: usize = 147;
+
+/// The ledger state of all opening outputs that samples spend.
+pub const ALL: usize = 148;
+
+/// The first opening output alone.
+pub const PART: usize = 149;
+
+/// The same with 400,000 block bytes.
+pub const NARROW: usize = 150;
+
+/// The first hundred opening outputs.
+pub const HUNDRED: usize = 151;
+
+/// A remove of sample 0.
+pub const REMOVE_FIRST: usize = 152;
+
+/// A remove of sample 1.
+pub const REMOVE_SECOND: usize = 153;
+
+/// A remove of the samples 63 and 64, which stand under the tickets 64 and 65 where all are submitted in order.
+pub const REMOVE_TWO: usize = 154;
+
+/// A remove of sample 69.
+pub const REMOVE_SEVENTIETH: usize = 155;
+
+/// Commands in order.
+pub type Commands = Vec<Command, Memory>;
+
+/// All samples.
+#[derive(Drop)]
+pub struct Samples {
+    pub memory: Memory,
+    commands: Commands,
+    /// Other outputs for the guarded transaction than those of the ledger state with 120 coin.
+    pub others: Vec<Output, Memory>,
+}
+
+impl Samples {
+    /// The sample of this number.
+    pub fn command(&self, number: usize) -> Option<&Command> {
+        self.commands.get(number)
+    }
+
+    /// The samples from the first number to before the second, or none where there aren't so many.
+    pub fn commands(&self, from: usize, to: usize) -> &[Command] {
+        match self.commands.get(from..to) {
+            Some(commands) => commands,
+            None => &[],
+        }
+    }
+
+    /// The transaction that the sample submits.
+    pub fn transaction(&self, number: usize) -> Option<&Arc<Tx, Memory>> {
+        match self.command(number) {
+            Some(Command::Submit(tx)) => Some(tx),
+            _ => None,
+        }
+    }
+
+    /// The ledger state that the sample adopts.
+    pub fn ledger(&self, number: usize) -> Option<&Ledger> {
+        match self.command(number) {
+            Some(Command::Sync(ledger)) => Some(ledger),
+            _ => None,
+        }
+    }
+}
+
+/// The id of the transaction that the command submits.
+pub fn submitted(commands: &[Command], place: usize) -> Option<TxId> {
+    match commands.get(place) {
+        Some(Command::Submit(tx)) => Some(*tx.id()),
+        _ => None,
+    }
+}
+
+fn ids_of(memory: Memory, commands: &[Command], numbers: &[usize]) -> Option<Vec<TxId, Memory>> {
+    let mut ids = Vec::new(memory);
+    for number in numbers {
+        ids.push(submitted(commands, *number)?).ok()?;
+    }
+    Some(ids)
+}
+
+/// A remove of what these samples submit comes last.
+pub fn push_remove(memory: Memory, commands: &mut Commands, numbers: &[usize]) -> Option<()> {
+    let ids = Ids::of(ids_of(memory, commands, numbers)?);
+    commands
+        .push(Command::Remove(Arc::new(memory, ids).ok()?))
+        .ok()
+}
+
+/// The transaction's submit comes last.
+pub fn push_tx(memory: Memory, commands: &mut Commands, parts: TxParts) -> Option<()> {
+    let tx = Tx::of_parts(memory, parts).ok()?;
+    commands
+        .push(Command::Submit(Arc::new(memory, tx).ok()?))
+        .ok()
+}
+
+fn push_all(memory: Memory, commands: &mut Commands) -> Option<()> {
+    push_submits(memory, commands)?;
+    push_guarded(memory, commands)?;
+    push_ledgers(memory, commands)?;
+    push_remove(memory, commands, &[0])?;
+    push_remove(memory, commands, &[1])?;
+    push_remove(memory, commands, &[63, 64])?;
+    push_remove(memory, commands, &[69])
+}
+
+/// Makes all samples.
+pub fn all_samples(memory: Memory) -> Option<Samples> {
+    let others = guarded_outputs(memory, 100).ok()?;
+    let mut commands = Vec::new(memory);
+    push_all(memory, &mut commands)?;
+    Some(Samples {
+        memory,
+        commands,
+        others,
+    })
+}

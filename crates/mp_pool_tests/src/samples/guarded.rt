@@ -1,0 +1,85 @@
+//! A transaction whose validator looks at what its own output holds, and the ledger states that it spends from.
+use crate::samples::ledgers::push_sync;
+use crate::samples::{Commands, push_remove, push_tx};
+use mp_memory::{Memory, NoMemory};
+use mp_script::Script;
+use mp_testing::{opening, output, parts};
+use mp_tx::{Ledger, LedgerFault, OutRef, Output, Salt, TxParts};
+
+// Whether its own output has at least 100 coin: 100, the policy and the name of coin, OwnQuantity, AtMost.
+const ENOUGH: [u8; 47] = [
+    2, 0, 0, 0, 0, 0, 0, 0, 100, 3, 32, 0, 0, 0, 0, 0, 0, 0, 0, 0, 0, 0, 0, 0, 0, 0, 0, 0, 0, 0, 0,
+    0, 0, 0, 0, 0, 0, 0, 0, 0, 0, 0, 0, 3, 0, 0x53, 0x22,
+];
+
+fn enough(memory: Memory) -> Result<Script, NoMemory> {
+    match Script::decode(memory, &ENOUGH) {
+        Ok(script) => Ok(script),
+        Err(_) => Err(NoMemory),
+    }
+}
+
+fn guard(memory: Memory, parts: &mut TxParts) -> Option<()> {
+    let input = parts.inputs.first_mut()?;
+    input.validator = enough(memory).ok()?;
+    Some(())
+}
+
+// It spends openings 2 and 3 and pays 200 coin. Opening 2 has to have 100 or more. Its bytes are 274: 181, 47 for the second
+// input, and 46 for the longer validator.
+fn guarded_parts(memory: Memory) -> Option<TxParts> {
+    let mut parts = parts(memory, &[opening(2), opening(3)], &[200]).ok()?;
+    guard(memory, &mut parts)?;
+    Some(parts)
+}
+
+fn guarded_output(memory: Memory, quantity: i64) -> Result<Output, NoMemory> {
+    let address = *enough(memory)?.hash();
+    let mut guarded = output(memory, quantity)?;
+    guarded.address = address;
+    Ok(guarded)
+}
+
+// Opening 2 is guarded and has so much coin. Openings 2 and 3 have 200 together, so that all other rules hold.
+fn output_at(memory: Memory, coin: u8, index: u16) -> Result<Output, NoMemory> {
+    match index {
+        2 => guarded_output(memory, i64::from(coin)),
+        3 => output(memory, 200 - i64::from(coin)),
+        _ => output(memory, 100),
+    }
+}
+
+/// Openings 2 and 3, where the first has so much coin.
+pub fn guarded_outputs(memory: Memory, coin: u8) -> Result<Vec<Output, Memory>, NoMemory> {
+    let mut outputs = Vec::new(memory);
+    for index in [2, 3] {
+        outputs.push(output_at(memory, coin, index)?)?;
+    }
+    Ok(outputs)
+}
+
+fn openings(memory: Memory, coin: u8) -> Result<Vec<(OutRef, Output), Memory>, NoMemory> {
+    let mut entries = Vec::new(memory);
+    for index in [0, 1, 2, 3] {
+        entries.push((opening(index), output_at(memory, coin, index)?))?;
+    }
+    Ok(entries)
+}
+
+/// A ledger state with openings 0 to 3: two of 100 coin each, and the guarded outputs.
+pub fn guarded_ledger(memory: Memory, tick: u64, coin: u8) -> Result<Ledger, LedgerFault> {
+    match openings(memory, coin) {
+        Ok(entries) => Ledger::of_outputs(memory, Salt::new(7), tick, 500_000, entries),
+        Err(NoMemory) => Err(LedgerFault::NoMemory),
+    }
+}
+
+/// The six guarded commands.
+pub fn push_guarded(memory: Memory, commands: &mut Commands) -> Option<()> {
+    push_tx(memory, commands, guarded_parts(memory)?)?;
+    push_remove(memory, commands, &[])?;
+    push_sync(commands, guarded_ledger(memory, 1, 100))?;
+    push_sync(commands, guarded_ledger(memory, 2, 120))?;
+    push_sync(commands, guarded_ledger(memory, 3, 99))?;
+    push_tx(memory, commands, guarded_parts(memory)?)
+}

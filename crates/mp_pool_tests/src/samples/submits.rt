@@ -1,0 +1,60 @@
+//! Submits of transactions.
+use crate::samples::{Commands, RIVAL, SPENDING, THREE, push_tx, submitted};
+use mp_memory::{Memory, NoMemory};
+use mp_testing::{opening, output_of, parts};
+use mp_tx::{OutRef, Signature, TxParts};
+
+// A submit of a transaction that spends the output and pays so much comes last.
+fn push(memory: Memory, commands: &mut Commands, spent: OutRef, paid: &[u32]) -> Option<()> {
+    push_tx(memory, commands, parts(memory, &[spent], paid).ok()?)
+}
+
+// It spends output 0 of what the command at this place submits.
+fn push_child(memory: Memory, commands: &mut Commands, place: usize) -> Option<()> {
+    let parent = submitted(commands, place)?;
+    push(memory, commands, output_of(&parent, 0), &[100])
+}
+
+fn signed(memory: Memory, spent: OutRef, paid: u32, by: u8) -> Result<TxParts, NoMemory> {
+    let (key, sig) = ([by; 32], [6; 64]);
+    let mut parts = parts(memory, &[spent], &[paid])?;
+    parts.signatures.push(Signature { key, sig })?;
+    Ok(parts)
+}
+
+// A key that begins with this number has signed it.
+fn push_signed(
+    memory: Memory,
+    commands: &mut Commands,
+    spent: OutRef,
+    paid: u32,
+    by: u8,
+) -> Option<()> {
+    push_tx(memory, commands, signed(memory, spent, paid, by).ok()?)
+}
+
+fn push_spending(memory: Memory, commands: &mut Commands) -> Option<()> {
+    for index in 0..SPENDING {
+        push(memory, commands, opening(index), &[100])?;
+    }
+    Some(())
+}
+
+fn push_upon_rival(memory: Memory, commands: &mut Commands) -> Option<()> {
+    let rival = submitted(commands, RIVAL)?;
+    push_signed(memory, commands, output_of(&rival, 0), 60, 0)?;
+    push_signed(memory, commands, output_of(&rival, 1), 40, 1)
+}
+
+/// All submits but the guarded ones, in the order of their numbers.
+pub fn push_submits(memory: Memory, commands: &mut Commands) -> Option<()> {
+    push_spending(memory, commands)?;
+    push(memory, commands, opening(0), &[100])?;
+    push_child(memory, commands, THREE)?;
+    push(memory, commands, opening(1), &[100])?;
+    push_child(memory, commands, 1)?;
+    push_signed(memory, commands, opening(0), 100, 0)?;
+    push_signed(memory, commands, opening(1), 100, 1)?;
+    push(memory, commands, opening(1), &[60, 40])?;
+    push_upon_rival(memory, commands)
+}

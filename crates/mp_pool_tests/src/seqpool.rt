@@ -1,0 +1,72 @@
+//! The sequential pool: each call that may want memory says so at each refused growth and leaves the pool, and then the same
+//! call answers. And answers to what no scenario can ask for.
+mod answers;
+mod asking;
+mod making;
+mod steps;
+
+use crate::samples::{AFTER_FIRST, GUARDED, REMOVE_FIRST, Samples};
+use crate::seqpool::answers::held_answers;
+use crate::seqpool::asking::held_calls;
+use crate::seqpool::making::{held_copies, held_makings};
+use crate::told::with_digit;
+use mp_seqpool::{Config, SeqPool};
+use mp_testing::Seen;
+use std::io;
+pub use steps::{pool_of_three, prepare};
+
+/// How pools are set up here.
+pub const CONFIG: Config = Config {
+    limit: 1_000_000,
+    last: 0,
+};
+
+/// The kind of a command, or of the reply to it.
+#[derive(Clone, Copy)]
+pub enum Kind {
+    Submit,
+    Remove,
+    Sync,
+}
+
+impl Kind {
+    /// The number of the sample that is asked for: a submit of the guarded transaction, a remove of the first of three, or a sync
+    /// with what that one pays.
+    pub const fn number(self) -> usize {
+        match self {
+            Kind::Submit => GUARDED,
+            Kind::Remove => REMOVE_FIRST,
+            Kind::Sync => AFTER_FIRST,
+        }
+    }
+}
+
+/// The tickets, the bytes, the last ticket and the changes of a pool.
+pub fn look_at(pool: &SeqPool) -> Seen {
+    let mut tickets = 0;
+    for (ticket, _) in pool.contents() {
+        tickets = with_digit(tickets, ticket);
+    }
+    [
+        tickets,
+        pool.bytes(),
+        pool.last_ticket(),
+        pool.changes(),
+        0,
+        0,
+    ]
+}
+
+/// How many cases hold.
+pub fn held(rt: &impl Print, samples: &Samples) -> io::Result<u64> {
+    let calls = held_calls(rt, samples)?;
+    let makings = held_makings(rt, samples)?;
+    let copies = held_copies(rt, samples)?;
+    let answers = held_answers(rt, samples)?;
+    Ok(
+        calls
+            .wrapping_add(makings)
+            .wrapping_add(copies)
+            .wrapping_add(answers),
+    )
+}

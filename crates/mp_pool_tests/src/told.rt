@@ -1,0 +1,112 @@
+//! What a call is told, as plain data.
+use mp_history::AuditFault;
+use mp_seqpool::{Answer, Invalid, Refusal, Reply};
+use mp_testing::Seen;
+
+/// What a call is told. Tickets are told as the digits of a number: 1 and 2 are 12, and 0 is none.
+#[derive(Clone, Copy)]
+pub enum Told {
+    Accepted(u64),
+    /// The tickets that were named, and those that went with them.
+    Removed(u64, u64),
+    /// The tickets that stay, and those that don't.
+    Synced(u64, u64),
+    AlreadyInPool(u64),
+    HistoryFull,
+    InputMissing(usize),
+    ValidatorRefused(usize),
+    /// The pool after a legal history: how many transactions stand in it, and the last ticket.
+    Legal(usize, u64),
+    WrongReply(usize),
+    StrangeCaller(usize),
+    NoMemory,
+    /// It gave what was asked for, and that has no tickets.
+    Done,
+    /// None of these, or not the same twice.
+    Otherwise,
+}
+
+impl Told {
+    /// What is told as numbers, of which the first says of which kind it is. From the fourth on they are 0.
+    pub fn seen(self) -> Seen {
+        let [kind, first, second] = match self {
+            Told::Accepted(ticket) => [1, ticket, 0],
+            Told::Removed(named, dropped) => [2, named, dropped],
+            Told::Synced(kept, dropped) => [3, kept, dropped],
+            Told::AlreadyInPool(ticket) => [4, ticket, 0],
+            Told::HistoryFull => [5, 0, 0],
+            Told::InputMissing(place) => [6, place as u64, 0],
+            Told::ValidatorRefused(place) => [7, place as u64, 0],
+            Told::Legal(len, last) => [8, len as u64, last],
+            Told::WrongReply(place) => [9, place as u64, 0],
+            Told::StrangeCaller(place) => [10, place as u64, 0],
+            Told::NoMemory => [11, 0, 0],
+            Told::Done => [12, 0, 0],
+            Told::Otherwise => [13, 0, 0],
+        };
+        [kind, first, second, 0, 0, 0]
+    }
+
+    /// What is told, unless there was no memory.
+    pub fn answered(self) -> Option<Seen> {
+        match self {
+            Told::NoMemory => None,
+            told => Some(told.seen()),
+        }
+    }
+}
+
+/// The digits with those of one ticket more.
+pub fn with_digit(digits: u64, ticket: u64) -> u64 {
+    digits.saturating_mul(10).saturating_add(ticket)
+}
+
+fn digits(tickets: &[u64]) -> u64 {
+    let mut digits = 0;
+    for ticket in tickets {
+        digits = with_digit(digits, *ticket);
+    }
+    digits
+}
+
+/// What the reply tells.
+pub fn read_reply(reply: &Reply) -> Told {
+    match reply {
+        Reply::Accepted { ticket } => Told::Accepted(*ticket),
+        Reply::Removed { named, dropped } => {
+            Told::Removed(digits(named.as_slice()), digits(dropped.as_slice()))
+        }
+        Reply::Synced { kept, dropped } => {
+            Told::Synced(digits(kept.as_slice()), digits(dropped.as_slice()))
+        }
+    }
+}
+
+/// What the refusal tells.
+pub fn read_refusal(refusal: &Refusal) -> Told {
+    match refusal {
+        Refusal::NoMemory => Told::NoMemory,
+        Refusal::HistoryFull => Told::HistoryFull,
+        Refusal::AlreadyInPool(ticket) => Told::AlreadyInPool(*ticket),
+        Refusal::Invalid(Invalid::InputMissing(place)) => Told::InputMissing(*place),
+        Refusal::Invalid(Invalid::ValidatorRefused(place)) => Told::ValidatorRefused(*place),
+        _ => Told::Otherwise,
+    }
+}
+
+/// What the answer tells.
+pub fn read_answer(answer: &Answer) -> Told {
+    match answer {
+        Ok(reply) => read_reply(reply),
+        Err(refusal) => read_refusal(refusal),
+    }
+}
+
+/// What the fault of an audit tells.
+pub fn read_fault(fault: AuditFault) -> Told {
+    match fault {
+        AuditFault::NoMemory => Told::NoMemory,
+        AuditFault::WrongReply(place) => Told::WrongReply(place),
+        AuditFault::StrangeCaller(place) => Told::StrangeCaller(place),
+    }
+}

@@ -1,0 +1,36 @@
+//! Versions: what is read of them, where chunks and pages end, what is shared, the board, and each call that may want memory.
+mod board;
+mod both;
+mod calls;
+mod pages;
+mod reading;
+mod sharing;
+
+use crate::samples::Samples;
+use crate::versions::board::held_boards;
+use crate::versions::calls::held_calls;
+use crate::versions::pages::held_pages;
+use crate::versions::reading::held_readings;
+use crate::versions::sharing::held_shares;
+use std::io;
+use std::sync::Wait;
+use std::thread::Threads;
+
+fn held_alone(rt: &impl Print, samples: &Samples) -> io::Result<u64> {
+    let calls = held_calls(rt, samples)?;
+    let readings = held_readings(rt, samples)?;
+    let pages = held_pages(rt, samples)?;
+    let shares = held_shares(rt, samples)?;
+    Ok(
+        calls
+            .wrapping_add(readings)
+            .wrapping_add(pages)
+            .wrapping_add(shares),
+    )
+}
+
+/// How many cases hold.
+pub fn held<R: Print + Threads + Wait + Sync>(rt: &R, samples: &Samples) -> io::Result<u64> {
+    let held = held_alone(rt, samples)?;
+    Ok(held.wrapping_add(held_boards(rt, samples)?))
+}

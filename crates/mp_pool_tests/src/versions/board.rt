@@ -1,0 +1,219 @@
+//! The board: threads that read while versions are shown, and each refused growth.
+ghost use Rattle.std.specs.Prelude.{◌≡◌, IfSome};
+ghost use Rattle.mp_seqpool.specs.PoolLaws.{IsLawful};
+ghost use Rattle.mp_history.specs.PoolName.{head_of};
+ghost use Rattle.mp_pool_tests.specs.Names.{any};
+
+use crate::rows::{SOME, Trial, count, count_trial};
+use crate::samples::{PART, Samples};
+use crate::seqpool::CONFIG;
+use mp_history::{History, NewName, PoolName};
+use mp_memory::{Memory, NoMemory};
+use mp_seqpool::SeqPool;
+use mp_testing::{Call, Seen, under_each_refusal};
+use mp_versions::{Board, Shown, Snapshot, Version};
+use std::io;
+use std::marker::Brand;
+use std::sync::{Arc, Wait};
+use std::thread::{Threads, map_indices};
+
+// How often each thread reads or shows.
+const TIMES: u32 = 500;
+
+// How many threads there are: one that shows the version, and four that read.
+const THREADS: usize = 5;
+
+// The pool's version, after no entry of a history.
+fn open<N: PoolName>(memory: Memory, name: NewName, pool: &SeqPool) -> Result<Shown<N>, NoMemory>
+    requires name { name ≡ head_of N.book N.root }
+    requires callers { N.callers ≡ 1 }
+    requires lawful { IsLawful N.accepts pool.now.pool }
+    requires unchanged { pool.now.pool.changes ≡ 0 }
+{
+    let version = Arc::new(memory, Version::of(memory, pool)?)?;
+    let (_history, right, _callers) = History::<N>::open(name, memory, 1, pool)?;
+    Ok(Shown::of(version, right.front()))
+}
+
+// Whether there was no memory to show the version.
+fn show<N: PoolName>(rt: &impl Wait, board: &Board<N>, shown: &Shown<N>) -> Result<(), NoMemory> {
+    match board.show(rt, shown.share()?) {
+        Ok(()) => Ok(()),
+        Err(_) => Err(NoMemory),
+    }
+}
+
+// Shows the version so often, and tells how often there was no memory for that.
+fn show_all<N: PoolName>(rt: &impl Wait, board: &Board<N>, shown: &Shown<N>) -> u64 {
+    let mut refused: u64 = 0;
+    for _ in 0..TIMES {
+        if show(rt, board, shown).is_err() {
+            refused = refused.saturating_add(1);
+        }
+    }
+    refused
+}
+
+fn is_strange<N: PoolName>(shown: &Shown<N>) -> bool {
+    let snapshot = Snapshot::of(shown);
+    (snapshot.size(), snapshot.number(), snapshot.tick()) != ((0, 0), 0, 0)
+}
+
+// Reads the newest version so often, and tells how often it had other numbers than the one that is shown.
+fn read_all<N: PoolName>(board: &Board<N>) -> u64 {
+    let mut strange: u64 = 0;
+    for _ in 0..TIMES {
+        if board.newest().is_some_and(is_strange) {
+            strange = strange.saturating_add(1);
+        }
+    }
+    strange
+}
+
+// What goes wrong in one of the threads.
+fn run<N: PoolName>(rt: &impl Wait, board: &Board<N>, shown: &Shown<N>, thread: usize) -> u64 {
+    if thread == 0 {
+        return show_all(rt, board, shown);
+    }
+    read_all(board)
+}
+
+fn sum(numbers: &[u64]) -> u64 {
+    let mut sum: u64 = 0;
+    for number in numbers {
+        sum = sum.saturating_add(*number);
+    }
+    sum
+}
+
+// How many threads there were, what went wrong in them, and whether the board shows a version before and after them.
+fn see<N: PoolName + Send + Sync, R: Threads + Wait + Sync>(
+    rt: &R,
+    memory: Memory,
+    board: &Board<N>,
+    shown: &Shown<N>,
+) -> Option<Seen> {
+    let before = u64::from(board.newest().is_some());
+    let wrong = map_indices(rt, memory, THREADS, &|thread| run(rt, board, shown, thread)).ok()?;
+    let after = u64::from(board.newest().is_some());
+    Some([wrong.len() as u64, sum(&wrong), before, after, 0, 0])
+}
+
+fn see_board<N: PoolName + Send + Sync, R: Threads + Wait + Sync>(
+    rt: &R,
+    memory: Memory,
+    shown: &Shown<N>,
+) -> Option<Seen> {
+    let board = Board::new(memory).ok()?;
+    see(rt, memory, &board, shown)
+}
+
+#[derive(Clone, Copy)]
+enum Way {
+    // Another board is made.
+    Make,
+    // The version is shown.
+    Show,
+}
+
+// A call of a board that shows nothing.
+#[derive(Drop)]
+struct Showing<'a, N: PoolName, R: Wait> {
+    rt: &'a R,
+    memory: Memory,
+    shown: &'a Shown<N>,
+    way: Way,
+}
+
+fn number_of<N: PoolName>(board: &Board<N>) -> Seen {
+    match board.newest() {
+        Some(_) => [1, 0, 0, 0, 0, 0],
+        None => [0; 6],
+    }
+}
+
+impl<N: PoolName, R: Wait> Call for Showing<'_, N, R> {
+    type Value = Board<N>;
+
+    fn make(&self) -> Option<Board<N>> {
+        Board::new(self.memory).ok()
+    }
+
+    fn call(&self, board: &mut Board<N>) -> Option<Seen> {
+        match self.way {
+            Way::Make => {
+                let another = Board::<N>::new(self.memory).ok()?;
+                Some(number_of(&another))
+            }
+            Way::Show => {
+                show(self.rt, board, self.shown).ok()?;
+                Some(number_of(board))
+            }
+        }
+    }
+
+    fn look(&self, board: &Board<N>) -> Seen {
+        number_of(board)
+    }
+}
+
+fn try_way<N: PoolName, R: Wait>(rt: &R, memory: Memory, shown: &Shown<N>, way: Way) -> Trial {
+    let showing = Showing {
+        rt,
+        memory,
+        shown,
+        way,
+    };
+    under_each_refusal(&memory, &showing)
+}
+
+fn count_shown<N: PoolName + Send + Sync, R: Print + Threads + Wait + Sync>(
+    rt: &R,
+    memory: Memory,
+    shown: &Shown<N>,
+) -> io::Result<u64> {
+    let seen = see_board(rt, memory, shown);
+    let read = count(
+        rt,
+        "four threads read what is shown",
+        seen,
+        [5, 0, 0, 1, 0, 0],
+    )?;
+    let trial = try_way(rt, memory, shown, Way::Make);
+    let made = count_trial(rt, "a new board", trial, [0; 6], SOME)?;
+    let trial = try_way(rt, memory, shown, Way::Show);
+    let shown = count_trial(rt, "what is shown", trial, [1, 0, 0, 0, 0, 0], SOME)?;
+    Ok(read.wrapping_add(made).wrapping_add(shown))
+}
+
+fn of_name<N: PoolName + Send + Sync, R: Print + Threads + Wait + Sync>(
+    rt: &R,
+    memory: Memory,
+    name: NewName,
+    pool: &SeqPool,
+) -> io::Result<u64>
+    requires name { name ≡ head_of N.book N.root }
+    requires callers { N.callers ≡ 1 }
+    requires lawful { IsLawful N.accepts pool.now.pool }
+    requires unchanged { pool.now.pool.changes ≡ 0 }
+{
+    match open::<N>(memory, name, pool) {
+        Ok(shown) => count_shown(rt, memory, &shown),
+        Err(NoMemory) => count(rt, "boards", None, [0; 6]),
+    }
+}
+
+fn new_pool(samples: &Samples) -> Option<SeqPool>
+    ensures lawful { IfSome result (λ pool. IsLawful any pool.pool) }
+    ensures unchanged { IfSome result (λ pool. pool.pool.changes ≡ 0) }
+{
+    SeqPool::start(samples.memory, CONFIG, samples.ledger(PART)?).ok()
+}
+
+/// How many cases hold.
+pub fn held_boards<R: Print + Threads + Wait + Sync>(rt: &R, samples: &Samples) -> io::Result<u64> {
+    match new_pool(samples) {
+        Some(pool) => of_name::<Brand, R>(rt, samples.memory, NewName::new(), &pool),
+        None => count(rt, "boards", None, [0; 6]),
+    }
+}

@@ -1,0 +1,96 @@
+//! Pools, each with the version of it.
+ghost use Rattle.std.specs.Prelude.{◌≡◌, IfOk};
+ghost use Rattle.std.specs.Coded.{codes};
+ghost use Rattle.std.specs.FinMap as finite;
+ghost use Rattle.mp_seqpool.specs.Prepared.{IsPrepared, leads_to};
+
+use crate::samples::Samples;
+use crate::seqpool::{CONFIG, prepare};
+use crate::told::with_digit;
+use mp_memory::{Memory, NoMemory};
+use mp_seqpool::{Command, Prepared, SeqPool};
+use mp_testing::Seen;
+use mp_tx::Ledger;
+use mp_versions::{Run, Version};
+
+/// A pool, and the version of it.
+#[derive(Drop)]
+pub struct Both {
+    pub pool: SeqPool,
+    pub version: Version,
+    ghost same: { version.pool ≡ pool.pool } by { Prim.hlevel (codes, finite.code) },
+}
+
+/// The pool with a version that is made of all of it.
+pub fn whole(memory: Memory, pool: SeqPool) -> Option<Both> {
+    match Version::of(memory, &pool) {
+        Ok(version) => Some(Both { pool, version }),
+        Err(NoMemory) => None,
+    }
+}
+
+/// A pool with no transaction.
+pub fn start(memory: Memory, ledger: &Ledger) -> Option<Both> {
+    whole(memory, SeqPool::start(memory, CONFIG, ledger).ok()?)
+}
+
+/// The version after the step.
+pub fn next(memory: Memory, both: &Both, prepared: &Prepared) -> Result<Version, NoMemory>
+    requires { IsPrepared both.now.pool prepared.now }
+    ensures { IfOk result (λ v. v.pool ≡ leads_to both.now.pool.pool prepared.now) }
+{
+    both.version.after(memory, &both.pool, prepared)
+}
+
+// Takes the step, which leads to the version.
+fn take(both: &mut Both, prepared: Prepared, version: Version)
+    requires prepared { IsPrepared both.old.pool prepared }
+    requires next { version.pool ≡ leads_to both.old.pool.pool prepared }
+{
+    both.pool.finish(prepared);
+    both.version = version;
+}
+
+/// Does what the command asks. The version is made from the one before.
+pub fn step(memory: Memory, both: &mut Both, command: &Command) -> Option<()> {
+    let prepared = prepare(&mut both.pool, command).ok()?;
+    let version = next(memory, both, &prepared).ok()?;
+    take(both, prepared, version);
+    Some(())
+}
+
+/// Does what each command asks, in order.
+pub fn step_all(memory: Memory, both: &mut Both, commands: &[Command]) -> Option<()> {
+    for command in commands {
+        step(memory, both, command)?;
+    }
+    Some(())
+}
+
+/// A pool upon the ledger state that was asked these.
+pub fn asked(samples: &Samples, ledger: usize, commands: &[Command]) -> Option<Both> {
+    let mut both = start(samples.memory, samples.ledger(ledger)?)?;
+    step_all(samples.memory, &mut both, commands)?;
+    Some(both)
+}
+
+fn digits(run: Run<'_>) -> u64 {
+    let mut digits: u64 = 0;
+    for item in run {
+        digits = with_digit(digits, item.ticket);
+    }
+    digits
+}
+
+/// How many items there are, their bytes, the last ticket, the number, the ledger state's block bytes, and the tickets as the
+/// digits of a number: 1 and 2 are 12, and 0 is none.
+pub fn look_at(version: &Version) -> Seen {
+    [
+        version.len() as u64,
+        version.bytes(),
+        version.last_ticket(),
+        version.number(),
+        version.ledger().block_bytes(),
+        digits(version.contents()),
+    ]
+}

@@ -1,0 +1,104 @@
+//! Where chunks and pages end. A page has 4,096 items where all its chunks are full.
+use crate::rows::count;
+use crate::samples::Samples;
+use crate::versions::both::{Both, start, step};
+use mp_memory::{Memory, NoMemory};
+use mp_seqpool::Command;
+use mp_testing::{Seen, ledger, opening, transaction};
+use mp_versions::{Version, laws};
+use std::io;
+
+/// How many items the chunk at this place has, or 0 where there is no chunk.
+pub fn chunk_len(version: &Version, place: usize) -> u64 {
+    match laws::chunk(version, place) {
+        Some(items) => items.len() as u64,
+        None => 0,
+    }
+}
+
+// The number of the first chunk that isn't full, how many items it has, and how many the one behind it has. Without such a chunk
+// the last number is told.
+fn end(version: &Version) -> [u64; 3] {
+    for place in 0..u16::MAX {
+        let len = chunk_len(version, usize::from(place));
+        if len != 64 {
+            let behind = chunk_len(version, usize::from(place) + 1);
+            return [u64::from(place), len, behind];
+        }
+    }
+    [u64::MAX; 3]
+}
+
+fn end_anew(memory: Memory, both: &Both) -> [u64; 3] {
+    match Version::of(memory, &both.pool) {
+        Ok(version) => end(&version),
+        Err(NoMemory) => [u64::MAX; 3],
+    }
+}
+
+// Where the version ends, and where one does that is made of all of the pool.
+fn ends(memory: Memory, both: &Both) -> Seen {
+    let [a, b, c] = end(&both.version);
+    let [d, e, f] = end_anew(memory, both);
+    [a, b, c, d, e, f]
+}
+
+fn submit_opening(memory: Memory, both: &mut Both, index: u16) -> Option<()> {
+    let tx = transaction(memory, &[opening(index)], &[100]).ok()?;
+    step(memory, both, &Command::Submit(tx))
+}
+
+// Transactions that spend the openings from `first` up to `end` are submitted, each in its turn.
+fn submit_openings(memory: Memory, both: &mut Both, first: u16, end: u16) -> Option<()> {
+    for index in first..end {
+        submit_opening(memory, both, index)?;
+    }
+    Some(())
+}
+
+// How many are submitted, and with the first of them before: the number of the first chunk that isn't full, with the number of
+// its items.
+static ROWS: [(&str, [u16; 2], [u64; 2]); 6] = [
+    ("4,095 items", [0, 4_095], [63, 63]),
+    ("4,096 items", [4_095, 4_096], [64, 0]),
+    ("4,097 items", [4_096, 4_097], [64, 1]),
+    ("8,191 items", [4_097, 8_191], [127, 63]),
+    ("8,192 items", [8_191, 8_192], [128, 0]),
+    ("8,193 items", [8_192, 8_193], [128, 1]),
+];
+
+fn submit_and_see(memory: Memory, both: &mut Both, [first, end]: [u16; 2]) -> Option<Seen> {
+    submit_openings(memory, both, first, end)?;
+    Some(ends(memory, both))
+}
+
+fn count_row(
+    rt: &impl Print,
+    memory: Memory,
+    both: &mut Both,
+    row: &(&str, [u16; 2], [u64; 2]),
+) -> io::Result<u64> {
+    let (name, openings, [place, len]) = *row;
+    let seen = submit_and_see(memory, both, openings);
+    count(rt, name, seen, [place, len, 0, place, len, 0])
+}
+
+fn count_rows(rt: &impl Print, memory: Memory, both: &mut Both) -> io::Result<u64> {
+    let mut held = 0u64;
+    for row in &ROWS {
+        held = held.wrapping_add(count_row(rt, memory, both, row)?);
+    }
+    Ok(held)
+}
+
+fn roomy(memory: Memory) -> Option<Both> {
+    start(memory, &ledger(memory, 8_193, 1_000_000).ok()?)
+}
+
+/// How many cases hold.
+pub fn held_pages(rt: &impl Print, samples: &Samples) -> io::Result<u64> {
+    match roomy(samples.memory) {
+        Some(mut both) => count_rows(rt, samples.memory, &mut both),
+        None => count(rt, "pages", None, [0; 6]),
+    }
+}

@@ -1,0 +1,106 @@
+//! A chunk that a step leaves as it is is shared: its transactions get no further owner. The chunks of 129 have 64, 64 and 1
+//! transactions.
+ghost use Rattle.mp_seqpool.specs.Prepared.{IsPrepared};
+
+use crate::rows::count;
+use crate::samples::{ALL, HUNDRED, REMOVE_SEVENTIETH, Samples};
+use crate::seqpool::prepare;
+use crate::versions::both::{Both, asked, next};
+use mp_memory::{Memory, NoMemory};
+use mp_seqpool::{Command, Prepared};
+use mp_testing::Seen;
+use mp_versions::Version;
+use std::io;
+use std::sync::Arc;
+
+// How many owners the transaction under the ticket has, or 0 where there is none.
+fn owners(version: &Version, ticket: u64) -> usize {
+    match version.lookup(ticket) {
+        Some(tx) => Arc::strong_count(tx),
+        None => 0,
+    }
+}
+
+// How many owners the transactions under the tickets 1, 66 and 129 have: one of each chunk.
+fn owners_of_three(version: &Version) -> [usize; 3] {
+    [
+        owners(version, 1),
+        owners(version, 66),
+        owners(version, 129),
+    ]
+}
+
+// How many owners more each of them has than before.
+fn more(version: &Version, before: [usize; 3]) -> Seen {
+    let after = owners_of_three(version);
+    [
+        after[0].wrapping_sub(before[0]) as u64,
+        after[1].wrapping_sub(before[1]) as u64,
+        after[2].wrapping_sub(before[2]) as u64,
+        0,
+        0,
+        0,
+    ]
+}
+
+fn more_with(
+    made: &Result<Version, NoMemory>,
+    older: &Version,
+    before: [usize; 3],
+) -> Option<Seen> {
+    match made {
+        Ok(_) => Some(more(older, before)),
+        Err(NoMemory) => None,
+    }
+}
+
+fn more_after(memory: Memory, both: &Both, prepared: &Prepared) -> Option<Seen>
+    requires { IsPrepared both.now.pool prepared.now }
+{
+    let before = owners_of_three(&both.version);
+    more_with(&next(memory, both, prepared), &both.version, before)
+}
+
+fn more_after_step(memory: Memory, both: &mut Both, command: &Command) -> Option<Seen> {
+    let prepared = prepare(&mut both.pool, command).ok()?;
+    more_after(memory, both, &prepared)
+}
+
+fn more_renewed(memory: Memory, both: &Both) -> Option<Seen> {
+    let before = owners_of_three(&both.version);
+    more_with(&both.version.renewed(memory, 9), &both.version, before)
+}
+
+// A step, the sample that it does, and how many owners more the transactions have that stand under the tickets 1, 66 and 129 once
+// the version after it was made.
+static ROWS: [(&str, usize, Seen); 3] = [
+    ("what a submit shares", 129, [0, 0, 1, 0, 0, 0]),
+    (
+        "what a remove shares",
+        REMOVE_SEVENTIETH,
+        [0, 1, 0, 0, 0, 0],
+    ),
+    ("what a sync shares", HUNDRED, [0, 1, 0, 0, 0, 0]),
+];
+
+fn see_step(samples: &Samples, both: &mut Both, number: usize) -> Option<Seen> {
+    more_after_step(samples.memory, both, samples.command(number)?)
+}
+
+fn count_rows(rt: &impl Print, samples: &Samples, both: &mut Both) -> io::Result<u64> {
+    let renewed = more_renewed(samples.memory, both);
+    let mut held = count(rt, "what a renewed version shares", renewed, [0; 6])?;
+    for (name, number, wanted) in &ROWS {
+        let seen = see_step(samples, both, *number);
+        held = held.wrapping_add(count(rt, name, seen, *wanted)?);
+    }
+    Ok(held)
+}
+
+/// How many cases hold.
+pub fn held_shares(rt: &impl Print, samples: &Samples) -> io::Result<u64> {
+    match asked(samples, ALL, samples.commands(0, 129)) {
+        Some(mut both) => count_rows(rt, samples, &mut both),
+        None => count(rt, "shares", None, [0; 6]),
+    }
+}
