@@ -40,7 +40,7 @@ fn make_block<N: PoolName>(
     mempool: &Mempool<N, RefusesAll>,
     pass: &mut Pass<N>,
 ) -> Result<Receipt> {
-    let snapshot = mempool.snapshot(pass);
+    let snapshot = mempool.reader().snapshot(pass);
     let (count, bytes) = snapshot.size();
     println!(rt; "pool {count} transactions {bytes} bytes")?;
     let block = fill(memory, snapshot.take(BLOCK_BYTES))?;

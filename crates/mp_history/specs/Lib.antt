@@ -1,4 +1,5 @@
 pub mod Entry
+pub mod Caller
 pub mod Log
 pub mod AuditFault
 pub mod World

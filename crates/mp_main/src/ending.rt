@@ -48,7 +48,9 @@ pub fn end_explained(
 }
 
 /// Where a word of the command line is no text: 2, or 1 where there is no memory for it.
-pub fn end_unworded(rt: &HostRuntime, error: io::Error) -> ExitCode {
+pub fn end_unworded(rt: &HostRuntime, error: io::Error) -> ExitCode
+    ensures { exit_status result ≢ 0 }
+{
     let _ = rt.eprintln(format_args!("keltuvar: the command line can't be read: {error}"));
     match error.kind() {
         io::ErrorKind::OutOfMemory => ExitCode::FAILURE,

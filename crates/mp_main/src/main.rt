@@ -2,11 +2,10 @@
 //! It ends with status 0, with 1 at a fault, and with 2 where the command line is refused.
 #![tactic(auto)]
 
-mod command_line;
 mod ending;
 
-use command_line::{Asked, asked_run};
 use ending::{end_explained, end_run, end_unparsed, end_unread, end_unworded};
+use mp_command_line::{Asked, asked_run};
 use mp_driver::{Fault, run};
 use mp_memory::Memory;
 use mp_text::{InputFault, read_all};

@@ -1,25 +1,21 @@
 -- What a pool opens with.
 use Rattle.std.specs.Prelude.{◌≡◌, ℕ, ◌^◌, nat_le, ◌&&◌, [], List, map, Option, None, Some, if◌then◌else◌}
-use Rattle.std.specs.List.{range_with_len}
 use Rattle.mp_tx.specs.Ledger.{LedgerState}
 use Rattle.mp_seqpool.specs.SlowPool.{empty_pool}
 use Rattle.mp_history.specs.Log.{Log}
+use Rattle.mp_history.specs.Caller.{new_callers}
 use Rattle.mp_mempool.specs.declared.config.Config.{Config}
 use Rattle.mp_mempool.specs.declared.refusal.OpenRefusal.{OpenRefusal}
 use Rattle.mp_mempool.specs.declared.refusal.OpenRefusal.TheVariants.{NoMemory, BadCallers, BadLimit}
-use Rattle.mp_mempool.specs.Pass.{Pass}
+use Rattle.mp_mempool.specs.Pass.{Pass, pass_of}
 
 -- a pool with no transaction and no entry
 abbrev pub fresh_log : Config → LedgerState → Log
 fresh_log config ledger = record { opening = empty_pool config.limit config.last ledger; entries = [] }
 
--- the pass of a caller that hasn't asked anything
-abbrev pub fresh_pass : Log → ℕ → Pass
-fresh_pass log caller = record { caller = caller; last = None; front = log }
-
--- one for each number below that of the callers, in order
+-- a pass for each number below that of the callers, in order: none has made an entry
 abbrev pub fresh_passes : ℕ → Log → List Pass
-fresh_passes callers log = map (fresh_pass log) (range_with_len 0 callers)
+fresh_passes callers log = map (pass_of log) (new_callers callers)
 
 abbrev pub number : OpenRefusal → ℕ
 number NoMemory = 1

@@ -1,6 +1,7 @@
 -- What a caller has of the pool.
 use Rattle.std.specs.Prelude.{◌≡◌, ℕ, Option, IfSome, IsSomeAnd, slice_get}
 use Rattle.mp_history.specs.Log.{Log}
+use Rattle.mp_history.specs.Caller.{Caller}
 
 pub record Pass : Type 0 where
   -- the caller's number
@@ -9,6 +10,10 @@ pub record Pass : Type 0 where
   pub last : Option ℕ
   -- the history that it has seen
   pub front : Log
+
+-- the pass of a caller that has seen this history
+abbrev pub pass_of : Log → Caller → Pass
+pass_of log c = record { caller = c.number; last = c.last; front = log }
 
 -- an entry of the caller stands at this place of the history
 abbrev pub IsEntryOf : ℕ → Log → ℕ → Type 0

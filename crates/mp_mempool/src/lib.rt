@@ -4,20 +4,22 @@
 
 mod config;
 mod early;
-pub mod laws;
 mod locked;
 mod mempool;
 mod opening;
 mod pass;
+mod reader;
 mod ready;
 mod receipt;
 mod refusal;
 mod trial;
+pub mod under_lock;
 
 pub use config::Config;
 pub use locked::Locked;
 pub use mempool::Mempool;
 pub use pass::Pass;
+pub use reader::Reader;
 pub use receipt::Receipt;
 pub use refusal::{OpenRefusal, Refusal};
 pub use trial::SnapshotFor;

@@ -1,5 +1,5 @@
 //! What the pool's lock guards.
-ghost use Rattle.std.specs.Prelude.{◌≡◌, ◌<◌, ◌≢◌, ◌^◌, true, false, length, IfSome, IfOk, IfErr};
+ghost use Rattle.std.specs.Prelude.{◌≡◌, ◌<◌, ◌≢◌, ◌^◌, true, false, length, Some, IfSome, IfOk, IfErr};
 ghost use Rattle.std.specs.Arc.{arc_value};
 ghost use Rattle.mp_rules.specs.Checked.{IsChecked};
 ghost use Rattle.mp_seqpool.specs.Command.{Submit, Remove, Sync};
@@ -57,7 +57,7 @@ impl<N: PoolName> Model for Locked<N> {
 
 // The entry that tells of the step.
 fn entry_of<N: PoolName>(caller: &Caller<N>, prepared: &Prepared) -> Result<Entry, NoMemory>
-    ensures caller { IfOk result (λ e. e.caller ≡ caller.now) }
+    ensures caller { IfOk result (λ e. e.caller ≡ caller.now.number) }
     ensures command { IfOk result (λ e. e.command ≡ prepared.now.command) }
     ensures reply { IfOk result (λ e. e.reply ≡ prepared.now.reply) }
 {
@@ -136,7 +136,7 @@ impl<N: PoolName> Locked<N> {
 
     /// The place of the caller's last entry.
     pub fn last_of(&self, caller: &Caller<N>) -> Option<u64>
-        ensures { result ≡ last_of caller.now self.now.log.entries }
+        ensures { result ≡ last_of caller.now.number self.now.log.entries }
     {
         self.places[caller.number() as usize]
     }
@@ -163,7 +163,7 @@ impl<N: PoolName> Locked<N> {
         entry: &Entry,
         prepared: &Prepared,
     ) -> Result<Owners, NoMemory>
-        requires caller { entry.now.caller ≡ caller.now }
+        requires caller { entry.now.caller ≡ caller.now.number }
         requires asked { entry.now.command ≡ prepared.now.command }
         requires reply { entry.now.reply ≡ prepared.now.reply }
         requires prepares { Prepares N.accepts (holding N.accepts self.now)
@@ -182,7 +182,7 @@ impl<N: PoolName> Locked<N> {
         entry: &Entry,
         prepared: &Prepared,
     ) -> Result<Version, NoMemory>
-        requires caller { entry.now.caller ≡ caller.now }
+        requires caller { entry.now.caller ≡ caller.now.number }
         requires asked { entry.now.command ≡ prepared.now.command }
         requires reply { entry.now.reply ≡ prepared.now.reply }
         requires prepares { Prepares N.accepts (holding N.accepts self.now)
@@ -204,7 +204,7 @@ impl<N: PoolName> Locked<N> {
         requires { Prepares N.accepts (holding N.accepts self.now)
             prepared.now.command prepared.now }
         ensures { IfOk result (Tells N.accepts N.callers
-            self.now.log caller.now prepared.now) }
+            self.now.log caller.now.number prepared.now) }
     {
         let entry = entry_of(caller, prepared)?;
         let owners = self.own_next(memory, caller, &entry, prepared)?;
@@ -219,7 +219,7 @@ impl<N: PoolName> Locked<N> {
         prepared: Prepared,
     ) -> Result<Ready, Refusal>
         requires { Prepares N.accepts (holding N.accepts self.now) prepared.command prepared }
-        ensures ready { IfOk result (IsReady N.accepts N.callers self.now caller.now) }
+        ensures ready { IfOk result (IsReady N.accepts N.callers self.now caller.now.number) }
         ensures command { IfOk result (λ r. r.prepared.command ≡ prepared.command) }
         ensures refused { IfErr result (λ r. r ≡ refusals.NoMemory) }
     {
@@ -229,41 +229,7 @@ impl<N: PoolName> Locked<N> {
         }
     }
 
-    // What the sequential pool prepares for a transaction that wasn't looked at.
-    fn prepare_unchecked<V: Verifier>(
-        &mut self,
-        tx: &Arc<Tx, Memory>,
-        verifier: &V,
-    ) -> Result<Prepared, Refusal>
-        requires { V.accepts verifier.now ≡ N.accepts }
-        ensures same { self.new.log ≡ self.old.log }
-        ensures ready { IfOk result (Prepares N.accepts
-            (holding N.accepts self.new) (Submit (arc_value tx.now))) }
-        ensures refused { IfErr result (slow.IsRefused N.accepts
-            (state_after N.accepts self.old.log) (Submit (arc_value tx.now))) }
-    {
-        self.pool.prepare_submit(tx, verifier)
-    }
-
-    // What the sequential pool prepares for a transaction that was looked at.
-    fn prepare_checked<V: Verifier>(
-        &mut self,
-        tx: &Arc<Tx, Memory>,
-        checked: &Checked,
-        verifier: &V,
-    ) -> Result<Prepared, Refusal>
-        requires verifier { V.accepts verifier.now ≡ N.accepts }
-        requires checked { IsChecked N.accepts (arc_value tx.now) checked.now }
-        ensures same { self.new.log ≡ self.old.log }
-        ensures ready { IfOk result (Prepares N.accepts
-            (holding N.accepts self.new) (Submit (arc_value tx.now))) }
-        ensures refused { IfErr result (slow.IsRefused N.accepts
-            (state_after N.accepts self.old.log) (Submit (arc_value tx.now))) }
-    {
-        self.pool.prepare_submit_with(tx, checked, verifier)
-    }
-
-    // What the sequential pool prepares for the transaction.
+    // What the sequential pool prepares for the transaction, with what was found of it before.
     fn prepare_in_pool<V: Verifier>(
         &mut self,
         tx: &Arc<Tx, Memory>,
@@ -278,10 +244,7 @@ impl<N: PoolName> Locked<N> {
         ensures refused { IfErr result (slow.IsRefused N.accepts
             (state_after N.accepts self.old.log) (Submit (arc_value tx.now))) }
     {
-        match checked {
-            Some(checked) => self.prepare_checked(tx, checked, verifier),
-            None => self.prepare_unchecked(tx, verifier),
-        }
+        self.pool.prepare_submit(tx, checked, verifier)
     }
 
     /// Prepares to take the transaction in, with what was found of it before, and makes everything ready.
@@ -296,7 +259,7 @@ impl<N: PoolName> Locked<N> {
         requires verifier { V.accepts verifier.now ≡ N.accepts }
         requires checked { IfSome checked (λ c. IsChecked N.accepts (arc_value tx.now) c.now) }
         ensures same { self.new.log ≡ self.old.log }
-        ensures ready { IfOk result (IsReady N.accepts N.callers self.new caller.now) }
+        ensures ready { IfOk result (IsReady N.accepts N.callers self.new caller.now.number) }
         ensures command { IfOk result (λ r. r.prepared.command ≡ Submit (arc_value tx.now)) }
         ensures refused { IfErr result (slow.IsRefused N.accepts
             (state_after N.accepts self.old.log) (Submit (arc_value tx.now))) }
@@ -331,7 +294,7 @@ impl<N: PoolName> Locked<N> {
         verifier: &V,
     ) -> Result<Ready, Refusal>
         requires { V.accepts verifier.now ≡ N.accepts }
-        ensures ready { IfOk result (IsReady N.accepts N.callers self.now caller.now) }
+        ensures ready { IfOk result (IsReady N.accepts N.callers self.now caller.now.number) }
         ensures command { IfOk result (λ r. r.prepared.command ≡ Remove (arc_value ids.now)) }
         ensures refused { IfErr result (slow.IsRefused N.accepts
             (state_after N.accepts self.now.log) (Remove (arc_value ids.now))) }
@@ -366,7 +329,7 @@ impl<N: PoolName> Locked<N> {
         verifier: &V,
     ) -> Result<Ready, Refusal>
         requires { V.accepts verifier.now ≡ N.accepts }
-        ensures ready { IfOk result (IsReady N.accepts N.callers self.now caller.now) }
+        ensures ready { IfOk result (IsReady N.accepts N.callers self.now caller.now.number) }
         ensures command { IfOk result (λ r. r.prepared.command ≡ Sync ledger.now) }
         ensures refused { IfErr result (slow.IsRefused N.accepts
             (state_after N.accepts self.now.log) (Sync ledger.now)) }
@@ -388,32 +351,31 @@ impl<N: PoolName> Locked<N> {
         self.pool.changes()
     }
 
-    /// Commits the entry, takes the step, and gives the receipt with the version for the caller's pass. It takes no memory and
-    /// can't fail.
+    /// Commits the entry, takes the step, and gives the receipt. The pass has then seen the version after it. It takes no memory
+    /// and can't fail.
     pub(crate) fn commit(
         &mut self,
         history: &History<N>,
-        caller: &Caller<N>,
+        pass: &mut Pass<N>,
         ready: Ready,
-    ) -> (Receipt, Shown<N>)
-        requires { IsReady N.accepts N.callers self.old caller.now ready }
+    ) -> Receipt
+        requires { IsReady N.accepts N.callers self.old pass.old.caller ready }
         ensures log { self.new.log ≡ entered self.old.log ready.outcome.entry }
-        ensures place { result.0.place ≡ length self.old.log.entries }
-        ensures entry { result.0.entry ≡ ready.outcome.entry }
-        ensures shown { result.1 ≡ self.new.log }
+        ensures place { result.place ≡ length self.old.log.entries }
+        ensures entry { result.entry ≡ ready.outcome.entry }
+        ensures pass { pass.new ≡ record pass.old {
+            last = Some (length self.old.log.entries); front = self.new.log } }
     {
         let Ready { prepared, outcome } = ready;
         let Outcome { entry, owners } = outcome;
         let place = self.next_place();
-        history.commit(&mut self.right, caller, &entry);
+        let number = pass.caller() as usize;
+        pass.commit(history, &mut self.right, &entry, owners.for_pass);
         take_step(&mut self.pool, prepared);
-        self.places[caller.number() as usize] = Some(place);
+        self.places[number] = Some(place);
         self.newest = Shown::of(owners.for_lock, self.right.front());
         self.waiting = Some(Shown::of(owners.for_board, self.right.front()));
-        (
-            Receipt { place, entry },
-            Shown::of(owners.for_pass, self.right.front()),
-        )
+        Receipt { place, entry }
     }
 
     /// Shows the version that waits, if one does. Where memory is wanting it waits on.

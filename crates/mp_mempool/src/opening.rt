@@ -1,8 +1,9 @@
 //! How a pool opens.
-ghost use Rattle.std.specs.Prelude.{◌≡◌, ◌≤◌, ◌^◌, [], map, length, replicate, None, Some, IfNone, IfOk};
+ghost use Rattle.std.specs.Prelude.{◌≡◌, ◌≤◌, ◌^◌, [], All, map, length, replicate, None, Some, IfNone, IfOk};
 ghost use Rattle.mp_history.specs.Log.{IsLegalLog};
 ghost use Rattle.mp_history.specs.PoolName.{head_of};
-ghost use Rattle.mp_mempool.specs.Opening.{fresh_log, fresh_pass, fresh_passes, open_fault};
+ghost use Rattle.mp_mempool.specs.Opening.{fresh_log, fresh_passes, open_fault};
+ghost use Rattle.mp_mempool.specs.Pass.{pass_of};
 
 use crate::config::Config;
 use crate::locked::Locked;
@@ -53,7 +54,8 @@ fn give_passes<N: PoolName>(
     callers: Vec<Caller<N>, Memory>,
     shown: &Shown<N>,
 ) -> Result<Vec<Pass<N>, Memory>, NoMemory>
-    ensures { IfOk result (λ passes. passes.items ≡ map (fresh_pass shown.now) callers.items) }
+    requires { All (λ c. c.last ≡ None) callers.items }
+    ensures { IfOk result (λ passes. passes.items ≡ map (pass_of shown.now) callers.items) }
 {
     let mut passes = Vec::with_capacity(memory, callers.len())?;
     for caller in callers {
@@ -116,8 +118,9 @@ fn open_desk<N: PoolName>(
     shown: &Shown<N>,
     callers: u32,
 ) -> Result<Desk<N>, NoMemory>
+    requires { All (λ c. c.last ≡ None) tokens.items }
     ensures passes { IfOk result (λ desk. desk.passes.items
-        ≡ map (fresh_pass shown.now) tokens.items) }
+        ≡ map (pass_of shown.now) tokens.items) }
     ensures places { IfOk result (λ desk. desk.places.items ≡ replicate callers None) }
 {
     let passes = give_passes(memory, tokens, shown)?;
@@ -157,8 +160,9 @@ fn open_upon<N: PoolName>(
     requires state { opened.1 ≡ record { opening = pool.pool; entries = [] } }
     requires legal { IsLegalLog N.accepts N.callers opened.1 }
     requires number { callers ≡ N.callers }
+    requires fresh { All (λ c. c.last ≡ None) opened.2.items }
     ensures { IfOk result (λ parts. parts.passes.items
-        ≡ map (fresh_pass opened.1) opened.2.items) }
+        ≡ map (pass_of opened.1) opened.2.items) }
 {
     let (history, right, tokens) = opened;
     let shown = first_version(memory, &pool, &right)?;

@@ -1,11 +1,15 @@
 //! The token of one caller.
-ghost use Rattle.std.specs.Prelude.{◌≡◌, ◌<◌, ◌≤◌, length};
-ghost use Rattle.mp_history.specs.Log.{Begins, IsLegalLog};
-ghost use Rattle.mp_mempool.specs.Pass.{IsEntryOf, IsOwn};
+ghost use Rattle.std.specs.Prelude.{◌≡◌, ◌<◌, ◌≤◌, ◌^◌, length};
+ghost use Rattle.std.specs.Arc.{arc_value};
+ghost use Rattle.mp_history.specs.Log.{Begins, IsLegalLog, entered};
+ghost use Rattle.mp_versions.specs.Shown.{IsVersionOf};
+ghost use Rattle.mp_mempool.specs.Pass.{IsOwn, pass_of};
 
-use mp_history::{Caller, Front, PoolName};
-use mp_versions::{Shown, Snapshot};
+use mp_history::{Caller, CommitRight, Entry, Front, History, PoolName};
+use mp_memory::Memory;
+use mp_versions::{Shown, Snapshot, Version};
 use std::marker::Model;
+use std::sync::Arc;
 
 /// The token of one caller of the pool: with it the caller asks, and it holds what the caller has seen. It comes with the pool,
 /// one for each caller; it can't be cloned, and nothing else makes one. It never goes back: what it holds is only replaced by
@@ -14,7 +18,6 @@ use std::marker::Model;
 #[derive(Drop)]
 pub struct Pass<N: PoolName> {
     caller: Caller<N>,
-    last: Option<u64>,
     shown: Shown<N>,
 }
 
@@ -27,34 +30,41 @@ impl<N: PoolName> Model for Pass<N> {
 
     ghost coded = { Prim.hlevel (codes, finite.code) };
 
-    ghost view = { λ p. record { caller = p.caller; last = p.last; front = p.shown } };
+    ghost view = { λ p. told.pass_of p.shown p.caller };
 
-    ghost invariant = { λ p. told.IsOwn
-        (record { caller = p.caller; last = p.last; front = p.shown }) };
+    ghost invariant = { λ p. told.IsOwn (told.pass_of p.shown p.caller) };
 }
 
 impl<N: PoolName> Pass<N> {
     ghost use Rattle.std.specs.Prelude.{None, Some, length};
-    ghost use Rattle.mp_mempool.specs.Pass as told;
 
     /// The pass of a caller that hasn't made an entry.
     pub(crate) fn of(caller: Caller<N>, shown: Shown<N>) -> Pass<N>
-        ensures { result ≡ record { caller = caller; last = None; front = shown } }
+        requires { caller.last ≡ None }
+        ensures { result ≡ pass_of shown caller }
     {
-        Pass {
-            caller,
-            last: None,
-            shown,
-        }
+        Pass { caller, shown }
     }
 
-    /// The caller made the entry at this place, and has seen the version.
-    pub(crate) fn enter(&mut self, place: u64, shown: Shown<N>)
-        requires { IsEntryOf self.old.caller shown place }
-        ensures { self.new ≡ record self.old { last = Some place; front = shown } }
+    /// Enters the caller's entry last; the caller has then seen the version after it. Nothing else
+    /// enters an entry, so each leaves its place here.
+    pub(crate) fn commit(
+        &mut self,
+        history: &History<N>,
+        right: &mut CommitRight<N>,
+        entry: &Entry,
+        version: Arc<Version, Memory>,
+    )
+        requires room { length right.old.entries < 2 ^ 32 }
+        requires own { entry.now.caller ≡ self.old.caller }
+        requires version { IsVersionOf N.accepts N.callers
+            (entered right.old entry.now) (arc_value version) }
+        ensures right { right.new ≡ entered right.old entry.now }
+        ensures pass { self.new ≡ record self.old {
+            last = Some (length right.old.entries); front = right.new } }
     {
-        self.last = Some(place);
-        self.shown = shown;
+        history.commit(right, &mut self.caller, entry);
+        self.shown = Shown::of(version, right.front());
     }
 
     /// The caller has seen the version, which extends what it had seen.
@@ -82,7 +92,7 @@ impl<N: PoolName> Pass<N> {
 
     /// The token of the caller.
     pub(crate) fn token(&self) -> &Caller<N>
-        ensures { result.now ≡ self.now.caller }
+        ensures { result.now.number ≡ self.now.caller }
     {
         &self.caller
     }
@@ -100,7 +110,7 @@ impl<N: PoolName> Pass<N> {
         ensures last { result ≡ self.now.last }
         ensures own { IsOwn self.now }
     {
-        self.last
+        self.caller.last()
     }
 
     /// The front of what the caller has seen.

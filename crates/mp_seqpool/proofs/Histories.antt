@@ -62,7 +62,7 @@ take-within (suc m) (suc n) (c ∷ cs) le = ap (λ r. c ∷ r) (take-within m n 
 -- ---- states, whatever the verifier accepts
 
 Follows : Pool → Pool → Type 0
-Follows p q = (p.last ≤ q.last) × Lasts p q
+Follows p q = (p.last ≤ q.last) × All (λ i. i.0 ≤ p.last → Contains p.items i) q.items
 
 follows_itself : (p : Pool) → Follows p p
 unfolding Follows
@@ -188,7 +188,8 @@ module _ (accepts : Accepts) where
   unfolding Follows
   lasting p cs m n le =
       let q = pool_after accepts p (take m cs) in
-      subst (Lasts q) (sym (ap (pool_after accepts p) (sym (take-append-drop m (take n cs)) ∙ ap (λ r. r ++ drop m (take n cs)) (take-within m n cs le)) ∙ pool_after-append p (take m cs) (drop m (take n cs)))) (follows-after q q (drop m (take n cs)) (follows_itself q)).1
+      let f = follows-after q q (drop m (take n cs)) (follows_itself q) in
+      subst (Lasts q) (sym (ap (pool_after accepts p) (sym (take-append-drop m (take n cs)) ∙ ap (λ r. r ++ drop m (take n cs)) (take-within m n cs le)) ∙ pool_after-append p (take m cs) (drop m (take n cs)))) (record { last = f.0; kept = f.1 })
 
   -- only a submit gives a ticket
   gives_next : (p : Pool) (c : Command) → GivesNext accepts p c

@@ -181,6 +181,8 @@ module _ (accepts : Accepts) where
           change = change;
           fits = subst (CanChange h) (sym keeps) (is.applied ∙ sym (ap transactions left));
           tells = leads ∙ sym (ap (λ c. told h.pool c q.reply) command ∙ ap (told h.pool (Remove ids)) reply ∙ ap (pool_upon h.pool h.pool.ledger) (apart_left h.pool.ledger ids h.pool.items k rising is));
+          accepts = accepts;
+          reply = ap (answer accepts h.pool) command ∙ yes ∙ sym (ap Ok reply);
         };
       }
 
@@ -199,6 +201,8 @@ module _ (accepts : Accepts) where
           change = change;
           fits = subst (CanChange h) (sym keeps) (is.applied ∙ sym (ap transactions left));
           tells = leads ∙ sym (ap (λ c. told h.pool c q.reply) command ∙ ap (told h.pool (Sync ledger)) reply ∙ ap (pool_upon h.pool ledger) (apart_synced ledger h.pool.items k rising is));
+          accepts = accepts;
+          reply = ap (answer accepts h.pool) command ∙ yes ∙ sym (ap Ok reply);
         };
       }
 

@@ -23,7 +23,7 @@ use Rattle.mp_seqpool.specs.Inside.SeqPool.{state, IsCounted}
 use Rattle.mp_seqpool.specs.Command.{Submit}
 use Rattle.mp_rules.specs.Resolved.{Resolved}
 use Rattle.mp_seqpool.specs.Pool.{Pool, Holding}
-use Rattle.mp_seqpool.specs.Prepared.{Prepared, Append, changed, IsPrepared, Prepares}
+use Rattle.mp_seqpool.specs.Prepared.{Prepared, Append, changed, HasRoom, Prepares}
 use Rattle.mp_seqpool.specs.SlowPool.{free_bytes, ticket_of, unspent, HasPlace, answer_rules, answer_new, answer, pool_with, next, IsRefused}
 use Rattle.mp_rules.specs.Checked.{ScriptsAccept}
 use Rattle.mp_tickets.specs.Tickets.{IsRising}
@@ -160,12 +160,18 @@ module _ (accepts : Accepts) where
 
   -- the step of a submit that nothing refuses
   pub ready : (was : Pool) (h : Holding) (t : Transaction) (resolved : Resolved) (q : Prepared) → h.pool ≡ was → misplaced was t ≡ None → first_fault accepts (unspent was) was.ledger.tick t ≡ None
-      → q.command ≡ Submit t → q.reply ≡ Accepted (was.last + 1) → q.change ≡ Append (record { tx = t; resolved = resolved }) → IsPrepared h q → Prepares accepts h (Submit t) q
-  ready was h t resolved q same place clear command reply change prepared =
+      → q.command ≡ Submit t → q.reply ≡ Accepted (was.last + 1) → q.change ≡ Append (record { tx = t; resolved = resolved }) → HasRoom h q → Prepares accepts h (Submit t) q
+  ready was h t resolved q same place clear command reply change room =
       let yes : answer accepts h.pool (Submit t) ≡ Ok (Accepted (was.last + 1)) = ap (λ p. answer accepts p (Submit t)) same ∙ accepted was t place clear in
       record {
         command = command;
         reply = yes ∙ sym (ap Ok reply);
         leads = next-accepted h.pool t _ yes ∙ sym (ap (changed h.pool) change);
-        prepared = prepared;
+        prepared = record {
+          change = room.change;
+          fits = room.fits;
+          tells = room.tells;
+          accepts = accepts;
+          reply = ap (answer accepts h.pool) command ∙ yes ∙ sym (ap Ok reply);
+        };
       }

@@ -11,9 +11,12 @@ use Rattle.mp_resync.specs.Keep.{transactions, tickets}
 use Rattle.mp_seqpool.specs.Pool.{Pool}
 use Rattle.mp_seqpool.specs.SlowPool.{answer, next, pool_after}
 
--- Two states: what the later one has under a ticket of the earlier one stood there under that ticket.
-abbrev pub Lasts : Pool → Pool → Type 0
-Lasts p q = All (λ i. i.0 ≤ p.last → Contains p.items i) q.items
+-- Two states, p and a later one.
+pub record Lasts (p q : Pool) : Type 0 where
+  -- the last ticket doesn't fall
+  pub last : p.last ≤ q.last
+  -- what q has under a ticket that p had given stood in p under that ticket
+  pub kept : All (λ i. i.0 ≤ p.last → Contains p.items i) q.items
 
 -- The verifier decides which signatures are good.
 module _ (accepts : Accepts) where
@@ -38,7 +41,8 @@ module _ (accepts : Accepts) where
   pub record ObeysLaws (p : Pool) (cs : List Command) : Type 0 where
     -- each of them is lawful
     pub lawful : (n : ℕ) → IsLawful (pool_after accepts p (take n cs))
-    -- of each two of them, the later one has under the earlier one's tickets only what stood there
+    -- of each two of them, the later one keeps the earlier one's last ticket, or a greater one, and has under its tickets only what
+    -- stood there
     pub lasting : (m n : ℕ) → m ≤ n → Lasts (pool_after accepts p (take m cs)) (pool_after accepts p (take n cs))
     -- whatever is asked there, a ticket that is given is the next one
     pub next_ticket : (n : ℕ) (c : Command) → GivesNext (pool_after accepts p (take n cs)) c

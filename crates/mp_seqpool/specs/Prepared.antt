@@ -62,13 +62,23 @@ abbrev pub CanChange : Holding → Change → Type 0
 CanChange h (Append item) = CanAppend h item
 CanChange h (Keep overlay kept) = overlay.applied ≡ transactions (among kept h.pool.items)
 
--- The pool can take the step: so it is from the call that prepared it until the next one on this pool.
-pub record IsPrepared (h : Holding) (q : Prepared) : Type 0 where
+-- The pool has room for the step, whatever the slow pool says of it.
+pub record HasRoom (h : Holding) (q : Prepared) : Type 0 where
   -- one more change may be made
   pub change : h.pool.changes < h.pool.limit
   pub fits : CanChange h q.change
   -- it does what its command and its reply tell
   pub tells : leads_to h.pool q ≡ told h.pool q.command q.reply
+
+-- The pool can take the step: there is room, and its reply is the slow pool's upon this state. So it is from the call that prepared it
+-- until the next one on this pool, and no more where the slow pool would answer otherwise since.
+pub record IsPrepared (h : Holding) (q : Prepared) : Type 0 where
+  pub change : h.pool.changes < h.pool.limit
+  pub fits : CanChange h q.change
+  pub tells : leads_to h.pool q ≡ told h.pool q.command q.reply
+  -- which signatures were good when it was prepared
+  pub accepts : Accepts
+  pub reply : answer accepts h.pool q.command ≡ Ok q.reply
 
 -- The step is the slow pool's: it has the command and the reply to it, and leads to the state after it.
 pub record Prepares (accepts : Accepts) (h : Holding) (c : Command) (q : Prepared) : Type 0 where

@@ -119,7 +119,7 @@ fn sync_step(adopted: Ledger, left: Kept) -> Result<Prepared, NoMemory>
 }
 
 impl SeqPool {
-    ghost use Rattle.std.specs.Prelude.{◌≡◌, ◌≢◌, ◌+◌, ◌≤◌, ◌^◌, ◌==◌, List, [], length, All, None, IfNone, IfOk, IfErr, OnOk, OnErr, Ok};
+    ghost use Rattle.std.specs.Prelude.{◌≡◌, ◌≢◌, ◌+◌, ◌≤◌, ◌^◌, ◌==◌, List, [], length, All, None, IfNone, IfSome, IfOk, IfErr, OnOk, OnErr, Ok};
     ghost use Rattle.std.specs.Arc.{arc_value};
     ghost use Rattle.std.specs.Map.Iter.{ShowsInOrder};
     ghost use Rattle.mp_tx.specs.Spelling.{id_of};
@@ -135,7 +135,7 @@ impl SeqPool {
     ghost use Rattle.mp_seqpool.specs.Command.{Submit, Remove, Sync};
     ghost use Rattle.mp_seqpool.specs.Config.{fresh_pool, renewed};
     ghost use Rattle.mp_seqpool.specs.SlowPool.{answer, next, IsRefused, AreSigned, bytes_held, unspent, ticket_of, HasPlace, pool_with, pool_upon};
-    ghost use Rattle.mp_seqpool.specs.Prepared.{Append, Keep, CanAppend, Prepares, IsPrepared, leads_to};
+    ghost use Rattle.mp_seqpool.specs.Prepared.{Append, Keep, CanAppend, HasRoom, Prepares, IsPrepared, leads_to};
     ghost use Rattle.mp_seqpool.specs.declared.command.Reply.TheVariants.{Accepted};
     ghost use Rattle.mp_seqpool.specs.Inside.Command.{command_of};
 
@@ -181,26 +181,14 @@ impl SeqPool {
         None
     }
 
-    // Checks the rules after all transactions of the pool.
-    fn check_rules<V: Verifier>(&self, tx: &Tx, verifier: &V) -> Result<Resolved, Refusal>
-        ensures clear { OnOk result (first_fault (V.accepts verifier.now)
-            (unspent self.now.pool) self.now.pool.ledger.tick tx.now ≡ None) }
-        ensures scripts { IfOk result (ScriptsAccept tx.now) }
-        ensures fault { IfErr result
-            (IsBrokenRule (V.accepts verifier.now) self.now.pool tx.now) }
-    {
-        let tick = self.overlay.ledger().tick();
-        Ok(check(self.memory, tx, &self.overlay, tick, verifier)?)
-    }
-
-    // The same with what was found of its signatures and scripts before.
-    fn check_rules_with<V: Verifier>(
+    // Checks the rules after all transactions of the pool, with what was found of its signatures and scripts before.
+    fn check_rules<V: Verifier>(
         &self,
         tx: &Tx,
-        checked: &Checked,
+        checked: Option<&Checked>,
         verifier: &V,
     ) -> Result<Resolved, Refusal>
-        requires { IsChecked (V.accepts verifier.now) tx.now checked.now }
+        requires { IfSome checked (λ c. IsChecked (V.accepts verifier.now) tx.now c.now) }
         ensures clear { OnOk result (first_fault (V.accepts verifier.now)
             (unspent self.now.pool) self.now.pool.ledger.tick tx.now ≡ None) }
         ensures scripts { IfOk result (ScriptsAccept tx.now) }
@@ -208,7 +196,11 @@ impl SeqPool {
             (IsBrokenRule (V.accepts verifier.now) self.now.pool tx.now) }
     {
         let tick = self.overlay.ledger().tick();
-        Ok(check_with(self.memory, tx, &self.overlay, tick, checked, verifier)?)
+        let found = match checked {
+            Some(checked) => check_with(self.memory, tx, &self.overlay, tick, checked, verifier),
+            None => check(self.memory, tx, &self.overlay, tick, verifier),
+        };
+        Ok(found?)
     }
 
     // The step that takes the transaction in. All memory for it is taken.
@@ -225,13 +217,15 @@ impl SeqPool {
         ensures reply { IfOk result (λ q. q.reply ≡ Accepted (self.old.pool.last + 1)) }
         ensures change { IfOk result (λ q. q.change
             ≡ Append (record { tx = arc_value tx.now; resolved = resolved })) }
-        ensures prepared { IfOk result (IsPrepared self.new) }
+        ensures room { IfOk result (HasRoom self.new) }
     {
         reserve(&mut self.overlay, &mut self.tickets, tx)?;
         append_step(self.memory, tx, resolved, self.last + 1)
     }
 
-    /// Prepares to take the transaction in under the next ticket, as one change.
+    /// Prepares to take the transaction in under the next ticket, as one change, with what was found of its signatures and
+    /// scripts before, if anything was. With that no signature is looked at again, and scripts are run again only where the
+    /// transaction names other outputs than those that they were run upon.
     ///
     /// # Errors
     /// The first refusal that holds, in the order of `Refusal`. Of the rules it is the first that fails, and never
@@ -239,8 +233,11 @@ impl SeqPool {
     pub fn prepare_submit<V: Verifier>(
         &mut self,
         tx: &Arc<Tx, Memory>,
+        checked: Option<&Checked>,
         verifier: &V,
     ) -> Result<Prepared, Refusal>
+        requires { IfSome checked
+            (λ c. IsChecked (V.accepts verifier.now) (arc_value tx.now) c.now) }
         ensures same { self.new.pool ≡ self.old.pool }
         ensures ready { IfOk result (Prepares (V.accepts verifier.now)
             self.new (Submit (arc_value tx.now))) }
@@ -250,32 +247,7 @@ impl SeqPool {
         if let Some(refusal) = self.misplaced(tx) {
             return Err(refusal);
         }
-        let resolved = self.check_rules(tx, verifier)?;
-        Ok(self.prepare_append(tx, resolved)?)
-    }
-
-    /// Prepares to take the transaction in, with what was found of its signatures and scripts before. Scripts are run again only
-    /// where the transaction names other outputs than those that they were run upon.
-    ///
-    /// # Errors
-    /// As `prepare_submit`.
-    pub fn prepare_submit_with<V: Verifier>(
-        &mut self,
-        tx: &Arc<Tx, Memory>,
-        checked: &Checked,
-        verifier: &V,
-    ) -> Result<Prepared, Refusal>
-        requires { IsChecked (V.accepts verifier.now) (arc_value tx.now) checked.now }
-        ensures same { self.new.pool ≡ self.old.pool }
-        ensures ready { IfOk result (Prepares (V.accepts verifier.now)
-            self.new (Submit (arc_value tx.now))) }
-        ensures refused { IfErr result (IsRefused (V.accepts verifier.now)
-            self.old.pool (Submit (arc_value tx.now))) }
-    {
-        if let Some(refusal) = self.misplaced(tx) {
-            return Err(refusal);
-        }
-        let resolved = self.check_rules_with(tx, checked, verifier)?;
+        let resolved = self.check_rules(tx, checked, verifier)?;
         Ok(self.prepare_append(tx, resolved)?)
     }
 
@@ -415,7 +387,7 @@ impl SeqPool {
             self.old.pool (Submit (arc_value tx.now))) }
         ensures err { OnErr result (self.new.pool ≡ self.old.pool) }
     {
-        let prepared = self.prepare_submit(tx, verifier)?;
+        let prepared = self.prepare_submit(tx, None, verifier)?;
         Ok(self.finish(prepared))
     }
 

@@ -110,6 +110,13 @@ impl<N: PoolName> CommitRight<N> {
         self.count = count + 1;
     }
 
+    /// How many entries there are: the place of the next one.
+    pub fn len(&self) -> u64
+        ensures { result ≡ length self.now.entries }
+    {
+        self.count
+    }
+
     /// The front of all entries. It takes no memory.
     pub fn front(&self) -> Front<N>
         ensures { result ≡ self.now }

@@ -1,6 +1,6 @@
 //! The word that the callers of a pool share.
-ghost use Rattle.std.specs.Prelude.{◌≡◌, ◌<◌, ◌≤◌, ◌^◌, [], length, IfOk};
-ghost use Rattle.std.specs.List.{range_with_len};
+ghost use Rattle.std.specs.Prelude.{◌≡◌, ◌<◌, ◌≤◌, ◌^◌, [], length, IfOk, Some};
+ghost use Rattle.mp_history.specs.Caller.{new_callers};
 ghost use Rattle.mp_history.specs.Log.{entered};
 ghost use Rattle.mp_history.specs.PoolName.{head_of};
 
@@ -41,7 +41,7 @@ impl<N: PoolName> History<N> {
         requires most { callers ≤ 1024 }
         ensures opening { IfOk result (λ opened. opened.1
             ≡ record { opening = pool.now.pool; entries = [] }) }
-        ensures callers { IfOk result (λ opened. opened.2.items ≡ range_with_len 0 callers) }
+        ensures callers { IfOk result (λ opened. opened.2.items ≡ new_callers callers) }
     {
         let tokens = Caller::all(memory, callers)?;
         let (head, right) = CommitRight::first(name, pool);
@@ -56,13 +56,17 @@ impl<N: PoolName> History<N> {
     }
 
     /// Enters the caller's entry last, always: it can't be refused, and takes no memory. The
+    /// caller's token then has the entry's place, so that each entry leaves a trace there. The
     /// history may have up to 2^32 entries.
-    pub fn commit(&self, right: &mut CommitRight<N>, caller: &Caller<N>, entry: &Entry)
+    pub fn commit(&self, right: &mut CommitRight<N>, caller: &mut Caller<N>, entry: &Entry)
         requires room { length right.old.entries < 2 ^ 32 }
-        requires own { entry.now.caller ≡ caller.now }
-        ensures { right.new ≡ entered right.old entry.now }
+        requires own { entry.now.caller ≡ caller.old.number }
+        ensures right { right.new ≡ entered right.old entry.now }
+        ensures caller { caller.new
+            ≡ record caller.old { last = Some (length right.old.entries) } }
     {
-        let _ = caller;
+        let place = right.len();
         right.enter(&self.head, entry);
+        caller.made(place);
     }
 }

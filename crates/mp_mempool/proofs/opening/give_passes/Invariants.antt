@@ -1,7 +1,7 @@
 use Rattle.std.proofs.Common.{◌≡◌, map}
-use Rattle.mp_mempool.specs.Opening.{fresh_pass}
+use Rattle.mp_mempool.specs.Pass.{pass_of}
 use Rattle.mp_mempool.proofs.opening.give_passes.Given as goal
 
 -- the passes so far
 abbrev pub invariant-loop-caller : goal.invariant-loop-caller
-invariant-loop-caller g l = l.passes.items ≡ map (fresh_pass l.shown) l.yielded
+invariant-loop-caller g l = l.passes.items ≡ map (pass_of l.shown) l.yielded

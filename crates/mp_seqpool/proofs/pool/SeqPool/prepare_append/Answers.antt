@@ -15,8 +15,8 @@ returns-in_err-reserve-clause-reply c = no_value c.from_residual.result _ c.from
 pub returns-in_err-reserve-clause-change : goal.returns-in_err-reserve-clause-change
 returns-in_err-reserve-clause-change c = no_value c.from_residual.result _ c.from_residual.ensures.0
 
-pub returns-in_err-reserve-clause-prepared : goal.returns-in_err-reserve-clause-prepared
-returns-in_err-reserve-clause-prepared c = no_value c.from_residual.result _ c.from_residual.ensures.0
+pub returns-in_err-reserve-clause-room : goal.returns-in_err-reserve-clause-room
+returns-in_err-reserve-clause-room c = no_value c.from_residual.result _ c.from_residual.ensures.0
 
 pub returns-clause-reply : goal.returns-clause-reply
 returns-clause-reply c = subst (λ (h : Holding). IfOk c.append_step.result (λ (q : Prepared). q.reply ≡ Accepted (h.pool.last + 1))) c.self.view_is c.append_step.ensures.reply

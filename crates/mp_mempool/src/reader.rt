@@ -1,0 +1,169 @@
+//! Reading the pool: no call here has the lock.
+ghost use Rattle.std.specs.Prelude.{◌≡◌, ◌<◌, ◌≤◌, length, IfSome, IfOk, OnOk, OnErr};
+ghost use Rattle.mp_rules.specs.Checked.{IsChecked};
+ghost use Rattle.mp_history.specs.Log.{Begins, IsLegalLog};
+ghost use Rattle.mp_mempool.specs.Answers.{IsSeen, IsTrial};
+
+use crate::early::check_early;
+use crate::pass::Pass;
+use crate::trial::{SnapshotFor, keep_valid};
+use mp_history::PoolName;
+use mp_memory::{Memory, NoMemory};
+use mp_rules::{Checked, Verifier};
+use mp_tx::{Ledger, Tx};
+use mp_versions::{Board, Shown, Snapshot};
+
+/// What reads the pool: it has the board on which versions are shown, and neither the lock nor anything of what the lock guards.
+/// So whatever a call here does, it waits for nobody and enters nothing.
+#[derive(Drop)]
+pub struct Reader<N: PoolName, V: Verifier> {
+    memory: Memory,
+    verifier: V,
+    board: Board<N>,
+    ghost accepts: { V.accepts verifier ≡ N.accepts },
+}
+
+// What the pass holds is legal. That costs nothing when it runs.
+fn look_at<N: PoolName>(pass: &Pass<N>)
+    ensures { IsLegalLog N.accepts N.callers pass.now.front }
+{
+    let _version = pass.shown().version();
+}
+
+// The caller has seen the version, which extends what it had seen.
+fn see<N: PoolName>(pass: &mut Pass<N>, shown: Shown<N>)
+    requires { Begins pass.old.front shown }
+    ensures { IsSeen N.accepts N.callers pass.old pass.new }
+{
+    pass.see(shown);
+    look_at(pass);
+}
+
+impl<N: PoolName, V: Verifier> Reader<N, V> {
+    /// What reads by this board.
+    pub(crate) fn of(memory: Memory, verifier: V, board: Board<N>) -> Reader<N, V>
+        requires { V.accepts verifier ≡ N.accepts }
+    {
+        Reader {
+            memory,
+            verifier,
+            board,
+        }
+    }
+
+    /// Where the pool's memory comes from.
+    pub(crate) fn memory(&self) -> Memory {
+        self.memory
+    }
+
+    /// What decides which signatures are good.
+    pub(crate) fn verifier(&self) -> &V
+        ensures { V.accepts result.now ≡ N.accepts }
+    {
+        &self.verifier
+    }
+
+    /// The board on which versions are shown.
+    pub(crate) fn board(&self) -> &Board<N> {
+        &self.board
+    }
+
+    // The newest version that is shown, where it is longer than the pass's own.
+    fn later(&self, pass: &Pass<N>) -> Option<&Shown<N>>
+        ensures { IfSome result (λ shown. Begins pass.now.front shown.now) }
+    {
+        let shown = self.board.newest()?;
+        pass.front().compare(shown.front());
+        if pass.front().len() < shown.front().len() {
+            Some(shown)
+        } else {
+            None
+        }
+    }
+
+    // A share of that.
+    fn share_later(&self, pass: &Pass<N>) -> Option<Shown<N>>
+        ensures { IfSome result (Begins pass.now.front) }
+    {
+        self.later(pass)?.share().ok()
+    }
+
+    // The newest version that is shown, or the pass's own where that is longer.
+    fn newest<'a>(&'a self, pass: &'a Pass<N>) -> &'a Shown<N>
+        ensures { Begins pass.now.front result.now }
+    {
+        match self.later(pass) {
+            Some(shown) => shown,
+            None => pass.shown(),
+        }
+    }
+
+    // A share of it.
+    fn share_newest(&self, pass: &Pass<N>) -> Result<Shown<N>, NoMemory>
+        ensures { IfOk result (Begins pass.now.front) }
+    {
+        self.newest(pass).share()
+    }
+
+    /// What is found of the transaction before the lock is taken.
+    pub(crate) fn check_early(&self, pass: &Pass<N>, tx: &Tx) -> Option<Checked>
+        ensures { IfSome result (IsChecked N.accepts tx.now) }
+    {
+        let version = self.newest(pass).version();
+        check_early(self.memory, version, tx, &self.verifier)
+    }
+
+    /// Gives the pass the newest version that is shown, where that is longer than its own. It takes no lock and no memory.
+    pub fn refresh(&self, pass: &mut Pass<N>)
+        ensures seen { IsSeen N.accepts N.callers pass.old pass.new }
+    {
+        match self.share_later(pass) {
+            Some(shown) => see(pass, shown),
+            None => look_at(pass),
+        }
+    }
+
+    /// What is read of the newest version that is shown, or of the pass's own where that is longer: the pass then holds it. It
+    /// takes no lock and no memory, and can't be refused.
+    pub fn snapshot<'p>(&self, pass: &'p mut Pass<N>) -> Snapshot<'p, N>
+        ensures later { Begins pass.old.front result }
+        ensures legal { IsLegalLog N.accepts N.callers result }
+    {
+        self.refresh(pass);
+        pass.snapshot()
+    }
+
+    /// Gives the pass a version that another caller has told of, where it is longer than its own. It takes no lock and no memory,
+    /// and can't be refused.
+    pub fn learn(&self, pass: &mut Pass<N>, shown: Shown<N>)
+        ensures longer { length pass.old.front.entries < length shown.entries
+            → pass.new ≡ record pass.old { front = shown } }
+        ensures shorter { length shown.entries ≤ length pass.old.front.entries
+            → pass.new ≡ pass.old }
+        ensures seen { IsSeen N.accepts N.callers pass.old pass.new }
+    {
+        pass.learn(shown);
+        look_at(pass);
+    }
+
+    /// What of the newest version's transactions would stay valid upon another ledger state: each that is valid upon it after
+    /// those kept before it. The pool is as it was, and the pass then holds that version. It takes no lock.
+    ///
+    /// # Errors
+    /// `NoMemory`, and then the pass is as it was.
+    pub fn snapshot_for(
+        &self,
+        memory: Memory,
+        pass: &mut Pass<N>,
+        ledger: &Ledger,
+    ) -> Result<SnapshotFor, NoMemory>
+        ensures kept { IfOk result (IsTrial N.accepts pass.new.front ledger.now) }
+        ensures seen { OnOk result (IsSeen N.accepts N.callers pass.old pass.new) }
+        ensures err { OnErr result (pass.new ≡ pass.old) }
+    {
+        let shown = self.share_newest(pass)?;
+        let kept = keep_valid(memory, shown.version(), ledger, &self.verifier)?;
+        pass.see(shown);
+        Ok(kept)
+    }
+}
