@@ -1,5 +1,5 @@
 //! How a pool opens.
-ghost use Rattle.std.specs.Prelude.{◌≡◌, ◌≤◌, ◌^◌, [], All, map, length, replicate, None, Some, IfNone, IfOk};
+ghost use Rattle.std.specs.Prelude.{◌≡◌, ◌≤◌, ◌^◌, [], ◌∷◌, ◌++◌, All, map, length, replicate, None, Some, IfNone, IfOk, OnOk};
 ghost use Rattle.mp_history.specs.Log.{IsLegalLog};
 ghost use Rattle.mp_history.specs.PoolName.{head_of};
 ghost use Rattle.mp_mempool.specs.Opening.{fresh_log, fresh_passes, open_fault};
@@ -48,6 +48,36 @@ pub(crate) struct Parts<N: PoolName> {
     pub(crate) passes: Vec<Pass<N>, Memory>,
 }
 
+// Puts the pass of a caller that has seen this version last.
+fn put_pass<N: PoolName>(
+    passes: &mut Vec<Pass<N>, Memory>,
+    caller: Caller<N>,
+    shown: &Shown<N>,
+) -> Result<(), NoMemory>
+    requires { caller.last ≡ None }
+    ensures { OnOk result (passes.new.items ≡ passes.old.items ++ pass_of shown.now caller ∷ []) }
+{
+    let shown = shown.share()?;
+    passes.push(Pass::of(caller, shown))?;
+    Ok(())
+}
+
+// Puts the passes of callers that have seen this version.
+fn put_passes<N: PoolName>(
+    passes: &mut Vec<Pass<N>, Memory>,
+    callers: Vec<Caller<N>, Memory>,
+    shown: &Shown<N>,
+) -> Result<(), NoMemory>
+    requires none { passes.old.items ≡ [] }
+    requires fresh { All (λ c. c.last ≡ None) callers.items }
+    ensures { OnOk result (passes.new.items ≡ map (pass_of shown.now) callers.items) }
+{
+    for caller in callers {
+        put_pass(passes, caller, shown)?;
+    }
+    Ok(())
+}
+
 // The passes of callers that have seen this version.
 fn give_passes<N: PoolName>(
     memory: Memory,
@@ -58,9 +88,7 @@ fn give_passes<N: PoolName>(
     ensures { IfOk result (λ passes. passes.items ≡ map (pass_of shown.now) callers.items) }
 {
     let mut passes = Vec::with_capacity(memory, callers.len())?;
-    for caller in callers {
-        passes.push(Pass::of(caller, shown.share()?))?;
-    }
+    put_passes(&mut passes, callers, shown)?;
     Ok(passes)
 }
 
@@ -77,14 +105,23 @@ fn open_board<N: PoolName>(
     }
 }
 
+// Puts for each of so many callers that it hasn't made an entry.
+fn put_no_places(places: &mut Vec<Option<u64>, Memory>, callers: u32) -> Result<(), NoMemory>
+    requires { places.old.items ≡ [] }
+    ensures { OnOk result (places.new.items ≡ replicate callers None) }
+{
+    for _ in 0..callers {
+        places.push(None)?;
+    }
+    Ok(())
+}
+
 // For each of so many callers, that it hasn't made an entry.
 fn unset_places(memory: Memory, callers: u32) -> Result<Vec<Option<u64>, Memory>, NoMemory>
     ensures { IfOk result (λ places. places.items ≡ replicate callers None) }
 {
     let mut places = Vec::with_capacity(memory, callers as usize)?;
-    for _ in 0..callers {
-        places.push(None)?;
-    }
+    put_no_places(&mut places, callers)?;
     Ok(places)
 }
 
@@ -102,35 +139,58 @@ fn first_version<N: PoolName>(
     Ok(Shown::of(version, right.front()))
 }
 
-// What callers have of a pool.
+// What callers have of a pool, and the version that they have seen.
 #[derive(Drop)]
 struct Desk<N: PoolName> {
+    shown: Shown<N>,
     passes: Vec<Pass<N>, Memory>,
     board: Board<N>,
     places: Vec<Option<u64>, Memory>,
 }
 
-// A pass for each caller, a board that shows the version, and no entry of any of them.
+// The first version, a pass for each caller, a board that shows the version, and no entry of any of them.
 fn open_desk<N: PoolName>(
     rt: &impl Wait,
     memory: Memory,
     tokens: Vec<Caller<N>, Memory>,
-    shown: &Shown<N>,
+    shown: Shown<N>,
     callers: u32,
 ) -> Result<Desk<N>, NoMemory>
     requires { All (λ c. c.last ≡ None) tokens.items }
-    ensures passes { IfOk result (λ desk. desk.passes.items
-        ≡ map (pass_of shown.now) tokens.items) }
+    ensures shown { IfOk result (λ desk. desk.shown ≡ shown) }
+    ensures passes { IfOk result (λ desk. desk.passes.items ≡ map (pass_of shown) tokens.items) }
     ensures places { IfOk result (λ desk. desk.places.items ≡ replicate callers None) }
 {
-    let passes = give_passes(memory, tokens, shown)?;
-    let board = open_board(rt, memory, shown)?;
     let places = unset_places(memory, callers)?;
+    let board = open_board(rt, memory, &shown)?;
+    let passes = give_passes(memory, tokens, &shown)?;
     Ok(Desk {
+        shown,
         passes,
         board,
         places,
     })
+}
+
+// The desk of a pool that has opened.
+fn open_desk_of<N: PoolName>(
+    rt: &impl Wait,
+    memory: Memory,
+    tokens: Vec<Caller<N>, Memory>,
+    pool: &SeqPool,
+    right: &CommitRight<N>,
+    callers: u32,
+) -> Result<Desk<N>, NoMemory>
+    requires state { right.now ≡ record { opening = pool.now.pool; entries = [] } }
+    requires legal { IsLegalLog N.accepts N.callers right.now }
+    requires fresh { All (λ c. c.last ≡ None) tokens.items }
+    ensures shown { IfOk result (λ desk. desk.shown ≡ right.now) }
+    ensures passes { IfOk result (λ desk. desk.passes.items
+        ≡ map (pass_of right.now) tokens.items) }
+    ensures places { IfOk result (λ desk. desk.places.items ≡ replicate callers None) }
+{
+    let shown = first_version(memory, pool, right)?;
+    open_desk(rt, memory, tokens, shown, callers)
 }
 
 // What the lock guards at first.
@@ -165,12 +225,11 @@ fn open_upon<N: PoolName>(
         ≡ map (pass_of opened.1) opened.2.items) }
 {
     let (history, right, tokens) = opened;
-    let shown = first_version(memory, &pool, &right)?;
-    let desk = open_desk(rt, memory, tokens, &shown, callers)?;
+    let desk = open_desk_of(rt, memory, tokens, &pool, &right, callers)?;
     Ok(Parts {
         history,
         board: desk.board,
-        locked: lock_up(pool, right, shown, desk.places),
+        locked: lock_up(pool, right, desk.shown, desk.places),
         passes: desk.passes,
     })
 }

@@ -1,5 +1,5 @@
 use Rattle.std.proofs.Common.{◌≡◌, replicate, None}
-use Rattle.mp_mempool.proofs.opening.unset_places.Given as goal
+use Rattle.mp_mempool.proofs.opening.put_no_places.Given as goal
 
 -- the callers so far
 abbrev pub invariant-loop : goal.invariant-loop

@@ -1,6 +1,6 @@
 use Rattle.std.proofs.Common.{◌≡◌, map}
 use Rattle.mp_mempool.specs.Pass.{pass_of}
-use Rattle.mp_mempool.proofs.opening.give_passes.Given as goal
+use Rattle.mp_mempool.proofs.opening.put_passes.Given as goal
 
 -- the passes so far
 abbrev pub invariant-loop-caller : goal.invariant-loop-caller
