@@ -2,21 +2,19 @@
 
 ghost use Rattle.std.specs.Prelude.{◌≡◌, [], None, Some, option_map, option_copied, option_and_then, OnOk, IsErrOf};
 ghost use Rattle.mp_text.specs.Words.{words_of};
-ghost use Rattle.mp_lines.specs.Lines.{one_word, with_output, put_ids, put_outputs, block_word, submit_line, remove_line, sync_told, sync_at, sync_line, snapshot_line, block_line, limit_line, last_line, tick_line};
+ghost use Rattle.mp_lines.specs.Lines.{one_word, put_ids, put_outputs, block_word, submit_line, remove_line, sync_told, sync_at, sync_line, snapshot_line, block_line, limit_line, last_line, tick_line};
 ghost use Rattle.mp_lines.specs.Lines as lines;
-ghost use Rattle.mp_lines.specs.Settings.{block_bytes_of};
-ghost use Rattle.mp_lines.specs.References.{ref_of, paid_at};
-ghost use Rattle.mp_lines.specs.Fault.{Reads, Gives};
+ghost use Rattle.mp_names.specs.Settings.{block_bytes_of};
+ghost use Rattle.mp_names.specs.References.{ref_of, paid_at};
+ghost use Rattle.mp_names.specs.Outputs.{with_output};
+ghost use Rattle.mp_names.specs.Fault.{Reads, Gives};
 ghost use Rattle.mp_lines.specs.Inside.Line.{to_line};
 
-use crate::fault::LineFault;
 use crate::line::Line;
-use crate::names::Names;
-use crate::new_ledger::{NewLedger, Outputs};
-use crate::references::{paid_at, ref_of};
-use crate::settings::{BlockBytes, Setting};
-use crate::splitting::split_once;
 use mp_memory::Memory;
+use mp_names::{
+    BlockBytes, LineFault, Names, NewLedger, Outputs, Setting, paid_at, ref_of, split_once,
+};
 use mp_text::{first_word, number};
 use mp_tx::TxId;
 use std::sync::Arc;

@@ -1,10 +1,10 @@
 //! Parts of transactions once more.
 
 ghost use Rattle.std.specs.Prelude.{◌≡◌, map, IfOk};
-ghost use Rattle.mp_lines.specs.Payments.{output_of};
+ghost use Rattle.mp_names.specs.Payments.{output_of};
 
-use crate::payment::Payment;
 use mp_memory::{Memory, NoMemory};
+use mp_names::Payment;
 use mp_script::{Data, Script};
 use mp_tx::{Input, OutRef, Output};
 

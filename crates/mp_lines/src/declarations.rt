@@ -5,17 +5,14 @@ ghost use Rattle.mp_text.specs.Words.{words_of};
 ghost use Rattle.mp_lines.specs.Lines.{bytes_of, if_script, if_datum, two_words, script_by, script_line, data_by, data_line, output_by, output_line, tx_line};
 ghost use Rattle.mp_lines.specs.Lines as lines;
 ghost use Rattle.mp_lines.specs.Draft.{empty_draft, draft_of, declared_of};
-ghost use Rattle.mp_lines.specs.Fault.{Reads, Gives};
+ghost use Rattle.mp_names.specs.Fault.{Reads, Gives};
 ghost use Rattle.mp_lines.specs.Inside.Line.{to_line};
 
-use crate::declared_tx::DeclaredTx;
 use crate::draft::{declared_of, draft_of};
-use crate::fault::LineFault;
 use crate::line::Line;
-use crate::names::{Name, NamedDatum, NamedScript, Names};
-use crate::payments::payment_of;
 use hex::FromHexError;
 use mp_memory::Memory;
+use mp_names::{DeclaredTx, LineFault, Name, NamedDatum, NamedScript, Names, payment_of};
 use mp_script::{Data, DataFault, Script, ScriptFault};
 use mp_text::first_word;
 

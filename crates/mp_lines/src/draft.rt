@@ -1,24 +1,19 @@
 //! Items put together.
 
 ghost use Rattle.std.specs.Prelude.{◌≡◌, [], ◌∷◌, ◌++◌, Ok, Some, None, option_and_then, unwrap_or, IfOk, IfErr, OnOk, IsErrOf};
-ghost use Rattle.mp_lines.specs.declared.fault.LineFault.TheVariants as line_faults;
+ghost use Rattle.mp_names.specs.declared.fault.LineFault.TheVariants as line_faults;
 ghost use Rattle.std.specs.Arc.{arc_value};
 ghost use Rattle.mp_text.specs.Words.{words_of};
 ghost use Rattle.mp_tx.specs.TxFault.{parts_of};
 ghost use Rattle.mp_lines.specs.Draft.{empty_draft, draft_of, transaction_of, if_fits, signed, declared_of};
-ghost use Rattle.mp_lines.specs.Fault.{Reads, Gives};
+ghost use Rattle.mp_names.specs.Fault.{Reads, Gives};
 
 use crate::copies::{copy_inputs, copy_scripts, outputs_of};
-use crate::declared_tx::DeclaredTx;
-use crate::fault::LineFault;
 use crate::items::{Item, Signer, item_of};
-use crate::names::Names;
-use crate::once::set_once;
-use crate::payment::Payment;
-use crate::rising::insert_rising;
 use crate::signing::signatures_of;
 use mp_bundle::Bundle;
 use mp_memory::{Memory, NoMemory};
+use mp_names::{DeclaredTx, LineFault, Names, Payment, insert_rising, set_once};
 use mp_script::Script;
 use mp_text::first_word;
 use mp_tx::{Input, OutRef, Signature, Tx, TxFault, TxParts};

@@ -4,8 +4,8 @@ ghost use Rattle.std.specs.Prelude.{◌≡◌, [], IfOk};
 ghost use Rattle.mp_lines.specs.Draft.{flip, first_byte, signature_of, signatures_of};
 
 use crate::items::Signer;
-use crate::rising::insert_rising;
 use mp_memory::{Memory, NoMemory};
+use mp_names::insert_rising;
 use mp_tx::{Signature, TxId};
 
 const KEY_BYTES: usize = 32;

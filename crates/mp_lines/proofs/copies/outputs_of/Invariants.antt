@@ -1,6 +1,6 @@
 use Rattle.std.proofs.Common.{◌≡◌, take}
 use Rattle.std.specs.Prelude.{map}
-use Rattle.mp_lines.specs.Payments.{output_of}
+use Rattle.mp_names.specs.Payments.{output_of}
 use Rattle.mp_lines.proofs.copies.outputs_of.Given as goal
 
 -- those so far
