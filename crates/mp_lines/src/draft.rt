@@ -7,8 +7,9 @@ ghost use Rattle.mp_text.specs.Words.{words_of};
 ghost use Rattle.mp_tx.specs.TxFault.{parts_of};
 ghost use Rattle.mp_lines.specs.Draft.{empty_draft, draft_of, transaction_of, if_fits, signed, declared_of};
 ghost use Rattle.mp_names.specs.Fault.{Reads, Gives};
+ghost use Rattle.mp_lines.specs.Inside.Draft.{bare_of};
 
-use crate::copies::{copy_inputs, copy_scripts, outputs_of};
+use crate::copies::{copy_inputs, copy_scripts, put_outputs};
 use crate::items::{Item, Signer, item_of};
 use crate::signing::signatures_of;
 use mp_bundle::Bundle;
@@ -131,6 +132,35 @@ fn forge_of(draft: &Draft) -> Result<Bundle, NoMemory>
     }
 }
 
+// The parts that take no memory.
+fn bare_parts(memory: Memory, draft: &Draft, signatures: Vec<Signature, Memory>) -> TxParts
+    ensures { parts_of result ≡ bare_of draft.now signatures.items }
+{
+    TxParts {
+        inputs: Vec::new(memory),
+        references: Vec::new(memory),
+        outputs: Vec::new(memory),
+        from: draft.from.unwrap_or(0),
+        to: draft.to.unwrap_or(u64::MAX),
+        forge: Bundle::empty(),
+        scripts: Vec::new(memory),
+        signatures,
+    }
+}
+
+// Puts in copies of the others.
+fn put_copies(parts: &mut TxParts, memory: Memory, draft: &Draft) -> Result<(), NoMemory>
+    requires { parts_of parts.old ≡ bare_of draft.now parts.old.signatures.items }
+    ensures { OnOk result
+        (parts_of parts.new ≡ transaction_of draft.now parts.old.signatures.items) }
+{
+    parts.forge = forge_of(draft)?;
+    parts.references = Vec::from_slice(memory, &draft.references)?;
+    copy_inputs(&mut parts.inputs, memory, &draft.inputs)?;
+    put_outputs(&mut parts.outputs, &draft.payments)?;
+    copy_scripts(&mut parts.scripts, memory, &draft.scripts)
+}
+
 fn parts_of(
     memory: Memory,
     draft: &Draft,
@@ -138,17 +168,9 @@ fn parts_of(
 ) -> Result<TxParts, NoMemory>
     ensures { IfOk result (λ p. parts_of p ≡ transaction_of draft.now signatures.items) }
 {
-    let forge = forge_of(draft)?;
-    Ok(TxParts {
-        inputs: copy_inputs(memory, &draft.inputs)?,
-        references: Vec::from_slice(memory, &draft.references)?,
-        outputs: outputs_of(memory, &draft.payments)?,
-        from: draft.from.unwrap_or(0),
-        to: draft.to.unwrap_or(u64::MAX),
-        forge,
-        scripts: copy_scripts(memory, &draft.scripts)?,
-        signatures,
-    })
+    let mut parts = bare_parts(memory, draft, signatures);
+    put_copies(&mut parts, memory, draft)?;
+    Ok(parts)
 }
 
 fn put_together(memory: Memory, parts: TxParts) -> Result<Tx, LineFault>

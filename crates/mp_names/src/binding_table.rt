@@ -1,14 +1,14 @@
 //! Bindings in the order in which they were declared, found by name or by id without a walk.
 
-ghost use Rattle.std.specs.Prelude.{◌≡◌, ◌<◌, slice_get, option_and_then, option_copied, option_map, vec_len, vec_capacity, IfOk, OnOk};
+ghost use Rattle.std.specs.Prelude.{◌≡◌, ◌<◌, slice_get, option_and_then, option_copied, option_map, vec_len, vec_capacity, Some, [], ◌∷◌, ◌++◌, length, IfOk, OnOk};
 ghost use Rattle.indexmap.specs.IndexMap.{spare};
 ghost use Rattle.mp_names.specs.Inside.BindingTable.{bound_id};
+ghost use Rattle.mp_names.specs.Inside.PlaceTable.{Notes};
 
-use crate::names::{Binding, Name, NamedBinding};
+use crate::names::{Binding, NamedBinding};
 use crate::place_table::{PlaceTable, no_places, note, note_if_any, place_under};
 use mp_memory::{Memory, NoMemory};
 use mp_tx::TxId;
-use std::fmt;
 use std::marker::Model;
 
 /// Bindings with their names. Contracts see the list of them, in the order in which they were declared.
@@ -33,12 +33,6 @@ impl Model for BindingTable {
 
     ghost invariant = { λ t. ArePlaced has_name t.names.entries t.bindings.items
         × ArePlaced has_tx_id t.ids.entries t.bindings.items };
-}
-
-impl fmt::Debug for BindingTable {
-    fn fmt<W: fmt::Write>(&self, f: &mut fmt::Formatter<W>) -> fmt::Result {
-        f.write_str("BindingTable")
-    }
 }
 
 // The bytes of a name, and of an id where there is one.
@@ -79,13 +73,36 @@ fn make_room(
 }
 
 // The bytes under which a binding is found: its name's, and its id's.
-fn keys_of(memory: Memory, name: &Name, binding: &Binding) -> Result<Keys, NoMemory>
-    ensures name { IfOk result (λ k. k.0.items ≡ name.now) }
-    ensures id { IfOk result (λ k. option_map (λ v. v.items) k.1 ≡ bound_id binding.now) }
+fn keys_of(memory: Memory, named: &NamedBinding) -> Result<Keys, NoMemory>
+    ensures name { IfOk result (λ k. k.0.items ≡ named.now.name) }
+    ensures id { IfOk result (λ k. option_map (λ v. v.items) k.1 ≡ bound_id named.now.binding) }
 {
-    let word = name.to_bytes()?;
-    let id = id_bytes(memory, binding)?;
+    let word = named.name.to_bytes()?;
+    let id = id_bytes(memory, &named.binding)?;
     Ok((word, id))
+}
+
+// Puts it last, and notes its place under its keys.
+fn enter(
+    bindings: &mut Vec<NamedBinding, Memory>,
+    names: &mut PlaceTable,
+    ids: &mut PlaceTable,
+    keys: Keys,
+    named: NamedBinding,
+)
+    requires room { vec_len bindings.old < vec_capacity bindings.old }
+    requires spare { 0 < spare names.old × 0 < spare ids.old }
+    ensures bindings { bindings.new.items ≡ bindings.old.items ++ named ∷ [] }
+    ensures names { Notes names.old.entries (Some keys.0.items) (length bindings.old.items)
+        names.new.entries }
+    ensures ids { Notes ids.old.entries (option_map (λ v. v.items) keys.1)
+        (length bindings.old.items) ids.new.entries }
+{
+    let place = bindings.len();
+    let (word, id) = keys;
+    note(names, word, place);
+    note_if_any(ids, id, place);
+    bindings.push_reserved(named);
 }
 
 impl BindingTable {
@@ -119,17 +136,13 @@ impl BindingTable {
     }
 
     /// Puts the binding last. After an `Err` the table is as it was.
-    pub fn push(&mut self, name: Name, binding: Binding) -> Result<(), NoMemory>
-        ensures ok { OnOk result (self.new
-            ≡ self.old ++ record { name = name; binding = binding } ∷ []) }
+    pub fn push(&mut self, named: NamedBinding) -> Result<(), NoMemory>
+        ensures ok { OnOk result (self.new ≡ self.old ++ named ∷ []) }
         ensures err { OnErr result (self.new ≡ self.old) }
     {
         make_room(&mut self.bindings, &mut self.names, &mut self.ids)?;
-        let (word, id) = keys_of(*self.bindings.allocator(), &name, &binding)?;
-        let place = self.bindings.len();
-        note(&mut self.names, word, place);
-        note_if_any(&mut self.ids, id, place);
-        self.bindings.push_reserved(NamedBinding { name, binding });
+        let keys = keys_of(*self.bindings.allocator(), &named)?;
+        enter(&mut self.bindings, &mut self.names, &mut self.ids, keys, named);
         Ok(())
     }
 }

@@ -1,6 +1,6 @@
 //! What the names of a scenario stand for.
 
-ghost use Rattle.std.specs.Prelude.{◌≡◌, find, option_copied, IfOk};
+ghost use Rattle.std.specs.Prelude.{◌≡◌, [], ◌∷◌, ◌++◌, find, option_copied, IfOk, OnOk};
 ghost use Rattle.mp_names.specs.Names.{first_names, has_hash};
 
 use crate::binding_table::BindingTable;
@@ -121,21 +121,47 @@ fn datum_of(memory: Memory, name: &[u8], bytes: &[u8]) -> Result<NamedDatum, NoM
     Ok(NamedDatum { name, datum })
 }
 
-fn first_scripts(memory: Memory) -> Result<Vec<NamedScript, Memory>, NoMemory>
-    ensures { IfOk result (λ v. v.items ≡ first_names.scripts) }
+fn put_script(
+    scripts: &mut Vec<NamedScript, Memory>,
+    memory: Memory,
+    name: &[u8],
+    bytes: &[u8],
+) -> Result<(), NoMemory>
+    ensures { OnOk result (scripts.new.items
+        ≡ scripts.old.items ++ record { name = name.now; script = bytes.now } ∷ []) }
 {
-    let mut scripts = Vec::with_capacity(memory, 2)?;
-    scripts.push(script_of(memory, b"yes", &[0x01])?)?;
-    scripts.push(script_of(memory, b"no", &[0x00])?)?;
-    Ok(scripts)
+    let named = script_of(memory, name, bytes)?;
+    scripts.push(named)?;
+    Ok(())
 }
 
-fn first_datums(memory: Memory) -> Result<Vec<NamedDatum, Memory>, NoMemory>
-    ensures { IfOk result (λ v. v.items ≡ first_names.datums) }
+fn put_datum(
+    datums: &mut Vec<NamedDatum, Memory>,
+    memory: Memory,
+    name: &[u8],
+    bytes: &[u8],
+) -> Result<(), NoMemory>
+    ensures { OnOk result (datums.new.items
+        ≡ datums.old.items ++ record { name = name.now; datum = bytes.now } ∷ []) }
 {
-    let mut datums = Vec::with_capacity(memory, 1)?;
-    datums.push(datum_of(memory, b"unit", &[0x03, 0x00, 0x00])?)?;
-    Ok(datums)
+    let named = datum_of(memory, name, bytes)?;
+    datums.push(named)?;
+    Ok(())
+}
+
+// Puts in what is declared beforehand.
+fn put_first(
+    scripts: &mut Vec<NamedScript, Memory>,
+    datums: &mut Vec<NamedDatum, Memory>,
+    memory: Memory,
+) -> Result<(), NoMemory>
+    requires { scripts.old.items ≡ [] × datums.old.items ≡ [] }
+    ensures scripts { OnOk result (scripts.new.items ≡ first_names.scripts) }
+    ensures datums { OnOk result (datums.new.items ≡ first_names.datums) }
+{
+    put_script(scripts, memory, b"yes", &[0x01])?;
+    put_script(scripts, memory, b"no", &[0x00])?;
+    put_datum(datums, memory, b"unit", &[0x03, 0x00, 0x00])
 }
 
 fn first_with_hash<'a>(scripts: &'a [NamedScript], hash: &Hash) -> Option<&'a NamedScript>
@@ -158,8 +184,9 @@ impl Names {
     pub fn new(memory: Memory) -> Result<Names, NoMemory>
         ensures { IfOk result (λ n. n ≡ first_names) }
     {
-        let scripts = first_scripts(memory)?;
-        let datums = first_datums(memory)?;
+        let mut scripts = Vec::new(memory);
+        let mut datums = Vec::new(memory);
+        put_first(&mut scripts, &mut datums, memory)?;
         Ok(Names {
             bindings: BindingTable::new(memory),
             scripts,
@@ -173,8 +200,7 @@ impl Names {
             ≡ with_binding self.old (record { name = name; binding = binding })) }
         ensures err { OnErr result (self.new ≡ self.old) }
     {
-        self.bindings.push(name, binding)?;
-        Ok(())
+        self.bindings.push(NamedBinding { name, binding })
     }
 
     /// From now on the name stands for the script. After an `Err` the names are as they were.

@@ -1,8 +1,10 @@
 //! The ledger state that a scenario's pool is to adopt.
 
-ghost use Rattle.std.specs.Prelude.{◌≡◌, option_copied};
+ghost use Rattle.std.specs.Prelude.{◌≡◌, None, Some, OnOk, OnErr, IsErrOf, option_copied};
 ghost use Rattle.std.specs.List.{list_any};
 ghost use Rattle.mp_tx.specs.Reference.{same_ref};
+ghost use Rattle.mp_tx.specs.Ledger.{refs, AreDistinct};
+ghost use Rattle.mp_names.specs.Outputs.{with_output};
 
 use crate::fault::LineFault;
 use crate::payment::Payment;
@@ -45,6 +47,28 @@ fn has_reference(entries: &[(OutRef, Output)], reference: &OutRef) -> bool
     entries.iter().any(|entry| *reference == entry.0)
 }
 
+// Puts the output last, unless the reference stands there.
+fn put_output(
+    entries: &mut Vec<(OutRef, Output), Memory>,
+    reference: OutRef,
+    payment: &Payment,
+) -> Result<(), LineFault>
+    ensures ok { OnOk result
+        (with_output entries.old.items (Some reference) (Some payment.now)
+        ≡ Some entries.new.items) }
+    ensures bad { IsErrOf result LineFault.Bad
+        → with_output entries.old.items (Some reference) (Some payment.now) ≡ None }
+    ensures err { OnErr result (entries.new.items ≡ entries.old.items) }
+    ensures distinct { AreDistinct (refs entries.old.items) → AreDistinct (refs entries.new.items) }
+{
+    if has_reference(entries, &reference) {
+        return Err(LineFault::Bad);
+    }
+    let output = payment.to_output()?;
+    entries.push((reference, output))?;
+    Ok(())
+}
+
 impl Outputs {
     ghost use Rattle.std.specs.Prelude.{◌≡◌, [], None, Some, OnOk, OnErr, IsErrOf, option_copied};
     ghost use Rattle.mp_tx.specs.Ledger.{refs, AreDistinct};
@@ -68,12 +92,7 @@ impl Outputs {
             → with_output self.old (Some reference) (Some payment.now) ≡ None }
         ensures err { OnErr result (self.new ≡ self.old) }
     {
-        if has_reference(&self.entries, &reference) {
-            return Err(LineFault::Bad);
-        }
-        let output = payment.to_output()?;
-        self.entries.push((reference, output))?;
-        Ok(())
+        put_output(&mut self.entries, reference, payment)
     }
 
     /// The outputs under their references.

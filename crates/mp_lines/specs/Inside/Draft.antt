@@ -1,6 +1,9 @@
 -- What a draft keeps.
+use Rattle.std.specs.Prelude.{List, []}
+use Rattle.mp_tx.specs.declared.signature.Signature.{Signature}
+use Rattle.mp_tx.specs.Transaction.{Transaction}
 use Rattle.mp_lines.specs.declared.draft.Draft.TheInside.{Inside}
-use Rattle.mp_lines.specs.Draft.{Draft}
+use Rattle.mp_lines.specs.Draft.{Draft, transaction_of}
 
 abbrev pub draft : Inside → Draft
 draft d = record {
@@ -13,3 +16,7 @@ draft d = record {
   scripts = d.scripts.items;
   signers = d.signers.items;
 }
+
+-- the transaction without what has to be copied
+abbrev pub bare_of : Draft → List Signature → Transaction
+bare_of d signatures = record (transaction_of d signatures) { inputs = []; references = []; outputs = []; forge = []; scripts = [] }
