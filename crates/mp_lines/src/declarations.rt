@@ -8,11 +8,11 @@ ghost use Rattle.mp_lines.specs.Draft.{empty_draft, draft_of, declared_of};
 ghost use Rattle.mp_names.specs.Fault.{Reads, Gives};
 ghost use Rattle.mp_lines.specs.Inside.Line.{to_line};
 
-use crate::draft::{declared_of, draft_of};
+use crate::draft::declared_by;
 use crate::line::Line;
 use hex::FromHexError;
 use mp_memory::Memory;
-use mp_names::{DeclaredTx, LineFault, Name, NamedDatum, NamedScript, Names, payment_of};
+use mp_names::{LineFault, Name, NamedDatum, NamedScript, Names, payment_of};
 use mp_script::{Data, DataFault, Script, ScriptFault};
 use mp_text::first_word;
 
@@ -132,14 +132,6 @@ pub fn output_line(memory: Memory, names: &Names, words: &[u8]) -> Result<Line, 
         Some((name, word)) => output_by(memory, names, name, word),
         None => Err(LineFault::Bad),
     }
-}
-
-fn declared_by(memory: Memory, names: &Names, items: &[u8]) -> Result<DeclaredTx, LineFault>
-    ensures { Reads (option_and_then declared_of
-        (draft_of names.now empty_draft (words_of items.now))) result }
-{
-    let draft = draft_of(memory, names, items)?;
-    declared_of(memory, draft)
 }
 
 fn tx_by(memory: Memory, names: &Names, name: &[u8], items: &[u8]) -> Result<Line, LineFault>

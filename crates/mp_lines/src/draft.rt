@@ -5,21 +5,25 @@ ghost use Rattle.mp_names.specs.declared.fault.LineFault.TheVariants as line_fau
 ghost use Rattle.std.specs.Arc.{arc_value};
 ghost use Rattle.mp_text.specs.Words.{words_of};
 ghost use Rattle.mp_tx.specs.TxFault.{parts_of};
-ghost use Rattle.mp_lines.specs.Draft.{empty_draft, draft_of, transaction_of, if_fits, signed, declared_of};
+ghost use Rattle.mp_lines.specs.Draft.{empty_draft, draft_of, transaction_of, if_fits, signatures_of, signed, declared_of};
 ghost use Rattle.mp_names.specs.Fault.{Reads, Gives};
 ghost use Rattle.mp_lines.specs.Inside.Draft.{bare_of};
 
 use crate::copies::{copy_inputs, copy_scripts, put_outputs};
 use crate::items::{Item, Signer, item_of};
-use crate::signing::signatures_of;
+use crate::signing::put_signatures;
 use mp_bundle::Bundle;
 use mp_memory::{Memory, NoMemory};
 use mp_names::{DeclaredTx, LineFault, Names, Payment, insert_rising, set_once};
 use mp_script::Script;
 use mp_text::first_word;
-use mp_tx::{Input, OutRef, Signature, Tx, TxFault, TxParts};
+use mp_tx::{Input, OutRef, Tx, TxFault, TxId, TxParts};
 use std::marker::Model;
+use std::mem;
 use std::sync::Arc;
+
+// Nobody signs it.
+const NO_ID: TxId = [0; 32];
 
 /// Items put together: inputs, references and policy scripts rise, and payments and signers keep their order.
 #[derive(Drop)]
@@ -114,15 +118,6 @@ fn fill(draft: &mut Draft, memory: Memory, names: &Names, words: &[u8]) -> Resul
     Ok(())
 }
 
-/// The items that the words are, put together.
-pub fn draft_of(memory: Memory, names: &Names, words: &[u8]) -> Result<Draft, LineFault>
-    ensures { Reads (draft_of names.now empty_draft (words_of words.now)) result }
-{
-    let mut draft = Draft::new(memory);
-    fill(&mut draft, memory, names, words)?;
-    Ok(draft)
-}
-
 fn forge_of(draft: &Draft) -> Result<Bundle, NoMemory>
     ensures { IfOk result (λ b. b ≡ unwrap_or draft.now.forge []) }
 {
@@ -133,8 +128,8 @@ fn forge_of(draft: &Draft) -> Result<Bundle, NoMemory>
 }
 
 // The parts that take no memory.
-fn bare_parts(memory: Memory, draft: &Draft, signatures: Vec<Signature, Memory>) -> TxParts
-    ensures { parts_of result ≡ bare_of draft.now signatures.items }
+fn bare_parts(memory: Memory, draft: &Draft) -> TxParts
+    ensures { parts_of result ≡ bare_of draft.now }
 {
     TxParts {
         inputs: Vec::new(memory),
@@ -144,33 +139,28 @@ fn bare_parts(memory: Memory, draft: &Draft, signatures: Vec<Signature, Memory>)
         to: draft.to.unwrap_or(u64::MAX),
         forge: Bundle::empty(),
         scripts: Vec::new(memory),
-        signatures,
+        signatures: Vec::new(memory),
     }
 }
 
-// Puts in copies of the others.
-fn put_copies(parts: &mut TxParts, memory: Memory, draft: &Draft) -> Result<(), NoMemory>
-    requires { parts_of parts.old ≡ bare_of draft.now parts.old.signatures.items }
-    ensures { OnOk result
-        (parts_of parts.new ≡ transaction_of draft.now parts.old.signatures.items) }
+// Puts in copies of the others, and what these signers make of the id.
+fn put_others(
+    parts: &mut TxParts,
+    memory: Memory,
+    draft: &Draft,
+    id: &TxId,
+    signers: &[Signer],
+) -> Result<(), NoMemory>
+    requires { parts_of parts.old ≡ bare_of draft.now }
+    ensures { OnOk result (parts_of parts.new
+        ≡ transaction_of draft.now (signatures_of id.now [] signers.now)) }
 {
     parts.forge = forge_of(draft)?;
     parts.references = Vec::from_slice(memory, &draft.references)?;
     copy_inputs(&mut parts.inputs, memory, &draft.inputs)?;
     put_outputs(&mut parts.outputs, &draft.payments)?;
-    copy_scripts(&mut parts.scripts, memory, &draft.scripts)
-}
-
-fn parts_of(
-    memory: Memory,
-    draft: &Draft,
-    signatures: Vec<Signature, Memory>,
-) -> Result<TxParts, NoMemory>
-    ensures { IfOk result (λ p. parts_of p ≡ transaction_of draft.now signatures.items) }
-{
-    let mut parts = bare_parts(memory, draft, signatures);
-    put_copies(&mut parts, memory, draft)?;
-    Ok(parts)
+    copy_scripts(&mut parts.scripts, memory, &draft.scripts)?;
+    put_signatures(&mut parts.signatures, id, signers)
 }
 
 fn put_together(memory: Memory, parts: TxParts) -> Result<Tx, LineFault>
@@ -183,45 +173,42 @@ fn put_together(memory: Memory, parts: TxParts) -> Result<Tx, LineFault>
     }
 }
 
-// The transaction with signatures of its id.
-fn sign(memory: Memory, draft: &Draft, unsigned: &Tx) -> Result<Tx, LineFault>
-    ensures { Reads (signed draft.now unsigned.now) result }
+// The transaction with what these signers make of the id.
+fn make_tx(memory: Memory, draft: &Draft, id: &TxId, signers: &[Signer]) -> Result<Tx, LineFault>
+    ensures { Reads (if_fits
+        (transaction_of draft.now (signatures_of id.now [] signers.now))) result }
 {
-    let signatures = signatures_of(memory, unsigned.id(), &draft.signers)?;
-    let parts = parts_of(memory, draft, signatures)?;
-    put_together(memory, parts)
-}
-
-fn make_unsigned(memory: Memory, draft: &Draft) -> Result<Tx, LineFault>
-    ensures { Reads (if_fits (transaction_of draft.now [])) result }
-{
-    let parts = parts_of(memory, draft, Vec::new(memory))?;
+    let mut parts = bare_parts(memory, draft);
+    put_others(&mut parts, memory, draft, id, signers)?;
     put_together(memory, parts)
 }
 
 // It is made twice: first without signatures, for its id.
-fn make_signed(memory: Memory, draft: &Draft) -> Result<Tx, LineFault>
-    ensures { Reads
-        (option_and_then (signed draft.now) (if_fits (transaction_of draft.now []))) result }
-{
-    let unsigned = make_unsigned(memory, draft)?;
-    sign(memory, draft, &unsigned)
-}
-
-fn make_shared(memory: Memory, draft: &Draft) -> Result<Arc<Tx, Memory>, LineFault>
+fn make_signed(memory: Memory, draft: &Draft) -> Result<Arc<Tx, Memory>, LineFault>
     ensures { Gives arc_value
         (option_and_then (signed draft.now) (if_fits (transaction_of draft.now []))) result }
 {
-    let tx = make_signed(memory, draft)?;
+    let id = *make_tx(memory, draft, &NO_ID, &[])?.id();
+    let tx = make_tx(memory, draft, &id, &draft.signers)?;
     Ok(Arc::new(memory, tx)?)
 }
 
-/// The transaction of the draft.
+// The transaction of the draft, whose payments go with it.
 #[tactic(auto, unfolding(crate::specs::Draft::declared_of))]
-pub fn declared_of(memory: Memory, draft: Draft) -> Result<DeclaredTx, LineFault>
-    ensures { Reads (declared_of draft) result }
+fn declared_of(memory: Memory, draft: &mut Draft) -> Result<DeclaredTx, LineFault>
+    ensures { Reads (declared_of draft.old) result }
 {
-    let tx = make_shared(memory, &draft)?;
-    let Draft { payments, .. } = draft;
+    let tx = make_signed(memory, draft)?;
+    let payments = mem::replace(&mut draft.payments, Vec::new(memory));
     Ok(DeclaredTx::of(tx, payments))
+}
+
+/// The transaction that the items make which the words are.
+pub fn declared_by(memory: Memory, names: &Names, words: &[u8]) -> Result<DeclaredTx, LineFault>
+    ensures { Reads (option_and_then declared_of
+        (draft_of names.now empty_draft (words_of words.now))) result }
+{
+    let mut draft = Draft::new(memory);
+    fill(&mut draft, memory, names, words)?;
+    declared_of(memory, &mut draft)
 }

@@ -1,6 +1,5 @@
 -- What a draft keeps.
-use Rattle.std.specs.Prelude.{List, []}
-use Rattle.mp_tx.specs.declared.signature.Signature.{Signature}
+use Rattle.std.specs.Prelude.{[]}
 use Rattle.mp_tx.specs.Transaction.{Transaction}
 use Rattle.mp_lines.specs.declared.draft.Draft.TheInside.{Inside}
 use Rattle.mp_lines.specs.Draft.{Draft, transaction_of}
@@ -17,6 +16,6 @@ draft d = record {
   signers = d.signers.items;
 }
 
--- the transaction without what has to be copied
-abbrev pub bare_of : Draft → List Signature → Transaction
-bare_of d signatures = record (transaction_of d signatures) { inputs = []; references = []; outputs = []; forge = []; scripts = [] }
+-- the transaction without what has to be copied, and without signatures
+abbrev pub bare_of : Draft → Transaction
+bare_of d = record (transaction_of d []) { inputs = []; references = []; outputs = []; forge = []; scripts = [] }
