@@ -92,10 +92,7 @@ pub fn copy_scripts(
 }
 
 /// Puts the outputs last that are paid.
-pub fn put_outputs(
-    outputs: &mut Vec<Output, Memory>,
-    payments: &[Payment],
-) -> Result<(), NoMemory>
+pub fn put_outputs(outputs: &mut Vec<Output, Memory>, payments: &[Payment]) -> Result<(), NoMemory>
     ensures { OnOk result (outputs.new.items ≡ outputs.old.items ++ map output_of payments.now) }
 {
     for payment in payments {

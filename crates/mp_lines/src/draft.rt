@@ -1,10 +1,12 @@
 //! Items put together.
 
-ghost use Rattle.std.specs.Prelude.{◌≡◌, [], ◌∷◌, ◌++◌, Ok, Some, None, option_and_then, unwrap_or, IfOk, IfErr, OnOk, IsErrOf};
+ghost use Rattle.std.specs.Prelude.{◌≡◌, [], ◌∷◌, ◌++◌, Ok, Some, None, option_and_then, option_map, unwrap_or, IfOk, IfErr, OnOk, IsErrOf};
 ghost use Rattle.mp_names.specs.declared.fault.LineFault.TheVariants as line_faults;
 ghost use Rattle.std.specs.Arc.{arc_value};
 ghost use Rattle.mp_text.specs.Words.{words_of};
+ghost use Rattle.mp_tx.specs.Spelling.{id_of};
 ghost use Rattle.mp_tx.specs.TxFault.{parts_of};
+ghost use Rattle.mp_names.specs.Rising.{insert_rising};
 ghost use Rattle.mp_lines.specs.Draft.{empty_draft, draft_of, transaction_of, if_fits, signatures_of, signed, declared_of};
 ghost use Rattle.mp_names.specs.Fault.{Reads, Gives};
 ghost use Rattle.mp_lines.specs.Inside.Draft.{bare_of};
@@ -14,7 +16,7 @@ use crate::items::{Item, Signer, item_of};
 use crate::signing::put_signatures;
 use mp_bundle::Bundle;
 use mp_memory::{Memory, NoMemory};
-use mp_names::{DeclaredTx, LineFault, Names, Payment, insert_rising, set_once};
+use mp_names::{DeclaredTx, LineFault, Names, Payment, Rising, insert_rising, set_once};
 use mp_script::Script;
 use mp_text::first_word;
 use mp_tx::{Input, OutRef, Tx, TxFault, TxId, TxParts};
@@ -47,20 +49,20 @@ impl Model for Draft {
     ghost view = { draft };
 }
 
-fn or_fault(done: Result<(), NoMemory>) -> Result<(), LineFault>
-    ensures ok { OnOk result (done ≡ Ok tt) }
+fn put_last<T: Drop>(items: &mut Vec<T, Memory>, item: T) -> Result<(), LineFault>
+    ensures ok { OnOk result (items.new.items ≡ items.old.items ++ item ∷ []) }
     ensures memory { IfErr result (λ fault. fault ≡ line_faults.NoMemory) }
 {
-    match done {
-        Ok(()) => Ok(()),
-        Err(NoMemory) => Err(LineFault::NoMemory),
-    }
+    items.push(item)?;
+    Ok(())
 }
 
-fn put_last<T: Drop>(items: &mut Vec<T, Memory>, item: T) -> Result<(), NoMemory>
-    ensures { OnOk result (items.new.items ≡ items.old.items ++ item ∷ []) }
+// Before the first that is greater.
+fn put_rising<T: Rising + Drop>(items: &mut Vec<T, Memory>, item: T) -> Result<(), LineFault>
+    ensures ok { OnOk result (items.new.items ≡ insert_rising T.order item items.old.items) }
+    ensures memory { IfErr result (λ fault. fault ≡ line_faults.NoMemory) }
 {
-    items.push(item)?;
+    insert_rising(items, item)?;
     Ok(())
 }
 
@@ -90,14 +92,14 @@ impl Draft {
         ensures bad { IsErrOf result LineFault.Bad → with_item self.old item ≡ None }
     {
         match item {
-            Item::Spends(input) => or_fault(insert_rising(&mut self.inputs, input)),
-            Item::LooksAt(reference) => or_fault(insert_rising(&mut self.references, reference)),
-            Item::Pays(payment) => or_fault(put_last(&mut self.payments, payment)),
+            Item::Spends(input) => put_rising(&mut self.inputs, input),
+            Item::LooksAt(reference) => put_rising(&mut self.references, reference),
+            Item::Pays(payment) => put_last(&mut self.payments, payment),
             Item::From(tick) => set_once(&mut self.from, tick),
             Item::To(tick) => set_once(&mut self.to, tick),
             Item::Forges(bundle) => set_once(&mut self.forge, bundle),
-            Item::Carries(script) => or_fault(insert_rising(&mut self.scripts, script)),
-            Item::Signs(signer) => or_fault(put_last(&mut self.signers, signer)),
+            Item::Carries(script) => put_rising(&mut self.scripts, script),
+            Item::Signs(signer) => put_last(&mut self.signers, signer),
         }
     }
 }
@@ -183,13 +185,27 @@ fn make_tx(memory: Memory, draft: &Draft, id: &TxId, signers: &[Signer]) -> Resu
     put_together(memory, parts)
 }
 
+fn unsigned_id(memory: Memory, draft: &Draft) -> Result<TxId, LineFault>
+    ensures { Reads (option_map id_of (if_fits (transaction_of draft.now []))) result }
+{
+    let unsigned = make_tx(memory, draft, &NO_ID, &[])?;
+    Ok(*unsigned.id())
+}
+
 // It is made twice: first without signatures, for its id.
-fn make_signed(memory: Memory, draft: &Draft) -> Result<Arc<Tx, Memory>, LineFault>
+fn make_signed(memory: Memory, draft: &Draft) -> Result<Tx, LineFault>
+    ensures { Reads
+        (option_and_then (signed draft.now) (if_fits (transaction_of draft.now []))) result }
+{
+    let id = unsigned_id(memory, draft)?;
+    make_tx(memory, draft, &id, &draft.signers)
+}
+
+fn make_shared(memory: Memory, draft: &Draft) -> Result<Arc<Tx, Memory>, LineFault>
     ensures { Gives arc_value
         (option_and_then (signed draft.now) (if_fits (transaction_of draft.now []))) result }
 {
-    let id = *make_tx(memory, draft, &NO_ID, &[])?.id();
-    let tx = make_tx(memory, draft, &id, &draft.signers)?;
+    let tx = make_signed(memory, draft)?;
     Ok(Arc::new(memory, tx)?)
 }
 
@@ -198,7 +214,7 @@ fn make_signed(memory: Memory, draft: &Draft) -> Result<Arc<Tx, Memory>, LineFau
 fn declared_of(memory: Memory, draft: &mut Draft) -> Result<DeclaredTx, LineFault>
     ensures { Reads (declared_of draft.old) result }
 {
-    let tx = make_signed(memory, draft)?;
+    let tx = make_shared(memory, draft)?;
     let payments = mem::replace(&mut draft.payments, Vec::new(memory));
     Ok(DeclaredTx::of(tx, payments))
 }

@@ -142,7 +142,13 @@ impl BindingTable {
     {
         make_room(&mut self.bindings, &mut self.names, &mut self.ids)?;
         let keys = keys_of(*self.bindings.allocator(), &named)?;
-        enter(&mut self.bindings, &mut self.names, &mut self.ids, keys, named);
+        enter(
+            &mut self.bindings,
+            &mut self.names,
+            &mut self.ids,
+            keys,
+            named,
+        );
         Ok(())
     }
 }

@@ -7,7 +7,7 @@ use mp_memory::NoMemory;
 use std::alloc::{AllocError, AllocFailed};
 
 /// Why a line does nothing.
-#[derive(Clone, Copy, Debug, PartialEq, Eq)]
+#[derive(Clone, Copy)]
 pub enum LineFault {
     NoMemory,
     /// The line is none of the language.
