@@ -24,7 +24,7 @@ use std::marker::Model;
 use std::mem;
 use std::sync::Arc;
 
-// Nobody signs it.
+// Nobody signs it, so no id is needed yet.
 const NO_ID: TxId = [0; 32];
 
 /// Items put together: inputs, references and policy scripts rise, and payments and signers keep their order.
