@@ -4,7 +4,7 @@ use Rattle.std.proofs.lemmas.List.{get_or_default, get_or-map, get_or-take, leng
 use Rattle.mp_tx.specs.declared.reference.OutRef.{OutRef}
 use Rattle.mp_tx.specs.declared.output.Output.{Output}
 use Rattle.mp_tx.specs.Ledger.{refs, AreDistinct, IsFirstRepeat}
-use Rattle.mp_lines.specs.References.{opening_ref}
+use Rattle.mp_names.specs.References.{opening_ref}
 use Rattle.mp_driver.specs.Inside.Openings.{AreNumbered}
 
 numbered-at : (es : List (OutRef × Output)) → AreNumbered es → (k : ℕ) (e : OutRef × Output) (d : OutRef) → k < length es → (get_or (refs es) k d).index ≡ k

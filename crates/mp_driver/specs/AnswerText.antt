@@ -10,7 +10,7 @@ use Rattle.mp_seqpool.specs.declared.command.Reply.{Reply}
 use Rattle.mp_seqpool.specs.declared.command.Reply.TheVariants.{Accepted, Removed, Synced}
 use Rattle.mp_seqpool.specs.Pool.{Pool}
 use Rattle.mp_seqpool.specs.SlowPool.{bytes_held}
-use Rattle.mp_lines.specs.Names.{Names, name_of, policy_name}
+use Rattle.mp_names.specs.Names.{Names, name_of, policy_name}
 
 -- a space, and then the number
 abbrev pub number_text : ℕ → List ℕ

@@ -7,13 +7,13 @@ use Rattle.mp_seqpool.specs.Command.{Command}
 use Rattle.mp_seqpool.specs.Command as commands
 use Rattle.mp_seqpool.specs.Pool.{Pool}
 use Rattle.mp_seqpool.specs.SlowPool.{empty_pool, answer, next}
-use Rattle.mp_lines.specs.declared.payment.Payment.{Payment}
-use Rattle.mp_lines.specs.declared.names.Binding.TheVariants.{Opening, Made}
-use Rattle.mp_lines.specs.declared.settings.Setting.{Setting}
-use Rattle.mp_lines.specs.declared.new_ledger.NewLedger.{NewLedger}
-use Rattle.mp_lines.specs.Names.{Names, first_names, with_binding, with_script, with_datum}
-use Rattle.mp_lines.specs.Payments.{output_of}
-use Rattle.mp_lines.specs.References.{opening_ref}
+use Rattle.mp_names.specs.declared.payment.Payment.{Payment}
+use Rattle.mp_names.specs.declared.names.Binding.TheVariants.{Opening, Made}
+use Rattle.mp_names.specs.declared.settings.Setting.{Setting}
+use Rattle.mp_names.specs.declared.new_ledger.NewLedger.{NewLedger}
+use Rattle.mp_names.specs.Names.{Names, first_names, with_binding, with_script, with_datum}
+use Rattle.mp_names.specs.Payments.{output_of}
+use Rattle.mp_names.specs.References.{opening_ref}
 use Rattle.mp_lines.specs.Lines.{Line, Blank, Sets, Script, Data, Out, Tx, Submit, Remove, Sync, Snapshot, line_of}
 use Rattle.mp_driver.specs.declared.settings.Settings.{Settings}
 use Rattle.mp_driver.specs.Settings.{no_settings, with_setting, block_bytes_of, limit_of, last_of, tick_of}

@@ -1,8 +1,8 @@
 -- The settings of a scenario.
 use Rattle.std.specs.Prelude.{ℕ, Option, None, option_map, unwrap_or}
-use Rattle.mp_lines.specs.declared.settings.Setting.{Setting}
-use Rattle.mp_lines.specs.declared.settings.Setting.TheVariants.{BlockBytes, Limit, Last, Tick}
-use Rattle.mp_lines.specs.Draft.{set_once}
+use Rattle.mp_names.specs.declared.settings.Setting.{Setting}
+use Rattle.mp_names.specs.declared.settings.Setting.TheVariants.{BlockBytes, Limit, Last, Tick}
+use Rattle.mp_names.specs.Once.{set_once}
 use Rattle.mp_driver.specs.declared.settings.Settings.{Settings}
 
 abbrev pub no_settings : Settings

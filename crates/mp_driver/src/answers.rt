@@ -5,8 +5,8 @@ ghost use Rattle.mp_driver.specs.AnswerText.{number_text, tickets_text, reply_te
 
 use crate::pool::ScenarioPool;
 use crate::refusals::{put_number, put_refusal, put_word};
-use mp_lines::Names;
 use mp_memory::{Memory, NoMemory};
+use mp_names::Names;
 use mp_seqpool::{Answer, Item, Refusal, Reply};
 
 type Text = Vec<u8, Memory>;

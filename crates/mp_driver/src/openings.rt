@@ -1,7 +1,7 @@
 //! The outputs of the opening ledger state.
 
 ghost use Rattle.std.specs.Prelude.{◌≡◌, ◌<◌, ◌^◌, [], ◌∷◌, ◌++◌, length, OnOk};
-ghost use Rattle.mp_lines.specs.References.{opening_ref};
+ghost use Rattle.mp_names.specs.References.{opening_ref};
 
 use mp_memory::{Memory, NoMemory};
 use mp_tx::{OutRef, Output};
@@ -28,7 +28,7 @@ impl Model for Openings {
 
 impl Openings {
     ghost use Rattle.std.specs.Prelude.{◌≡◌, ◌<◌, ◌^◌, [], ◌∷◌, ◌++◌, length, OnOk};
-    ghost use Rattle.mp_lines.specs.References.{opening_ref};
+    ghost use Rattle.mp_names.specs.References.{opening_ref};
     ghost use Rattle.mp_driver.specs.Inside.Openings.{AreNumbered};
 
     /// No output.

@@ -7,8 +7,8 @@ ghost use Rattle.mp_driver.specs.Inside.Scene.{scene_of};
 
 use crate::fault::Fault;
 use crate::scene::Scene;
-use mp_lines::LineFault;
 use mp_memory::Memory;
+use mp_names::LineFault;
 use mp_text::{InputFault, MAX_BYTES, first_line, read_all, write_all};
 use std::io::{Read, Write};
 

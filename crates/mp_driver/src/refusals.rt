@@ -1,12 +1,12 @@
 //! The names of refusals, and what is told with them.
 
 ghost use Rattle.std.specs.Prelude.{◌≡◌, ◌++◌, OnOk, codes};
-ghost use Rattle.mp_lines.specs.Names.{policy_name};
+ghost use Rattle.mp_names.specs.Names.{policy_name};
 ghost use Rattle.mp_driver.specs.AnswerText.{number_text, token_text, invalid_text, refusal_text};
 
 use mp_bundle::{PolicyId, TokenName};
-use mp_lines::Names;
 use mp_memory::{Memory, NoMemory};
+use mp_names::Names;
 use mp_seqpool::{Invalid, Refusal};
 
 type Text = Vec<u8, Memory>;

@@ -14,10 +14,9 @@ use crate::answers::{answer_line, snapshot_line};
 use crate::openings::Openings;
 use crate::pool::ScenarioPool;
 use crate::settings::Settings;
-use mp_lines::{
-    Binding, BlockBytes, Line, LineFault, MAX_OUTPUTS, Name, Names, NewLedger, Payment, Setting,
-};
+use mp_lines::{Line, MAX_OUTPUTS};
 use mp_memory::{Memory, NoMemory};
+use mp_names::{Binding, BlockBytes, LineFault, Name, Names, NewLedger, Payment, Setting};
 use mp_seqpool::{Command, Ids};
 use mp_tx::{Ledger, LedgerFault, Salt};
 use std::mem;
@@ -135,7 +134,7 @@ fn reply_of(
 
 impl Scene {
     ghost use Rattle.std.specs.Prelude.{◌≡◌, [], ◌∷◌, Some, None, IfOk, IfErr, OnOk, IsErrOf};
-    ghost use Rattle.mp_lines.specs.Names.{with_binding};
+    ghost use Rattle.mp_names.specs.Names.{with_binding};
     ghost use Rattle.mp_lines.specs.Lines as lines;
     ghost use Rattle.mp_lines.specs.Inside.Line.{to_line};
     ghost use Rattle.mp_seqpool.specs.Inside.Command.{command_of};

@@ -1,6 +1,6 @@
 //! The settings of a scenario.
 
-use mp_lines::{BlockBytes, Limit, LineFault, Setting, set_once};
+use mp_names::{BlockBytes, Limit, LineFault, Setting, set_once};
 use mp_seqpool::Config;
 
 const BLOCK_BYTES: u64 = 500_000;

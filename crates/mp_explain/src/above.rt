@@ -1,7 +1,8 @@
 //! What the lines above a line have come to.
 
-use mp_lines::{Binding, Line, LineFault, MAX_OUTPUTS, Name, Names, Payment};
+use mp_lines::{Line, MAX_OUTPUTS};
 use mp_memory::{Memory, NoMemory};
+use mp_names::{Binding, LineFault, Name, Names, Payment};
 use mp_text::first_word;
 use mp_tx::OutRef;
 

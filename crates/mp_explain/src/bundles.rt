@@ -3,7 +3,7 @@
 use crate::reason::Reason;
 use crate::values::{check_datum, check_script};
 use mp_bundle::{MAX_NAME_BYTES, PolicyId, Token};
-use mp_lines::Names;
+use mp_names::Names;
 use mp_text::quantity;
 
 const COIN: &str = "coin";

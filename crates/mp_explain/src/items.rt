@@ -3,7 +3,7 @@
 use crate::bundles::{check_bundle, check_payment};
 use crate::reason::Reason;
 use crate::values::{check_datum, check_script, number_from, reference_of};
-use mp_lines::Names;
+use mp_names::Names;
 use mp_tx::OutRef;
 
 const MAX_KEY: u64 = 255;

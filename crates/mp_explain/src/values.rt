@@ -1,7 +1,7 @@
 //! The words of lines: numbers, names and references.
 
 use crate::reason::Reason;
-use mp_lines::{Binding, Names};
+use mp_names::{Binding, Names};
 use mp_text::{is_name, number};
 use mp_tx::OutRef;
 

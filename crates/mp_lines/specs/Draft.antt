@@ -1,6 +1,5 @@
 -- Items put together, and the transaction that they make.
 use Rattle.std.specs.Prelude.{ℕ, ◌+◌, ◌-◌, ◌%◌, ◌^◌, ◌==◌, List, [], ◌∷◌, ◌++◌, map, replicate, is_none, Option, None, Some, option_map, option_and_then, unwrap_or, if◌then◌else◌}
-use Rattle.std.specs.declared.cmp.Ordering.{Ordering}
 use Rattle.mp_bundle.specs.Bundle.{Entry}
 use Rattle.mp_tx.specs.declared.reference.OutRef.{OutRef}
 use Rattle.mp_tx.specs.declared.input.Input.{Input}
@@ -9,14 +8,15 @@ use Rattle.mp_tx.specs.Reference.{ref_cmp}
 use Rattle.mp_tx.specs.Transaction.{Transaction, script_cmp, signature_cmp}
 use Rattle.mp_tx.specs.Spelling.{id_of}
 use Rattle.mp_tx.specs.TxFault.{parts_fault}
-use Rattle.mp_lines.specs.declared.payment.Payment.{Payment}
+use Rattle.mp_names.specs.declared.payment.Payment.{Payment}
 use Rattle.mp_lines.specs.declared.items.Item.{Item}
 use Rattle.mp_lines.specs.declared.items.Item.TheVariants.{Spends, LooksAt, Pays, From, To, Forges, Carries, Signs}
 use Rattle.mp_lines.specs.declared.items.Signer.{Signer}
-use Rattle.mp_lines.specs.Splitting.{insert_rising}
-use Rattle.mp_lines.specs.DeclaredTx.{DeclaredTx}
-use Rattle.mp_lines.specs.Names.{Names}
-use Rattle.mp_lines.specs.Payments.{output_of}
+use Rattle.mp_names.specs.Once.{set_once}
+use Rattle.mp_names.specs.Rising.{input_cmp, insert_rising}
+use Rattle.mp_names.specs.DeclaredTx.{DeclaredTx}
+use Rattle.mp_names.specs.Names.{Names}
+use Rattle.mp_names.specs.Payments.{output_of}
 use Rattle.mp_lines.specs.Items.{item_of}
 
 -- inputs, references and policy scripts rise, and what is paid keeps its order
@@ -32,15 +32,6 @@ pub record Draft : Type 0 where
 
 abbrev pub empty_draft : Draft
 empty_draft = record { inputs = []; references = []; payments = []; from = None; to = None; forge = None; scripts = []; signers = [] }
-
--- by what is spent
-abbrev pub input_cmp : Input → Input → Ordering
-input_cmp a b = ref_cmp a.from b.from
-
--- what may stand once stands once
-abbrev pub set_once : {X : Type 0} → Option X → X → Option (Option X)
-set_once None x = Some (Some x)
-set_once (Some y) x = None
 
 abbrev pub with_item : Draft → Item → Option Draft
 with_item d (Spends i) = Some (record d { inputs = insert_rising input_cmp i d.inputs })

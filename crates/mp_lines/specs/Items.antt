@@ -4,14 +4,14 @@ use Rattle.std.specs.Cmp.Lexicographic.{pointwise}
 use Rattle.mp_text.specs.Numbers.{number_of}
 use Rattle.mp_tx.specs.declared.reference.OutRef.{OutRef}
 use Rattle.mp_tx.specs.declared.input.Input.{Input}
-use Rattle.mp_lines.specs.declared.payment.Payment.{Payment}
+use Rattle.mp_names.specs.declared.payment.Payment.{Payment}
 use Rattle.mp_lines.specs.declared.items.Item.{Item}
 use Rattle.mp_lines.specs.declared.items.Item.TheVariants.{Spends, LooksAt, Pays, From, To, Forges, Carries, Signs}
-use Rattle.mp_lines.specs.Splitting.{split_once}
-use Rattle.mp_lines.specs.Names.{Names, script_named}
-use Rattle.mp_lines.specs.Bundles.{bundle_of}
-use Rattle.mp_lines.specs.Payments.{script_or_yes, datum_or_unit, lock_words, payment_of}
-use Rattle.mp_lines.specs.References.{ref_of, paid_at}
+use Rattle.mp_names.specs.Splitting.{split_once}
+use Rattle.mp_names.specs.Names.{Names, script_named}
+use Rattle.mp_names.specs.Bundles.{bundle_of}
+use Rattle.mp_names.specs.Payments.{script_or_yes, datum_or_unit, lock_words, payment_of}
+use Rattle.mp_names.specs.References.{ref_of, paid_at}
 
 -- the script that a word names, and else that of the output spent, and `yes` where that output doesn't exist
 abbrev pub validator_of : Names → Option (List ℕ) → Option Payment → Option (List ℕ)

@@ -1,12 +1,4 @@
-pub mod Splitting
-pub mod DeclaredTx
-pub mod Names
-pub mod Bundles
-pub mod Payments
-pub mod References
 pub mod Items
 pub mod Draft
-pub mod Settings
 pub mod Lines
-pub mod Fault
 pub mod Inside

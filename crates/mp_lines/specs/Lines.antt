@@ -1,7 +1,6 @@
 -- What lines ask, in view of what was declared before them.
 use Rattle.std.specs.Prelude.{ℕ, ◌++◌, nat_eq, List, [], ◌∷◌, codes, Option, None, Some, option_map, option_and_then, if◌then◌else◌, Result, Ok, Err, is_ok}
 use Rattle.std.specs.Cmp.Lexicographic.{pointwise}
-use Rattle.std.specs.List.{list_any}
 use Rattle.hex.specs.Hex.{decode_of}
 use Rattle.hex.specs.declared.error.FromHexError.{FromHexError}
 use Rattle.mp_text.specs.Numbers.{number_of}
@@ -11,21 +10,21 @@ use Rattle.mp_script.specs.ScriptReading.{script_of}
 use Rattle.mp_script.specs.DataReading.{datum_of}
 use Rattle.mp_tx.specs.declared.reference.OutRef.{OutRef}
 use Rattle.mp_tx.specs.declared.output.Output.{Output}
-use Rattle.mp_tx.specs.Reference.{same_ref}
 use Rattle.mp_tx.specs.Transaction.{Transaction}
 use Rattle.mp_tx.specs.Spelling.{id_of}
-use Rattle.mp_lines.specs.declared.payment.Payment.{Payment}
-use Rattle.mp_lines.specs.declared.names.NamedScript.{NamedScript}
-use Rattle.mp_lines.specs.declared.names.NamedDatum.{NamedDatum}
-use Rattle.mp_lines.specs.declared.settings.Setting.{Setting}
-use Rattle.mp_lines.specs.declared.settings.Setting.TheVariants.{BlockBytes, Limit, Last, Tick}
-use Rattle.mp_lines.specs.declared.new_ledger.NewLedger.{NewLedger}
-use Rattle.mp_lines.specs.Settings.{block_bytes_of, limit_of}
-use Rattle.mp_lines.specs.Splitting.{split_once}
-use Rattle.mp_lines.specs.DeclaredTx.{DeclaredTx}
-use Rattle.mp_lines.specs.Names.{Names, tx_named, is_new_binding, is_new_script, is_new_datum}
-use Rattle.mp_lines.specs.Payments.{output_of, payment_of}
-use Rattle.mp_lines.specs.References.{ref_of, paid_at}
+use Rattle.mp_names.specs.declared.payment.Payment.{Payment}
+use Rattle.mp_names.specs.declared.names.NamedScript.{NamedScript}
+use Rattle.mp_names.specs.declared.names.NamedDatum.{NamedDatum}
+use Rattle.mp_names.specs.declared.settings.Setting.{Setting}
+use Rattle.mp_names.specs.declared.settings.Setting.TheVariants.{BlockBytes, Limit, Last, Tick}
+use Rattle.mp_names.specs.declared.new_ledger.NewLedger.{NewLedger}
+use Rattle.mp_names.specs.Settings.{block_bytes_of, limit_of}
+use Rattle.mp_names.specs.Splitting.{split_once}
+use Rattle.mp_names.specs.DeclaredTx.{DeclaredTx}
+use Rattle.mp_names.specs.Names.{Names, tx_named, is_new_binding, is_new_script, is_new_datum}
+use Rattle.mp_names.specs.Payments.{payment_of}
+use Rattle.mp_names.specs.References.{ref_of, paid_at}
+use Rattle.mp_names.specs.Outputs.{with_output}
 use Rattle.mp_lines.specs.Draft.{empty_draft, draft_of, declared_of}
 
 pub data Line : Type 0 where
@@ -134,12 +133,6 @@ put_ids names ids (word ∷ words) = option_and_then (λ t. put_ids names (ids +
 abbrev pub remove_line : Names → List (List ℕ) → Option Line
 remove_line names [] = None
 remove_line names (word ∷ words) = option_map Remove (put_ids names [] (word ∷ words))
-
--- an output that exists and that no word before named
-abbrev pub with_output : List (OutRef × Output) → Option OutRef → Option Payment → Option (List (OutRef × Output))
-with_output outputs (Some r) (Some p) = if list_any (λ o. same_ref r o.0) outputs then None else Some (outputs ++ (r, output_of p) ∷ [])
-with_output outputs (Some r) None = None
-with_output outputs None p = None
 
 -- the outputs named, behind these
 abbrev pub put_outputs : Names → List (OutRef × Output) → List (List ℕ) → Option (List (OutRef × Output))

@@ -2,21 +2,20 @@
 
 ghost use Rattle.std.specs.Prelude.{◌≡◌, [], None, Some, option_map, option_copied, option_and_then, OnOk, IsErrOf};
 ghost use Rattle.mp_text.specs.Words.{words_of};
-ghost use Rattle.mp_lines.specs.Lines.{one_word, with_output, put_ids, put_outputs, block_word, submit_line, remove_line, sync_told, sync_at, sync_line, snapshot_line, block_line, limit_line, last_line, tick_line};
+ghost use Rattle.mp_lines.specs.Lines.{one_word, put_ids, put_outputs, block_word, submit_line, remove_line, sync_to, sync_told, sync_at, sync_line, snapshot_line, block_line, limit_line, last_line, tick_line};
 ghost use Rattle.mp_lines.specs.Lines as lines;
-ghost use Rattle.mp_lines.specs.Settings.{block_bytes_of};
-ghost use Rattle.mp_lines.specs.References.{ref_of, paid_at};
-ghost use Rattle.mp_lines.specs.Fault.{Reads, Gives};
+ghost use Rattle.mp_names.specs.Settings.{block_bytes_of};
+ghost use Rattle.mp_names.specs.References.{ref_of, paid_at};
+ghost use Rattle.mp_names.specs.Outputs.{with_output};
+ghost use Rattle.mp_names.specs.Fault.{Reads, Gives};
 ghost use Rattle.mp_lines.specs.Inside.Line.{to_line};
 
-use crate::fault::LineFault;
 use crate::line::Line;
-use crate::names::Names;
-use crate::new_ledger::{NewLedger, Outputs};
-use crate::references::{paid_at, ref_of};
-use crate::settings::{BlockBytes, Setting};
-use crate::splitting::split_once;
 use mp_memory::Memory;
+use mp_names::{
+    BlockBytes, DeclaredTx, LineFault, Names, NewLedger, Outputs, Setting, paid_at, ref_of,
+    split_once,
+};
 use mp_text::{first_word, number};
 use mp_tx::TxId;
 use std::sync::Arc;
@@ -80,23 +79,33 @@ pub fn tick_line(words: &[u8]) -> Result<Line, LineFault>
     }
 }
 
-/// submit TX
-pub fn submit_line(names: &Names, words: &[u8]) -> Result<Line, LineFault>
-    ensures { Gives to_line (submit_line names.now (words_of words.now)) result }
+fn submits(declared: Option<&DeclaredTx>) -> Result<Line, LineFault>
+    ensures { Gives to_line
+        (option_map (λ t. lines.Submit t.tx) (option_copied declared.entry)) result }
 {
-    let Some(word) = one_word(words) else {
-        return Err(LineFault::Bad);
-    };
-    match names.tx(word) {
+    match declared {
         Some(declared) => Ok(Line::Submit(Arc::try_clone(declared.tx())?)),
         None => Err(LineFault::Bad),
     }
 }
 
-fn ids_of(memory: Memory, names: &Names, words: &[u8]) -> Result<Vec<TxId, Memory>, LineFault>
-    ensures { Gives (λ v. v.items) (put_ids names.now [] (words_of words.now)) result }
+/// submit TX
+pub fn submit_line(names: &Names, words: &[u8]) -> Result<Line, LineFault>
+    ensures { Gives to_line (submit_line names.now (words_of words.now)) result }
 {
-    let mut ids = Vec::new(memory);
+    match one_word(words) {
+        Some(word) => submits(names.tx(word)),
+        None => Err(LineFault::Bad),
+    }
+}
+
+// Puts in the ids of the transactions named.
+fn put_ids(ids: &mut Vec<TxId, Memory>, names: &Names, words: &[u8]) -> Result<(), LineFault>
+    ensures ok { OnOk result
+        (put_ids names.now ids.old.items (words_of words.now) ≡ Some ids.new.items) }
+    ensures bad { IsErrOf result LineFault.Bad
+        → put_ids names.now ids.old.items (words_of words.now) ≡ None }
+{
     let mut rest = words;
     while let Some((word, others)) = first_word(rest) {
         let Some(declared) = names.tx(word) else {
@@ -105,7 +114,7 @@ fn ids_of(memory: Memory, names: &Names, words: &[u8]) -> Result<Vec<TxId, Memor
         ids.push(*declared.tx().id())?;
         rest = others;
     }
-    Ok(ids)
+    Ok(())
 }
 
 /// remove TX ..
@@ -115,7 +124,8 @@ pub fn remove_line(memory: Memory, names: &Names, words: &[u8]) -> Result<Line, 
     if first_word(words).is_none() {
         return Err(LineFault::Bad);
     }
-    let ids = ids_of(memory, names, words)?;
+    let mut ids = Vec::new(memory);
+    put_ids(&mut ids, names, words)?;
     Ok(Line::Remove(ids))
 }
 
@@ -160,7 +170,26 @@ fn block_word(word: &[u8]) -> Option<&[u8]>
     }
 }
 
-fn sync_with_block(
+fn sync_to(
+    memory: Memory,
+    names: &Names,
+    tick: u64,
+    block_bytes: Option<BlockBytes>,
+    words: &[u8],
+) -> Result<Line, LineFault>
+    ensures { Gives to_line
+        (option_map (sync_to tick block_bytes) (put_outputs names.now [] (words_of words.now)))
+        result }
+{
+    let outputs = outputs_of(memory, names, words)?;
+    Ok(Line::Sync(NewLedger {
+        tick,
+        block_bytes,
+        outputs,
+    }))
+}
+
+fn sync_told(
     memory: Memory,
     names: &Names,
     tick: u64,
@@ -171,34 +200,22 @@ fn sync_with_block(
         (option_and_then (sync_told names.now tick (words_of others.now)) (block_bytes_of value.now))
         result }
 {
-    let Some(bytes) = BlockBytes::parse(value) else {
-        return Err(LineFault::Bad);
-    };
-    Ok(Line::Sync(NewLedger {
-        tick,
-        block_bytes: Some(bytes),
-        outputs: outputs_of(memory, names, others)?,
-    }))
+    match BlockBytes::parse(value) {
+        Some(bytes) => sync_to(memory, names, tick, Some(bytes), others),
+        None => Err(LineFault::Bad),
+    }
 }
 
 // The outputs, and before them the bytes of a block, where they are told.
 fn sync_at(memory: Memory, names: &Names, words: &[u8], tick: u64) -> Result<Line, LineFault>
     ensures { Gives to_line (sync_at names.now (words_of words.now) tick) result }
 {
-    let Some((word, others)) = first_word(words) else {
-        return Ok(Line::Sync(NewLedger {
-            tick,
-            block_bytes: None,
-            outputs: Outputs::new(memory),
-        }));
-    };
-    match block_word(word) {
-        Some(value) => sync_with_block(memory, names, tick, value, others),
-        None => Ok(Line::Sync(NewLedger {
-            tick,
-            block_bytes: None,
-            outputs: outputs_of(memory, names, words)?,
-        })),
+    match first_word(words) {
+        Some((word, others)) => match block_word(word) {
+            Some(value) => sync_told(memory, names, tick, value, others),
+            None => sync_to(memory, names, tick, None, words),
+        },
+        None => sync_to(memory, names, tick, None, words),
     }
 }
 

@@ -1,10 +1,10 @@
 //! Parts of transactions once more.
 
-ghost use Rattle.std.specs.Prelude.{◌≡◌, map, IfOk};
-ghost use Rattle.mp_lines.specs.Payments.{output_of};
+ghost use Rattle.std.specs.Prelude.{◌≡◌, [], ◌∷◌, ◌++◌, map, IfOk, OnOk};
+ghost use Rattle.mp_names.specs.Payments.{output_of};
 
-use crate::payment::Payment;
 use mp_memory::{Memory, NoMemory};
+use mp_names::Payment;
 use mp_script::{Data, Script};
 use mp_tx::{Input, OutRef, Output};
 
@@ -31,47 +31,72 @@ pub fn make_input(
     })
 }
 
-fn copy_input(memory: Memory, input: &Input) -> Result<Input, NoMemory>
-    ensures { IfOk result (λ i. i ≡ input.now) }
+fn put_input(inputs: &mut Vec<Input, Memory>, memory: Memory, input: &Input) -> Result<(), NoMemory>
+    ensures { OnOk result (inputs.new.items ≡ inputs.old.items ++ input.now ∷ []) }
 {
-    make_input(
+    let copy = make_input(
         memory,
         input.from,
         &input.validator,
         &input.datum,
         &input.redeemer,
-    )
+    )?;
+    inputs.push(copy)?;
+    Ok(())
 }
 
-/// The same inputs.
-pub fn copy_inputs(memory: Memory, inputs: &[Input]) -> Result<Vec<Input, Memory>, NoMemory>
-    ensures { IfOk result (λ v. v.items ≡ inputs.now) }
+fn put_script(
+    scripts: &mut Vec<Script, Memory>,
+    memory: Memory,
+    script: &Script,
+) -> Result<(), NoMemory>
+    ensures { OnOk result (scripts.new.items ≡ scripts.old.items ++ script.now ∷ []) }
 {
-    let mut copies = Vec::new(memory);
+    scripts.push(script.copy(memory)?)?;
+    Ok(())
+}
+
+fn put_output(outputs: &mut Vec<Output, Memory>, payment: &Payment) -> Result<(), NoMemory>
+    ensures { OnOk result (outputs.new.items ≡ outputs.old.items ++ output_of payment.now ∷ []) }
+{
+    outputs.push(payment.to_output()?)?;
+    Ok(())
+}
+
+/// Puts the same inputs last.
+pub fn copy_inputs(
+    copies: &mut Vec<Input, Memory>,
+    memory: Memory,
+    inputs: &[Input],
+) -> Result<(), NoMemory>
+    ensures { OnOk result (copies.new.items ≡ copies.old.items ++ inputs.now) }
+{
     for input in inputs {
-        copies.push(copy_input(memory, input)?)?;
+        put_input(copies, memory, input)?;
     }
-    Ok(copies)
+    Ok(())
 }
 
-/// The same scripts.
-pub fn copy_scripts(memory: Memory, scripts: &[Script]) -> Result<Vec<Script, Memory>, NoMemory>
-    ensures { IfOk result (λ v. v.items ≡ scripts.now) }
+/// Puts the same scripts last.
+pub fn copy_scripts(
+    copies: &mut Vec<Script, Memory>,
+    memory: Memory,
+    scripts: &[Script],
+) -> Result<(), NoMemory>
+    ensures { OnOk result (copies.new.items ≡ copies.old.items ++ scripts.now) }
 {
-    let mut copies = Vec::new(memory);
     for script in scripts {
-        copies.push(script.copy(memory)?)?;
+        put_script(copies, memory, script)?;
     }
-    Ok(copies)
+    Ok(())
 }
 
-/// The outputs that are paid.
-pub fn outputs_of(memory: Memory, payments: &[Payment]) -> Result<Vec<Output, Memory>, NoMemory>
-    ensures { IfOk result (λ v. v.items ≡ map output_of payments.now) }
+/// Puts the outputs last that are paid.
+pub fn put_outputs(outputs: &mut Vec<Output, Memory>, payments: &[Payment]) -> Result<(), NoMemory>
+    ensures { OnOk result (outputs.new.items ≡ outputs.old.items ++ map output_of payments.now) }
 {
-    let mut outputs = Vec::new(memory);
     for payment in payments {
-        outputs.push(payment.to_output()?)?;
+        put_output(outputs, payment)?;
     }
-    Ok(outputs)
+    Ok(())
 }

@@ -1,21 +1,18 @@
 //! Lines that declare something.
 
-ghost use Rattle.std.specs.Prelude.{◌≡◌, None, Some, option_map, option_and_then};
+ghost use Rattle.std.specs.Prelude.{◌≡◌, Ok, None, Some, option_map, option_and_then, IfOk, IsErrOf};
 ghost use Rattle.mp_text.specs.Words.{words_of};
 ghost use Rattle.mp_lines.specs.Lines.{bytes_of, if_script, if_datum, two_words, script_by, script_line, data_by, data_line, output_by, output_line, tx_line};
 ghost use Rattle.mp_lines.specs.Lines as lines;
 ghost use Rattle.mp_lines.specs.Draft.{empty_draft, draft_of, declared_of};
-ghost use Rattle.mp_lines.specs.Fault.{Reads, Gives};
+ghost use Rattle.mp_names.specs.Fault.{Reads, Gives};
 ghost use Rattle.mp_lines.specs.Inside.Line.{to_line};
 
-use crate::declared_tx::DeclaredTx;
-use crate::draft::{declared_of, draft_of};
-use crate::fault::LineFault;
+use crate::draft::declared_by;
 use crate::line::Line;
-use crate::names::{Name, NamedDatum, NamedScript, Names};
-use crate::payments::payment_of;
 use hex::FromHexError;
 use mp_memory::Memory;
+use mp_names::{LineFault, Name, NamedDatum, NamedScript, Names, payment_of};
 use mp_script::{Data, DataFault, Script, ScriptFault};
 use mp_text::first_word;
 
@@ -74,15 +71,31 @@ fn two_words(words: &[u8]) -> Option<(&[u8], &[u8])>
     }
 }
 
+// What was made, with a copy of its name.
+fn named<T: Drop>(
+    memory: Memory,
+    name: &[u8],
+    made: Result<T, LineFault>,
+) -> Result<(Name, T), LineFault>
+    ensures name { IfOk result (λ p. p.0 ≡ name.now) }
+    ensures made { IfOk result (λ p. made ≡ Ok p.1) }
+    ensures bad { IsErrOf result LineFault.Bad → IsErrOf made LineFault.Bad }
+{
+    let made = made?;
+    let name = Name::of(memory, name)?;
+    Ok((name, made))
+}
+
 fn script_by(memory: Memory, names: &Names, name: &[u8], digits: &[u8]) -> Result<Line, LineFault>
     ensures { Gives to_line (script_by names.now (name.now, digits.now)) result }
 {
     if !names.is_new_script(name) {
         return Err(LineFault::Bad);
     }
-    let name = Name::of(memory, name)?;
-    let script = script_of(memory, digits)?;
-    Ok(Line::Script(NamedScript { name, script }))
+    match named(memory, name, script_of(memory, digits)) {
+        Ok((name, script)) => Ok(Line::Script(NamedScript { name, script })),
+        Err(fault) => Err(fault),
+    }
 }
 
 fn data_by(memory: Memory, names: &Names, name: &[u8], digits: &[u8]) -> Result<Line, LineFault>
@@ -91,9 +104,10 @@ fn data_by(memory: Memory, names: &Names, name: &[u8], digits: &[u8]) -> Result<
     if !names.is_new_datum(name) {
         return Err(LineFault::Bad);
     }
-    let name = Name::of(memory, name)?;
-    let datum = datum_of(memory, digits)?;
-    Ok(Line::Data(NamedDatum { name, datum }))
+    match named(memory, name, datum_of(memory, digits)) {
+        Ok((name, datum)) => Ok(Line::Data(NamedDatum { name, datum })),
+        Err(fault) => Err(fault),
+    }
 }
 
 fn output_by(memory: Memory, names: &Names, name: &[u8], word: &[u8]) -> Result<Line, LineFault>
@@ -102,9 +116,10 @@ fn output_by(memory: Memory, names: &Names, name: &[u8], word: &[u8]) -> Result<
     if !names.is_new_binding(name) {
         return Err(LineFault::Bad);
     }
-    let name = Name::of(memory, name)?;
-    let payment = payment_of(memory, names, word)?;
-    Ok(Line::Out(name, payment))
+    match named(memory, name, payment_of(memory, names, word)) {
+        Ok((name, payment)) => Ok(Line::Out(name, payment)),
+        Err(fault) => Err(fault),
+    }
 }
 
 /// script NAME HEX
@@ -137,21 +152,14 @@ pub fn output_line(memory: Memory, names: &Names, words: &[u8]) -> Result<Line, 
     }
 }
 
-fn declared_by(memory: Memory, names: &Names, items: &[u8]) -> Result<DeclaredTx, LineFault>
-    ensures { Reads (option_and_then declared_of
-        (draft_of names.now empty_draft (words_of items.now))) result }
-{
-    let draft = draft_of(memory, names, items)?;
-    declared_of(memory, draft)
-}
-
 fn tx_by(memory: Memory, names: &Names, name: &[u8], items: &[u8]) -> Result<Line, LineFault>
     ensures { Gives to_line (option_map (lines.Tx name.now) (option_and_then declared_of
         (draft_of names.now empty_draft (words_of items.now)))) result }
 {
-    let declared = declared_by(memory, names, items)?;
-    let name = Name::of(memory, name)?;
-    Ok(Line::Tx(name, declared))
+    match named(memory, name, declared_by(memory, names, items)) {
+        Ok((name, declared)) => Ok(Line::Tx(name, declared)),
+        Err(fault) => Err(fault),
+    }
 }
 
 /// tx NAME ITEM ..

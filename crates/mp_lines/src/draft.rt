@@ -1,29 +1,31 @@
 //! Items put together.
 
-ghost use Rattle.std.specs.Prelude.{◌≡◌, [], ◌∷◌, ◌++◌, Ok, Some, None, option_and_then, unwrap_or, IfOk, IfErr, OnOk, IsErrOf};
-ghost use Rattle.mp_lines.specs.declared.fault.LineFault.TheVariants as line_faults;
+ghost use Rattle.std.specs.Prelude.{◌≡◌, [], ◌∷◌, ◌++◌, Ok, Some, None, option_and_then, option_map, unwrap_or, IfOk, IfErr, OnOk, IsErrOf};
+ghost use Rattle.mp_names.specs.declared.fault.LineFault.TheVariants as line_faults;
 ghost use Rattle.std.specs.Arc.{arc_value};
 ghost use Rattle.mp_text.specs.Words.{words_of};
+ghost use Rattle.mp_tx.specs.Spelling.{id_of};
 ghost use Rattle.mp_tx.specs.TxFault.{parts_of};
-ghost use Rattle.mp_lines.specs.Draft.{empty_draft, draft_of, transaction_of, if_fits, signed, declared_of};
-ghost use Rattle.mp_lines.specs.Fault.{Reads, Gives};
+ghost use Rattle.mp_names.specs.Rising.{insert_rising};
+ghost use Rattle.mp_lines.specs.Draft.{empty_draft, draft_of, transaction_of, if_fits, signatures_of, signed, declared_of};
+ghost use Rattle.mp_names.specs.Fault.{Reads, Gives};
+ghost use Rattle.mp_lines.specs.Inside.Draft.{bare_of};
 
-use crate::copies::{copy_inputs, copy_scripts, outputs_of};
-use crate::declared_tx::DeclaredTx;
-use crate::fault::LineFault;
+use crate::copies::{copy_inputs, copy_scripts, put_outputs};
 use crate::items::{Item, Signer, item_of};
-use crate::names::Names;
-use crate::once::set_once;
-use crate::payment::Payment;
-use crate::rising::insert_rising;
-use crate::signing::signatures_of;
+use crate::signing::put_signatures;
 use mp_bundle::Bundle;
 use mp_memory::{Memory, NoMemory};
+use mp_names::{DeclaredTx, LineFault, Names, Payment, Rising, insert_rising, set_once};
 use mp_script::Script;
 use mp_text::first_word;
-use mp_tx::{Input, OutRef, Signature, Tx, TxFault, TxParts};
+use mp_tx::{Input, OutRef, Tx, TxFault, TxId, TxParts};
 use std::marker::Model;
+use std::mem;
 use std::sync::Arc;
+
+// Nobody signs it, so no id is needed yet.
+const NO_ID: TxId = [0; 32];
 
 /// Items put together: inputs, references and policy scripts rise, and payments and signers keep their order.
 #[derive(Drop)]
@@ -47,20 +49,20 @@ impl Model for Draft {
     ghost view = { draft };
 }
 
-fn or_fault(done: Result<(), NoMemory>) -> Result<(), LineFault>
-    ensures ok { OnOk result (done ≡ Ok tt) }
+fn put_last<T: Drop>(items: &mut Vec<T, Memory>, item: T) -> Result<(), LineFault>
+    ensures ok { OnOk result (items.new.items ≡ items.old.items ++ item ∷ []) }
     ensures memory { IfErr result (λ fault. fault ≡ line_faults.NoMemory) }
 {
-    match done {
-        Ok(()) => Ok(()),
-        Err(NoMemory) => Err(LineFault::NoMemory),
-    }
+    items.push(item)?;
+    Ok(())
 }
 
-fn put_last<T: Drop>(items: &mut Vec<T, Memory>, item: T) -> Result<(), NoMemory>
-    ensures { OnOk result (items.new.items ≡ items.old.items ++ item ∷ []) }
+// Before the first that is greater.
+fn put_rising<T: Rising + Drop>(items: &mut Vec<T, Memory>, item: T) -> Result<(), LineFault>
+    ensures ok { OnOk result (items.new.items ≡ insert_rising T.order item items.old.items) }
+    ensures memory { IfErr result (λ fault. fault ≡ line_faults.NoMemory) }
 {
-    items.push(item)?;
+    insert_rising(items, item)?;
     Ok(())
 }
 
@@ -90,14 +92,14 @@ impl Draft {
         ensures bad { IsErrOf result LineFault.Bad → with_item self.old item ≡ None }
     {
         match item {
-            Item::Spends(input) => or_fault(insert_rising(&mut self.inputs, input)),
-            Item::LooksAt(reference) => or_fault(insert_rising(&mut self.references, reference)),
-            Item::Pays(payment) => or_fault(put_last(&mut self.payments, payment)),
+            Item::Spends(input) => put_rising(&mut self.inputs, input),
+            Item::LooksAt(reference) => put_rising(&mut self.references, reference),
+            Item::Pays(payment) => put_last(&mut self.payments, payment),
             Item::From(tick) => set_once(&mut self.from, tick),
             Item::To(tick) => set_once(&mut self.to, tick),
             Item::Forges(bundle) => set_once(&mut self.forge, bundle),
-            Item::Carries(script) => or_fault(insert_rising(&mut self.scripts, script)),
-            Item::Signs(signer) => or_fault(put_last(&mut self.signers, signer)),
+            Item::Carries(script) => put_rising(&mut self.scripts, script),
+            Item::Signs(signer) => put_last(&mut self.signers, signer),
         }
     }
 }
@@ -118,15 +120,6 @@ fn fill(draft: &mut Draft, memory: Memory, names: &Names, words: &[u8]) -> Resul
     Ok(())
 }
 
-/// The items that the words are, put together.
-pub fn draft_of(memory: Memory, names: &Names, words: &[u8]) -> Result<Draft, LineFault>
-    ensures { Reads (draft_of names.now empty_draft (words_of words.now)) result }
-{
-    let mut draft = Draft::new(memory);
-    fill(&mut draft, memory, names, words)?;
-    Ok(draft)
-}
-
 fn forge_of(draft: &Draft) -> Result<Bundle, NoMemory>
     ensures { IfOk result (λ b. b ≡ unwrap_or draft.now.forge []) }
 {
@@ -136,24 +129,40 @@ fn forge_of(draft: &Draft) -> Result<Bundle, NoMemory>
     }
 }
 
-fn parts_of(
-    memory: Memory,
-    draft: &Draft,
-    signatures: Vec<Signature, Memory>,
-) -> Result<TxParts, NoMemory>
-    ensures { IfOk result (λ p. parts_of p ≡ transaction_of draft.now signatures.items) }
+// The parts that take no memory.
+fn bare_parts(memory: Memory, draft: &Draft) -> TxParts
+    ensures { parts_of result ≡ bare_of draft.now }
 {
-    let forge = forge_of(draft)?;
-    Ok(TxParts {
-        inputs: copy_inputs(memory, &draft.inputs)?,
-        references: Vec::from_slice(memory, &draft.references)?,
-        outputs: outputs_of(memory, &draft.payments)?,
+    TxParts {
+        inputs: Vec::new(memory),
+        references: Vec::new(memory),
+        outputs: Vec::new(memory),
         from: draft.from.unwrap_or(0),
         to: draft.to.unwrap_or(u64::MAX),
-        forge,
-        scripts: copy_scripts(memory, &draft.scripts)?,
-        signatures,
-    })
+        forge: Bundle::empty(),
+        scripts: Vec::new(memory),
+        signatures: Vec::new(memory),
+    }
+}
+
+// Puts in copies of the others, and what these signers make of the id.
+fn put_others(
+    parts: &mut TxParts,
+    memory: Memory,
+    draft: &Draft,
+    id: &TxId,
+    signers: &[Signer],
+) -> Result<(), NoMemory>
+    requires { parts_of parts.old ≡ bare_of draft.now }
+    ensures { OnOk result (parts_of parts.new
+        ≡ transaction_of draft.now (signatures_of id.now [] signers.now)) }
+{
+    parts.forge = forge_of(draft)?;
+    parts.references = Vec::from_slice(memory, &draft.references)?;
+    copy_inputs(&mut parts.inputs, memory, &draft.inputs)?;
+    put_outputs(&mut parts.outputs, &draft.payments)?;
+    copy_scripts(&mut parts.scripts, memory, &draft.scripts)?;
+    put_signatures(&mut parts.signatures, id, signers)
 }
 
 fn put_together(memory: Memory, parts: TxParts) -> Result<Tx, LineFault>
@@ -166,20 +175,21 @@ fn put_together(memory: Memory, parts: TxParts) -> Result<Tx, LineFault>
     }
 }
 
-// The transaction with signatures of its id.
-fn sign(memory: Memory, draft: &Draft, unsigned: &Tx) -> Result<Tx, LineFault>
-    ensures { Reads (signed draft.now unsigned.now) result }
+// The transaction with what these signers make of the id.
+fn make_tx(memory: Memory, draft: &Draft, id: &TxId, signers: &[Signer]) -> Result<Tx, LineFault>
+    ensures { Reads (if_fits
+        (transaction_of draft.now (signatures_of id.now [] signers.now))) result }
 {
-    let signatures = signatures_of(memory, unsigned.id(), &draft.signers)?;
-    let parts = parts_of(memory, draft, signatures)?;
+    let mut parts = bare_parts(memory, draft);
+    put_others(&mut parts, memory, draft, id, signers)?;
     put_together(memory, parts)
 }
 
-fn make_unsigned(memory: Memory, draft: &Draft) -> Result<Tx, LineFault>
-    ensures { Reads (if_fits (transaction_of draft.now [])) result }
+fn unsigned_id(memory: Memory, draft: &Draft) -> Result<TxId, LineFault>
+    ensures { Reads (option_map id_of (if_fits (transaction_of draft.now []))) result }
 {
-    let parts = parts_of(memory, draft, Vec::new(memory))?;
-    put_together(memory, parts)
+    let unsigned = make_tx(memory, draft, &NO_ID, &[])?;
+    Ok(*unsigned.id())
 }
 
 // It is made twice: first without signatures, for its id.
@@ -187,8 +197,8 @@ fn make_signed(memory: Memory, draft: &Draft) -> Result<Tx, LineFault>
     ensures { Reads
         (option_and_then (signed draft.now) (if_fits (transaction_of draft.now []))) result }
 {
-    let unsigned = make_unsigned(memory, draft)?;
-    sign(memory, draft, &unsigned)
+    let id = unsigned_id(memory, draft)?;
+    make_tx(memory, draft, &id, &draft.signers)
 }
 
 fn make_shared(memory: Memory, draft: &Draft) -> Result<Arc<Tx, Memory>, LineFault>
@@ -199,12 +209,22 @@ fn make_shared(memory: Memory, draft: &Draft) -> Result<Arc<Tx, Memory>, LineFau
     Ok(Arc::new(memory, tx)?)
 }
 
-/// The transaction of the draft.
+// The transaction of the draft, whose payments go with it.
 #[tactic(auto, unfolding(crate::specs::Draft::declared_of))]
-pub fn declared_of(memory: Memory, draft: Draft) -> Result<DeclaredTx, LineFault>
-    ensures { Reads (declared_of draft) result }
+fn declared_of(memory: Memory, draft: &mut Draft) -> Result<DeclaredTx, LineFault>
+    ensures { Reads (declared_of draft.old) result }
 {
-    let tx = make_shared(memory, &draft)?;
-    let Draft { payments, .. } = draft;
+    let tx = make_shared(memory, draft)?;
+    let payments = mem::replace(&mut draft.payments, Vec::new(memory));
     Ok(DeclaredTx::of(tx, payments))
+}
+
+/// The transaction that the items make which the words are.
+pub fn declared_by(memory: Memory, names: &Names, words: &[u8]) -> Result<DeclaredTx, LineFault>
+    ensures { Reads (option_and_then declared_of
+        (draft_of names.now empty_draft (words_of words.now))) result }
+{
+    let mut draft = Draft::new(memory);
+    fill(&mut draft, memory, names, words)?;
+    declared_of(memory, &mut draft)
 }

@@ -3,23 +3,20 @@
 ghost use Rattle.std.specs.Prelude.{◌≡◌, Ok, None, Some, option_copied, option_map};
 ghost use Rattle.mp_text.specs.Numbers.{number_of};
 ghost use Rattle.mp_lines.specs.declared.items.Item.TheVariants as told;
-ghost use Rattle.mp_lines.specs.Names.{script_named};
-ghost use Rattle.mp_lines.specs.Bundles.{bundle_of};
-ghost use Rattle.mp_lines.specs.Payments.{payment_of};
-ghost use Rattle.mp_lines.specs.References.{ref_of};
+ghost use Rattle.mp_names.specs.Names.{script_named};
+ghost use Rattle.mp_names.specs.Bundles.{bundle_of};
+ghost use Rattle.mp_names.specs.Payments.{payment_of};
+ghost use Rattle.mp_names.specs.References.{ref_of};
 ghost use Rattle.mp_lines.specs.Items.{validator_of, spent_datum_of, input_by, input_of, key_of, good_signer, bad_signer, witness_item, limit_item, item_by, item_of};
-ghost use Rattle.mp_lines.specs.Fault.{Reads};
+ghost use Rattle.mp_names.specs.Fault.{Reads};
 
-use crate::bundles::bundle_of;
 use crate::copies::make_input;
-use crate::fault::LineFault;
-use crate::names::Names;
-use crate::payment::Payment;
-use crate::payments::{datum_or_unit, lock_words, payment_of, script_or_yes};
-use crate::references::{paid_at, ref_of};
-use crate::splitting::split_once;
 use mp_bundle::Bundle;
 use mp_memory::Memory;
+use mp_names::{
+    LineFault, Names, Payment, bundle_of, datum_or_unit, lock_words, paid_at, payment_of, ref_of,
+    script_or_yes, split_once,
+};
 use mp_script::{Data, Script};
 use mp_text::number;
 use mp_tx::{Input, OutRef};

@@ -3,7 +3,7 @@
 ghost use Rattle.std.specs.Prelude.{◌≡◌, Some, None};
 ghost use Rattle.mp_text.specs.Words.{words_of};
 ghost use Rattle.mp_lines.specs.Lines.{command_line, declaration_line, asked_line, words_line, line_of};
-ghost use Rattle.mp_lines.specs.Fault.{Gives};
+ghost use Rattle.mp_names.specs.Fault.{Gives};
 ghost use Rattle.mp_lines.specs.Inside.Line.{to_line};
 
 use crate::commands::{
@@ -11,13 +11,10 @@ use crate::commands::{
     tick_line,
 };
 use crate::declarations::{data_line, output_line, script_line, tx_line};
-use crate::declared_tx::DeclaredTx;
-use crate::fault::LineFault;
-use crate::names::{Name, NamedDatum, NamedScript, Names};
-use crate::new_ledger::NewLedger;
-use crate::payment::Payment;
-use crate::settings::Setting;
 use mp_memory::Memory;
+use mp_names::{
+    DeclaredTx, LineFault, Name, NamedDatum, NamedScript, Names, NewLedger, Payment, Setting,
+};
 use mp_text::{first_word, is_clean, is_comment_or_blank};
 use mp_tx::{Tx, TxId};
 use std::sync::Arc;
@@ -97,7 +94,7 @@ fn asked_line(memory: Memory, names: &Names, word: &[u8], words: &[u8]) -> Resul
 
 impl Line {
     ghost use Rattle.mp_lines.specs.Lines.{line_of};
-    ghost use Rattle.mp_lines.specs.Fault.{Gives};
+    ghost use Rattle.mp_names.specs.Fault.{Gives};
     ghost use Rattle.mp_lines.specs.Inside.Line.{to_line};
 
     /// What the line, without its line feed, asks where these names are declared.

@@ -1,11 +1,11 @@
 //! How the signers of a scenario sign.
 
-ghost use Rattle.std.specs.Prelude.{◌≡◌, [], IfOk};
+ghost use Rattle.std.specs.Prelude.{◌≡◌, OnOk};
 ghost use Rattle.mp_lines.specs.Draft.{flip, first_byte, signature_of, signatures_of};
 
 use crate::items::Signer;
-use crate::rising::insert_rising;
 use mp_memory::{Memory, NoMemory};
+use mp_names::insert_rising;
 use mp_tx::{Signature, TxId};
 
 const KEY_BYTES: usize = 32;
@@ -42,17 +42,17 @@ fn signature_of(id: &TxId, signer: Signer) -> Signature
     }
 }
 
-/// What the signers make of the id, in rising order.
-pub fn signatures_of(
-    memory: Memory,
+/// Puts in what the signers make of the id, each where it stands in rising order.
+pub fn put_signatures(
+    signatures: &mut Vec<Signature, Memory>,
     id: &TxId,
     signers: &[Signer],
-) -> Result<Vec<Signature, Memory>, NoMemory>
-    ensures { IfOk result (λ v. v.items ≡ signatures_of id.now [] signers.now) }
+) -> Result<(), NoMemory>
+    ensures { OnOk result (signatures.new.items
+        ≡ signatures_of id.now signatures.old.items signers.now) }
 {
-    let mut signatures = Vec::new(memory);
     for signer in signers {
-        insert_rising(&mut signatures, signature_of(id, *signer))?;
+        insert_rising(signatures, signature_of(id, *signer))?;
     }
-    Ok(signatures)
+    Ok(())
 }

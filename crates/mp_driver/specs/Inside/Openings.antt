@@ -2,7 +2,7 @@
 use Rattle.std.specs.Prelude.{◌≡◌, ℕ, ◌<◌, List, length, slice_index_or}
 use Rattle.mp_tx.specs.declared.reference.OutRef.{OutRef}
 use Rattle.mp_tx.specs.declared.output.Output.{Output}
-use Rattle.mp_lines.specs.References.{opening_ref}
+use Rattle.mp_names.specs.References.{opening_ref}
 
 -- each output stands under the number of its place
 abbrev pub AreNumbered : List (OutRef × Output) → Type 0

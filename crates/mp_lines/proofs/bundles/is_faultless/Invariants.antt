@@ -1,7 +1,0 @@
-use Rattle.std.proofs.Common.{◌≡◌, drop}
-use Rattle.mp_bundle.specs.BundleFault.{fault_after, fault_of}
-use Rattle.mp_lines.proofs.bundles.is_faultless.Given as goal
-
--- the fault of what is left is that of all
-abbrev pub invariant-loop-entry : goal.invariant-loop-entry
-invariant-loop-entry l = fault_after l.before (drop l.entry-index l.entries) ≡ fault_of l.entries

@@ -1,8 +1,0 @@
-use Rattle.std.proofs.Common.{◌≡◌, take}
-use Rattle.std.specs.Prelude.{map}
-use Rattle.mp_lines.specs.Payments.{output_of}
-use Rattle.mp_lines.proofs.copies.outputs_of.Given as goal
-
--- those so far
-abbrev pub invariant-loop-payment : goal.invariant-loop-payment
-invariant-loop-payment l = l.outputs.items ≡ map output_of (take l.payment-index l.payments)

@@ -1,7 +1,0 @@
--- What a declared transaction keeps.
-use Rattle.std.specs.Arc.{arc_value}
-use Rattle.mp_lines.specs.declared.declared_tx.DeclaredTx.TheInside.{Inside}
-use Rattle.mp_lines.specs.DeclaredTx.{DeclaredTx}
-
-abbrev pub declared_tx : Inside → DeclaredTx
-declared_tx t = record { tx = arc_value t.tx; payments = t.payments.items }

@@ -1,6 +1,0 @@
--- What a name keeps.
-use Rattle.std.specs.Prelude.{ℕ, List}
-use Rattle.mp_lines.specs.declared.names.Name.TheInside.{Inside}
-
-abbrev pub bytes_of : Inside → List ℕ
-bytes_of n = n.bytes.items

@@ -1,6 +1,0 @@
--- What names keep.
-use Rattle.mp_lines.specs.declared.names.Names.TheInside.{Inside}
-use Rattle.mp_lines.specs.Names.{Names}
-
-abbrev pub names_of : Inside → Names
-names_of n = record { bindings = n.bindings; scripts = n.scripts.items; datums = n.datums.items }

@@ -1,0 +1,17 @@
+-- What a table of bindings keeps.
+use Rattle.std.specs.Prelude.{ℕ, Bool, nat_eq, List, Option, option_map}
+use Rattle.std.specs.Cmp.Lexicographic.{pointwise}
+use Rattle.mp_tx.specs.Spelling.{id_of}
+use Rattle.mp_names.specs.declared.names.Binding.{Binding}
+use Rattle.mp_names.specs.declared.names.NamedBinding.{NamedBinding}
+use Rattle.mp_names.specs.Names.{bound_tx, has_id}
+
+abbrev pub has_name : List ℕ → NamedBinding → Bool
+has_name word n = pointwise nat_eq word n.name
+
+abbrev pub has_tx_id : List ℕ → NamedBinding → Bool
+has_tx_id id n = has_id id n.binding
+
+-- the id of a transaction; an output has none
+abbrev pub bound_id : Binding → Option (List ℕ)
+bound_id b = option_map (λ t. id_of t.tx) (bound_tx b)

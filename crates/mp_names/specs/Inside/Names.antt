@@ -1,0 +1,6 @@
+-- What names keep.
+use Rattle.mp_names.specs.declared.names.Names.TheInside.{Inside}
+use Rattle.mp_names.specs.Names.{Names}
+
+abbrev pub names_of : Inside → Names
+names_of n = record { bindings = n.bindings; scripts = n.scripts.items; datums = n.datums.items }

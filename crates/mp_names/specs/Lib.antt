@@ -1,0 +1,12 @@
+pub mod Splitting
+pub mod Rising
+pub mod DeclaredTx
+pub mod Names
+pub mod Bundles
+pub mod Payments
+pub mod References
+pub mod Settings
+pub mod Once
+pub mod Outputs
+pub mod Fault
+pub mod Inside

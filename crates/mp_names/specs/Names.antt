@@ -1,0 +1,81 @@
+-- What the names of a scenario stand for.
+use Rattle.std.specs.Prelude.{ℕ, ◌&&◌, ◌++◌, Bool, false, not, nat_eq, List, [], ◌∷◌, find, codes, is_none, Option, None, Some, option_map, option_and_then, unwrap_or, replicate, if◌then◌else◌}
+use Rattle.std.specs.Cmp.Lexicographic.{pointwise}
+use Rattle.sha2.specs.Sha256.{sha256}
+use Rattle.mp_text.specs.Names.{is_name}
+use Rattle.mp_tx.specs.Spelling.{id_of}
+use Rattle.mp_names.specs.declared.names.Binding.{Binding}
+use Rattle.mp_names.specs.declared.names.Binding.TheVariants.{Opening, Made}
+use Rattle.mp_names.specs.declared.names.NamedBinding.{NamedBinding}
+use Rattle.mp_names.specs.declared.names.NamedScript.{NamedScript}
+use Rattle.mp_names.specs.declared.names.NamedDatum.{NamedDatum}
+use Rattle.mp_names.specs.DeclaredTx.{DeclaredTx}
+
+pub record Names : Type 0 where
+  -- outputs and transactions share one set of names
+  pub bindings : List NamedBinding
+  pub scripts : List NamedScript
+  pub datums : List NamedDatum
+
+-- what the word stands for, if it was declared
+abbrev pub binding_named : List ℕ → Names → Option Binding
+binding_named word names = option_map (λ n. n.binding) (find (λ n. pointwise nat_eq word n.name) names.bindings)
+
+abbrev pub script_named : List ℕ → Names → Option (List ℕ)
+script_named word names = option_map (λ n. n.script) (find (λ n. pointwise nat_eq word n.name) names.scripts)
+
+abbrev pub datum_named : List ℕ → Names → Option (List ℕ)
+datum_named word names = option_map (λ n. n.datum) (find (λ n. pointwise nat_eq word n.name) names.datums)
+
+abbrev pub bound_tx : Binding → Option DeclaredTx
+bound_tx (Opening r p) = None
+bound_tx (Made t) = Some t
+
+-- the transaction that the word stands for, if it stands for one
+abbrev pub tx_named : List ℕ → Names → Option DeclaredTx
+tx_named word names = option_and_then bound_tx (binding_named word names)
+
+-- a name that no output and no transaction has
+abbrev pub is_new_binding : List ℕ → Names → Bool
+is_new_binding word names = is_name word && is_none (binding_named word names)
+
+-- `coin` isn't the name of a script
+abbrev pub is_new_script : List ℕ → Names → Bool
+is_new_script word names = is_name word && not (pointwise nat_eq word (codes "coin")) && is_none (script_named word names)
+
+abbrev pub is_new_datum : List ℕ → Names → Bool
+is_new_datum word names = is_name word && is_none (datum_named word names)
+
+-- the scripts that are true and false, and the list of no data
+abbrev pub first_names : Names
+first_names = record {
+  bindings = [];
+  scripts = record { name = codes "yes"; script = 1 ∷ [] } ∷ record { name = codes "no"; script = 0 ∷ [] } ∷ [];
+  datums = record { name = codes "unit"; datum = 3 ∷ 0 ∷ 0 ∷ [] } ∷ [];
+}
+
+abbrev pub with_binding : Names → NamedBinding → Names
+with_binding names named = record names { bindings = names.bindings ++ named ∷ [] }
+
+abbrev pub with_script : Names → NamedScript → Names
+with_script names named = record names { scripts = names.scripts ++ named ∷ [] }
+
+abbrev pub with_datum : Names → NamedDatum → Names
+with_datum names named = record names { datums = names.datums ++ named ∷ [] }
+
+abbrev pub has_id : List ℕ → Binding → Bool
+has_id id (Opening r p) = false
+has_id id (Made t) = pointwise nat_eq id (id_of t.tx)
+
+abbrev pub has_hash : List ℕ → List ℕ → Bool
+has_hash hash script = pointwise nat_eq hash (sha256 script)
+
+-- the name of the first transaction with this id
+abbrev pub name_of : List ℕ → Names → List ℕ
+name_of id names = unwrap_or (option_map (λ n. n.name) (find (λ n. has_id id n.binding) names.bindings)) []
+
+-- the policy of coin is zeros, and any other is told by the first script with that hash
+abbrev pub policy_name : List ℕ → Names → List ℕ
+policy_name policy names =
+    if pointwise nat_eq policy (replicate 32 0) then codes "coin"
+    else unwrap_or (option_map (λ n. n.name) (find (λ n. has_hash policy n.script) names.scripts)) []

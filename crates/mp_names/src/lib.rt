@@ -1,0 +1,30 @@
+//! What the words of a scenario's lines stand for: names, settings, references, bundles and payments.
+#![tactic(auto)]
+
+mod binding_table;
+mod bundles;
+mod declared_tx;
+mod fault;
+mod names;
+mod new_ledger;
+mod once;
+mod payment;
+mod payments;
+mod place_table;
+mod references;
+mod rising;
+mod settings;
+mod splitting;
+
+pub use bundles::bundle_of;
+pub use declared_tx::DeclaredTx;
+pub use fault::LineFault;
+pub use names::{Binding, Name, NamedBinding, NamedDatum, NamedScript, Names};
+pub use new_ledger::{NewLedger, Outputs};
+pub use once::set_once;
+pub use payment::Payment;
+pub use payments::{datum_or_unit, lock_words, payment_of, script_or_yes};
+pub use references::{paid_at, ref_of};
+pub use rising::{Rising, insert_rising};
+pub use settings::{BlockBytes, Limit, Setting};
+pub use splitting::split_once;

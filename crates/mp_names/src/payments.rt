@@ -1,0 +1,83 @@
+//! Payments, as words write them.
+
+ghost use Rattle.std.specs.Prelude.{◌≡◌, Ok, IfOk, option_copied};
+ghost use Rattle.mp_names.specs.Payments.{script_or_yes, datum_or_unit, lock_words, payment_of};
+ghost use Rattle.mp_names.specs.Fault.{Reads};
+
+use crate::bundles::bundle_of;
+use crate::fault::LineFault;
+use crate::names::Names;
+use crate::payment::Payment;
+use crate::splitting::split_once;
+use mp_bundle::Bundle;
+use mp_memory::{Memory, NoMemory};
+use mp_script::{Data, Script};
+
+const YES: &[u8] = b"yes";
+
+const UNIT: &[u8] = b"unit";
+
+/// The script that a word names; `yes` where there is no word.
+pub fn script_or_yes<'a>(names: &'a Names, word: Option<&[u8]>) -> Option<&'a Script>
+    ensures { option_copied result ≡ script_or_yes names.now (option_copied word.entry) }
+{
+    match word {
+        Some(word) => names.script(word),
+        None => names.script(YES),
+    }
+}
+
+/// The datum that a word names; `unit` where there is no word.
+pub fn datum_or_unit<'a>(names: &'a Names, word: Option<&[u8]>) -> Option<&'a Data>
+    ensures { option_copied result ≡ datum_or_unit names.now (option_copied word.entry) }
+{
+    match word {
+        Some(word) => names.datum(word),
+        None => names.datum(UNIT),
+    }
+}
+
+/// The word for a script, and the word for a datum behind a slash, as far as they stand there.
+pub fn lock_words(word: Option<&[u8]>) -> (Option<&[u8]>, Option<&[u8]>)
+    ensures script { option_copied result.0 ≡ (lock_words (option_copied word.entry)).0 }
+    ensures datum { option_copied result.1 ≡ (lock_words (option_copied word.entry)).1 }
+{
+    match word {
+        Some(word) => {
+            let (script, datum) = split_once(word, b'/');
+            (Some(script), datum)
+        }
+        None => (None, None),
+    }
+}
+
+fn pay(memory: Memory, value: Bundle, script: &Script, datum: &Data) -> Result<Payment, NoMemory>
+    ensures { IfOk result (λ p. p ≡ record {
+      value = value;
+      script = script.now;
+      datum = datum.now;
+    }) }
+{
+    Ok(Payment {
+        value,
+        script: script.copy(memory)?,
+        datum: datum.copy(memory)?,
+    })
+}
+
+/// The payment that a word is: a bundle, and behind an at sign the script that locks it and its datum.
+#[tactic(auto, unfolding(crate::specs::Payments::payment_of))]
+pub fn payment_of(memory: Memory, names: &Names, word: &[u8]) -> Result<Payment, LineFault>
+    ensures { Reads (payment_of names.now word.now) result }
+{
+    let (bundle, lock) = split_once(word, b'@');
+    let (script, datum) = lock_words(lock);
+    let Some(script) = script_or_yes(names, script) else {
+        return Err(LineFault::Bad);
+    };
+    let Some(datum) = datum_or_unit(names, datum) else {
+        return Err(LineFault::Bad);
+    };
+    let value = bundle_of(memory, names, bundle)?;
+    Ok(pay(memory, value, script, datum)?)
+}

@@ -1,0 +1,142 @@
+//! Settings of a scenario.
+
+use mp_text::number;
+use mp_tx::MAX_BLOCK_BYTES;
+use std::marker::Model;
+
+const MAX_LIMIT: u64 = 1 << 32;
+
+/// The bytes that a block may have: 1 to 2^39.
+#[derive(Drop)]
+pub struct BlockBytes {
+    bytes: u64,
+}
+
+impl Model for BlockBytes {
+    ghost use Rattle.std.specs.Prelude.{ℕ};
+    ghost use Rattle.mp_tx.specs.Ledger.{HasBlockBytes};
+
+    ghost Value = { ℕ };
+
+    ghost view = { λ b. b.bytes };
+
+    ghost invariant = { λ b. HasBlockBytes b.bytes };
+}
+
+impl BlockBytes {
+    ghost use Rattle.std.specs.Prelude.{◌≡◌};
+    ghost use Rattle.mp_tx.specs.Ledger.{HasBlockBytes};
+    ghost use Rattle.mp_names.specs.Settings.{block_bytes_of};
+
+    /// What a word tells, if it is a number in the range.
+    pub fn parse(word: &[u8]) -> Option<BlockBytes>
+        ensures { result ≡ block_bytes_of word.now }
+    {
+        let bytes = number(word)?;
+        if 1 <= bytes && bytes <= MAX_BLOCK_BYTES {
+            Some(BlockBytes { bytes })
+        } else {
+            None
+        }
+    }
+
+    /// The number.
+    pub fn get(&self) -> u64
+        ensures same { result ≡ self.now }
+        ensures range { HasBlockBytes result }
+    {
+        self.bytes
+    }
+}
+
+/// The changes that a pool makes: 1 to 2^32.
+#[derive(Drop)]
+pub struct Limit {
+    changes: u64,
+}
+
+impl Model for Limit {
+    ghost use Rattle.std.specs.Prelude.{ℕ};
+    ghost use Rattle.mp_names.specs.Settings.{IsLimit};
+
+    ghost Value = { ℕ };
+
+    ghost view = { λ l. l.changes };
+
+    ghost invariant = { λ l. IsLimit l.changes };
+}
+
+impl Limit {
+    ghost use Rattle.std.specs.Prelude.{◌≡◌};
+    ghost use Rattle.mp_names.specs.Settings.{IsLimit, limit_of};
+
+    /// What a word tells, if it is a number in the range.
+    pub fn parse(word: &[u8]) -> Option<Limit>
+        ensures { result ≡ limit_of word.now }
+    {
+        let changes = number(word)?;
+        if 1 <= changes && changes <= MAX_LIMIT {
+            Some(Limit { changes })
+        } else {
+            None
+        }
+    }
+
+    /// The number.
+    pub fn get(&self) -> u64
+        ensures same { result ≡ self.now }
+        ensures range { IsLimit result }
+    {
+        self.changes
+    }
+}
+
+/// A setting and its value. Each has a value where no line sets it.
+#[derive(Drop)]
+pub enum Setting {
+    BlockBytes(BlockBytes),
+    Limit(Limit),
+    /// The ticket that counts as the last one given.
+    Last(u64),
+    /// The tick of the opening ledger state.
+    Tick(u64),
+}
+
+impl Setting {
+    ghost use Rattle.std.specs.Prelude.{◌≡◌, option_map};
+    ghost use Rattle.mp_text.specs.Numbers.{number_of};
+    ghost use Rattle.mp_names.specs.declared.settings.Setting.TheVariants as told;
+    ghost use Rattle.mp_names.specs.Settings.{block_bytes_of, limit_of};
+
+    /// The bytes of a block that a word tells.
+    pub fn block_bytes(word: &[u8]) -> Option<Setting>
+        ensures { result ≡ option_map told.BlockBytes (block_bytes_of word.now) }
+    {
+        let bytes = BlockBytes::parse(word)?;
+        Some(Setting::BlockBytes(bytes))
+    }
+
+    /// The changes that a word tells.
+    pub fn limit(word: &[u8]) -> Option<Setting>
+        ensures { result ≡ option_map told.Limit (limit_of word.now) }
+    {
+        let limit = Limit::parse(word)?;
+        Some(Setting::Limit(limit))
+    }
+
+    /// The last ticket that a word tells.
+    pub fn last(word: &[u8]) -> Option<Setting>
+        ensures { result ≡ option_map told.Last (number_of word.now) }
+    {
+        let ticket = number(word)?;
+        Some(Setting::Last(ticket))
+    }
+
+    /// The tick that a word tells.
+    pub fn tick(word: &[u8]) -> Option<Setting>
+        ensures { result ≡ option_map told.Tick (number_of word.now) }
+    {
+        let tick = number(word)?;
+        Some(Setting::Tick(tick))
+    }
+}
