@@ -20,7 +20,7 @@ use std::time::{Duration, Instant};
 const CALLERS: u32 = 1_001;
 
 fn number_of<N: PoolName>(mempool: &Mempool<N, Spinning>, pass: &mut Pass<N>) -> u64 {
-    mempool.snapshot(pass).number()
+    mempool.reader().snapshot(pass).number()
 }
 
 // How many entries the snapshots of these callers have, all together.

@@ -21,7 +21,7 @@ struct Seen {
 }
 
 fn number_of<N: PoolName>(mempool: &Mempool<N, Spinning>, pass: &mut Pass<N>) -> u64 {
-    mempool.snapshot(pass).number()
+    mempool.reader().snapshot(pass).number()
 }
 
 // How many snapshots are taken until the submits have ended, and how many entries the last one has.

@@ -144,7 +144,7 @@ fn is_sound<N: PoolName>(snapshot: &Snapshot<'_, N>, least: u64) -> bool {
 
 fn look<N: PoolName>(mempool: &Mempool<N, AcceptsAll>, player: &mut Player<N>) {
     let least = player.pass.front().len();
-    if is_sound(&mempool.snapshot(&mut player.pass), least) {
+    if is_sound(&mempool.reader().snapshot(&mut player.pass), least) {
         player.counts.snapshots = player.counts.snapshots.saturating_add(1);
     } else {
         player.counts.strange = player.counts.strange.saturating_add(1);
@@ -163,6 +163,7 @@ fn look_upon<N: PoolName>(
         return Ok(());
     };
     if mempool
+        .reader()
         .snapshot_for(memory, &mut player.pass, ledger)?
         .number
         >= least
@@ -186,7 +187,7 @@ fn learn<N: PoolName>(
 ) -> Result<(), NoMemory> {
     match player.dice.pick(posts) {
         Some(post) => {
-            mempool.learn(&mut player.pass, read(rt, post)?);
+            mempool.reader().learn(&mut player.pass, read(rt, post)?);
             player.counts.learned = player.counts.learned.saturating_add(1);
             Ok(())
         }

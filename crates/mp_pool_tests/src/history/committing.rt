@@ -34,7 +34,7 @@ struct Shared<N: PoolName> {
 fn commit<N: PoolName>(
     history: &History<N>,
     right: &mut CommitRight<N>,
-    caller: &Caller<N>,
+    caller: &mut Caller<N>,
     place: u64,
     command: Command,
 ) -> Option<Entry> {
@@ -48,7 +48,12 @@ fn commit<N: PoolName>(
 }
 
 impl<N: PoolName> Shared<N> {
-    fn submit(&mut self, history: &History<N>, caller: &Caller<N>, command: Command) -> Option<()> {
+    fn submit(
+        &mut self,
+        history: &History<N>,
+        caller: &mut Caller<N>,
+        command: Command,
+    ) -> Option<()> {
         let place = self.right.front().len();
         if place == self.entries.len() as u64 {
             self.in_turn = self.in_turn.saturating_add(1);
@@ -62,7 +67,7 @@ fn submit_one<N: PoolName>(
     rt: &impl Wait,
     history: &History<N>,
     shared: &Mutex<Shared<N>>,
-    caller: &Caller<N>,
+    caller: &mut Caller<N>,
     command: &Command,
 ) -> Option<()> {
     let command = command.share().ok()?;
@@ -74,11 +79,11 @@ fn submit_some<N: PoolName>(
     rt: &impl Wait,
     history: &History<N>,
     shared: &Mutex<Shared<N>>,
-    caller: &Caller<N>,
+    mut caller: Caller<N>,
     commands: &[Command],
 ) -> Option<Front<N>> {
     for command in commands {
-        submit_one(rt, history, shared, caller, command)?;
+        submit_one(rt, history, shared, &mut caller, command)?;
     }
     Some(shared.lock(rt).right.front())
 }
@@ -130,9 +135,9 @@ fn commit_by_two<N: PoolName + Send + Sync, R: Threads + Wait + Sync>(
     samples: &Samples,
     history: &History<N>,
     shared: &Mutex<Shared<N>>,
-    tokens: &[Caller<N>],
+    mut tokens: Vec<Caller<N>, Memory>,
 ) -> Option<Seen> {
-    let (first, second) = (tokens.first()?, tokens.get(1)?);
+    let (second, first) = (tokens.pop()?, tokens.pop()?);
     let front = samples.commands(0, EACH);
     let back = samples.commands(EACH, 2 * EACH);
     let fronts = join(
@@ -160,7 +165,7 @@ fn of_name<N: PoolName + Send + Sync, R: Threads + Wait + Sync>(
                 entries,
                 in_turn: 0,
             });
-            commit_by_two(rt, samples, &history, &shared, &tokens)
+            commit_by_two(rt, samples, &history, &shared, tokens)
         }
         Err(NoMemory) => None,
     }

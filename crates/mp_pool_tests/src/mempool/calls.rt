@@ -70,7 +70,7 @@ fn keep<N: PoolName>(
     number: usize,
 ) -> Heard {
     match samples.ledger(number) {
-        Some(ledger) => read_kept(&mempool.snapshot_for(samples.memory, pass, ledger)),
+        Some(ledger) => read_kept(&mempool.reader().snapshot_for(samples.memory, pass, ledger)),
         None => Heard::Nobody,
     }
 }
@@ -97,7 +97,7 @@ fn use_pass<N: PoolName>(
         }
         Call::AskAll(from, to) => ask_all(rt, mempool, pass, samples.commands(from, to)),
         Call::SnapshotFor(number) => keep(mempool, pass, samples, number),
-        Call::Snapshot => read_snapshot(&mempool.snapshot(pass)),
+        Call::Snapshot => read_snapshot(&mempool.reader().snapshot(pass)),
         Call::Seen => read_snapshot(&pass.snapshot()),
         Call::Last => read_last(pass),
         _ => Heard::Nobody,
@@ -111,7 +111,7 @@ fn learn<N: PoolName>(
 ) -> Heard {
     match pass {
         Some(pass) => {
-            mempool.learn(pass, shown);
+            mempool.reader().learn(pass, shown);
             Heard::Done
         }
         None => Heard::Nobody,

@@ -18,7 +18,7 @@ pub fn prepare(pool: &mut SeqPool, command: &Command) -> Result<Prepared, Refusa
     ensures ready { IfOk result (IsPrepared pool.new) }
 {
     match command {
-        Command::Submit(tx) => pool.prepare_submit(tx, &ACCEPTS_ALL),
+        Command::Submit(tx) => pool.prepare_submit(tx, None, &ACCEPTS_ALL),
         Command::Remove(ids) => pool.prepare_remove(ids, &ACCEPTS_ALL),
         Command::Sync(ledger) => pool.prepare_sync(ledger, &ACCEPTS_ALL),
     }
@@ -41,7 +41,7 @@ fn try_upon(memory: Memory, pool: &mut SeqPool, tx: &Arc<Tx, Memory>, before: &[
         return Told::Otherwise;
     }
     match precheck(memory, tx, before, &ACCEPTS_ALL) {
-        Ok(checked) => read_step(&pool.prepare_submit_with(tx, &checked, &ACCEPTS_ALL)),
+        Ok(checked) => read_step(&pool.prepare_submit(tx, Some(&checked), &ACCEPTS_ALL)),
         Err(NoMemory) => Told::NoMemory,
     }
 }
