@@ -82,6 +82,25 @@ fn keys_of(memory: Memory, named: &NamedBinding) -> Result<Keys, NoMemory>
     Ok((word, id))
 }
 
+// Makes room for one more in each, and gives the bytes under which the binding is found.
+fn prepare(
+    bindings: &mut Vec<NamedBinding, Memory>,
+    names: &mut PlaceTable,
+    ids: &mut PlaceTable,
+    named: &NamedBinding,
+) -> Result<Keys, NoMemory>
+    ensures bindings { bindings.new.items ≡ bindings.old.items }
+    ensures names { names.new.entries ≡ names.old.entries }
+    ensures ids { ids.new.entries ≡ ids.old.entries }
+    ensures room { OnOk result (vec_len bindings.new < vec_capacity bindings.new) }
+    ensures spare { OnOk result (0 < spare names.new × 0 < spare ids.new) }
+    ensures name { IfOk result (λ k. k.0.items ≡ named.now.name) }
+    ensures id { IfOk result (λ k. option_map (λ v. v.items) k.1 ≡ bound_id named.now.binding) }
+{
+    make_room(bindings, names, ids)?;
+    keys_of(*bindings.allocator(), named)
+}
+
 // Puts it last, and notes its place under its keys.
 fn enter(
     bindings: &mut Vec<NamedBinding, Memory>,
@@ -140,8 +159,7 @@ impl BindingTable {
         ensures ok { OnOk result (self.new ≡ self.old ++ named ∷ []) }
         ensures err { OnErr result (self.new ≡ self.old) }
     {
-        make_room(&mut self.bindings, &mut self.names, &mut self.ids)?;
-        let keys = keys_of(*self.bindings.allocator(), &named)?;
+        let keys = prepare(&mut self.bindings, &mut self.names, &mut self.ids, &named)?;
         enter(
             &mut self.bindings,
             &mut self.names,
