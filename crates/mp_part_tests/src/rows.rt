@@ -65,17 +65,24 @@ impl Row {
     }
 }
 
+// Gives 1 where the row holds. Otherwise it prints the row, and gives 0.
+fn count(rt: &impl Print, row: &Row) -> io::Result<u64> {
+    let Row {
+        name,
+        found,
+        wanted,
+    } = row;
+    if found == wanted {
+        return Ok(1);
+    }
+    println!(rt; "{name}: found {found:?}, wanted {wanted:?}")?;
+    Ok(0)
+}
+
 fn held(rt: &impl Print, rows: &[Row]) -> io::Result<u64> {
     let mut held = 0u64;
     for row in rows {
-        if row.found == row.wanted {
-            held = held.wrapping_add(1);
-        } else {
-            println!(rt;
-                "{}: found {:?}, wanted {:?}",
-                row.name, row.found, row.wanted
-            )?;
-        }
+        held = held.wrapping_add(count(rt, row)?);
     }
     Ok(held)
 }

@@ -5,7 +5,7 @@ use crate::signed::{Counting, ledger_of, named, of_all_parts};
 use mp_memory::{Memory, NoMemory};
 use mp_rules::{Invalid, Resolved, check, check_with, precheck};
 use mp_testing::{Call, Seen, TrialFault, Trialled, ledger, opening, parts, under_each_refusal};
-use mp_tx::{Ledger, Output, Tx, TxFault};
+use mp_tx::{Ledger, LedgerFault, Output, Tx, TxFault};
 
 // A transaction upon a ledger state.
 #[derive(Drop)]
@@ -68,13 +68,21 @@ impl Call for Checking {
     }
 }
 
-fn make_checking(memory: Memory, tx: Tx, ledger: Ledger) -> Checking {
-    Checking {
-        memory,
-        tx,
-        ledger,
-        before: None,
-        verifier: Counting::new(),
+fn checking_upon(
+    memory: Memory,
+    tx: Tx,
+    ledger: Result<Ledger, LedgerFault>,
+    before: Option<Vec<Output, Memory>>,
+) -> Option<Checking> {
+    match ledger {
+        Ok(ledger) => Some(Checking {
+            memory,
+            tx,
+            ledger,
+            before,
+            verifier: Counting::new(),
+        }),
+        Err(_) => None,
     }
 }
 
@@ -87,22 +95,34 @@ fn of_coin(memory: Memory) -> Result<Tx, TxFault> {
 }
 
 fn plain(memory: Memory) -> Option<Checking> {
-    let ledger = ledger(memory, 2, 1000).ok()?;
-    Some(make_checking(memory, of_coin(memory).ok()?, ledger))
+    match of_coin(memory) {
+        Ok(tx) => checking_upon(memory, tx, ledger(memory, 2, 1000), None),
+        Err(_) => None,
+    }
+}
+
+fn signed_after(
+    memory: Memory,
+    last: i64,
+    before: Option<Vec<Output, Memory>>,
+) -> Option<Checking> {
+    match of_all_parts(memory) {
+        Ok(tx) => checking_upon(memory, tx, ledger_of(memory, last), before),
+        Err(_) => None,
+    }
 }
 
 // A transaction of all parts, upon a ledger state whose third output has so much coin.
 fn signed(memory: Memory, last: i64) -> Option<Checking> {
-    let ledger = ledger_of(memory, last).ok()?;
-    Some(make_checking(memory, of_all_parts(memory).ok()?, ledger))
+    signed_after(memory, last, None)
 }
 
 // The same, where it was found before upon outputs of which the third has 100 coin.
 fn again(memory: Memory, last: i64) -> Option<Checking> {
-    let before = named(memory, 100).ok()?;
-    let mut checking = signed(memory, last)?;
-    checking.before = Some(before);
-    Some(checking)
+    match named(memory, 100) {
+        Ok(before) => signed_after(memory, last, Some(before)),
+        Err(NoMemory) => None,
+    }
 }
 
 fn tried(memory: Memory, checking: Option<Checking>) -> Result<Trialled, TrialFault> {

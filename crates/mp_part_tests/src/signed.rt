@@ -39,25 +39,40 @@ impl Verifier for Counting {
     }
 }
 
-fn put_entries(
-    memory: Memory,
-    entries: &mut Vec<Given, Memory>,
-    coin: i64,
-    token: i64,
-) -> Result<(), NoMemory> {
+type Entries = Vec<Given, Memory>;
+
+fn put_coin(memory: Memory, entries: &mut Entries, coin: i64) -> Result<(), NoMemory> {
     if coin != 0 {
         entries.push((COIN, Vec::new(memory), coin))?;
     }
-    let policy = *script(memory)?.hash();
-    entries.push((policy, [7].to_vec(memory)?, token))?;
     Ok(())
+}
+
+fn put_token(memory: Memory, entries: &mut Entries, token: i64) -> Result<(), NoMemory> {
+    let policy = *script(memory)?.hash();
+    let name = [7].to_vec(memory)?;
+    entries.push((policy, name, token))?;
+    Ok(())
+}
+
+fn put_entries(
+    memory: Memory,
+    entries: &mut Entries,
+    coin: i64,
+    token: i64,
+) -> Result<(), NoMemory> {
+    put_coin(memory, entries, coin)?;
+    put_token(memory, entries, token)
 }
 
 // Of so much coin, unless it is none, and of so much of the token whose policy is the plain script.
 fn bundle_of(memory: Memory, coin: i64, token: i64) -> Result<Bundle, NoMemory> {
     let mut entries = Vec::new(memory);
     put_entries(memory, &mut entries, coin, token)?;
-    Bundle::of_entries(memory, entries).map_err(|_| NoMemory)
+    match Bundle::of_entries(memory, entries) {
+        Ok(bundle) => Ok(bundle),
+        Err(_) => Err(NoMemory),
+    }
 }
 
 // An output of 100 coin and so much of the token.
@@ -67,28 +82,44 @@ fn output_with(memory: Memory, token: i64) -> Result<Output, NoMemory> {
     Ok(paid)
 }
 
+fn output_at(memory: Memory, index: u16, last: i64) -> Result<Output, NoMemory> {
+    match index {
+        0 => output_with(memory, 5),
+        1 => output(memory, 100),
+        _ => output(memory, last),
+    }
+}
+
+fn put_named(memory: Memory, outputs: &mut Vec<Output, Memory>, last: i64) -> Result<(), NoMemory> {
+    for index in 0..3 {
+        outputs.push(output_at(memory, index, last)?)?;
+    }
+    Ok(())
+}
+
 /// An output of 100 coin and 5 of the token, one of 100 coin, and one of so much.
 pub fn named(memory: Memory, last: i64) -> Result<Vec<Output, Memory>, NoMemory> {
     let mut outputs = Vec::new(memory);
-    outputs.push(output_with(memory, 5)?)?;
-    outputs.push(output(memory, 100)?)?;
-    outputs.push(output(memory, last)?)?;
+    put_named(memory, &mut outputs, last)?;
     Ok(outputs)
 }
 
-fn opened(memory: Memory, last: i64) -> Result<Vec<(OutRef, Output), Memory>, NoMemory> {
-    let mut outputs = Vec::new(memory);
-    for output in named(memory, last)? {
-        let index = u16::try_from(outputs.len()).map_err(|_| NoMemory)?;
-        outputs.push((opening(index), output))?;
+type Opened = Vec<(OutRef, Output), Memory>;
+
+fn put_opened(memory: Memory, outputs: &mut Opened, last: i64) -> Result<(), NoMemory> {
+    for index in 0..3 {
+        outputs.push((opening(index), output_at(memory, index, last)?))?;
     }
-    Ok(outputs)
+    Ok(())
 }
 
 /// The ledger state with these three as openings 0, 1 and 2.
 pub fn ledger_of(memory: Memory, last: i64) -> Result<Ledger, LedgerFault> {
-    let outputs = opened(memory, last).map_err(|_| LedgerFault::NoMemory)?;
-    Ledger::of_outputs(memory, Salt::new(7), 0, 1000, outputs)
+    let mut outputs = Vec::new(memory);
+    match put_opened(memory, &mut outputs, last) {
+        Ok(()) => Ledger::of_outputs(memory, Salt::new(7), 0, 1000, outputs),
+        Err(NoMemory) => Err(LedgerFault::NoMemory),
+    }
 }
 
 fn add_parts(memory: Memory, parts: &mut TxParts) -> Result<(), NoMemory> {

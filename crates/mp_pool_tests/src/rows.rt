@@ -5,17 +5,22 @@ use std::io;
 /// How many growths a call makes, at least and at most.
 pub type Growths = [u64; 2];
 
+/// None.
 pub const NONE: Growths = [0, 0];
 
+/// Just one.
 pub const ONE: Growths = [1, 1];
 
+/// Just two.
 pub const TWO: Growths = [2, 2];
 
 /// One at least.
 pub const SOME: Growths = [1, MAX_GROWTHS];
 
+/// Two at least.
 pub const TWO_OR_MORE: Growths = [2, MAX_GROWTHS];
 
+/// Three at least.
 pub const THREE_OR_MORE: Growths = [3, MAX_GROWTHS];
 
 /// Six at least.

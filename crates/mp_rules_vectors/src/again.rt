@@ -1,51 +1,100 @@
 //! Transactions whose scripts were run before, and what `check_with` answers.
 
-use crate::answer::{check_answer, fault};
+use crate::answer::{check_answer, is_fault};
 use crate::case;
+use crate::check::check_tx;
 use crate::names::Names;
 use crate::transaction::transaction;
 use crate::verifier::KeyThenId;
-use anyhow::{Context, Result, bail};
-use mp_memory::Memory;
-use mp_rules::{Invalid, Resolved, check, check_with, precheck};
+use anyhow::{Result, bail};
+use mp_rules::{Invalid, check_with, precheck};
 use mp_tx::{Ledger, Output, Tx};
 
-// What was found first before, and what is answered now.
-#[derive(Drop)]
-struct Answered {
-    before: Option<Invalid>,
-    answer: Result<Resolved, Invalid>,
+// What is found first before, and what is answered then.
+#[derive(Clone, Copy)]
+struct Wanted<'a> {
+    before: &'a str,
+    answer: &'a str,
 }
 
-fn look_twice(memory: Memory, tx: &Tx, outputs: &[Output], ledger: &Ledger) -> Result<Answered> {
+fn check_upon(
+    names: &Names,
+    tx: &Tx,
+    ledger: &Ledger,
+    outputs: &[Output],
+    wanted: Wanted<'_>,
+) -> Result<()> {
     if outputs.len() != tx.inputs().len() + tx.references().len() {
         bail!("another number of outputs before")
     }
-    let checked = precheck(memory, tx, outputs, &KeyThenId)?;
-    let answer = check_with(memory, tx, ledger, ledger.tick(), &checked, &KeyThenId);
-    Ok(Answered {
-        before: checked.fault(),
-        answer,
-    })
+    let checked = precheck(names.memory(), tx, outputs, &KeyThenId)?;
+    check_before(names, &checked.fault(), wanted.before)?;
+    let answer = check_with(
+        names.memory(),
+        tx,
+        ledger,
+        ledger.tick(),
+        &checked,
+        &KeyThenId,
+    );
+    check_answer(names, ledger, tx, &answer, wanted.answer)
 }
 
-fn check_before(names: &Names, before: Option<Invalid>, wanted: &str) -> Result<()> {
+fn is_before(names: &Names, before: &Option<Invalid>, wanted: &str) -> Result<bool> {
     match before {
-        None if wanted == "none" => Ok(()),
-        Some(found) if wanted != "none" && found == fault(names, wanted)? => Ok(()),
-        _ => bail!("before: {before:?}"),
+        None => Ok(wanted == "none"),
+        Some(_) if wanted == "none" => Ok(false),
+        Some(found) => is_fault(names, found, wanted),
     }
+}
+
+fn check_before(names: &Names, before: &Option<Invalid>, wanted: &str) -> Result<()> {
+    if is_before(names, before, wanted)? {
+        Ok(())
+    } else {
+        bail!("before: {before:?}")
+    }
+}
+
+fn check_again(
+    names: &Names,
+    tx: &Tx,
+    ledger: &Ledger,
+    given: &str,
+    wanted: Wanted<'_>,
+) -> Result<()> {
+    let outputs = case::upon(names, given)?;
+    check_upon(names, tx, ledger, &outputs, wanted)
+}
+
+fn check_both(
+    names: &Names,
+    tx: &Tx,
+    ledger: &Ledger,
+    given: &str,
+    wanted: Wanted<'_>,
+) -> Result<()> {
+    check_again(names, tx, ledger, given, wanted)?;
+    check_tx(names, tx, ledger, ledger.tick(), wanted.answer)
+}
+
+fn check_on_ledger(names: &Names, tx: &Tx, given: &str, wanted: Wanted<'_>) -> Result<()> {
+    let ledger = case::ledger(names, Some(*tx.id()), given)?;
+    check_both(names, tx, &ledger, given, wanted)
+}
+
+fn check_wanted(names: &Names, given: &str, wanted: Wanted<'_>) -> Result<()> {
+    let tx = transaction(names, given)?;
+    check_on_ledger(names, &tx, given, wanted)
 }
 
 /// Fails unless what was found before and what is answered now are as they are wanted, and `check` answers the same.
 pub fn check_case(names: &Names, given: &str, wanted: &str) -> Result<()> {
-    let (first, second) = wanted.split_once(',').context("no ','")?;
-    let tx = transaction(names, given)?;
-    let ledger = case::ledger(names, Some(*tx.id()), given)?;
-    let outputs = case::upon(names, given)?;
-    let told = look_twice(names.memory(), &tx, &outputs, &ledger)?;
-    check_before(names, told.before, first.trim())?;
-    check_answer(names, &ledger, &tx, &told.answer, second.trim())?;
-    let anew = check(names.memory(), &tx, &ledger, ledger.tick(), &KeyThenId);
-    check_answer(names, &ledger, &tx, &anew, second.trim())
+    match wanted.split_once(',') {
+        Some((before, answer)) => {
+            let (before, answer) = (before.trim(), answer.trim());
+            check_wanted(names, given, Wanted { before, answer })
+        }
+        None => bail!("no ','"),
+    }
 }

@@ -75,21 +75,36 @@ impl Names {
         }
     }
 
-    /// Gives a name to bytes, as in `yes 01`.
-    pub fn put_word(&mut self, words: &str) -> Result<()> {
+    fn word(&self, words: &str) -> Result<Word> {
         let (name, pieces) = words.split_once(' ').context("no bytes")?;
         let bytes = pieces::bytes(self, pieces)?;
         let name = text(self.memory, name)?;
-        self.words.push(Word { name, bytes })?;
-        Ok(())
+        Ok(Word { name, bytes })
     }
 
-    /// Gives a name to a transaction, as in `a in=1.0 out=100`.
-    pub fn put_transaction(&mut self, words: &str) -> Result<()> {
+    /// Gives a name to bytes, as in `yes 01`. That is no case.
+    pub fn put_word(&mut self, words: &str) -> Result<u64> {
+        let word = self.word(words)?;
+        self.words.push(word)?;
+        Ok(0)
+    }
+
+    fn shared(&self, parts: &str) -> Result<Arc<Tx, Memory>> {
+        let tx = transaction(self, parts)?;
+        Ok(Arc::new(self.memory, tx)?)
+    }
+
+    fn named(&self, words: &str) -> Result<Named> {
         let (name, parts) = words.split_once(' ').context("no parts")?;
-        let tx = Arc::new(self.memory, transaction(self, parts)?)?;
         let name = text(self.memory, name)?;
-        self.transactions.push(Named { name, tx })?;
-        Ok(())
+        let tx = self.shared(parts)?;
+        Ok(Named { name, tx })
+    }
+
+    /// Gives a name to a transaction, as in `a in=1.0 out=100`. That is no case.
+    pub fn put_transaction(&mut self, words: &str) -> Result<u64> {
+        let named = self.named(words)?;
+        self.transactions.push(named)?;
+        Ok(0)
     }
 }

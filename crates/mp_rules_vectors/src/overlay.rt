@@ -4,7 +4,7 @@ use crate::names::Names;
 use crate::{case, plain};
 use anyhow::{Context, Result, bail};
 use mp_memory::Memory;
-use mp_tx::Tx;
+use mp_tx::{Ledger, Output, Tx};
 use mp_utxo::{Overlay, Utxo};
 use std::sync::Arc;
 
@@ -15,16 +15,17 @@ fn apply(overlay: &mut Overlay, tx: &Arc<Tx, Memory>) -> Result<()> {
     Ok(())
 }
 
-// The ledger's outputs, with each transaction such as `apply=a` applied upon them, in this order.
-fn overlay(names: &Names, words: &str) -> Result<Overlay> {
-    let ledger = case::ledger(names, None, words)?;
-    let mut overlay = Overlay::over(names.memory(), &ledger)?;
+fn apply_all(names: &Names, overlay: &mut Overlay, words: &str) -> Result<()> {
     for word in words.split_whitespace() {
         if let Some(("apply", name)) = word.split_once('=') {
-            apply(&mut overlay, names.transaction(name)?)?;
+            apply(overlay, names.transaction(name)?)?;
         }
     }
-    Ok(overlay)
+    Ok(())
+}
+
+fn is_output(names: &Names, found: &Output, written: &str) -> Result<bool> {
+    Ok(*found == plain::output(names, written)?)
 }
 
 // Whether the reference leads to the output that is wanted, or to none.
@@ -33,17 +34,32 @@ fn leads(names: &Names, overlay: &Overlay, word: &str) -> Result<bool> {
     match overlay.get(&plain::reference(names, None, place)?) {
         None => Ok(written == "none"),
         Some(_) if written == "none" => Ok(false),
-        Some(found) => Ok(*found == plain::output(names, written)?),
+        Some(found) => is_output(names, found, written),
     }
 }
 
-/// Fails unless each reference leads to the output that is wanted.
-pub fn check_case(names: &Names, given: &str, wanted: &str) -> Result<()> {
-    let overlay = overlay(names, given)?;
+fn check_outputs(names: &Names, overlay: &Overlay, wanted: &str) -> Result<()> {
     for word in wanted.split_whitespace() {
-        if !leads(names, &overlay, word)? {
+        if !leads(names, overlay, word)? {
             bail!("another output at {word}")
         }
     }
     Ok(())
+}
+
+fn check_applied(names: &Names, overlay: &mut Overlay, given: &str, wanted: &str) -> Result<()> {
+    apply_all(names, overlay, given)?;
+    check_outputs(names, overlay, wanted)
+}
+
+fn check_over(names: &Names, ledger: &Ledger, given: &str, wanted: &str) -> Result<()> {
+    let mut overlay = Overlay::over(names.memory(), ledger)?;
+    check_applied(names, &mut overlay, given, wanted)
+}
+
+/// Fails unless each reference leads to the output that is wanted, where each transaction such as `apply=a` is applied upon the
+/// ledger's outputs, in this order.
+pub fn check_case(names: &Names, given: &str, wanted: &str) -> Result<()> {
+    let ledger = case::ledger(names, None, given)?;
+    check_over(names, &ledger, given, wanted)
 }

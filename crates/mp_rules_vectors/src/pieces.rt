@@ -2,23 +2,34 @@
 
 use crate::names::Names;
 use anyhow::Result;
-use mp_memory::Memory;
+use mp_memory::{Memory, NoMemory};
 use mp_script::{Data, Hash, Script};
+
+fn repeat(bytes: &mut Vec<u8, Memory>, piece: &[u8], times: u64) -> Result<(), NoMemory> {
+    for _ in 0..times {
+        bytes.extend_from_slice(piece)?;
+    }
+    Ok(())
+}
 
 fn add_digits(memory: Memory, bytes: &mut Vec<u8, Memory>, piece: &str) -> Result<()> {
     let (times, digits) = piece.split_once('*').unwrap_or(("1", piece));
+    let times = times.parse::<u64>()?;
     let decoded = hex::decode(memory, digits)?;
-    for _ in 0..times.parse::<u64>()? {
-        bytes.extend_from_slice(&decoded)?;
-    }
-    Ok(())
+    Ok(repeat(bytes, &decoded, times)?)
 }
 
 // Adds the bytes of a piece: a name, hexadecimal digits, or a number of times such digits, as `32*07`.
 fn add_piece(names: &Names, bytes: &mut Vec<u8, Memory>, piece: &str) -> Result<()> {
     match names.bytes(piece) {
-        Some(named) => bytes.extend_from_slice(named)?,
-        None => add_digits(names.memory(), bytes, piece)?,
+        Some(named) => Ok(repeat(bytes, named, 1)?),
+        None => add_digits(names.memory(), bytes, piece),
+    }
+}
+
+fn add_pieces(names: &Names, bytes: &mut Vec<u8, Memory>, pieces: &str) -> Result<()> {
+    for piece in pieces.split([' ', '+']) {
+        add_piece(names, bytes, piece)?;
     }
     Ok(())
 }
@@ -26,9 +37,7 @@ fn add_piece(names: &Names, bytes: &mut Vec<u8, Memory>, piece: &str) -> Result<
 /// The bytes of all pieces, one after the other. They have spaces or plus signs between them.
 pub fn bytes(names: &Names, pieces: &str) -> Result<Vec<u8, Memory>> {
     let mut bytes = Vec::new(names.memory());
-    for piece in pieces.split([' ', '+']) {
-        add_piece(names, &mut bytes, piece)?;
-    }
+    add_pieces(names, &mut bytes, pieces)?;
     Ok(bytes)
 }
 
@@ -36,6 +45,11 @@ pub fn bytes(names: &Names, pieces: &str) -> Result<Vec<u8, Memory>> {
 pub fn datum(names: &Names, pieces: &str) -> Result<Data> {
     let bytes = bytes(names, pieces)?;
     Ok(Data::decode(names.memory(), &bytes)?)
+}
+
+/// The hash of the datum that pieces spell.
+pub fn datum_hash(names: &Names, pieces: &str) -> Result<Hash> {
+    Ok(*datum(names, pieces)?.hash())
 }
 
 /// The script that pieces spell.

@@ -5,6 +5,7 @@ use crate::pieces;
 use anyhow::{Context, Result};
 use mp_bundle::{Bundle, Given, PolicyId};
 use mp_memory::Memory;
+use mp_script::Data;
 use mp_tx::{Input, OutRef, Output, TxId};
 
 // The script that is always true, and the empty list.
@@ -12,17 +13,19 @@ const YES: &str = "01";
 
 const UNIT: &str = "030000";
 
+fn id_of(names: &Names, own: Option<TxId>, name: &str) -> Result<TxId> {
+    match own {
+        Some(id) if name == "own" => Ok(id),
+        _ => names.id(name),
+    }
+}
+
 /// The reference of a word such as `3.0` or `a.0`: a name, and then the index. The name `own` is the id that is handed in.
 pub fn reference(names: &Names, own: Option<TxId>, word: &str) -> Result<OutRef> {
     let (name, digits) = word.split_once('.').context("no reference")?;
     let index = digits.parse::<u16>()?;
-    match own {
-        Some(id) if name == "own" => Ok(OutRef { id, index }),
-        _ => Ok(OutRef {
-            id: names.id(name)?,
-            index,
-        }),
-    }
+    let id = id_of(names, own, name)?;
+    Ok(OutRef { id, index })
 }
 
 /// The token of a word such as `coin`, `p` or `p.x`: the policy's script, and then the name.
@@ -37,21 +40,26 @@ pub fn token<'a>(names: &Names, word: &'a str) -> Result<(PolicyId, &'a str)> {
 // The entry of a word such as `5` or `5*p.x`.
 fn entry(names: &Names, word: &str) -> Result<Given> {
     let (quantity, named) = word.split_once('*').unwrap_or((word, "coin"));
+    let quantity = quantity.parse::<i64>()?;
     let (policy, name) = token(names, named)?;
-    let mut bytes = Vec::new(names.memory());
-    bytes.extend_from_slice(name.as_bytes())?;
-    Ok((policy, bytes, quantity.parse::<i64>()?))
+    let name = name.as_bytes().to_vec(names.memory())?;
+    Ok((policy, name, quantity))
+}
+
+fn add_entries(names: &Names, entries: &mut Vec<Given, Memory>, word: &str) -> Result<()> {
+    for written in word.split(',') {
+        entries.push(entry(names, written)?)?;
+    }
+    Ok(())
 }
 
 /// The bundle of a word such as `100,5*p.x`, whose entries rise, or `-`, which is empty.
 pub fn bundle(names: &Names, word: &str) -> Result<Bundle> {
-    let mut entries: Vec<Given, Memory> = Vec::new(names.memory());
     if word == "-" {
         return Ok(Bundle::empty());
     }
-    for written in word.split(',') {
-        entries.push(entry(names, written)?)?;
-    }
+    let mut entries = Vec::new(names.memory());
+    add_entries(names, &mut entries, word)?;
     Ok(Bundle::of_entries(names.memory(), entries)?)
 }
 
@@ -61,9 +69,16 @@ pub fn output(names: &Names, word: &str) -> Result<Output> {
     let (script, datum) = lock.split_once('/').unwrap_or((lock, UNIT));
     Ok(Output {
         address: pieces::script_hash(names, script)?,
-        datum_hash: *pieces::datum(names, datum)?.hash(),
+        datum_hash: pieces::datum_hash(names, datum)?,
         value: bundle(names, value)?,
     })
+}
+
+// The datum and the redeemer.
+fn data_of(names: &Names, datum: &str, redeemer: &str) -> Result<(Data, Data)> {
+    let datum = pieces::datum(names, datum)?;
+    let redeemer = pieces::datum(names, redeemer)?;
+    Ok((datum, redeemer))
 }
 
 /// The input of a word such as `3.0`, `3.0:s`, `3.0:s/d` or `3.0:s/d/r`: what it spends, the validator, the datum and the
@@ -72,10 +87,13 @@ pub fn input(names: &Names, word: &str) -> Result<Input> {
     let (spent, rest) = word.split_once(':').unwrap_or((word, YES));
     let (script, data) = rest.split_once('/').unwrap_or((rest, UNIT));
     let (datum, redeemer) = data.split_once('/').unwrap_or((data, UNIT));
+    let from = reference(names, None, spent)?;
+    let validator = pieces::script(names, script)?;
+    let (datum, redeemer) = data_of(names, datum, redeemer)?;
     Ok(Input {
-        from: reference(names, None, spent)?,
-        validator: pieces::script(names, script)?,
-        datum: pieces::datum(names, datum)?,
-        redeemer: pieces::datum(names, redeemer)?,
+        from,
+        validator,
+        datum,
+        redeemer,
     })
 }

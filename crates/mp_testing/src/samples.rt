@@ -3,7 +3,7 @@ ghost use Rattle.std.specs.Prelude.{◌≡◌, replicate, IfOk};
 
 use mp_bundle::{Bundle, PolicyId};
 use mp_memory::{Memory, NoMemory};
-use mp_script::{Data, Script};
+use mp_script::{Data, Hash, Script};
 use mp_tx::{Input, Ledger, LedgerFault, OutRef, Output, Salt, Tx, TxFault, TxId, TxParts};
 use std::sync::Arc;
 
@@ -53,11 +53,25 @@ pub fn coin(memory: Memory, quantity: i64) -> Result<Bundle, NoMemory> {
     Bundle::of_entries(memory, entries).map_err(|_| NoMemory)
 }
 
+fn script_hash(memory: Memory) -> Result<Hash, NoMemory> {
+    match script(memory) {
+        Ok(script) => Ok(*script.hash()),
+        Err(NoMemory) => Err(NoMemory),
+    }
+}
+
+fn unit_hash(memory: Memory) -> Result<Hash, NoMemory> {
+    match unit(memory) {
+        Ok(datum) => Ok(*datum.hash()),
+        Err(NoMemory) => Err(NoMemory),
+    }
+}
+
 /// An output of so much coin that the plain script locks, with the unit datum.
 pub fn output(memory: Memory, quantity: i64) -> Result<Output, NoMemory> {
     Ok(Output {
-        address: *script(memory)?.hash(),
-        datum_hash: *unit(memory)?.hash(),
+        address: script_hash(memory)?,
+        datum_hash: unit_hash(memory)?,
         value: coin(memory, quantity)?,
     })
 }
@@ -95,7 +109,10 @@ pub fn transaction(
     paid: &[u32],
 ) -> Result<Arc<Tx, Memory>, TxFault> {
     let tx = Tx::of_parts(memory, parts(memory, spent, paid)?)?;
-    Arc::new(memory, tx).map_err(|_| TxFault::NoMemory)
+    match Arc::new(memory, tx) {
+        Ok(shared) => Ok(shared),
+        Err(_) => Err(TxFault::NoMemory),
+    }
 }
 
 fn openings_to(memory: Memory, end: u16) -> Result<Vec<(OutRef, Output), Memory>, NoMemory> {
@@ -111,6 +128,8 @@ pub fn ledger(memory: Memory, openings: u16, block_bytes: u64) -> Result<Ledger,
     ensures tick { IfOk result (λ ledger. ledger.tick ≡ 0) }
     ensures block_bytes { IfOk result (λ ledger. ledger.block_bytes ≡ block_bytes) }
 {
-    let outputs = openings_to(memory, openings).map_err(|_| LedgerFault::NoMemory)?;
-    Ledger::of_outputs(memory, Salt::new(7), 0, block_bytes, outputs)
+    match openings_to(memory, openings) {
+        Ok(outputs) => Ledger::of_outputs(memory, Salt::new(7), 0, block_bytes, outputs),
+        Err(NoMemory) => Err(LedgerFault::NoMemory),
+    }
 }

@@ -29,11 +29,14 @@ fn add_run(memory: Memory, references: &mut Vec<OutRef, Memory>, word: &str) -> 
     Ok(())
 }
 
-/// The references of all words, in their order.
-pub fn references(memory: Memory, words: &str) -> Result<Vec<OutRef, Memory>> {
-    let mut references = Vec::new(memory);
+/// Adds the references of all words, in their order.
+pub fn add_references(
+    memory: Memory,
+    references: &mut Vec<OutRef, Memory>,
+    words: &str,
+) -> Result<()> {
     for word in words.split_whitespace() {
-        add_run(memory, &mut references, word)?;
+        add_run(memory, references, word)?;
     }
-    Ok(references)
+    Ok(())
 }

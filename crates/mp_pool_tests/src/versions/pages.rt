@@ -56,8 +56,8 @@ fn submit_openings(memory: Memory, both: &mut Both, first: u16, end: u16) -> Opt
     Some(())
 }
 
-// How many are submitted, and with the first of them before: the number of the first chunk that isn't full, with the number of
-// its items.
+// The openings that are spent, from the first number to before the second; and then the number of the first chunk that isn't
+// full, and how many items it has.
 static ROWS: [(&str, [u16; 2], [u64; 2]); 6] = [
     ("4,095 items", [0, 4_095], [63, 63]),
     ("4,096 items", [4_095, 4_096], [64, 0]),
