@@ -18,22 +18,20 @@ pub fn token(memory: Memory, word: &str) -> Result<Named> {
 // The entry of a word such as `32*03/61/5`: the token, and then the quantity.
 fn entry(memory: Memory, word: &str) -> Result<Given> {
     let (named, quantity) = word.rsplit_once('/').context("no token")?;
-    let quantity = quantity.parse::<i64>()?;
     let (policy, name) = token(memory, named)?;
-    Ok((policy, name, quantity))
+    Ok((policy, name, quantity.parse::<i64>()?))
 }
 
-fn add_entries(memory: Memory, entries: &mut Vec<Given, Memory>, words: &str) -> Result<()> {
+fn entries(memory: Memory, words: &str) -> Result<Vec<Given, Memory>> {
+    let mut entries = Vec::new(memory);
     for word in words.split_whitespace() {
         entries.push(entry(memory, word)?)?;
     }
-    Ok(())
+    Ok(entries)
 }
 
 fn made(memory: Memory, words: &str) -> Result<Result<Bundle, BundleFault>> {
-    let mut entries = Vec::new(memory);
-    add_entries(memory, &mut entries, words)?;
-    Ok(Bundle::of_entries(memory, entries))
+    Ok(Bundle::of_entries(memory, entries(memory, words)?))
 }
 
 /// The bundle of these entries.
@@ -41,19 +39,18 @@ pub fn bundle(memory: Memory, words: &str) -> Result<Bundle> {
     Ok(made(memory, words)??)
 }
 
-fn has_quantity(memory: Memory, bundle: &Bundle, word: &str) -> Result<bool> {
-    let (policy, name, quantity) = entry(memory, word)?;
-    Ok(bundle.quantity(&policy, &name) == quantity)
-}
-
 // Whether the bundle has each of these quantities.
 fn has_quantities(memory: Memory, bundle: &Bundle, wanted: &str) -> Result<bool> {
-    let (first, words) = wanted.split_once(' ').unwrap_or((wanted, ""));
-    let mut is_wanted = first == "ok";
+    let Some(words) = wanted.strip_prefix("ok") else {
+        return Ok(false);
+    };
     for word in words.split_whitespace() {
-        is_wanted &= has_quantity(memory, bundle, word)?;
+        let (policy, name, quantity) = entry(memory, word)?;
+        if bundle.quantity(&policy, &name) != quantity {
+            return Ok(false);
+        }
     }
-    Ok(is_wanted)
+    Ok(true)
 }
 
 /// Whether entries make a bundle of these quantities, or have a fault.

@@ -5,20 +5,16 @@ use anyhow::Result;
 use mp_memory::Memory;
 use mp_script::DatumRef;
 
-fn item_of<'a>(part: Option<DatumRef<'a>>, place: u64) -> Option<DatumRef<'a>> {
-    match part {
-        Some(part) => part.item(place),
-        None => None,
-    }
-}
-
 // The part that one place after the other leads to.
 fn part_at<'a>(whole: DatumRef<'a>, places: &str) -> Result<Option<DatumRef<'a>>> {
-    let mut part = Some(whole);
+    let mut part = whole;
     for place in places.split_whitespace() {
-        part = item_of(part, place.parse::<u64>()?);
+        match part.item(place.parse::<u64>()?) {
+            Some(item) => part = item,
+            None => return Ok(None),
+        }
     }
-    Ok(part)
+    Ok(Some(part))
 }
 
 // Whether a part is a number, octets or a list, and nothing else, or has these bytes.

@@ -3,16 +3,8 @@
 use crate::answer::is_fault;
 use crate::pieces;
 use anyhow::{Context, Result, bail};
-use mp_memory::{Memory, NoMemory};
+use mp_memory::Memory;
 use mp_tx::Tx;
-
-/// Whether a transaction encodes to the bytes.
-pub fn encodes_to(memory: Memory, tx: &Tx, bytes: &[u8]) -> Result<bool, NoMemory> {
-    match tx.encode(memory) {
-        Ok(encoded) => Ok(*encoded == *bytes),
-        Err(NoMemory) => Err(NoMemory),
-    }
-}
 
 // Whether a transaction has the id and the size that are wanted, and encodes to the bytes.
 fn is_whole(memory: Memory, tx: &Tx, bytes: &[u8], wanted: &str) -> Result<bool> {
@@ -20,9 +12,11 @@ fn is_whole(memory: Memory, tx: &Tx, bytes: &[u8], wanted: &str) -> Result<bool>
         return Ok(false);
     };
     let (id, size) = words.split_once(' ').context("no number")?;
-    let is_named = *tx.id() == pieces::hash(memory, id)?;
-    let is_sized = tx.size() == size.parse::<u64>()?;
-    Ok(is_named && is_sized && encodes_to(memory, tx, bytes)?)
+    Ok(
+        *tx.id() == pieces::hash(memory, id)?
+            && tx.size() == size.parse::<u64>()?
+            && *tx.encode(memory)? == *bytes,
+    )
 }
 
 fn comes_to(memory: Memory, bytes: &[u8], wanted: &str) -> Result<bool> {
@@ -38,18 +32,13 @@ pub fn holds(memory: Memory, given: &str, wanted: &str) -> Result<bool> {
     comes_to(memory, &bytes, wanted)
 }
 
-fn check_prefixes(memory: Memory, bytes: &[u8], wanted: &str) -> Result<()> {
+/// How many proper prefixes bytes have, where each comes to what is wanted.
+pub fn prefixes_held(memory: Memory, given: &str, wanted: &str) -> Result<u64> {
+    let bytes = pieces::bytes(memory, given)?;
     for len in 0..bytes.len() {
         if !comes_to(memory, &bytes[..len], wanted)? {
             bail!("the first {len} bytes come to something else")
         }
     }
-    Ok(())
-}
-
-/// How many proper prefixes bytes have, where each comes to what is wanted.
-pub fn prefixes_held(memory: Memory, given: &str, wanted: &str) -> Result<u64> {
-    let bytes = pieces::bytes(memory, given)?;
-    check_prefixes(memory, &bytes, wanted)?;
     Ok(bytes.len() as u64)
 }

@@ -2,7 +2,7 @@
 
 use crate::kind::Kind;
 use crate::{decode, spoilt};
-use anyhow::{Result, bail};
+use anyhow::{Context, Result, bail};
 use mp_memory::Memory;
 
 /// What a line says is given, and what it says that comes to. A blank line and a comment say nothing.
@@ -10,10 +10,8 @@ pub fn parted(line: &str) -> Result<Option<(&str, &str)>> {
     if line.is_empty() || line.starts_with('#') {
         return Ok(None);
     }
-    match line.split_once('=') {
-        Some((given, wanted)) => Ok(Some((given.trim(), wanted.trim()))),
-        None => bail!("no '='"),
-    }
+    let (given, wanted) = line.split_once('=').context("no '='")?;
+    Ok(Some((given.trim(), wanted.trim())))
 }
 
 fn check_case(memory: Memory, kind: Kind, given: &str, wanted: &str) -> Result<()> {

@@ -28,8 +28,8 @@ mod wanted;
 use anyhow::{Context, Result};
 use kind::Kind;
 use mp_memory::Memory;
+use std::fs;
 use std::rt::Files;
-use std::{fs, io};
 
 // How many cases of a line held, where all did.
 fn cases_held(memory: Memory, kind: Kind, line: &str) -> Result<u64> {
@@ -39,45 +39,27 @@ fn cases_held(memory: Memory, kind: Kind, line: &str) -> Result<u64> {
     }
 }
 
-// Gives how many cases of a line held, or prints the line.
-fn held_or_told(
-    rt: &impl Print,
-    name: &str,
-    number: u64,
-    line: &str,
-    held: Result<u64>,
-) -> io::Result<u64> {
-    match held {
-        Ok(cases) => Ok(cases),
-        Err(fault) => {
-            println!(rt; "{name}:{number}: {fault}: {line}")?;
-            Ok(0)
-        }
-    }
-}
-
 // Prints each line that doesn't hold, and gives how many cases held.
-fn check_lines(rt: &impl Print, memory: Memory, kind: Kind, text: &str) -> io::Result<u64> {
+fn check_lines(rt: &impl Print, memory: Memory, kind: Kind, text: &str) -> Result<u64> {
     let name = kind.file_name();
     let mut held = 0u64;
     let mut number = 0u64;
     for line in text.lines() {
         number = number.wrapping_add(1);
-        let cases = held_or_told(rt, name, number, line, cases_held(memory, kind, line))?;
-        held = held.wrapping_add(cases);
+        match cases_held(memory, kind, line) {
+            Ok(cases) => held = held.wrapping_add(cases),
+            Err(fault) => println!(rt; "{name}:{number}: {fault}: {line}")?,
+        }
     }
     Ok(held)
-}
-
-fn check_text(rt: &impl Print, memory: Memory, kind: Kind, text: &str) -> io::Result<()> {
-    let held = check_lines(rt, memory, kind, text)?;
-    println!(rt; "{} {held}", kind.file_name())
 }
 
 fn check_file(rt: &(impl Files + Print + AllocGlobal), memory: Memory, kind: Kind) -> Result<()> {
     let name = kind.file_name();
     let text = fs::read_to_string(rt, name).context(format_args!("reading {name}"))?;
-    Ok(check_text(rt, memory, kind, text.as_str())?)
+    let held = check_lines(rt, memory, kind, text.as_str())?;
+    println!(rt; "{name} {held}")?;
+    Ok(())
 }
 
 fn main(rt: HostRuntime) -> Result<()> {

@@ -5,7 +5,6 @@ use crate::pieces;
 use anyhow::Result;
 use mp_bundle::Bundle;
 use mp_memory::Memory;
-use mp_script::Data;
 use mp_tx::{Input, OutRef, Output};
 
 const SCRIPT: &str = "01";
@@ -13,22 +12,13 @@ const SCRIPT: &str = "01";
 /// The empty list.
 pub const UNIT: &str = "030000";
 
-// The datum, and the empty list as the redeemer.
-fn data_of(memory: Memory, datum: &str) -> Result<(Data, Data)> {
-    let datum = pieces::datum(memory, datum)?;
-    let redeemer = pieces::datum(memory, UNIT)?;
-    Ok((datum, redeemer))
-}
-
 /// The input that spends the reference, with a datum.
 pub fn input(memory: Memory, from: OutRef, datum: &str) -> Result<Input> {
-    let validator = pieces::script(memory, SCRIPT)?;
-    let (datum, redeemer) = data_of(memory, datum)?;
     Ok(Input {
         from,
-        validator,
-        datum,
-        redeemer,
+        validator: pieces::script(memory, SCRIPT)?,
+        datum: pieces::datum(memory, datum)?,
+        redeemer: pieces::datum(memory, UNIT)?,
     })
 }
 
@@ -44,8 +34,8 @@ fn coin(memory: Memory, quantity: &str) -> Result<Bundle> {
 /// The output of so much coin.
 pub fn output(memory: Memory, quantity: &str) -> Result<Output> {
     Ok(Output {
-        address: pieces::script_hash(memory, SCRIPT)?,
-        datum_hash: pieces::datum_hash(memory, UNIT)?,
+        address: *pieces::script(memory, SCRIPT)?.hash(),
+        datum_hash: *pieces::datum(memory, UNIT)?.hash(),
         value: coin(memory, quantity)?,
     })
 }

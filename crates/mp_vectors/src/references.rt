@@ -29,14 +29,11 @@ fn add_run(memory: Memory, references: &mut Vec<OutRef, Memory>, word: &str) -> 
     Ok(())
 }
 
-/// Adds the references of all words, in their order.
-pub fn add_references(
-    memory: Memory,
-    references: &mut Vec<OutRef, Memory>,
-    words: &str,
-) -> Result<()> {
+/// The references of all words, in their order.
+pub fn references(memory: Memory, words: &str) -> Result<Vec<OutRef, Memory>> {
+    let mut references = Vec::new(memory);
     for word in words.split_whitespace() {
-        add_run(memory, references, word)?;
+        add_run(memory, &mut references, word)?;
     }
-    Ok(())
+    Ok(references)
 }

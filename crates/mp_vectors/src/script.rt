@@ -5,15 +5,11 @@ use anyhow::Result;
 use mp_memory::Memory;
 use mp_script::Script;
 
-fn comes_to(memory: Memory, bytes: &[u8], wanted: &str) -> Result<bool> {
-    match Script::decode(memory, bytes) {
-        Ok(script) => answer::is_hashed(memory, script.hash(), wanted),
-        Err(fault) => answer::is_fault(memory, &fault, wanted),
-    }
-}
-
 /// Whether bytes spell a script of a hash, or have a fault.
 pub fn holds(memory: Memory, given: &str, wanted: &str) -> Result<bool> {
     let bytes = pieces::bytes(memory, given)?;
-    comes_to(memory, &bytes, wanted)
+    match Script::decode(memory, &bytes) {
+        Ok(script) => answer::is_hashed(memory, script.hash(), wanted),
+        Err(fault) => answer::is_fault(memory, &fault, wanted),
+    }
 }

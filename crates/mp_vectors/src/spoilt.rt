@@ -1,7 +1,6 @@
 //! Transactions in bytes, of which one is replaced by each other value.
 
-use crate::answer::is_fault;
-use crate::decode::encodes_to;
+use crate::answer::name_of;
 use crate::faults::TX_FAULTS;
 use crate::pieces;
 use anyhow::{Context, Result, bail};
@@ -21,23 +20,14 @@ fn add(counts: &mut Counts, place: usize) {
     }
 }
 
-fn count_whole(memory: Memory, counts: &mut Counts, tx: &Tx, bytes: &[u8]) -> Result<()> {
-    if !encodes_to(memory, tx, bytes)? {
-        bail!("a transaction encodes to other bytes")
-    }
-    add(counts, 0);
-    Ok(())
-}
-
 // Counts what bytes come to. A transaction has to encode to them.
 fn count(memory: Memory, counts: &mut Counts, bytes: &[u8]) -> Result<()> {
     match Tx::decode(memory, bytes) {
-        Ok(tx) => count_whole(memory, counts, &tx, bytes),
-        Err(fault) => {
-            add(counts, place_of(fault));
-            Ok(())
-        }
+        Ok(tx) if *tx.encode(memory)? == *bytes => add(counts, 0),
+        Ok(_) => bail!("a transaction encodes to other bytes"),
+        Err(fault) => add(counts, place_of(fault)),
     }
+    Ok(())
 }
 
 fn set(bytes: &mut [u8], place: usize, value: u8) {
@@ -60,25 +50,13 @@ fn spoil_at(memory: Memory, counts: &mut Counts, bytes: &mut [u8], place: usize)
     Ok(())
 }
 
-fn count_all(memory: Memory, counts: &mut Counts, bytes: &mut [u8]) -> Result<()> {
-    for place in 0..bytes.len() {
-        spoil_at(memory, counts, bytes, place)?;
-    }
-    Ok(())
-}
-
 fn counts_of(memory: Memory, words: &str) -> Result<Counts> {
     let mut counts = [0; 13];
     let mut bytes = pieces::bytes(memory, words)?;
-    count_all(memory, &mut counts, &mut bytes)?;
-    Ok(counts)
-}
-
-fn count_at(counts: &Counts, place: usize) -> u64 {
-    match counts.get(place) {
-        Some(count) => *count,
-        None => 0,
+    for place in 0..bytes.len() {
+        spoil_at(memory, &mut counts, &mut bytes, place)?;
     }
+    Ok(counts)
 }
 
 // How many came to a fault of this name, or at `ok` to a transaction.
@@ -87,8 +65,8 @@ fn count_named(memory: Memory, counts: &Counts, name: &str) -> Result<u64> {
         return Ok(counts[0]);
     }
     for fault in TX_FAULTS {
-        if is_fault(memory, &fault, name)? {
-            return Ok(count_at(counts, place_of(fault)));
+        if name_of(memory, &fault)?.as_str() == name {
+            return counts.get(place_of(fault)).copied().context("no number");
         }
     }
     bail!("no such word")

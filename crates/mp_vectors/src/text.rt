@@ -21,45 +21,28 @@ fn first_cut(cut: Cut, text: &[u8]) -> Option<(&[u8], &[u8])> {
     }
 }
 
-// What comes after a piece, where the text begins with it.
-fn rest_after<'a>(
-    memory: Memory,
-    cut: Cut,
-    text: &'a [u8],
-    word: &str,
-) -> Result<Option<&'a [u8]>> {
-    let piece = pieces::bytes(memory, word)?;
-    match first_cut(cut, text) {
-        Some((first, after)) if *first == *piece => Ok(Some(after)),
-        _ => Ok(None),
-    }
-}
-
 // Whether a text is cut into these pieces.
 fn is_cut_into(memory: Memory, cut: Cut, text: &[u8], wanted: &str) -> Result<bool> {
     let mut rest = text;
     for word in wanted.split_whitespace() {
-        match rest_after(memory, cut, rest, word)? {
-            Some(after) => rest = after,
-            None => return Ok(false),
+        let piece = pieces::bytes(memory, word)?;
+        match first_cut(cut, rest) {
+            Some((first, after)) if *first == *piece => rest = after,
+            _ => return Ok(false),
         }
     }
     Ok(first_cut(cut, rest).is_none())
-}
-
-fn is_as_wanted(memory: Memory, asked: &str, text: &[u8], wanted: &str) -> Result<bool> {
-    match asked {
-        "lines" => is_cut_into(memory, Cut::Lines, text, wanted),
-        "words" => is_cut_into(memory, Cut::Words, text, wanted),
-        "clean" => Ok(is_told(is_clean(text), wanted)),
-        "comment" => Ok(is_told(is_comment_or_blank(text), wanted)),
-        _ => bail!("no such word"),
-    }
 }
 
 /// Whether bytes have these lines or words, or are clean or a comment.
 pub fn holds(memory: Memory, given: &str, wanted: &str) -> Result<bool> {
     let (asked, words) = given.split_once(':').context("no such word")?;
     let text = pieces::bytes(memory, words)?;
-    is_as_wanted(memory, asked, &text, wanted)
+    match asked {
+        "lines" => is_cut_into(memory, Cut::Lines, &text, wanted),
+        "words" => is_cut_into(memory, Cut::Words, &text, wanted),
+        "clean" => Ok(is_told(is_clean(&text), wanted)),
+        "comment" => Ok(is_told(is_comment_or_blank(&text), wanted)),
+        _ => bail!("no such word"),
+    }
 }

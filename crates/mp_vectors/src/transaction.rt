@@ -2,94 +2,67 @@
 
 use crate::answer::is_fault;
 use crate::bundle::bundle;
-use crate::decode::encodes_to;
 use crate::pieces;
 use crate::plain::{UNIT, input, output};
-use crate::references::add_references;
+use crate::references::references;
 use anyhow::{Context, Result, bail};
 use mp_bundle::Bundle;
 use mp_memory::Memory;
-use mp_tx::{Input, OutRef, Output, Script, Signature, Tx, TxParts};
+use mp_tx::{Input, Output, Script, Signature, Tx, TxParts};
 
-fn add_spending(
-    memory: Memory,
-    inputs: &mut Vec<Input, Memory>,
-    spent: &[OutRef],
-    datum: &str,
-) -> Result<()> {
-    for from in spent {
+// Adds the inputs of a word such as `32*00:7`, or `32*00:0-255`, or `32*00:7/0200021234`, where the datum is another.
+fn add_inputs(memory: Memory, inputs: &mut Vec<Input, Memory>, word: &str) -> Result<()> {
+    let (spent, datum) = word.split_once('/').unwrap_or((word, UNIT));
+    for from in &references(memory, spent)? {
         inputs.push(input(memory, *from, datum)?)?;
     }
     Ok(())
 }
 
-// Adds the inputs of a word such as `32*00:7`, or `32*00:0-255`, or `32*00:7/0200021234`, where the datum is another.
-fn add_inputs_of(memory: Memory, inputs: &mut Vec<Input, Memory>, word: &str) -> Result<()> {
-    let (words, datum) = word.split_once('/').unwrap_or((word, UNIT));
-    let mut spent = Vec::new(memory);
-    add_references(memory, &mut spent, words)?;
-    add_spending(memory, inputs, &spent, datum)
-}
-
-fn add_inputs(memory: Memory, inputs: &mut Vec<Input, Memory>, words: &str) -> Result<()> {
+fn inputs(memory: Memory, words: &str) -> Result<Vec<Input, Memory>> {
+    let mut inputs = Vec::new(memory);
     for word in words.split_whitespace() {
-        add_inputs_of(memory, inputs, word)?;
+        add_inputs(memory, &mut inputs, word)?;
     }
-    Ok(())
+    Ok(inputs)
 }
 
 // Adds the outputs of a word such as `100`, the coin, or `152*100`, as many times.
-fn add_outputs_of(memory: Memory, outputs: &mut Vec<Output, Memory>, word: &str) -> Result<()> {
+fn add_outputs(memory: Memory, outputs: &mut Vec<Output, Memory>, word: &str) -> Result<()> {
     let (times, coin) = word.split_once('*').unwrap_or(("1", word));
-    let times = times.parse::<u16>()?;
-    for _ in 0..times {
+    for _ in 0..times.parse::<u16>()? {
         outputs.push(output(memory, coin)?)?;
     }
     Ok(())
 }
 
-fn add_outputs(memory: Memory, outputs: &mut Vec<Output, Memory>, words: &str) -> Result<()> {
+fn outputs(memory: Memory, words: &str) -> Result<Vec<Output, Memory>> {
+    let mut outputs = Vec::new(memory);
     for word in words.split_whitespace() {
-        add_outputs_of(memory, outputs, word)?;
+        add_outputs(memory, &mut outputs, word)?;
     }
-    Ok(())
+    Ok(outputs)
 }
 
-fn add_scripts(memory: Memory, scripts: &mut Vec<Script, Memory>, words: &str) -> Result<()> {
+fn scripts(memory: Memory, words: &str) -> Result<Vec<Script, Memory>> {
+    let mut scripts = Vec::new(memory);
     for word in words.split_whitespace() {
         scripts.push(pieces::script(memory, word)?)?;
     }
-    Ok(())
+    Ok(scripts)
 }
 
-// The signature of a word such as `32*05/64*00`: the key, and then the signature.
-fn signature(memory: Memory, word: &str) -> Result<Signature> {
-    let (key, sig) = word.split_once('/').context("no signature")?;
-    Ok(Signature {
-        key: pieces::hash(memory, key)?,
-        sig: pieces::sig(memory, sig)?,
-    })
-}
-
-fn add_signatures(
-    memory: Memory,
-    signatures: &mut Vec<Signature, Memory>,
-    words: &str,
-) -> Result<()> {
+// The signatures of words such as `32*05/64*00`: the key, and then the signature.
+fn signatures(memory: Memory, words: &str) -> Result<Vec<Signature, Memory>> {
+    let mut signatures = Vec::new(memory);
     for word in words.split_whitespace() {
-        signatures.push(signature(memory, word)?)?;
+        let (key, sig) = word.split_once('/').context("no signature")?;
+        signatures.push(Signature {
+            key: pieces::hash(memory, key)?,
+            sig: pieces::sig(memory, sig)?,
+        })?;
     }
-    Ok(())
-}
-
-fn set_number(number: &mut u64, word: &str) -> Result<()> {
-    *number = word.parse::<u64>()?;
-    Ok(())
-}
-
-fn set_bundle(memory: Memory, forge: &mut Bundle, words: &str) -> Result<()> {
-    *forge = bundle(memory, words)?;
-    Ok(())
+    Ok(signatures)
 }
 
 fn no_parts(memory: Memory) -> TxParts {
@@ -108,52 +81,36 @@ fn no_parts(memory: Memory) -> TxParts {
 fn put_part(memory: Memory, parts: &mut TxParts, written: &str) -> Result<()> {
     let (kind, words) = written.split_once(' ').unwrap_or((written, ""));
     match kind {
-        "in" => add_inputs(memory, &mut parts.inputs, words),
-        "see" => add_references(memory, &mut parts.references, words),
-        "out" => add_outputs(memory, &mut parts.outputs, words),
-        "from" => set_number(&mut parts.from, words),
-        "to" => set_number(&mut parts.to, words),
-        "forge" => set_bundle(memory, &mut parts.forge, words),
-        "scripts" => add_scripts(memory, &mut parts.scripts, words),
-        "signed" => add_signatures(memory, &mut parts.signatures, words),
+        "in" => parts.inputs = inputs(memory, words)?,
+        "see" => parts.references = references(memory, words)?,
+        "out" => parts.outputs = outputs(memory, words)?,
+        "from" => parts.from = words.parse::<u64>()?,
+        "to" => parts.to = words.parse::<u64>()?,
+        "forge" => parts.forge = bundle(memory, words)?,
+        "scripts" => parts.scripts = scripts(memory, words)?,
+        "signed" => parts.signatures = signatures(memory, words)?,
         _ => bail!("no such word"),
-    }
-}
-
-fn put_parts(memory: Memory, parts: &mut TxParts, given: &str) -> Result<()> {
-    for written in given.split('|') {
-        put_part(memory, parts, written.trim())?;
     }
     Ok(())
 }
 
 fn parts(memory: Memory, given: &str) -> Result<TxParts> {
     let mut parts = no_parts(memory);
-    if given != "-" {
-        put_parts(memory, &mut parts, given)?;
+    if given == "-" {
+        return Ok(parts);
+    }
+    for written in given.split('|') {
+        put_part(memory, &mut parts, written.trim())?;
     }
     Ok(parts)
-}
-
-fn has_size(tx: &Tx, word: &str) -> Result<bool> {
-    Ok(tx.size() == word.parse::<u64>()?)
-}
-
-fn has_id(memory: Memory, tx: &Tx, word: &str) -> Result<bool> {
-    Ok(*tx.id() == pieces::hash(memory, word)?)
-}
-
-fn has_bytes(memory: Memory, tx: &Tx, words: &str) -> Result<bool> {
-    let bytes = pieces::bytes(memory, words)?;
-    Ok(encodes_to(memory, tx, &bytes)?)
 }
 
 // Whether a transaction has this size, this id or these bytes.
 fn is_transaction(memory: Memory, tx: &Tx, wanted: &str) -> Result<bool> {
     match wanted.split_once(' ') {
-        Some(("size", word)) => has_size(tx, word),
-        Some(("id", word)) => has_id(memory, tx, word),
-        Some(("bytes", words)) => has_bytes(memory, tx, words),
+        Some(("size", word)) => Ok(tx.size() == word.parse::<u64>()?),
+        Some(("id", word)) => Ok(*tx.id() == pieces::hash(memory, word)?),
+        Some(("bytes", words)) => Ok(tx.encode(memory)? == pieces::bytes(memory, words)?),
         _ => Ok(false),
     }
 }

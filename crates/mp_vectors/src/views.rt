@@ -75,59 +75,31 @@ fn references_of<'a>(much: &'a Bundle, little: &'a Bundle) -> [Referred<'a>; 2] 
     ]
 }
 
-// What runs, with the data of a spent output.
-#[derive(Clone, Copy)]
-struct Running<'a> {
-    role: Role,
-    script: &'a Script,
-    datum: &'a Data,
-    redeemer: &'a Data,
-}
-
-fn holds_upon(
-    memory: Memory,
-    running: &Running<'_>,
-    much: &Bundle,
-    little: &Bundle,
-    wanted: &Wanted,
-) -> Result<bool> {
-    let spent = sum(memory, SPENT)?;
-    let forge = bundle(memory, FORGE)?;
-    let role = running.role;
-    let view = View {
-        own_hash: &OWN_HASH,
-        datum: of_guard(role, running.datum),
-        redeemer: of_guard(role, running.redeemer),
-        own_value: of_guard(role, little),
-        from: 4,
-        to: u64::MAX,
-        keys: &KEYS,
-        spent: &spent,
-        forge: &forge,
-        outputs: &outputs_of(much, little),
-        references: &references_of(much, little),
-    };
-    Ok(comes_to(memory, running.script, &view, wanted))
-}
-
-fn holds_for(memory: Memory, running: &Running<'_>, wanted: &Wanted) -> Result<bool> {
-    let much = bundle(memory, MUCH)?;
-    let little = bundle(memory, LITTLE)?;
-    holds_upon(memory, running, &much, &little, wanted)
-}
-
 /// Whether a script of a role comes to what is wanted in the transaction of the scene.
 pub fn holds_in_scene(memory: Memory, role: Role, bytes: &[u8], wanted: &Wanted) -> Result<bool> {
     let script = Script::decode(memory, bytes)?;
     let datum = pieces::datum(memory, DATUM)?;
     let redeemer = pieces::datum(memory, REDEEMER)?;
-    let running = Running {
-        role,
-        script: &script,
-        datum: &datum,
-        redeemer: &redeemer,
+    let much = bundle(memory, MUCH)?;
+    let little = bundle(memory, LITTLE)?;
+    let spent = sum(memory, SPENT)?;
+    let forge = bundle(memory, FORGE)?;
+    let outputs = outputs_of(&much, &little);
+    let references = references_of(&much, &little);
+    let view = View {
+        own_hash: &OWN_HASH,
+        datum: of_guard(role, &datum),
+        redeemer: of_guard(role, &redeemer),
+        own_value: of_guard(role, &little),
+        from: 4,
+        to: u64::MAX,
+        keys: &KEYS,
+        spent: &spent,
+        forge: &forge,
+        outputs: &outputs,
+        references: &references,
     };
-    holds_for(memory, &running, wanted)
+    Ok(comes_to(memory, &script, &view, wanted))
 }
 
 // The datum that is written, if there is one.
