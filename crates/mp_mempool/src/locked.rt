@@ -364,7 +364,9 @@ impl<N: PoolName> Locked<N> {
         ensures place { result.place ≡ length self.old.log.entries }
         ensures entry { result.entry ≡ ready.outcome.entry }
         ensures pass { pass.new ≡ record pass.old {
-            last = Some (length self.old.log.entries); front = self.new.log } }
+          last = Some (length self.old.log.entries);
+          front = self.new.log;
+        } }
     {
         let Ready { prepared, outcome } = ready;
         let Outcome { entry, owners } = outcome;

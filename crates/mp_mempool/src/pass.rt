@@ -61,7 +61,9 @@ impl<N: PoolName> Pass<N> {
             (entered right.old entry.now) (arc_value version) }
         ensures right { right.new ≡ entered right.old entry.now }
         ensures pass { self.new ≡ record self.old {
-            last = Some (length right.old.entries); front = right.new } }
+          last = Some (length right.old.entries);
+          front = right.new;
+        } }
     {
         history.commit(right, &mut self.caller, entry);
         self.shown = Shown::of(version, right.front());

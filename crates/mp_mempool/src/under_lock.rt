@@ -142,7 +142,13 @@ pub fn submit_in<N: PoolName, V: Verifier>(
 {
     require_known(locked, pass)?;
     let reader = &mempool.reader;
-    match locked.prepare_submit(reader.memory(), pass.token(), tx, checked, reader.verifier()) {
+    match locked.prepare_submit(
+        reader.memory(),
+        pass.token(),
+        tx,
+        checked,
+        reader.verifier(),
+    ) {
         Ok(ready) => Ok(enter(rt, &mempool.history, reader.board(), locked, pass, ready)),
         Err(refusal) => Err(refuse(rt, reader.board(), locked, pass, refusal)),
     }

@@ -21,6 +21,6 @@ pub put_pass-requires : goal.put_pass-requires
 put_pass-requires g c =
     let start = c.into_iter-caller-iterator in
     let stands = sym start.ensures.into_iter_gives.0 ∙ given start.result c.loop-caller.yielded c.loop-caller.caller-iterator c.loop-caller.yielded_by
-      ∙ ap (λ l. c.loop-caller.yielded ++ l) c.in-Some.ensures.steps.0 in
+    ∙ ap (λ l. c.loop-caller.yielded ++ l) c.in-Some.ensures.steps.0 in
     each (λ (k : Caller). k.last ≡ None) c.loop-caller.yielded c.in-Some.caller (into_iter_items c.next.new.self)
     (subst (λ (l : List Caller). All (λ k. k.last ≡ None) l) stands c.requires.fresh)
