@@ -148,8 +148,8 @@ struct Desk<N: PoolName> {
     places: Vec<Option<u64>, Memory>,
 }
 
-// The first version, a pass for each caller, a board that shows the version, and no entry of any of them.
-fn open_desk<N: PoolName>(
+// The desk with this version on its board: a pass for each caller that has seen it, and no entry of any of them.
+fn set_desk<N: PoolName>(
     rt: &impl Wait,
     memory: Memory,
     tokens: Vec<Caller<N>, Memory>,
@@ -172,8 +172,8 @@ fn open_desk<N: PoolName>(
     })
 }
 
-// The desk of a pool that has opened.
-fn open_desk_of<N: PoolName>(
+// The desk of a pool that has just opened, with its first version.
+fn open_desk<N: PoolName>(
     rt: &impl Wait,
     memory: Memory,
     tokens: Vec<Caller<N>, Memory>,
@@ -190,7 +190,7 @@ fn open_desk_of<N: PoolName>(
     ensures places { IfOk result (λ desk. desk.places.items ≡ replicate callers None) }
 {
     let shown = first_version(memory, pool, right)?;
-    open_desk(rt, memory, tokens, shown, callers)
+    set_desk(rt, memory, tokens, shown, callers)
 }
 
 // What the lock guards at first.
@@ -225,7 +225,7 @@ fn open_upon<N: PoolName>(
         ≡ map (pass_of opened.1) opened.2.items) }
 {
     let (history, right, tokens) = opened;
-    let desk = open_desk_of(rt, memory, tokens, &pool, &right, callers)?;
+    let desk = open_desk(rt, memory, tokens, &pool, &right, callers)?;
     Ok(Parts {
         history,
         board: desk.board,
