@@ -1,11 +1,12 @@
 -- What is kept of items, one of which more is tried.
 use Rattle.std.proofs.Common.{◌≡◌, ℕ, ◌+◌, ◌≤◌, Bool, true, false, if◌then◌else◌, List, [], ◌∷◌, ◌++◌, map, refl, sym, ap, subst, ◌∙◌, arith}
-use Rattle.std.specs.Prelude.{sum_by, Option, Some}
+use Rattle.std.specs.Prelude.{sum_by, Option, Some, All}
 use Rattle.std.specs.Borrow.{Bor}
 use Rattle.std.specs.FinMap.{get}
 use Rattle.std.specs.Iterator.{Yields}
 use Rattle.std.specs.Map.Iter.{TakesFirst}
 use Rattle.std.proofs.lemmas.List.{map-append}
+use Rattle.std.proofs.lemmas.List.Elements.{All-nil, All-cons, All-head, All-tail}
 use Rattle.std.proofs.lemmas.List.Sums.{sum_by-append, sum_by-cons}
 use Rattle.std.proofs.lemmas.Map.Iter.{rest_more, rest_so_far}
 use Rattle.mp_tx.specs.Transaction.{Transaction}
@@ -13,6 +14,7 @@ use Rattle.mp_tx.specs.Spelling.{size_of}
 use Rattle.mp_tx.specs.Ledger.{LedgerState}
 use Rattle.mp_utxo.specs.Apply.{Unspent, apply, after}
 use Rattle.mp_rules.specs.Verifier.{Accepts}
+use Rattle.mp_rules.specs.Checked.{IsSigned}
 use Rattle.mp_resync.specs.Keep.{transactions, is_valid, keep_upon, keep, bytes_of}
 use Rattle.mp_resync.proofs.Keeping.{kept_last}
 use Rattle.mp_seqpool.proofs.Forgetting.{sum-last}
@@ -42,6 +44,13 @@ pub shown-last : (xs : List (Bor Item)) (x : Bor Item) → map shown (xs ++ x �
 shown-last xs x = map-append shown xs (x ∷ [])
 
 module _ (accepts : Accepts) where
+  -- all signatures of each item are accepted
+  pub each_signed : (items : Items) → All (IsSigned accepts) (transactions items) → All (λ (i : ℕ × Transaction). IsSigned accepts i.1) items
+  each_signed [] s = All-nil (λ (i : ℕ × Transaction). IsSigned accepts i.1)
+  each_signed (i ∷ is) s =
+      All-cons (λ (e : ℕ × Transaction). IsSigned accepts e.1) i is (All-head (IsSigned accepts) i.1 (transactions is) s)
+      (each_signed is (All-tail (IsSigned accepts) i.1 (transactions is) s))
+
   kept_less_step : (v : Bool) (n : ℕ) (i : ℕ × Transaction) (xs ys : Items) → bytes_of xs ≤ n → bytes_of ys ≤ n → bytes_of (if v then i ∷ xs else ys) ≤ size_of i.1 + n
   kept_less_step true n i xs ys a b = let sum = bytes-cons i xs in omega arith
   kept_less_step false n i xs ys a b = omega arith

@@ -5,8 +5,10 @@ ghost use Rattle.mp_history.specs.Log.{Begins, IsLegalLog, entered};
 ghost use Rattle.mp_versions.specs.Shown.{IsVersionOf};
 ghost use Rattle.mp_mempool.specs.Pass.{IsOwn, pass_of};
 
+use crate::reader::Reader;
 use mp_history::{Caller, CommitRight, Entry, Front, History, PoolName};
 use mp_memory::Memory;
+use mp_rules::Verifier;
 use mp_versions::{Shown, Snapshot, Version};
 use std::marker::Model;
 use std::sync::Arc;
@@ -36,7 +38,12 @@ impl<N: PoolName> Model for Pass<N> {
 }
 
 impl<N: PoolName> Pass<N> {
-    ghost use Rattle.std.specs.Prelude.{None, Some, length};
+    ghost use denote.Follow.{follows_so};
+    ghost use mathlib.Core.Option.{none};
+    ghost use Rattle.std.specs.Prelude.{None, Some, ⊤, length, IsSome, IfSome};
+    ghost use Rattle.std.specs.Borrow.{sem};
+    ghost use Rattle.mp_mempool.specs.contracts.pass.Pass.{the_row};
+    ghost use Rattle.mp_mempool.specs.Answers.{IsSeen};
 
     /// The pass of a caller that hasn't made an entry.
     pub(crate) fn of(caller: Caller<N>, shown: Shown<N>) -> Pass<N>
@@ -127,6 +134,20 @@ impl<N: PoolName> Pass<N> {
         ensures { result.now ≡ self.now.front }
     {
         &self.shown
+    }
+
+    /// The newest version that is shown, or the pass's own where that is longer: the caller has then seen it. It takes no lock
+    /// and no memory, and is never `None`.
+    pub fn newest<V: Verifier>(&mut self, reader: &Reader<N, V>) -> Option<&Shown<N>>
+        ensures there { IsSome result }
+        ensures later { IfSome result (λ shown. Begins self.old.front shown.now) }
+        ensures legal { IfSome result (λ shown. IsLegalLog N.accepts N.callers shown.now) }
+        ensures* seen { sem 𝓛 (follows_so (the_row N.row N.PoolName) (the_row N.row N.PoolName)
+            self.entry.ghost_name none (λ _ _. ⊤) (λ after. IsSeen N.accepts N.callers self.old after
+            × IfSome result (λ shown. after.front ≡ shown.now))) }
+    {
+        reader.refresh(self);
+        Some(&self.shown)
     }
 
     /// What is read of the version that the caller has seen, without a look at what others have shown since.

@@ -123,14 +123,16 @@ impl<N: PoolName, V: Verifier> Reader<N, V> {
         }
     }
 
-    /// What is read of the newest version that is shown, or of the pass's own where that is longer: the pass then holds it. It
-    /// takes no lock and no memory, and can't be refused.
+    /// What is read of the newest version that is shown, or of the pass's own where that is longer, as `Pass::newest` lends it:
+    /// the pass then holds it. It takes no lock and no memory, and can't be refused.
     pub fn snapshot<'p>(&self, pass: &'p mut Pass<N>) -> Snapshot<'p, N>
         ensures later { Begins pass.old.front result }
         ensures legal { IsLegalLog N.accepts N.callers result }
     {
-        self.refresh(pass);
-        pass.snapshot()
+        match pass.newest(self) {
+            Some(shown) => Snapshot::of(shown),
+            None => unreachable!(),
+        }
     }
 
     /// Gives the pass a version that another caller has told of, where it is longer than its own. It takes no lock and no memory,

@@ -1,14 +1,16 @@
 //! What of a pool would stay valid upon another ledger state.
 ghost use Rattle.std.specs.Prelude.{◌≡◌, ◌+◌, ◌≤◌, ◌^◌, IfOk, OnOk};
 ghost use Rattle.mp_tx.specs.Spelling.{size_of};
-ghost use Rattle.mp_utxo.specs.Overlay.{unspent};
-ghost use Rattle.mp_resync.specs.Keep.{is_valid, keep, bytes_of};
+ghost use Rattle.mp_rules.specs.Checked.{IsSigned};
+ghost use Rattle.mp_resync.specs.Keep.{keep, bytes_of};
+ghost use Rattle.mp_seqpool.specs.SlowPool.{AreSigned};
 ghost use Rattle.mp_versions.specs.Item.{item_of};
 ghost use Rattle.mp_mempool.specs.Inside.Trial.{HasTried, IsBegun, Keeps, Tries};
 
 use mp_memory::{Memory, NoMemory};
-use mp_rules::{Invalid, Verifier, check};
-use mp_tx::{Ledger, Tx};
+use mp_resync::stays_valid;
+use mp_rules::Verifier;
+use mp_tx::Ledger;
 use mp_utxo::Overlay;
 use mp_versions::{Item, Items, Version};
 use std::sync::Arc;
@@ -44,24 +46,6 @@ fn begin(memory: Memory, ledger: &Ledger) -> Result<Trial, NoMemory>
     })
 }
 
-// Whether the transaction is valid after what was applied.
-fn is_valid<V: Verifier>(
-    memory: Memory,
-    overlay: &Overlay,
-    tx: &Tx,
-    verifier: &V,
-) -> Result<bool, NoMemory>
-    ensures { IfOk result (λ valid. valid ≡ is_valid (V.accepts verifier.now)
-        (unspent overlay.now) overlay.now.ledger.tick tx.now) }
-{
-    let tick = overlay.ledger().tick();
-    match check(memory, tx, overlay, tick, verifier) {
-        Ok(_) => Ok(true),
-        Err(Invalid::NoMemory) => Err(NoMemory),
-        Err(_) => Ok(false),
-    }
-}
-
 // Applies the item and puts it last.
 fn keep(trial: &mut Trial, item: &Item) -> Result<(), NoMemory>
     requires { trial.old.bytes + size_of (item_of item.now).1 ≤ 2 ^ 40 }
@@ -81,11 +65,12 @@ fn try_item<V: Verifier>(
     item: &Item,
     verifier: &V,
 ) -> Result<(), NoMemory>
-    requires { trial.old.bytes + size_of (item_of item.now).1 ≤ 2 ^ 40 }
+    requires signed { IsSigned (V.accepts verifier.now) (item_of item.now).1 }
+    requires room { trial.old.bytes + size_of (item_of item.now).1 ≤ 2 ^ 40 }
     ensures { OnOk result (Tries (V.accepts verifier.now)
         trial.old (item_of item.now) trial.new) }
 {
-    if is_valid(memory, &trial.overlay, &item.tx, verifier)? {
+    if stays_valid(memory, &trial.overlay, &item.tx, None, verifier)? {
         keep(trial, item)?;
     }
     Ok(())
@@ -98,6 +83,7 @@ fn try_all<V: Verifier>(
     ledger: &Ledger,
     verifier: &V,
 ) -> Result<Trial, NoMemory>
+    requires { AreSigned (V.accepts verifier.now) version.now.pool }
     ensures { IfOk result (HasTried (V.accepts verifier.now)
         ledger.now version.now.pool.items) }
 {
@@ -110,7 +96,7 @@ fn try_all<V: Verifier>(
 }
 
 /// What of the version's items would stay valid upon the ledger state: each that is valid upon it after those kept
-/// before it. The version stays as it is.
+/// before it. The version stays as it is. Their signatures are good, and aren't looked at again.
 ///
 /// # Errors
 /// `NoMemory`.
@@ -120,6 +106,7 @@ pub(crate) fn keep_valid<V: Verifier>(
     ledger: &Ledger,
     verifier: &V,
 ) -> Result<SnapshotFor, NoMemory>
+    requires { AreSigned (V.accepts verifier.now) version.now.pool }
     ensures items { IfOk result (λ s. s.items
         ≡ keep (V.accepts verifier.now) ledger.now version.now.pool.items) }
     ensures bytes { IfOk result (λ s. s.bytes ≡ bytes_of s.items) }

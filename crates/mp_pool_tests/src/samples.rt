@@ -5,7 +5,7 @@ mod submits;
 
 use crate::samples::guarded::{guarded_outputs, push_guarded};
 use crate::samples::ledgers::push_ledgers;
-use crate::samples::submits::push_submits;
+use crate::samples::submits::{push_merged, push_submits};
 use mp_memory::Memory;
 use mp_seqpool::{Command, Ids};
 use mp_tx::{Ledger, Output, Tx, TxId, TxParts};
@@ -41,6 +41,9 @@ pub const OF_100: usize = 145;
 /// The same with 120 coin.
 pub const OF_120: usize = 146;
 
+/// A remove of nothing.
+pub const NOTHING: usize = 140;
+
 /// A ledger state at tick 1 of what sample 0 pays alone.
 pub const AFTER_FIRST: usize = 147;
 
@@ -67,6 +70,12 @@ pub const REMOVE_TWO: usize = 154;
 
 /// A remove of sample 69.
 pub const REMOVE_SEVENTIETH: usize = 155;
+
+/// A submit that spends both outputs of the submit `RIVAL`, which have 60 and 40 coin.
+pub const MERGED: usize = 156;
+
+/// A submit that spends the same output as sample 1, and pays 50 twice. Behind it stands one that spends both of these.
+pub const EVEN: usize = 157;
 
 /// Commands in order.
 pub type Commands = Vec<Command, Memory>;
@@ -150,7 +159,8 @@ fn push_all(memory: Memory, commands: &mut Commands) -> Option<()> {
     push_remove(memory, commands, &[0])?;
     push_remove(memory, commands, &[1])?;
     push_remove(memory, commands, &[63, 64])?;
-    push_remove(memory, commands, &[69])
+    push_remove(memory, commands, &[69])?;
+    push_merged(memory, commands)
 }
 
 /// Makes all samples.

@@ -10,4 +10,4 @@ mod revalidation;
 pub use by_id::{ById, key_of};
 pub use item::Item;
 pub use kept::Kept;
-pub use revalidation::revalidate;
+pub use revalidation::{revalidate, stays_valid};

@@ -1,11 +1,12 @@
 //! Looking at all items anew.
 
-ghost use Rattle.std.specs.Prelude.{◌≡◌, ◌<◌, ℕ, List, [], All, IfOk, OnOk, is_some};
+ghost use Rattle.std.specs.Prelude.{◌≡◌, ◌<◌, ℕ, List, [], All, IfSome, IfOk, OnOk, is_some};
 ghost use Rattle.std.specs.Map.{lookup};
 ghost use Rattle.mp_tx.specs.Reference.{same_ref};
 ghost use Rattle.mp_tx.specs.Spelling.{id_of};
 ghost use Rattle.mp_utxo.specs.Overlay.{unspent};
 ghost use Rattle.mp_rules.specs.Verifier.{Accepts};
+ghost use Rattle.mp_rules.specs.Checked.{IsSigned, ScriptsAccept};
 ghost use Rattle.mp_resync.specs.ById.{key_of};
 ghost use Rattle.mp_resync.specs.Item.{IsVouched, ticketed};
 ghost use Rattle.mp_resync.specs.Keep.{is_valid};
@@ -16,9 +17,9 @@ use crate::item::Item;
 use crate::kept::Kept;
 use crate::names::{Names, is_named, names_of};
 use mp_memory::{Memory, NoMemory};
-use mp_rules::{Invalid, Verifier, recheck};
+use mp_rules::{Invalid, Resolved, Verifier, recheck};
 use mp_tickets::{TicketList, Tickets};
-use mp_tx::{Ledger, TxId};
+use mp_tx::{Ledger, Tx, TxId};
 use mp_utxo::Overlay;
 use std::sync::Arc;
 
@@ -35,19 +36,25 @@ fn nothing_kept(memory: Memory, ledger: &Ledger) -> Result<Kept, NoMemory>
     })
 }
 
-// Whether the item is valid after what was applied.
-fn stays<V: Verifier>(
+/// Whether a transaction with good signatures is valid after what was applied. No signature is looked at again, and scripts are
+/// not run again where it names the outputs of `before`, upon which they accepted.
+///
+/// # Errors
+/// `NoMemory`.
+pub fn stays_valid<V: Verifier>(
     memory: Memory,
     overlay: &Overlay,
-    item: &Item,
+    tx: &Tx,
+    before: Option<&Resolved>,
     verifier: &V,
 ) -> Result<bool, NoMemory>
-    requires { IsVouched (V.accepts verifier.now) item.now }
+    requires signed { IsSigned (V.accepts verifier.now) tx.now }
+    requires accepted { IfSome before (λ b. ScriptsAccept tx.now b.now) }
     ensures { IfOk result (λ stays. stays ≡ is_valid (V.accepts verifier.now)
-        (unspent overlay.now) overlay.now.ledger.tick item.now.tx) }
+        (unspent overlay.now) overlay.now.ledger.tick tx.now) }
 {
     let tick = overlay.ledger().tick();
-    match recheck(memory, &item.tx, overlay, tick, &item.resolved, verifier) {
+    match recheck(memory, tx, overlay, tick, before, verifier) {
         Ok(_) => Ok(true),
         Err(Invalid::NoMemory) => Err(NoMemory),
         Err(_) => Ok(false),
@@ -78,7 +85,8 @@ fn judge<V: Verifier>(
     ensures { OnOk result (Judges (V.accepts verifier.now)
         kept.old (ticket, item.now.tx) kept.new) }
 {
-    if stays(memory, &kept.overlay, item, verifier)? {
+    let before = Some(&item.resolved);
+    if stays_valid(memory, &kept.overlay, &item.tx, before, verifier)? {
         keep(kept, ticket, item)
     } else {
         kept.dropped.push(ticket)

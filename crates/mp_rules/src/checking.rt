@@ -1,6 +1,6 @@
 //! Whether a transaction may follow.
 
-ghost use Rattle.std.specs.Prelude.{◌≡◌, None, IfOk, OnOk, IfErr, IsTrue};
+ghost use Rattle.std.specs.Prelude.{◌≡◌, None, IfSome, IfOk, OnOk, IfErr, IsTrue};
 ghost use Rattle.mp_rules.specs.Resolved.{resolve};
 ghost use Rattle.mp_rules.specs.Validity.{IsValid};
 ghost use Rattle.mp_rules.specs.FirstFault.{first_fault, IsFaultOf};
@@ -102,23 +102,27 @@ fn same_outputs<'a>(a: &'a [Output], b: &'a [Output]) -> bool
     true
 }
 
+fn is_same(resolved: &Resolved, before: &Resolved) -> bool
+    ensures { IsTrue result → resolved.now ≡ before.now }
+{
+    same_outputs(resolved.spent(), before.spent())
+        && same_outputs(resolved.referenced(), before.referenced())
+}
+
 // The first script that refuses: the one that was found before, where the outputs are the same.
 fn refused_again(
     memory: Memory,
     tx: &Tx,
     resolved: &Resolved,
-    before: &Resolved,
+    before: Option<&Resolved>,
     found: Option<Invalid>,
 ) -> Result<Option<Invalid>, NoMemory>
-    requires { found ≡ script_refused tx.now before.now }
+    requires { IfSome before (λ b. found ≡ script_refused tx.now b.now) }
     ensures { IfOk result (λ fault. fault ≡ script_refused tx.now resolved.now) }
 {
-    if same_outputs(resolved.spent(), before.spent())
-        && same_outputs(resolved.referenced(), before.referenced())
-    {
-        Ok(found)
-    } else {
-        script_refused(memory, tx, resolved)
+    match before {
+        Some(before) if is_same(resolved, before) => Ok(found),
+        _ => script_refused(memory, tx, resolved),
     }
 }
 
@@ -153,7 +157,7 @@ pub fn check_with<U: Utxo, V: Verifier>(
         memory,
         tx,
         &resolved,
-        checked.resolved(),
+        Some(checked.resolved()),
         checked.script(),
     )? {
         return Err(fault);
@@ -161,9 +165,9 @@ pub fn check_with<U: Utxo, V: Verifier>(
     Ok(resolved)
 }
 
-/// Whether the transaction, which was found valid before, still is, as `check` says it. No signature is looked at again, and
-/// scripts are run again only where it names other outputs than `before`, upon which they accepted. All other rules are looked
-/// at anew. The verifier isn't asked: it is named for whose signatures these are.
+/// Whether a transaction with good signatures is valid, as `check` says it. No signature is looked at again, and scripts are not
+/// run again where it names the outputs of `before`, upon which they accepted. All other rules are looked at anew. The verifier
+/// isn't asked: it is named for whose signatures these are.
 ///
 /// # Errors
 /// As `check`.
@@ -172,11 +176,11 @@ pub fn recheck<U: Utxo, V: Verifier>(
     tx: &Tx,
     utxo: &U,
     tick: u64,
-    before: &Resolved,
+    before: Option<&Resolved>,
     _verifier: &V,
 ) -> Result<Resolved, Invalid>
     requires signed { IsSigned (V.accepts _verifier.now) tx.now }
-    requires accepted { ScriptsAccept tx.now before.now }
+    requires accepted { IfSome before (λ b. ScriptsAccept tx.now b.now) }
     ensures resolved { IfOk result (λ r. r ≡ resolve (U.map utxo.now) tx.now) }
     ensures valid { OnOk result (IsValid (V.accepts _verifier.now) (U.map utxo.now) tick tx.now) }
     ensures clear { OnOk result

@@ -1,5 +1,5 @@
 //! Audits that were worked out by hand.
-use crate::history::entries::{Telling, three_entries};
+use crate::history::entries::{Telling, idle_entries, three_entries};
 use crate::rows::{TWO_OR_MORE, Trial, count, count_trial};
 use crate::samples::{PART, Samples};
 use crate::seqpool::CONFIG;
@@ -232,6 +232,12 @@ fn try_legal(samples: &Samples) -> Trial {
     }
 }
 
+// A history of more entries than any other here.
+fn tell_long(samples: &Samples) -> Option<Seen> {
+    let entries = idle_entries(samples, 5_000)?;
+    Some(tell(samples, PART, CONFIG, 1, &entries).seen())
+}
+
 /// How many cases hold.
 pub fn held_audits(rt: &impl Print, samples: &Samples) -> io::Result<u64> {
     let wanted = Told::Legal(0, 2).seen();
@@ -243,6 +249,8 @@ pub fn held_audits(rt: &impl Print, samples: &Samples) -> io::Result<u64> {
         wanted,
         TWO_OR_MORE,
     )?;
+    let long = tell_long(samples);
+    held = held.wrapping_add(count(rt, "a long history", long, Told::Legal(0, 0).seen())?);
     for row in &ROWS {
         let seen = tell_row(samples, row);
         held = held.wrapping_add(count(rt, row.0, seen, row.6.seen())?);

@@ -1,6 +1,6 @@
 //! Histories of two submits and a removal: the first submit spends an opening output, the second what the first pays, and the
 //! removal takes out the first, so the second goes with it.
-use crate::samples::{REMOVE_FIRST, Samples, THREE};
+use crate::samples::{NOTHING, REMOVE_FIRST, Samples, THREE};
 use mp_history::Entry;
 use mp_memory::{Memory, NoMemory};
 use mp_seqpool::{Reply, Tickets};
@@ -69,6 +69,23 @@ fn push_three(samples: &Samples, entries: &mut Entries, telling: Telling) -> Opt
     push_submit(samples, entries, other, THREE + 1, second)?;
     let reply = removal(samples.memory, dropped).ok()?;
     push_entry(samples, entries, 0, REMOVE_FIRST, reply)
+}
+
+fn push_nothing(samples: &Samples, entries: &mut Entries) -> Option<()> {
+    let reply = Reply::Removed {
+        named: Tickets::new(samples.memory),
+        dropped: Tickets::new(samples.memory),
+    };
+    push_entry(samples, entries, 0, NOTHING, reply)
+}
+
+/// So many entries, each of which removes nothing.
+pub fn idle_entries(samples: &Samples, number: u64) -> Option<Entries> {
+    let mut entries = Vec::new(samples.memory);
+    for _ in 0..number {
+        push_nothing(samples, &mut entries)?;
+    }
+    Some(entries)
 }
 
 /// The three entries.

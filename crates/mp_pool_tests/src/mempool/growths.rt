@@ -3,7 +3,7 @@ use crate::mempool::calls::Call;
 use crate::mempool::heard::{Heard, NO_MEMORY};
 use crate::mempool::pools::{LONG, Line, MAX_GROWTHS, Played, play};
 use crate::rows::count;
-use crate::samples::{ALL, CHAINED, PART, REMOVE_SECOND, Samples};
+use crate::samples::{ALL, CHAINED, EVEN, MERGED, PART, REMOVE_SECOND, RIVAL, Samples};
 use crate::told::Told;
 use mp_testing::Seen;
 use std::io;
@@ -126,6 +126,39 @@ fn try_all(rt: &impl Wait, samples: &Samples, case: Case) -> Option<Seen> {
     None
 }
 
+// How many growths a submit makes that spends both outputs of another, which stands in the pool. 0 where it goes wrong.
+fn growths_of(rt: &impl Wait, samples: &Samples, parent: usize, child: usize) -> u64 {
+    for nth in 1..MAX_GROWTHS {
+        let lines: [Line; 4] = [
+            (0, Call::Ask(parent), Heard::Entered(0, Told::Accepted(1))),
+            (0, Call::Refuse(nth), Heard::Done),
+            (0, Call::Ask(child), Heard::Entered(1, Told::Accepted(2))),
+            (0, Call::Met, Heard::Met(true)),
+        ];
+        match play(rt, samples, 1, LONG, &lines) {
+            Played::Otherwise(3, Heard::Met(false)) => return nth,
+            Played::AsTold | Played::Otherwise(2, _) => {}
+            _ => return 0,
+        }
+    }
+    0
+}
+
+// The look before the lock finds each output that is named, in order: scripts aren't run again under the lock, so it makes no
+// difference whether the two outputs differ.
+fn see_scripts(rt: &impl Wait, samples: &Samples) -> Seen {
+    let differing = growths_of(rt, samples, RIVAL, MERGED);
+    let even = growths_of(rt, samples, EVEN, EVEN + 1);
+    [
+        differing.wrapping_sub(even),
+        u64::from(differing > 1),
+        0,
+        0,
+        0,
+        0,
+    ]
+}
+
 /// How many cases hold.
 pub fn held_growths(rt: &(impl Print + Wait), samples: &Samples) -> io::Result<u64> {
     let mut held = 0u64;
@@ -134,5 +167,12 @@ pub fn held_growths(rt: &(impl Print + Wait), samples: &Samples) -> io::Result<u
         let wanted = [5, u64::from(*is_answered), 0, 0, 0, 0];
         held = held.wrapping_add(count(rt, name, seen, wanted)?);
     }
+    let scripts = see_scripts(rt, samples);
+    held = held.wrapping_add(count(
+        rt,
+        "scripts that run once",
+        Some(scripts),
+        [0, 1, 0, 0, 0, 0],
+    )?);
     Ok(held)
 }

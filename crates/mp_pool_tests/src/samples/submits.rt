@@ -1,5 +1,5 @@
 //! Submits of transactions.
-use crate::samples::{Commands, RIVAL, SPENDING, THREE, push_tx, submitted};
+use crate::samples::{Commands, EVEN, RIVAL, SPENDING, THREE, push_tx, submitted};
 use mp_memory::{Memory, NoMemory};
 use mp_testing::{opening, output_of, parts};
 use mp_tx::{OutRef, Signature, TxParts};
@@ -44,6 +44,20 @@ fn push_upon_rival(memory: Memory, commands: &mut Commands) -> Option<()> {
     let rival = submitted(commands, RIVAL)?;
     push_signed(memory, commands, output_of(&rival, 0), 60, 0)?;
     push_signed(memory, commands, output_of(&rival, 1), 40, 1)
+}
+
+// It spends both outputs of what the command at this place submits.
+fn push_heir(memory: Memory, commands: &mut Commands, place: usize) -> Option<()> {
+    let parent = submitted(commands, place)?;
+    let spent = [output_of(&parent, 0), output_of(&parent, 1)];
+    push_tx(memory, commands, parts(memory, &spent, &[100]).ok()?)
+}
+
+/// A submit that spends the two outputs of the rival; and one that pays twice the same, and one that spends these.
+pub fn push_merged(memory: Memory, commands: &mut Commands) -> Option<()> {
+    push_heir(memory, commands, RIVAL)?;
+    push(memory, commands, opening(1), &[50, 50])?;
+    push_heir(memory, commands, EVEN)
 }
 
 /// All submits but the guarded ones, in the order of their numbers.
