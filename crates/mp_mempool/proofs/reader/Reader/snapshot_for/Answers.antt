@@ -6,7 +6,7 @@ use Rattle.mp_mempool.proofs.reader.Reader.snapshot_for.Goals as goal
 
 pub keep_valid-requires : goal.keep_valid-requires
 keep_valid-requires g c =
-    signed_after g.N.PoolName.accepts (g.V.Verifier.accepts c.args.self.now.verifier) g.N.PoolName.callers c.in_ok-shown.shown c.version.result.now c.args.self.now.accepts c.version.ensures.legal c.version.ensures.state
+    signed_after g.N.PoolName.accepts (g.V.Verifier.accepts c.args.self.now.verifier) g.N.PoolName.callers c.in_ok-shown.shown c.version.result.now.pool c.args.self.now.accepts c.version.ensures.legal c.version.ensures.state
 
 pub returns-clause-kept : goal.returns-clause-kept
 returns-clause-kept g c =
