@@ -7,5 +7,6 @@ pub mod Bundles
 pub mod PartsRead
 pub mod TxReading
 pub mod PartsFaults
+pub mod Fitting
 pub mod References
 pub mod Repeats

@@ -1,4 +1,5 @@
 pub mod Ledger
 pub mod LedgerFault
+pub mod Parts
 pub mod Reference
 pub mod Tx

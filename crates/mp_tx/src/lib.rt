@@ -14,6 +14,7 @@ mod reference;
 mod salt;
 mod signature;
 mod tx;
+mod typed;
 
 pub use fault::TxFault;
 pub use input::Input;

@@ -10,6 +10,7 @@ use crate::order::order_fault;
 use crate::output::Output;
 use crate::reference::{OutRef, TxId};
 use crate::signature::Signature;
+use crate::typed::look_at;
 use mp_bundle::Bundle;
 use mp_bytes::digest;
 use mp_memory::{Memory, NoMemory};
@@ -130,10 +131,12 @@ impl Tx {
         })
     }
 
-    /// Its bytes, made in one growth of just their number. Want of memory is the only error.
+    /// Its bytes, which `decode` reads back, made in one growth of just their number. Want of memory is the only error.
     pub fn encode(&self, memory: Memory) -> Result<Vec<u8, Memory>, NoMemory>
-        ensures { IfOk result (λ v. v.items ≡ spelling self.now) }
+        ensures spelling { IfOk result (λ v. v.items ≡ spelling self.now) }
+        ensures spells { IfOk result (λ v. Spells v.items self.now) }
     {
+        look_at(&self.parts);
         let mut bytes = Vec::with_capacity(memory, self.size as usize)?;
         put_body(&mut bytes, &self.parts)?;
         put_signatures(&mut bytes, &self.parts.signatures)?;
