@@ -1,19 +1,18 @@
 -- Offers of items whose tickets rise.
-use Rattle.std.proofs.Common.{◌≡◌, inl, inr, ℕ, zero, suc, ◌+◌, ◌<◌, ◌≤◌, Bool, true, false, cond, List, [], ◌∷◌, ◌++◌, length, get_or, sym, subst, refl, ap, ◌∙◌, arith}
+use Rattle.std.proofs.Common.{◌≡◌, inl, inr, ℕ, zero, suc, ◌+◌, ◌<◌, ◌≤◌, Bool, true, false, cond, List, [], ◌∷◌, ◌++◌, get_or, sym, subst, refl, ap, ◌∙◌, arith}
 use Rattle.std.specs.Prelude.{nat_lt, All, AllPairs, Contains, ◌⊎◌}
-use Rattle.std.specs.List.{filter}
 use Rattle.std.specs.List.Sorted.{IsStrictlyIncreasing}
 use mathlib.Core.List.{IsPrefix}
 use Rattle.std.proofs.lemmas.Bool.{ltb-true, lt-ltb}
 use Rattle.std.proofs.lemmas.Bool.Decides.{nat_tests}
-use Rattle.std.proofs.lemmas.List.Elements.{All-head, All-tail, All-contains, Contains-append_left, Contains-append_right, Contains-append_cases}
+use Rattle.std.proofs.lemmas.List.Elements.{All-head, Contains-append_left, Contains-append_right, Contains-append_cases}
 use Rattle.mp_tx.specs.Transaction.{Transaction}
 use Rattle.mp_tickets.specs.Tickets.{IsRisingFrom, IsRising, after}
 use Rattle.mp_rules.specs.Verifier.{Accepts}
 use Rattle.mp_resync.specs.Keep.{tickets}
 use Rattle.mp_seqpool.specs.Pool.{Pool}
 use Rattle.mp_seqpool.specs.PoolLaws.{IsLawful}
-use Rattle.mp_seqpool.proofs.Keeping.{IsOrderly, orderly-of}
+use Rattle.mp_seqpool.proofs.Keeping.{orderly-of}
 use Rattle.mp_peer.specs.Offers.{moved}
 
 -- ---- tickets that rise, by turns
@@ -112,13 +111,17 @@ one_more cursor low seen items offered rising begins before x c le = by (nat_lt 
   where
     rest : List (ℕ × Transaction)
     rest = begins.0
+
     all : IsRisingFrom cursor (offered ++ rest)
     all = subst (IsRisingFrom cursor) (sym begins.1) (rising-after low cursor items rising)
+
     beyond : Contains rest x → ⊥
     beyond d = let h = above_low (moved cursor offered) rest x (rising-right cursor offered rest all) d in omega arith
+
     either : Contains offered x ⊎ Contains rest x → Contains (seen ++ offered) x
     either (inl d) = Contains-append_right seen offered x d
     either (inr d) = absurd (beyond d)
+
     by : (b : Bool) → nat_lt cursor x.0 ≡ b → Contains (seen ++ offered) x
     by true e = either (Contains-append_cases offered rest x (subst (λ l. Contains l x) (sym begins.1) (contains-after cursor items x c (ltb-true cursor x.0 e))))
     by false e = Contains-append_left seen offered x (before x c (grind (arith, nat_tests)))

@@ -1,8 +1,6 @@
 -- Offers one after the other.
-use Rattle.std.proofs.Common.{◌≡◌, ℕ, ◌<◌, ◌≤◌, List, [], ◌∷◌, ◌++◌, sym, ap, subst, ◌∙◌, refl, arith, append_assoc, append-nil}
-use Rattle.std.specs.Prelude.{All, Contains}
-use mathlib.Core.List.{IsPrefix}
-use Rattle.std.specs.List.{filter}
+use Rattle.std.proofs.Common.{◌≡◌, ℕ, ◌<◌, ◌≤◌, List, [], ◌∷◌, ◌++◌, sym, subst, ◌∙◌, refl, arith, append_assoc, append-nil}
+use Rattle.std.specs.Prelude.{Contains}
 use Rattle.std.proofs.lemmas.List.Elements.{All-contains, All-filter, All-contains_itself, Contains-get_or, Contains-append_left}
 use Rattle.mp_tx.specs.Transaction.{Transaction}
 use Rattle.mp_rules.specs.Verifier.{Accepts}
@@ -10,9 +8,9 @@ use Rattle.mp_tickets.specs.Tickets.{IsRisingFrom, after}
 use Rattle.mp_seqpool.specs.Pool.{Pool}
 use Rattle.mp_seqpool.specs.PoolLaws.{IsLawful, Lasts}
 use Rattle.mp_seqpool.proofs.Keeping.{All-unmap}
-use Rattle.mp_history.specs.Log.{Log, Begins, IsLegalLog, state_after}
+use Rattle.mp_history.specs.Log.{Log, IsLegalLog, state_after}
 use Rattle.mp_versions.proofs.Histories.{lasts}
-use Rattle.mp_peer.specs.Offers.{Offer, Lead, first_front, moved, offer, offer_at, offered, cursor_after, IsEachOfferedOnce}
+use Rattle.mp_peer.specs.Offers.{Offer, Lead, first_front, moved, offer_at, offered, cursor_after, IsEachOfferedOnce}
 use Rattle.mp_peer.proofs.Beginnings.{begins_after, lawful-state}
 use Rattle.mp_peer.proofs.Fronts.{legal_front}
 use Rattle.mp_peer.proofs.Rising.{rising-lawful, rising-after, rising-left, rising-joined, increasing, moved-append, moved-bound, one_more}

@@ -24,11 +24,7 @@ fn push_first(
 }
 
 /// The run's first items, at most so many. They share their transactions.
-pub(crate) fn share_first(
-    memory: Memory,
-    run: RunWithin<'_>,
-    count: u64,
-) -> Result<Items, NoMemory>
+pub(crate) fn share_first(memory: Memory, run: RunWithin<'_>, count: u64) -> Result<Items, NoMemory>
     ensures { IfOk result (λ items. items ≡ take count run.entry) }
 {
     let mut items = Vec::new(memory);

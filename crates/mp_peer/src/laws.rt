@@ -27,5 +27,5 @@ pub fn offers()
 pub fn blocks()
     ensures { (accepts : Accepts) (callers bytes : ℕ) (log : Log) → IsLegalLog accepts callers log
         → IsValidBlock accepts (state_after accepts log)
-            (within bytes (state_after accepts log).items) }
+        (within bytes (state_after accepts log).items) }
 {}

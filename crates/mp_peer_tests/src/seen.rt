@@ -20,7 +20,9 @@ fn digits(samples: &Samples, items: &[Item]) -> (u64, u64) {
     let mut places = 0u64;
     for item in items {
         tickets = tickets.saturating_mul(10).saturating_add(item.ticket);
-        places = places.saturating_mul(10).saturating_add(place_of(samples, item));
+        places = places
+            .saturating_mul(10)
+            .saturating_add(place_of(samples, item));
     }
     (tickets, places)
 }

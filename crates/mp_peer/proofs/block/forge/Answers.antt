@@ -1,5 +1,4 @@
-use Rattle.std.proofs.Common.{◌≡◌, ◌≤◌, ◌<◌, ◌^◌, ap, sym, ◌∙◌, arith, List, ℕ}
-use Rattle.mp_tx.specs.Transaction.{Transaction}
+use Rattle.std.proofs.Common.{◌≡◌, ◌≤◌, ap, ◌∙◌, arith}
 use Rattle.mp_resync.specs.Keep.{bytes_of}
 use Rattle.mp_history.specs.Log.{state_after}
 use Rattle.mp_versions.specs.Item.{items_of}
