@@ -4,8 +4,7 @@ use Rattle.std.specs.Prelude.{nat_lt, All, AllPairs, Contains, ◌⊎◌}
 use Rattle.std.specs.List.Sorted.{IsStrictlyIncreasing}
 use mathlib.Core.List.{IsPrefix}
 use Rattle.std.proofs.lemmas.Bool.{ltb-true, lt-ltb}
-use Rattle.std.proofs.lemmas.Bool.Decides.{nat_tests}
-use Rattle.std.proofs.lemmas.List.Elements.{All-head, Contains-append_left, Contains-append_right, Contains-append_cases}
+use Rattle.std.proofs.lemmas.List.Elements.{All-head, Contains-append_right, Contains-append_cases}
 use Rattle.mp_tx.specs.Transaction.{Transaction}
 use Rattle.mp_tickets.specs.Tickets.{IsRisingFrom, IsRising, after}
 use Rattle.mp_rules.specs.Verifier.{Accepts}
@@ -103,11 +102,11 @@ moved-bound P cursor (i ∷ is) p all = moved-bound P i.0 is (all i (zero, omega
 
 -- ---- one offer
 
--- what stands up to the cursor was offered: where it holds before an offer it does afterwards
-pub one_more : (cursor low : ℕ) (seen items offered : List (ℕ × Transaction)) → IsRisingFrom low items → IsPrefix offered (after items cursor)
-    → ((x : ℕ × Transaction) → Contains items x → x.0 ≤ cursor → Contains seen x)
-    → (x : ℕ × Transaction) → Contains items x → x.0 ≤ moved cursor offered → Contains (seen ++ offered) x
-one_more cursor low seen items offered rising begins before x c le = by (nat_lt cursor x.0) refl
+-- what stands after the cursor, and not after where it moves, was offered
+pub in_offer : (cursor low : ℕ) (items offered : List (ℕ × Transaction)) → IsRisingFrom low items → IsPrefix offered (after items cursor)
+    → (x : ℕ × Transaction) → Contains items x → cursor < x.0 → x.0 ≤ moved cursor offered → Contains offered x
+in_offer cursor low items offered rising begins x c above le =
+    either (Contains-append_cases offered rest x (subst (λ l. Contains l x) (sym begins.1) (contains-after cursor items x c above)))
   where
     rest : List (ℕ × Transaction)
     rest = begins.0
@@ -118,10 +117,6 @@ one_more cursor low seen items offered rising begins before x c le = by (nat_lt 
     beyond : Contains rest x → ⊥
     beyond d = let h = above_low (moved cursor offered) rest x (rising-right cursor offered rest all) d in omega arith
 
-    either : Contains offered x ⊎ Contains rest x → Contains (seen ++ offered) x
-    either (inl d) = Contains-append_right seen offered x d
+    either : Contains offered x ⊎ Contains rest x → Contains offered x
+    either (inl d) = d
     either (inr d) = absurd (beyond d)
-
-    by : (b : Bool) → nat_lt cursor x.0 ≡ b → Contains (seen ++ offered) x
-    by true e = either (Contains-append_cases offered rest x (subst (λ l. Contains l x) (sym begins.1) (contains-after cursor items x c (ltb-true cursor x.0 e))))
-    by false e = Contains-append_left seen offered x (before x c (grind (arith, nat_tests)))

@@ -1,91 +1,107 @@
 -- Offers one after the other.
-use Rattle.std.proofs.Common.{◌≡◌, ℕ, ◌<◌, ◌≤◌, List, [], ◌∷◌, ◌++◌, sym, subst, ◌∙◌, refl, arith, append_assoc, append-nil}
-use Rattle.std.specs.Prelude.{Contains}
-use Rattle.std.proofs.lemmas.List.Elements.{All-contains, All-filter, All-contains_itself, Contains-get_or, Contains-append_left}
+use Rattle.std.proofs.Common.{◌≡◌, ℕ, ◌<◌, ◌≤◌, max, Bool, true, false, List, [], ◌∷◌, ◌++◌, sym, subst, ◌∙◌, refl, arith, append_assoc, append-nil}
+use Rattle.std.specs.Prelude.{All, Contains, nat_lt}
+use Rattle.std.proofs.lemmas.Bool.{ltb-true}
+use Rattle.std.proofs.lemmas.Bool.Decides.{nat_tests}
+use Rattle.std.proofs.lemmas.List.Elements.{All-head, All-tail, All-contains, All-filter, All-contains_itself, Contains-get_or, Contains-append_left, Contains-append_right}
 use Rattle.mp_tx.specs.Transaction.{Transaction}
 use Rattle.mp_rules.specs.Verifier.{Accepts}
 use Rattle.mp_tickets.specs.Tickets.{IsRisingFrom, after}
 use Rattle.mp_seqpool.specs.Pool.{Pool}
-use Rattle.mp_seqpool.specs.PoolLaws.{IsLawful, Lasts}
+use Rattle.mp_seqpool.specs.PoolLaws.{IsLawful}
 use Rattle.mp_seqpool.proofs.Keeping.{All-unmap}
-use Rattle.mp_history.specs.Log.{Log, IsLegalLog, state_after}
+use Rattle.mp_history.specs.Log.{Log, Begins, IsLegalLog, state_after}
 use Rattle.mp_versions.proofs.Histories.{lasts}
-use Rattle.mp_peer.specs.Offers.{Offer, Lead, first_front, moved, offer_at, offered, cursor_after, IsEachOfferedOnce}
+use Rattle.mp_peer.specs.Offers.{Offer, moved, offer_at, offered, cursor_after, IsEachOfferedOnce}
 use Rattle.mp_peer.proofs.Beginnings.{begins_after, lawful-state}
-use Rattle.mp_peer.proofs.Fronts.{legal_front}
-use Rattle.mp_peer.proofs.Rising.{rising-lawful, rising-after, rising-left, rising-joined, increasing, moved-append, moved-bound, one_more}
+use Rattle.mp_peer.proofs.Fronts.{legal-beginning}
+use Rattle.mp_peer.proofs.Rising.{rising-lawful, rising-after, rising-left, rising-joined, increasing, moved-append, moved-bound, in_offer}
 
-module _ (accepts : Accepts) (callers : ℕ) where
-  -- what is offered stands in the pool then
-  there : (cursor : ℕ) (o : Offer) (x : ℕ × Transaction) → Contains (offer_at accepts cursor o) x → Contains (state_after accepts o.front).items x
-  there cursor o x c =
+-- the cursor is the ticket offered last
+last_one : (accepts : Accepts) (cursor : ℕ) (offers : List Offer) → cursor_after accepts cursor offers ≡ moved cursor (offered accepts cursor offers)
+last_one accepts cursor [] = refl
+last_one accepts cursor (o ∷ os) =
+    let g : List (ℕ × Transaction) = offer_at accepts cursor o in
+    last_one accepts (moved cursor g) os ∙ sym (moved-append cursor g (offered accepts (moved cursor g) os))
+
+-- what stands up to the cursor was offered
+abbrev IsWhole : List (ℕ × Transaction) → ℕ → Pool → Type 0
+IsWhole seen cursor p = (x : ℕ × Transaction) → Contains p.items x → x.0 ≤ cursor → Contains seen x
+
+-- nothing stands at 0
+none : (accepts : Accepts) (p : Pool) → IsLawful accepts p → IsWhole [] 0 p
+none accepts p law x c le = let above : 0 < x.0 = All-contains (λ i. 0 < i.0) p.items x (All-unmap (λ i. i.0) (λ k. 0 < k) p.items law.above_zero) c in absurd (omega arith)
+
+given : (accepts : Accepts) (p : Pool) → IsLawful accepts p → (x : ℕ × Transaction) → Contains p.items x → x.0 ≤ p.last
+given accepts p law x c = All-contains (λ i. i.0 ≤ p.last) p.items x (All-unmap (λ i. i.0) (λ k. k ≤ p.last) p.items law.given) c
+
+-- what is offered stands in the pool then
+there : (accepts : Accepts) (cursor : ℕ) (o : Offer) (x : ℕ × Transaction) → Contains (offer_at accepts cursor o) x → Contains (state_after accepts o.front).items x
+there accepts cursor o x c =
+    let items : List (ℕ × Transaction) = (state_after accepts o.front).items in
+    let begins = begins_after cursor o.count o.bytes items in
+    All-contains (Contains items) (after items cursor) x (All-filter _ (Contains items) items (All-contains_itself items))
+    (subst (λ l. Contains l x) begins.1 (Contains-append_left (offer_at accepts cursor o) begins.0 x c))
+
+module _ (accepts : Accepts) (callers : ℕ) (log : Log) (legal : IsLegalLog accepts callers log) where
+  lawful_at : (o : Offer) → Begins o.front log → IsLawful accepts (state_after accepts o.front)
+  lawful_at o begins = lawful-state accepts callers o.front (legal-beginning accepts callers o.front log begins legal)
+
+  rises : (cursor : ℕ) (o : Offer) → Begins o.front log → IsRisingFrom cursor (offer_at accepts cursor o)
+  rises cursor o begins =
       let items : List (ℕ × Transaction) = (state_after accepts o.front).items in
-      let begins = begins_after cursor o.count o.bytes items in
-      All-contains (Contains items) (after items cursor) x (All-filter _ (Contains items) items (All-contains_itself items))
-      (subst (λ l. Contains l x) begins.1 (Contains-append_left (offer_at accepts cursor o) begins.0 x c))
+      let first = begins_after cursor o.count o.bytes items in
+      rising-left cursor (offer_at accepts cursor o) first.0 (subst (IsRisingFrom cursor) (sym first.1) (rising-after 0 cursor items (rising-lawful accepts (state_after accepts o.front) (lawful_at o begins))))
 
-  rises : (cursor : ℕ) (o : Offer) → IsLegalLog accepts callers o.front → IsRisingFrom cursor (offer_at accepts cursor o)
-  rises cursor o legal =
-      let items : List (ℕ × Transaction) = (state_after accepts o.front).items in
-      let begins = begins_after cursor o.count o.bytes items in
-      rising-left cursor (offer_at accepts cursor o) begins.0 (subst (IsRisingFrom cursor) (sym begins.1) (rising-after 0 cursor items (rising-lawful accepts (state_after accepts o.front) (lawful-state accepts callers o.front legal))))
-
-  all_rise : (cursor : ℕ) (offers : List Offer) (log : Log) → Lead offers log → IsLegalLog accepts callers log → IsRisingFrom cursor (offered accepts cursor offers)
-  all_rise cursor [] log lead legal = tt
-  all_rise cursor (o ∷ os) log lead legal =
+  all_rise : (cursor : ℕ) (offers : List Offer) → All (λ o. Begins o.front log) offers → IsRisingFrom cursor (offered accepts cursor offers)
+  all_rise cursor [] are = tt
+  all_rise cursor (o ∷ os) are =
       let g : List (ℕ × Transaction) = offer_at accepts cursor o in
-      rising-joined cursor g (offered accepts (moved cursor g) os) (rises cursor o (legal_front accepts callers (o ∷ os) log lead legal)) (all_rise (moved cursor g) os log lead.1 legal)
+      rising-joined cursor g (offered accepts (moved cursor g) os) (rises cursor o (All-head (λ f. Begins f.front log) o os are)) (all_rise (moved cursor g) os (All-tail (λ f. Begins f.front log) o os are))
 
-  last_one : (cursor : ℕ) (offers : List Offer) → cursor_after accepts cursor offers ≡ moved cursor (offered accepts cursor offers)
-  last_one cursor [] = refl
-  last_one cursor (o ∷ os) =
-      let g : List (ℕ × Transaction) = offer_at accepts cursor o in
-      last_one (moved cursor g) os ∙ sym (moved-append cursor g (offered accepts (moved cursor g) os))
-
-  -- no ticket after the last one is told by the cursor
-  in_range : (cursor : ℕ) (o : Offer) → IsLegalLog accepts callers o.front → cursor ≤ (state_after accepts o.front).last → moved cursor (offer_at accepts cursor o) ≤ (state_after accepts o.front).last
-  in_range cursor o legal le =
-      let p : Pool = state_after accepts o.front in
-      moved-bound (λ k. k ≤ p.last) cursor (offer_at accepts cursor o) le (λ x c. given p (lawful-state accepts callers o.front legal) x (there cursor o x c))
+  -- it still holds after one offer more
+  one_more : (seen : List (ℕ × Transaction)) (cursor : ℕ) (o : Offer) → Begins o.front log → IsWhole seen cursor (state_after accepts log)
+      → IsWhole (seen ++ offer_at accepts cursor o) (moved cursor (offer_at accepts cursor o)) (state_after accepts log)
+  one_more seen cursor o begins before x c le = by (nat_lt cursor x.0) refl
     where
-      given : (p : Pool) → IsLawful accepts p → (x : ℕ × Transaction) → Contains p.items x → x.0 ≤ p.last
-      given p law x c = All-contains (λ i. i.0 ≤ p.last) p.items x (All-unmap (λ i. i.0) (λ k. k ≤ p.last) p.items law.given) c
+      p : Pool
+      p = state_after accepts o.front
 
-  -- what stands up to the cursor was offered
-  abbrev IsWhole : List (ℕ × Transaction) → ℕ → Pool → Type 0
-  IsWhole seen cursor p = (x : ℕ × Transaction) → Contains p.items x → x.0 ≤ cursor → Contains seen x
+      g : List (ℕ × Transaction)
+      g = offer_at accepts cursor o
 
-  later : (seen : List (ℕ × Transaction)) (cursor : ℕ) (p q : Pool) → Lasts p q → cursor ≤ p.last → IsWhole seen cursor p → IsWhole seen cursor q
-  later seen cursor p q lasts le whole x c below = whole x (All-contains (λ i. i.0 ≤ p.last → Contains p.items i) q.items x lasts.kept c (omega arith)) below
+      law : IsLawful accepts p
+      law = lawful_at o begins
 
-  whole : (seen : List (ℕ × Transaction)) (cursor : ℕ) (offers : List Offer) (log : Log) → Lead offers log → IsLegalLog accepts callers log
-      → cursor ≤ (state_after accepts (first_front offers log)).last → IsWhole seen cursor (state_after accepts (first_front offers log))
+      -- the cursor moves to no ticket that isn't given yet
+      bound : moved cursor g ≤ max cursor p.last
+      bound = moved-bound (λ k. k ≤ max cursor p.last) cursor g (omega arith) (λ y d. let h = given accepts p law y (there accepts cursor o y d) in omega arith)
+
+      then : cursor < x.0 → Contains p.items x
+      then above = All-contains (λ i. i.0 ≤ p.last → Contains p.items i) (state_after accepts log).items x (lasts accepts callers o.front log legal begins).kept c (let b = bound in omega arith)
+
+      by : (b : Bool) → nat_lt cursor x.0 ≡ b → Contains (seen ++ g) x
+      by true e =
+          let above : cursor < x.0 = ltb-true cursor x.0 e in
+          Contains-append_right seen g x (in_offer cursor 0 p.items g (rising-lawful accepts p law) (begins_after cursor o.count o.bytes p.items) x (then above) above le)
+      by false e = Contains-append_left seen g x (before x c (grind (arith, nat_tests)))
+
+  whole : (seen : List (ℕ × Transaction)) (cursor : ℕ) (offers : List Offer) → All (λ o. Begins o.front log) offers → IsWhole seen cursor (state_after accepts log)
       → IsWhole (seen ++ offered accepts cursor offers) (cursor_after accepts cursor offers) (state_after accepts log)
-  whole seen cursor [] log lead legal le is = subst (λ l. IsWhole l cursor (state_after accepts log)) (sym (append-nil seen)) is
-  whole seen cursor (o ∷ os) log lead legal le is =
-      let p : Pool = state_after accepts o.front in
-      let q : Pool = state_after accepts (first_front os log) in
+  whole seen cursor [] are is = subst (λ l. IsWhole l cursor (state_after accepts log)) (sym (append-nil seen)) is
+  whole seen cursor (o ∷ os) are is =
       let g : List (ℕ × Transaction) = offer_at accepts cursor o in
-      let here = legal_front accepts callers (o ∷ os) log lead legal in
-      let step = lasts accepts callers o.front (first_front os log) (legal_front accepts callers os log lead.1 legal) lead.0 in
-      let near : moved cursor g ≤ p.last = in_range cursor o here le in
-      let far : p.last ≤ q.last = step.last in
-      let more : IsWhole (seen ++ g) (moved cursor g) p =
-      one_more cursor 0 seen p.items g (rising-lawful accepts p (lawful-state accepts callers o.front here)) (begins_after cursor o.count o.bytes p.items) is in
       subst (λ l. IsWhole l (cursor_after accepts (moved cursor g) os) (state_after accepts log)) (append_assoc seen g (offered accepts (moved cursor g) os))
-      (whole (seen ++ g) (moved cursor g) os log lead.1 legal (omega arith) (later (seen ++ g) (moved cursor g) p q step near more))
+      (whole (seen ++ g) (moved cursor g) os (All-tail (λ f. Begins f.front log) o os are) (one_more seen cursor o (All-head (λ f. Begins f.front log) o os are) is))
 
-  -- nothing stands at 0
-  none : (p : Pool) → IsLawful accepts p → IsWhole [] 0 p
-  none p law x c le = let above : 0 < x.0 = All-contains (λ i. 0 < i.0) p.items x (All-unmap (λ i. i.0) (λ k. 0 < k) p.items law.above_zero) c in absurd (omega arith)
-
-  pub each_once : (offers : List Offer) (log : Log) → IsLegalLog accepts callers log → Lead offers log → IsEachOfferedOnce accepts offers log
-  each_once offers log legal lead =
-      let first : Log = first_front offers log in
-      let law = lawful-state accepts callers first (legal_front accepts callers offers log lead legal) in
-      let all = whole [] 0 offers log lead legal (omega arith) (none (state_after accepts first) law) in
+  each_once : (offers : List Offer) → All (λ o. Begins o.front log) offers → IsEachOfferedOnce accepts offers log
+  each_once offers are =
+      let all = whole [] 0 offers are (none accepts (state_after accepts log) (lawful-state accepts callers log legal)) in
       record {
-        rising = increasing 0 (offered accepts 0 offers) (all_rise 0 offers log lead legal);
-        last = last_one 0 offers;
+        rising = increasing 0 (offered accepts 0 offers) (all_rise 0 offers are);
+        last = last_one accepts 0 offers;
         whole = λ k d lt. all _ (Contains-get_or (state_after accepts log).items k d lt);
       }
+
+pub offered_once : (accepts : Accepts) (callers : ℕ) (offers : List Offer) (log : Log) → IsLegalLog accepts callers log → All (λ o. Begins o.front log) offers → IsEachOfferedOnce accepts offers log
+offered_once accepts callers offers log legal are = each_once accepts callers log legal offers are

@@ -34,15 +34,9 @@ pub record Offer : Type 0 where
   -- and at most so many bytes
   pub bytes : ℕ
 
--- the history of the first offer, or this one where there is no offer
-abbrev pub first_front : List Offer → Log → Log
-first_front [] log = log
-first_front (o ∷ os) log = o.front
-
--- The history of each offer begins that of the next, and that of the last offer begins this one.
-abbrev pub Lead : List Offer → Log → Type 0
-Lead [] log = Unit {0}
-Lead (o ∷ os) log = Begins o.front (first_front os log) × Lead os log
+-- Each is made on a snapshot of the pool with this history, or of what it had before.
+abbrev pub AreOffersOf : Log → List Offer → Type 0
+AreOffersOf log offers = All (λ o. Begins o.front log) offers
 
 -- The verifier decides which signatures are good.
 module _ (accepts : Accepts) where
@@ -60,11 +54,11 @@ module _ (accepts : Accepts) where
   cursor_after cursor [] = cursor
   cursor_after cursor (o ∷ os) = cursor_after (moved cursor (offer_at cursor o)) os
 
-  -- What a reader that begins at 0 has offered, where its offers lead to this history.
+  -- What a reader that begins at 0 has offered of the pool with this history.
   pub record IsEachOfferedOnce (offers : List Offer) (log : Log) : Type 0 where
     -- tickets rise from the first offer to the last, so nothing is offered again
     pub rising : IsStrictlyIncreasing (tickets (offered 0 offers))
     -- the cursor is the last of them
     pub last : cursor_after 0 offers ≡ moved 0 (offered 0 offers)
-    -- what stands in the pool up to the cursor was offered
+    -- what stands in the pool with a ticket up to the cursor was offered
     pub whole : All (λ i. i.0 ≤ cursor_after 0 offers → Contains (offered 0 offers) i) (state_after accepts log).items

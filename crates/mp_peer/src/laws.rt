@@ -6,7 +6,7 @@ ghost use Rattle.mp_rules.specs.Verifier.{Accepts};
 ghost use Rattle.mp_tickets.specs.Tickets.{after};
 ghost use Rattle.mp_history.specs.Log.{Log, IsLegalLog, state_after};
 ghost use Rattle.mp_versions.specs.Reading.{within};
-ghost use Rattle.mp_peer.specs.Offers.{Offer, IsLongestOffer, Lead, IsEachOfferedOnce, offer};
+ghost use Rattle.mp_peer.specs.Offers.{Offer, IsLongestOffer, AreOffersOf, IsEachOfferedOnce, offer};
 ghost use Rattle.mp_peer.specs.Blocks.{IsValidBlock};
 
 /// An offer is the longest beginning of what comes after the cursor that has no more items and no more bytes.
@@ -15,11 +15,11 @@ pub fn longest_offer()
         → IsLongestOffer count bytes (after items cursor) (offer cursor count bytes items) }
 {}
 
-/// Of one pool a reader that begins at 0 offers each transaction at most once, in the order of the tickets, and leaves none
-/// out that is still there.
+/// A reader that reads one pool offers no ticket twice: whichever of its snapshots are read, the tickets rise from offer to
+/// offer. And it leaves nothing out: what the pool holds under a ticket up to the cursor was offered, now and later on.
 pub fn offers()
     ensures { (accepts : Accepts) (callers : ℕ) (offers : List Offer) (log : Log)
-        → IsLegalLog accepts callers log → Lead offers log
+        → IsLegalLog accepts callers log → AreOffersOf log offers
         → IsEachOfferedOnce accepts offers log }
 {}
 

@@ -9,8 +9,9 @@ use mp_memory::{Memory, NoMemory};
 use mp_versions::{Items, Snapshot};
 use std::marker::Model;
 
-/// Reads a pool for one peer, by its snapshots: each transaction is offered once, in the order of the tickets. It keeps a cursor,
-/// the ticket that was offered last. Contracts see it as that number.
+/// Reads a pool for one peer: each offer has what comes after the last one, so that no transaction is offered twice under one
+/// ticket and none is left out that is still there (`offers`). It keeps a cursor, the ticket that was offered last. Any snapshots
+/// of one pool may be read, and with a reader of its own each peer goes at its own pace. Contracts see the cursor.
 #[derive(Drop)]
 pub struct PeerReader {
     cursor: u64,
