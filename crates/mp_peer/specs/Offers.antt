@@ -23,7 +23,8 @@ pub record IsLongestOffer (count bytes : ℕ) (items offered : List (ℕ × Tran
   pub begins : IsPrefix offered items
   pub few : length offered ≤ count
   pub fits : bytes_of offered ≤ bytes
-  pub longest : (other : List (ℕ × Transaction)) → IsPrefix other items → length other ≤ count → bytes_of other ≤ bytes → length other ≤ length offered
+  pub longest : (other : List (ℕ × Transaction)) → IsPrefix other items → length other ≤ count → bytes_of other ≤ bytes →
+      length other ≤ length offered
 
 -- One of the offers that a reader makes.
 pub record Offer : Type 0 where

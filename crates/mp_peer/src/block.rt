@@ -1,5 +1,5 @@
 //! Blocks of a pool's transactions.
-ghost use Rattle.std.specs.Prelude.{◌≡◌, ◌<◌, ◌^◌, length, IfOk};
+ghost use Rattle.std.specs.Prelude.{◌≡◌, ◌≢◌, ◌<◌, ◌^◌, [], length, IfOk, OnErr};
 ghost use Rattle.mp_resync.specs.Keep.{bytes_of};
 ghost use Rattle.mp_history.specs.Log.{state_after};
 ghost use Rattle.mp_versions.specs.Item.{items_of};
@@ -37,7 +37,7 @@ fn sum_sizes(items: &[Item]) -> u64
 /// after the other upon the adopted ledger state.
 ///
 /// # Errors
-/// `NoMemory`.
+/// `NoMemory`, but not where no transaction is taken.
 pub fn forge<N: PoolName>(
     memory: Memory,
     snapshot: &Snapshot<'_, N>,
@@ -47,6 +47,8 @@ pub fn forge<N: PoolName>(
         ≡ within bytes (state_after N.accepts snapshot.now).items) }
     ensures bytes { IfOk result (λ block. block.bytes ≡ bytes_of block.items) }
     ensures number { IfOk result (λ block. block.number ≡ length snapshot.now.entries) }
+    ensures wanting { OnErr result
+        (within bytes (state_after N.accepts snapshot.now).items ≢ []) }
 {
     let (count, _) = snapshot.size();
     let number = snapshot.number();

@@ -1,5 +1,5 @@
 //! What a peer is offered of a pool.
-ghost use Rattle.std.specs.Prelude.{◌≡◌, IfOk, OnErr};
+ghost use Rattle.std.specs.Prelude.{◌≡◌, ◌≢◌, [], IfOk, OnErr};
 ghost use Rattle.mp_history.specs.Log.{state_after};
 ghost use Rattle.mp_peer.specs.Offers.{moved, offer};
 
@@ -54,7 +54,7 @@ impl PeerReader {
     /// together. The cursor moves to the last ticket that is offered, and stays where nothing is.
     ///
     /// # Errors
-    /// `NoMemory`, and the cursor stays.
+    /// `NoMemory`, and the cursor stays. It isn't told where nothing is to be offered.
     pub fn offer<N: PoolName>(
         &mut self,
         memory: Memory,
@@ -66,6 +66,8 @@ impl PeerReader {
             ≡ offer self.old count bytes (state_after N.accepts snapshot.now).items) }
         ensures cursor { IfOk result (λ items. self.new ≡ moved self.old items) }
         ensures stays { OnErr result (self.new ≡ self.old) }
+        ensures wanting { OnErr result
+            (offer self.old count bytes (state_after N.accepts snapshot.now).items ≢ []) }
     {
         let run = snapshot.after(self.cursor).within(bytes);
         let items = share_first(memory, run, count)?;

