@@ -1,0 +1,5 @@
+pub mod Beginnings
+pub mod Fronts
+pub mod Rising
+pub mod Rounds
+pub mod Sharing

@@ -1,0 +1,107 @@
+-- Offers one after the other.
+use Rattle.std.proofs.Common.{◌≡◌, ℕ, ◌<◌, ◌≤◌, max, Bool, true, false, List, [], ◌∷◌, ◌++◌, sym, subst, ◌∙◌, refl, arith, append_assoc, append-nil}
+use Rattle.std.specs.Prelude.{All, Contains, nat_lt}
+use Rattle.std.proofs.lemmas.Bool.{ltb-true}
+use Rattle.std.proofs.lemmas.Bool.Decides.{nat_tests}
+use Rattle.std.proofs.lemmas.List.Elements.{All-head, All-tail, All-contains, All-filter, All-contains_itself, Contains-get_or, Contains-append_left, Contains-append_right}
+use Rattle.mp_tx.specs.Transaction.{Transaction}
+use Rattle.mp_rules.specs.Verifier.{Accepts}
+use Rattle.mp_tickets.specs.Tickets.{IsRisingFrom, after}
+use Rattle.mp_seqpool.specs.Pool.{Pool}
+use Rattle.mp_seqpool.specs.PoolLaws.{IsLawful}
+use Rattle.mp_seqpool.proofs.Keeping.{All-unmap}
+use Rattle.mp_history.specs.Log.{Log, Begins, IsLegalLog, state_after}
+use Rattle.mp_versions.proofs.Histories.{lasts}
+use Rattle.mp_peer.specs.Offers.{Offer, moved, offer_at, offered, cursor_after, IsEachOfferedOnce}
+use Rattle.mp_peer.proofs.Beginnings.{begins_after, lawful-state}
+use Rattle.mp_peer.proofs.Fronts.{legal-beginning}
+use Rattle.mp_peer.proofs.Rising.{rising-lawful, rising-after, rising-left, rising-joined, increasing, moved-append, moved-bound, in_offer}
+
+-- the cursor is the ticket offered last
+last_one : (accepts : Accepts) (cursor : ℕ) (offers : List Offer) → cursor_after accepts cursor offers ≡ moved cursor (offered accepts cursor offers)
+last_one accepts cursor [] = refl
+last_one accepts cursor (o ∷ os) =
+    let g : List (ℕ × Transaction) = offer_at accepts cursor o in
+    last_one accepts (moved cursor g) os ∙ sym (moved-append cursor g (offered accepts (moved cursor g) os))
+
+-- what stands up to the cursor was offered
+abbrev IsWhole : List (ℕ × Transaction) → ℕ → Pool → Type 0
+IsWhole seen cursor p = (x : ℕ × Transaction) → Contains p.items x → x.0 ≤ cursor → Contains seen x
+
+-- nothing stands at 0
+none : (accepts : Accepts) (p : Pool) → IsLawful accepts p → IsWhole [] 0 p
+none accepts p law x c le = let above : 0 < x.0 = All-contains (λ i. 0 < i.0) p.items x (All-unmap (λ i. i.0) (λ k. 0 < k) p.items law.above_zero) c in absurd (omega arith)
+
+given : (accepts : Accepts) (p : Pool) → IsLawful accepts p → (x : ℕ × Transaction) → Contains p.items x → x.0 ≤ p.last
+given accepts p law x c = All-contains (λ i. i.0 ≤ p.last) p.items x (All-unmap (λ i. i.0) (λ k. k ≤ p.last) p.items law.given) c
+
+-- what is offered stands in the pool then
+there : (accepts : Accepts) (cursor : ℕ) (o : Offer) (x : ℕ × Transaction) → Contains (offer_at accepts cursor o) x → Contains (state_after accepts o.front).items x
+there accepts cursor o x c =
+    let items : List (ℕ × Transaction) = (state_after accepts o.front).items in
+    let begins = begins_after cursor o.count o.bytes items in
+    All-contains (Contains items) (after items cursor) x (All-filter _ (Contains items) items (All-contains_itself items))
+    (subst (λ l. Contains l x) begins.1 (Contains-append_left (offer_at accepts cursor o) begins.0 x c))
+
+module _ (accepts : Accepts) (callers : ℕ) (log : Log) (legal : IsLegalLog accepts callers log) where
+  lawful_at : (o : Offer) → Begins o.front log → IsLawful accepts (state_after accepts o.front)
+  lawful_at o begins = lawful-state accepts callers o.front (legal-beginning accepts callers o.front log begins legal)
+
+  rises : (cursor : ℕ) (o : Offer) → Begins o.front log → IsRisingFrom cursor (offer_at accepts cursor o)
+  rises cursor o begins =
+      let items : List (ℕ × Transaction) = (state_after accepts o.front).items in
+      let first = begins_after cursor o.count o.bytes items in
+      rising-left cursor (offer_at accepts cursor o) first.0 (subst (IsRisingFrom cursor) (sym first.1) (rising-after 0 cursor items (rising-lawful accepts (state_after accepts o.front) (lawful_at o begins))))
+
+  all_rise : (cursor : ℕ) (offers : List Offer) → All (λ o. Begins o.front log) offers → IsRisingFrom cursor (offered accepts cursor offers)
+  all_rise cursor [] are = tt
+  all_rise cursor (o ∷ os) are =
+      let g : List (ℕ × Transaction) = offer_at accepts cursor o in
+      rising-joined cursor g (offered accepts (moved cursor g) os) (rises cursor o (All-head (λ f. Begins f.front log) o os are)) (all_rise (moved cursor g) os (All-tail (λ f. Begins f.front log) o os are))
+
+  -- it still holds after one offer more
+  one_more : (seen : List (ℕ × Transaction)) (cursor : ℕ) (o : Offer) → Begins o.front log → IsWhole seen cursor (state_after accepts log)
+      → IsWhole (seen ++ offer_at accepts cursor o) (moved cursor (offer_at accepts cursor o)) (state_after accepts log)
+  one_more seen cursor o begins before x c le = by (nat_lt cursor x.0) refl
+    where
+      p : Pool
+      p = state_after accepts o.front
+
+      g : List (ℕ × Transaction)
+      g = offer_at accepts cursor o
+
+      law : IsLawful accepts p
+      law = lawful_at o begins
+
+      -- the cursor moves to no ticket that isn't given yet
+      bound : moved cursor g ≤ max cursor p.last
+      bound = moved-bound (λ k. k ≤ max cursor p.last) cursor g (omega arith) (λ y d. let h = given accepts p law y (there accepts cursor o y d) in omega arith)
+
+      then : cursor < x.0 → Contains p.items x
+      then above = All-contains (λ i. i.0 ≤ p.last → Contains p.items i) (state_after accepts log).items x (lasts accepts callers o.front log legal begins).kept c (let b = bound in omega arith)
+
+      by : (b : Bool) → nat_lt cursor x.0 ≡ b → Contains (seen ++ g) x
+      by true e =
+          let above : cursor < x.0 = ltb-true cursor x.0 e in
+          Contains-append_right seen g x (in_offer cursor 0 p.items g (rising-lawful accepts p law) (begins_after cursor o.count o.bytes p.items) x (then above) above le)
+      by false e = Contains-append_left seen g x (before x c (grind (arith, nat_tests)))
+
+  whole : (seen : List (ℕ × Transaction)) (cursor : ℕ) (offers : List Offer) → All (λ o. Begins o.front log) offers → IsWhole seen cursor (state_after accepts log)
+      → IsWhole (seen ++ offered accepts cursor offers) (cursor_after accepts cursor offers) (state_after accepts log)
+  whole seen cursor [] are is = subst (λ l. IsWhole l cursor (state_after accepts log)) (sym (append-nil seen)) is
+  whole seen cursor (o ∷ os) are is =
+      let g : List (ℕ × Transaction) = offer_at accepts cursor o in
+      subst (λ l. IsWhole l (cursor_after accepts (moved cursor g) os) (state_after accepts log)) (append_assoc seen g (offered accepts (moved cursor g) os))
+      (whole (seen ++ g) (moved cursor g) os (All-tail (λ f. Begins f.front log) o os are) (one_more seen cursor o (All-head (λ f. Begins f.front log) o os are) is))
+
+  each_once : (offers : List Offer) → All (λ o. Begins o.front log) offers → IsEachOfferedOnce accepts offers log
+  each_once offers are =
+      let all = whole [] 0 offers are (none accepts (state_after accepts log) (lawful-state accepts callers log legal)) in
+      record {
+        rising = increasing 0 (offered accepts 0 offers) (all_rise 0 offers are);
+        last = last_one accepts 0 offers;
+        whole = λ k d lt. all _ (Contains-get_or (state_after accepts log).items k d lt);
+      }
+
+pub offered_once : (accepts : Accepts) (callers : ℕ) (offers : List Offer) (log : Log) → IsLegalLog accepts callers log → All (λ o. Begins o.front log) offers → IsEachOfferedOnce accepts offers log
+offered_once accepts callers offers log legal are = each_once accepts callers log legal offers are

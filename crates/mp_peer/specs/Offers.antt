@@ -1,0 +1,65 @@
+-- What a peer is offered of a pool.
+use Rattle.std.specs.Prelude.{◌≡◌, ℕ, ◌≤◌, List, [], ◌∷◌, ◌++◌, length, take, All, Contains}
+use Rattle.std.specs.List.Sorted.{IsStrictlyIncreasing}
+use mathlib.Core.List.{IsPrefix}
+use Rattle.mp_tx.specs.Transaction.{Transaction}
+use Rattle.mp_rules.specs.Verifier.{Accepts}
+use Rattle.mp_tickets.specs.Tickets.{after}
+use Rattle.mp_resync.specs.Keep.{tickets, bytes_of}
+use Rattle.mp_history.specs.Log.{Log, Begins, state_after}
+use Rattle.mp_versions.specs.Reading.{within}
+
+-- of what comes after the cursor the first items, at most so many, as long as they fit into so many bytes together
+abbrev pub offer : ℕ → ℕ → ℕ → List (ℕ × Transaction) → List (ℕ × Transaction)
+offer cursor count bytes items = take count (within bytes (after items cursor))
+
+-- where the cursor stands after these items: at the last ticket, or where it was
+abbrev pub moved : ℕ → List (ℕ × Transaction) → ℕ
+moved cursor [] = cursor
+moved cursor (i ∷ is) = moved i.0 is
+
+-- the longest beginning of at most so many items, whose sizes sum to at most so many bytes
+pub record IsLongestOffer (count bytes : ℕ) (items offered : List (ℕ × Transaction)) : Type 0 where
+  pub begins : IsPrefix offered items
+  pub few : length offered ≤ count
+  pub fits : bytes_of offered ≤ bytes
+  pub longest : (other : List (ℕ × Transaction)) → IsPrefix other items → length other ≤ count → bytes_of other ≤ bytes →
+      length other ≤ length offered
+
+-- One of the offers that a reader makes.
+pub record Offer : Type 0 where
+  -- the history that its snapshot stands after
+  pub front : Log
+  -- at most so many items
+  pub count : ℕ
+  -- and at most so many bytes
+  pub bytes : ℕ
+
+-- Each is made on a snapshot of the pool with this history, or of what it had before.
+abbrev pub AreOffersOf : Log → List Offer → Type 0
+AreOffersOf log offers = All (λ o. Begins o.front log) offers
+
+-- The verifier decides which signatures are good.
+module _ (accepts : Accepts) where
+  -- what one offer has, from a cursor on
+  abbrev pub offer_at : ℕ → Offer → List (ℕ × Transaction)
+  offer_at cursor o = offer cursor o.count o.bytes (state_after accepts o.front).items
+
+  -- all that is offered from a cursor on, one offer after the other
+  abbrev pub offered : ℕ → List Offer → List (ℕ × Transaction)
+  offered cursor [] = []
+  offered cursor (o ∷ os) = offer_at cursor o ++ offered (moved cursor (offer_at cursor o)) os
+
+  -- where the cursor stands then
+  abbrev pub cursor_after : ℕ → List Offer → ℕ
+  cursor_after cursor [] = cursor
+  cursor_after cursor (o ∷ os) = cursor_after (moved cursor (offer_at cursor o)) os
+
+  -- What a reader that begins at 0 has offered of the pool with this history.
+  pub record IsEachOfferedOnce (offers : List Offer) (log : Log) : Type 0 where
+    -- tickets rise from the first offer to the last, so nothing is offered again
+    pub rising : IsStrictlyIncreasing (tickets (offered 0 offers))
+    -- the cursor is the last of them
+    pub last : cursor_after 0 offers ≡ moved 0 (offered 0 offers)
+    -- what stands in the pool with a ticket up to the cursor was offered
+    pub whole : All (λ i. i.0 ≤ cursor_after 0 offers → Contains (offered 0 offers) i) (state_after accepts log).items

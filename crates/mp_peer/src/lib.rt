@@ -1,0 +1,11 @@
+//! What a pool's snapshots are read for: offers to a peer, and blocks.
+#![tactic(auto)]
+
+mod block;
+mod first_items;
+mod laws;
+mod peer_reader;
+
+pub use block::{Block, forge};
+pub use laws::{blocks, longest_offer, offers};
+pub use peer_reader::PeerReader;
