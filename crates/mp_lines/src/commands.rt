@@ -65,11 +65,7 @@ pub fn remove_line<'a>(
     Ok(Line::Remove(ids))
 }
 
-fn put_output<'a>(
-    outputs: &mut Outputs,
-    names: &Names,
-    word: &'a [u8],
-) -> Result<(), LineFault<'a>>
+fn put_output<'a>(outputs: &mut Outputs, names: &Names, word: &'a [u8]) -> Result<(), LineFault<'a>>
     ensures ok { OnOk result
         (with_output outputs.old (ref_of names.now word.now) (paid_at names.now word.now)
         ≡ Some outputs.new) }
@@ -116,11 +112,7 @@ fn repeat_in<'a>(names: &Names, words: &'a [u8]) -> Option<Reason<'a>> {
     )
 }
 
-fn outputs_of<'a>(
-    memory: Memory,
-    names: &Names,
-    words: &'a [u8],
-) -> Result<Outputs, LineFault<'a>>
+fn outputs_of<'a>(memory: Memory, names: &Names, words: &'a [u8]) -> Result<Outputs, LineFault<'a>>
     ensures { Reads (put_outputs names.now [] (words_of words.now)) result }
 {
     match read_outputs(memory, names, words) {
@@ -193,11 +185,7 @@ fn sync_at<'a>(
 }
 
 /// sync TICK [block=N] REF ..
-pub fn sync_line<'a>(
-    memory: Memory,
-    names: &Names,
-    words: &'a [u8],
-) -> Result<Line, LineFault<'a>>
+pub fn sync_line<'a>(memory: Memory, names: &Names, words: &'a [u8]) -> Result<Line, LineFault<'a>>
     ensures { Gives to_line (sync_line names.now (words_of words.now)) result }
 {
     let Some((word, others)) = first_word(words) else {
