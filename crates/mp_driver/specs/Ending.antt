@@ -5,11 +5,19 @@ use Rattle.mp_text.specs.Lines.{lines_of}
 use Rattle.mp_text.specs.Output.{AppendsFront}
 use Rattle.mp_driver.specs.declared.fault.Fault.{Fault}
 use Rattle.mp_driver.specs.declared.fault.Fault.TheVariants.{NoMemory, BadLine, ReadFault, WriteFault}
+use Rattle.mp_driver.specs.declared.stop.Stop.{Stop}
+use Rattle.mp_driver.specs.declared.stop.Stop.TheVariants as stop
 use Rattle.mp_driver.specs.Scene.{empty_scene, outcome}
 
 -- the text of lines up to the first bad one, and the number of that one, from 1
 abbrev pub outcome_of : List (List ℕ) → List ℕ × Option ℕ
 outcome_of lines = outcome empty_scene 1 lines
+
+-- the fault that a run ends with, where the answers to its text end so
+abbrev pub fault_of : Stop → Fault
+fault_of stop.NoMemory = NoMemory
+fault_of (stop.BadLine n reason) = BadLine n
+fault_of stop.Write = WriteFault
 
 -- no more than 2^24 bytes are done
 abbrev pub AreDone : List ℕ → Type 0
@@ -22,3 +30,8 @@ Ended bytes old new (Err (BadLine n)) = AreDone bytes × Appends old new (outcom
 Ended bytes old new (Err ReadFault) = Keeps old new
 Ended bytes old new (Err WriteFault) = AreDone bytes × AppendsFront old new (outcome_of (lines_of bytes)).0
 Ended bytes old new (Err NoMemory) = (k : ℕ) × Appends old new (outcome_of (take k (lines_of bytes))).0 × ((outcome_of (take k (lines_of bytes))).1 ≡ None)
+
+-- the same of the answers to a text, which also tell what is wrong with a bad line
+abbrev pub AreAnswers : List ℕ → Option (List ℕ) → Option (List ℕ) → Result (Unit {0}) Stop → Type 0
+AreAnswers bytes old new (Ok u) = Ended bytes old new (Ok u)
+AreAnswers bytes old new (Err stop) = Ended bytes old new (Err (fault_of stop))

@@ -9,7 +9,9 @@ mod pool;
 mod refusals;
 mod scene;
 mod settings;
+mod stop;
 mod verifier;
 
 pub use fault::Fault;
-pub use play::run;
+pub use play::{answer_text, run};
+pub use stop::Stop;

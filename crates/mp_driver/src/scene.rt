@@ -16,7 +16,7 @@ use crate::pool::ScenarioPool;
 use crate::settings::Settings;
 use mp_lines::{Line, MAX_OUTPUTS};
 use mp_memory::{Memory, NoMemory};
-use mp_names::{Binding, BlockBytes, LineFault, Name, Names, NewLedger, Payment, Setting};
+use mp_names::{Binding, BlockBytes, LineFault, Name, Names, NewLedger, Payment, Reason, Setting};
 use mp_seqpool::{Command, Ids};
 use mp_tx::{Ledger, LedgerFault, Salt};
 use std::mem;
@@ -133,8 +133,9 @@ fn reply_of(
 }
 
 impl Scene {
-    ghost use Rattle.std.specs.Prelude.{◌≡◌, [], ◌∷◌, Some, None, IfOk, IfErr, OnOk, IsErrOf};
+    ghost use Rattle.std.specs.Prelude.{◌≡◌, [], ◌∷◌, Some, None, IfOk, IfErr, OnOk};
     ghost use Rattle.mp_names.specs.Names.{with_binding};
+    ghost use Rattle.mp_names.specs.Fault.{IsBad};
     ghost use Rattle.mp_lines.specs.Lines as lines;
     ghost use Rattle.mp_lines.specs.Inside.Line.{to_line};
     ghost use Rattle.mp_seqpool.specs.Inside.Command.{command_of};
@@ -154,34 +155,34 @@ impl Scene {
     }
 
     // A setting stands before the first command.
-    fn set(&mut self, setting: Setting) -> Result<(), LineFault>
+    fn set<'a>(&mut self, setting: Setting) -> Result<(), LineFault<'a>>
         ensures ok { OnOk result
             (set_at (scene_of self.old) setting (stage_of self.old.stage)
             ≡ Some (scene_of self.new, [])) }
-        ensures bad { IsErrOf result LineFault.Bad
+        ensures bad { IsBad result
             → set_at (scene_of self.old) setting (stage_of self.old.stage) ≡ None }
-        ensures stays { IsErrOf result LineFault.Bad → scene_of self.new ≡ scene_of self.old }
+        ensures stays { IsBad result → scene_of self.new ≡ scene_of self.old }
     {
         if let Stage::Open(_) = &self.stage {
-            return Err(LineFault::Bad);
+            return Err(LineFault::Bad(Reason::LateSetting));
         }
         self.settings.set(setting)
     }
 
     // An output stands before the first command.
-    fn put_output(&mut self, name: Name, payment: Payment) -> Result<(), LineFault>
+    fn put_output<'a>(&mut self, name: Name, payment: Payment) -> Result<(), LineFault<'a>>
         ensures ok { OnOk result
             (output_at (scene_of self.old) name payment (stage_of self.old.stage)
             ≡ Some (scene_of self.new, [])) }
-        ensures bad { IsErrOf result LineFault.Bad
+        ensures bad { IsBad result
             → output_at (scene_of self.old) name payment (stage_of self.old.stage) ≡ None }
-        ensures stays { IsErrOf result LineFault.Bad → scene_of self.new ≡ scene_of self.old }
+        ensures stays { IsBad result → scene_of self.new ≡ scene_of self.old }
     {
         match &mut self.stage {
-            Stage::Open(_) => Err(LineFault::Bad),
+            Stage::Open(_) => Err(LineFault::Bad(Reason::LateOutput)),
             Stage::Before(openings) => {
                 if openings.len() >= MAX_OUTPUTS {
-                    return Err(LineFault::Bad);
+                    return Err(LineFault::Bad(Reason::ManyOutputs));
                 }
                 let reference = openings.next();
                 openings.push(payment.to_output()?)?;
@@ -231,12 +232,12 @@ impl Scene {
     ///
     /// # Errors
     /// `Bad` where a setting comes twice or after the first command, and where an output comes after it or is the 65,537th.
-    pub fn take(&mut self, memory: Memory, line: Line) -> Result<Text, LineFault>
+    pub fn take<'a>(&mut self, memory: Memory, line: Line) -> Result<Text, LineFault<'a>>
         ensures ok { IfOk result (λ text.
             take (scene_of self.old) (to_line line) ≡ Some (scene_of self.new, text.items)) }
-        ensures bad { IsErrOf result LineFault.Bad
+        ensures bad { IsBad result
             → take (scene_of self.old) (to_line line) ≡ None }
-        ensures stays { IsErrOf result LineFault.Bad → scene_of self.new ≡ scene_of self.old }
+        ensures stays { IsBad result → scene_of self.new ≡ scene_of self.old }
     {
         match line {
             Line::Blank => {}
@@ -258,11 +259,11 @@ impl Scene {
 
     /// Does what a line says, and gives what it writes. A bad line does nothing.
     #[tactic(auto, unfolding(crate::specs::Scene::line_step))]
-    pub fn read_line(&mut self, memory: Memory, line: &[u8]) -> Result<Text, LineFault>
+    pub fn read_line<'a>(&mut self, memory: Memory, line: &'a [u8]) -> Result<Text, LineFault<'a>>
         ensures ok { IfOk result (λ text.
             line_step (scene_of self.old) line.now ≡ Some (scene_of self.new, text.items)) }
-        ensures bad { IsErrOf result LineFault.Bad → line_step (scene_of self.old) line.now ≡ None }
-        ensures stays { IsErrOf result LineFault.Bad → scene_of self.new ≡ scene_of self.old }
+        ensures bad { IsBad result → line_step (scene_of self.old) line.now ≡ None }
+        ensures stays { IsBad result → scene_of self.new ≡ scene_of self.old }
     {
         let line = Line::parse(memory, &self.names, line)?;
         self.take(memory, line)

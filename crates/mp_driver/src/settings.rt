@@ -1,11 +1,12 @@
 //! The settings of a scenario.
 
-use mp_names::{BlockBytes, Limit, LineFault, Setting, set_once};
+use mp_lines::{BLOCK, LAST, LIMIT, TICK};
+use mp_names::{BlockBytes, Limit, LineFault, Reason, Setting, set_once};
 use mp_seqpool::Config;
 
 const BLOCK_BYTES: u64 = 500_000;
 
-const LIMIT: u64 = 1_000_000;
+const CHANGES: u64 = 1_000_000;
 
 /// What was set before the first command, and else what holds where nothing is set.
 #[derive(Drop)]
@@ -19,8 +20,9 @@ pub struct Settings {
 }
 
 impl Settings {
-    ghost use Rattle.std.specs.Prelude.{◌≡◌, Some, None, OnOk, IsErrOf};
+    ghost use Rattle.std.specs.Prelude.{◌≡◌, Some, None, OnOk};
     ghost use Rattle.mp_tx.specs.Ledger.{HasBlockBytes};
+    ghost use Rattle.mp_names.specs.Fault.{IsBad};
     ghost use Rattle.mp_driver.specs.Settings.{no_settings, with_setting, block_bytes_of, limit_of, last_of, tick_of};
 
     /// Nothing is set.
@@ -36,16 +38,22 @@ impl Settings {
     }
 
     /// Sets what wasn't set before. After an `Err` nothing has changed.
-    pub fn set(&mut self, setting: Setting) -> Result<(), LineFault>
+    pub fn set<'a>(&mut self, setting: Setting) -> Result<(), LineFault<'a>>
         ensures ok { OnOk result (with_setting self.old setting ≡ Some self.new) }
-        ensures bad { IsErrOf result LineFault.Bad → with_setting self.old setting ≡ None }
-        ensures stays { IsErrOf result LineFault.Bad → self.new ≡ self.old }
+        ensures bad { IsBad result → with_setting self.old setting ≡ None }
+        ensures stays { IsBad result → self.new ≡ self.old }
     {
         match setting {
-            Setting::BlockBytes(bytes) => set_once(&mut self.block_bytes, bytes),
-            Setting::Limit(limit) => set_once(&mut self.limit, limit),
-            Setting::Last(ticket) => set_once(&mut self.last, ticket),
-            Setting::Tick(tick) => set_once(&mut self.tick, tick),
+            Setting::BlockBytes(bytes) => {
+                set_once(&mut self.block_bytes, bytes, Reason::SetBefore(BLOCK.word))
+            }
+            Setting::Limit(limit) => {
+                set_once(&mut self.limit, limit, Reason::SetBefore(LIMIT.word))
+            }
+            Setting::Last(ticket) => {
+                set_once(&mut self.last, ticket, Reason::SetBefore(LAST.word))
+            }
+            Setting::Tick(tick) => set_once(&mut self.tick, tick, Reason::SetBefore(TICK.word)),
         }
     }
 
@@ -74,7 +82,7 @@ impl Settings {
     {
         let limit = match &self.limit {
             Some(limit) => limit.get(),
-            None => LIMIT,
+            None => CHANGES,
         };
         Config {
             limit,

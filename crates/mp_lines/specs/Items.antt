@@ -1,5 +1,5 @@
 -- The items of a transaction's line.
-use Rattle.std.specs.Prelude.{ℕ, true, false, nat_eq, nat_lt, List, codes, Option, None, Some, option_map, option_and_then, if◌then◌else◌}
+use Rattle.std.specs.Prelude.{ℕ, true, false, nat_eq, List, codes, Option, None, Some, option_map, option_and_then, if◌then◌else◌}
 use Rattle.std.specs.Cmp.Lexicographic.{pointwise}
 use Rattle.mp_text.specs.Numbers.{number_of}
 use Rattle.mp_tx.specs.declared.reference.OutRef.{OutRef}
@@ -7,6 +7,7 @@ use Rattle.mp_tx.specs.declared.input.Input.{Input}
 use Rattle.mp_names.specs.declared.payment.Payment.{Payment}
 use Rattle.mp_lines.specs.declared.items.Item.{Item}
 use Rattle.mp_lines.specs.declared.items.Item.TheVariants.{Spends, LooksAt, Pays, From, To, Forges, Carries, Signs}
+use Rattle.mp_names.specs.Numbers.{number_in}
 use Rattle.mp_names.specs.Splitting.{split_once}
 use Rattle.mp_names.specs.Names.{Names, script_named}
 use Rattle.mp_names.specs.Bundles.{bundle_of}
@@ -42,7 +43,7 @@ input_of names word =
 
 -- the number of a key: 0 to 255
 abbrev pub key_of : List ℕ → Option ℕ
-key_of word = option_and_then (λ k. if nat_lt k 256 then Some k else None) (number_of word)
+key_of word = number_in 0 255 word
 
 abbrev pub good_signer : ℕ → Item
 good_signer k = Signs (record { key = k; is_good = true })

@@ -1,6 +1,6 @@
 //! Items put together.
 
-ghost use Rattle.std.specs.Prelude.{◌≡◌, [], ◌∷◌, ◌++◌, Ok, Some, None, option_and_then, option_map, unwrap_or, IfOk, IfErr, OnOk, IsErrOf};
+ghost use Rattle.std.specs.Prelude.{◌≡◌, [], ◌∷◌, ◌++◌, Ok, Some, None, option_and_then, option_map, unwrap_or, IfOk, IfErr, OnOk};
 ghost use Rattle.mp_names.specs.declared.fault.LineFault.TheVariants as line_faults;
 ghost use Rattle.std.specs.Arc.{arc_value};
 ghost use Rattle.mp_text.specs.Words.{words_of};
@@ -8,15 +8,16 @@ ghost use Rattle.mp_tx.specs.Spelling.{id_of};
 ghost use Rattle.mp_tx.specs.TxFault.{parts_of};
 ghost use Rattle.mp_names.specs.Rising.{insert_rising};
 ghost use Rattle.mp_lines.specs.Draft.{empty_draft, draft_of, transaction_of, if_fits, signatures_of, signed, declared_of};
-ghost use Rattle.mp_names.specs.Fault.{Reads, Gives};
+ghost use Rattle.mp_names.specs.Fault.{Reads, Gives, IsBad};
 ghost use Rattle.mp_lines.specs.Inside.Draft.{bare_of};
 
 use crate::copies::{copy_inputs, copy_scripts, put_outputs};
 use crate::items::{Item, Signer, item_of};
 use crate::signing::put_signatures;
+use crate::subjects::repeat_in;
 use mp_bundle::Bundle;
 use mp_memory::{Memory, NoMemory};
-use mp_names::{DeclaredTx, LineFault, Names, Payment, Rising, insert_rising, set_once};
+use mp_names::{DeclaredTx, LineFault, Names, Payment, Reason, Rising, insert_rising, set_once};
 use mp_script::Script;
 use mp_text::first_word;
 use mp_tx::{Input, OutRef, Tx, TxFault, TxId, TxParts};
@@ -49,7 +50,7 @@ impl Model for Draft {
     ghost view = { draft };
 }
 
-fn put_last<T: Drop>(items: &mut Vec<T, Memory>, item: T) -> Result<(), LineFault>
+fn put_last<'a, T: Drop>(items: &mut Vec<T, Memory>, item: T) -> Result<(), LineFault<'a>>
     ensures ok { OnOk result (items.new.items ≡ items.old.items ++ item ∷ []) }
     ensures memory { IfErr result (λ fault. fault ≡ line_faults.NoMemory) }
 {
@@ -58,7 +59,10 @@ fn put_last<T: Drop>(items: &mut Vec<T, Memory>, item: T) -> Result<(), LineFaul
 }
 
 // Before the first that is greater.
-fn put_rising<T: Rising + Drop>(items: &mut Vec<T, Memory>, item: T) -> Result<(), LineFault>
+fn put_rising<'a, T: Rising + Drop>(
+    items: &mut Vec<T, Memory>,
+    item: T,
+) -> Result<(), LineFault<'a>>
     ensures ok { OnOk result (items.new.items ≡ insert_rising T.order item items.old.items) }
     ensures memory { IfErr result (λ fault. fault ≡ line_faults.NoMemory) }
 {
@@ -67,7 +71,8 @@ fn put_rising<T: Rising + Drop>(items: &mut Vec<T, Memory>, item: T) -> Result<(
 }
 
 impl Draft {
-    ghost use Rattle.std.specs.Prelude.{◌≡◌, [], ◌∷◌, ◌++◌, Some, None, option_map, option_copied, OnOk, IsErrOf};
+    ghost use Rattle.std.specs.Prelude.{◌≡◌, [], ◌∷◌, ◌++◌, Some, None, option_map, option_copied, OnOk};
+    ghost use Rattle.mp_names.specs.Fault.{IsBad};
     ghost use Rattle.mp_lines.specs.Draft.{empty_draft, with_item};
 
     /// No item.
@@ -86,35 +91,49 @@ impl Draft {
         }
     }
 
-    /// Puts the item in. The first tick, the last tick and what is forged may be said once.
-    pub fn add(&mut self, item: Item) -> Result<(), LineFault>
+    /// Puts the item in. The first tick, the last tick and what is forged may be said once; said again they are `Bad`, for the
+    /// reason given.
+    pub fn add<'a>(&mut self, item: Item, reason: Reason<'a>) -> Result<(), LineFault<'a>>
         ensures ok { OnOk result (with_item self.old item ≡ Some self.new) }
-        ensures bad { IsErrOf result LineFault.Bad → with_item self.old item ≡ None }
+        ensures bad { IsBad result → with_item self.old item ≡ None }
     {
         match item {
             Item::Spends(input) => put_rising(&mut self.inputs, input),
             Item::LooksAt(reference) => put_rising(&mut self.references, reference),
             Item::Pays(payment) => put_last(&mut self.payments, payment),
-            Item::From(tick) => set_once(&mut self.from, tick),
-            Item::To(tick) => set_once(&mut self.to, tick),
-            Item::Forges(bundle) => set_once(&mut self.forge, bundle),
+            Item::From(tick) => set_once(&mut self.from, tick, reason),
+            Item::To(tick) => set_once(&mut self.to, tick, reason),
+            Item::Forges(bundle) => set_once(&mut self.forge, bundle, reason),
             Item::Carries(script) => put_rising(&mut self.scripts, script),
             Item::Signs(signer) => put_last(&mut self.signers, signer),
         }
     }
 }
 
+// What is told of a word that may stand once, until it is known which one stands for the same.
+fn repeated(word: &[u8]) -> Reason<'_> {
+    Reason::Repeats {
+        later: word,
+        earlier: word,
+    }
+}
+
 // Puts in the items that the words are.
-fn fill(draft: &mut Draft, memory: Memory, names: &Names, words: &[u8]) -> Result<(), LineFault>
+fn fill<'a>(
+    draft: &mut Draft,
+    memory: Memory,
+    names: &Names,
+    words: &'a [u8],
+) -> Result<(), LineFault<'a>>
     ensures ok { OnOk result
         (draft_of names.now draft.old (words_of words.now) ≡ Some draft.new) }
-    ensures bad { IsErrOf result LineFault.Bad
+    ensures bad { IsBad result
         → draft_of names.now draft.old (words_of words.now) ≡ None }
 {
     let mut rest = words;
     while let Some((word, others)) = first_word(rest) {
         let item = item_of(memory, names, word)?;
-        draft.add(item)?;
+        draft.add(item, repeated(word))?;
         rest = others;
     }
     Ok(())
@@ -165,18 +184,24 @@ fn put_others(
     put_signatures(&mut parts.signatures, id, signers)
 }
 
-fn put_together(memory: Memory, parts: TxParts) -> Result<Tx, LineFault>
+fn put_together<'a>(memory: Memory, parts: TxParts) -> Result<Tx, LineFault<'a>>
     ensures { Reads (if_fits (parts_of parts)) result }
 {
     match Tx::of_parts(memory, parts) {
         Ok(tx) => Ok(tx),
         Err(TxFault::NoMemory) => Err(LineFault::NoMemory),
-        Err(_) => Err(LineFault::Bad),
+        Err(TxFault::BadInterval) => Err(LineFault::Bad(Reason::Interval)),
+        Err(_) => Err(LineFault::Bad(Reason::LargeTransaction)),
     }
 }
 
 // The transaction with what these signers make of the id.
-fn make_tx(memory: Memory, draft: &Draft, id: &TxId, signers: &[Signer]) -> Result<Tx, LineFault>
+fn make_tx<'a>(
+    memory: Memory,
+    draft: &Draft,
+    id: &TxId,
+    signers: &[Signer],
+) -> Result<Tx, LineFault<'a>>
     ensures { Reads (if_fits
         (transaction_of draft.now (signatures_of id.now [] signers.now))) result }
 {
@@ -185,7 +210,7 @@ fn make_tx(memory: Memory, draft: &Draft, id: &TxId, signers: &[Signer]) -> Resu
     put_together(memory, parts)
 }
 
-fn unsigned_id(memory: Memory, draft: &Draft) -> Result<TxId, LineFault>
+fn unsigned_id<'a>(memory: Memory, draft: &Draft) -> Result<TxId, LineFault<'a>>
     ensures { Reads (option_map id_of (if_fits (transaction_of draft.now []))) result }
 {
     let unsigned = make_tx(memory, draft, &NO_ID, &[])?;
@@ -193,7 +218,7 @@ fn unsigned_id(memory: Memory, draft: &Draft) -> Result<TxId, LineFault>
 }
 
 // It is made twice: first without signatures, for its id.
-fn make_signed(memory: Memory, draft: &Draft) -> Result<Tx, LineFault>
+fn make_signed<'a>(memory: Memory, draft: &Draft) -> Result<Tx, LineFault<'a>>
     ensures { Reads
         (option_and_then (signed draft.now) (if_fits (transaction_of draft.now []))) result }
 {
@@ -201,7 +226,7 @@ fn make_signed(memory: Memory, draft: &Draft) -> Result<Tx, LineFault>
     make_tx(memory, draft, &id, &draft.signers)
 }
 
-fn make_shared(memory: Memory, draft: &Draft) -> Result<Arc<Tx, Memory>, LineFault>
+fn make_shared<'a>(memory: Memory, draft: &Draft) -> Result<Arc<Tx, Memory>, LineFault<'a>>
     ensures { Gives arc_value
         (option_and_then (signed draft.now) (if_fits (transaction_of draft.now []))) result }
 {
@@ -211,7 +236,7 @@ fn make_shared(memory: Memory, draft: &Draft) -> Result<Arc<Tx, Memory>, LineFau
 
 // The transaction of the draft, whose payments go with it.
 #[tactic(auto, unfolding(crate::specs::Draft::declared_of))]
-fn declared_of(memory: Memory, draft: &mut Draft) -> Result<DeclaredTx, LineFault>
+fn declared_of<'a>(memory: Memory, draft: &mut Draft) -> Result<DeclaredTx, LineFault<'a>>
     ensures { Reads (declared_of draft.old) result }
 {
     let tx = make_shared(memory, draft)?;
@@ -219,12 +244,32 @@ fn declared_of(memory: Memory, draft: &mut Draft) -> Result<DeclaredTx, LineFaul
     Ok(DeclaredTx::of(tx, payments))
 }
 
-/// The transaction that the items make which the words are.
-pub fn declared_by(memory: Memory, names: &Names, words: &[u8]) -> Result<DeclaredTx, LineFault>
+fn make_declared<'a>(
+    memory: Memory,
+    names: &Names,
+    words: &'a [u8],
+) -> Result<DeclaredTx, LineFault<'a>>
     ensures { Reads (option_and_then declared_of
         (draft_of names.now empty_draft (words_of words.now))) result }
 {
     let mut draft = Draft::new(memory);
     fill(&mut draft, memory, names, words)?;
     declared_of(memory, &mut draft)
+}
+
+/// The transaction that the items make which the words are.
+pub fn declared_by<'a>(
+    memory: Memory,
+    names: &Names,
+    words: &'a [u8],
+) -> Result<DeclaredTx, LineFault<'a>>
+    ensures { Reads (option_and_then declared_of
+        (draft_of names.now empty_draft (words_of words.now))) result }
+{
+    match make_declared(memory, names, words) {
+        Err(LineFault::Bad(reason)) => Err(LineFault::Bad(repeat_in(memory, names, words).unwrap_or(
+            reason,
+        ))),
+        made => made,
+    }
 }

@@ -5,8 +5,13 @@ mod commands;
 mod copies;
 mod declarations;
 mod draft;
+mod forms;
 mod items;
 mod line;
+mod settings;
 mod signing;
+mod subjects;
+mod words;
 
+pub use forms::{BLOCK, Form, LAST, LIMIT, TICK};
 pub use line::{Line, MAX_OUTPUTS};

@@ -6,16 +6,18 @@ ghost use Rattle.mp_lines.specs.Lines.{command_line, declaration_line, asked_lin
 ghost use Rattle.mp_names.specs.Fault.{Gives};
 ghost use Rattle.mp_lines.specs.Inside.Line.{to_line};
 
-use crate::commands::{
-    block_line, last_line, limit_line, remove_line, snapshot_line, submit_line, sync_line,
-    tick_line,
-};
+use crate::commands::{remove_line, snapshot_line, submit_line, sync_line};
 use crate::declarations::{data_line, output_line, script_line, tx_line};
+use crate::forms::{
+    BLOCK, DATA, LAST, LIMIT, OUT, REMOVE, SCRIPT, SNAPSHOT, SUBMIT, SYNC, TICK, TX,
+};
+use crate::settings::{block_line, last_line, limit_line, tick_line};
 use mp_memory::Memory;
 use mp_names::{
-    DeclaredTx, LineFault, Name, NamedDatum, NamedScript, Names, NewLedger, Payment, Setting,
+    DeclaredTx, LineFault, Name, NamedDatum, NamedScript, Names, NewLedger, Payment, Reason,
+    Setting,
 };
-use mp_text::{first_word, is_clean, is_comment_or_blank};
+use mp_text::{MAX_LINE_BYTES, first_word, is_clean, is_comment_or_blank};
 use mp_tx::{Tx, TxId};
 use std::sync::Arc;
 
@@ -39,56 +41,77 @@ pub enum Line {
     Snapshot,
 }
 
-fn command_line(memory: Memory, names: &Names, word: &[u8], words: &[u8]) -> Result<Line, LineFault>
+fn command_line<'a>(
+    memory: Memory,
+    names: &Names,
+    word: &'a [u8],
+    words: &'a [u8],
+) -> Result<Line, LineFault<'a>>
     ensures { Gives to_line (command_line names.now word.now (words_of words.now)) result }
 {
-    if word == b"submit".as_slice() {
+    if word == SUBMIT.word {
         submit_line(names, words)
-    } else if word == b"remove".as_slice() {
+    } else if word == REMOVE.word {
         remove_line(memory, names, words)
-    } else if word == b"sync".as_slice() {
+    } else if word == SYNC.word {
         sync_line(memory, names, words)
-    } else if word == b"snapshot".as_slice() {
+    } else if word == SNAPSHOT.word {
         snapshot_line(words)
     } else {
-        Err(LineFault::Bad)
+        Err(LineFault::Bad(Reason::FirstWord(word)))
     }
 }
 
-fn declaration_line(
+fn declaration_line<'a>(
     memory: Memory,
     names: &Names,
-    word: &[u8],
-    words: &[u8],
-) -> Result<Line, LineFault>
+    word: &'a [u8],
+    words: &'a [u8],
+) -> Result<Line, LineFault<'a>>
     ensures { Gives to_line (declaration_line names.now word.now (words_of words.now)) result }
 {
-    if word == b"script".as_slice() {
+    if word == SCRIPT.word {
         script_line(memory, names, words)
-    } else if word == b"data".as_slice() {
+    } else if word == DATA.word {
         data_line(memory, names, words)
-    } else if word == b"out".as_slice() {
+    } else if word == OUT.word {
         output_line(memory, names, words)
-    } else if word == b"tx".as_slice() {
+    } else if word == TX.word {
         tx_line(memory, names, words)
     } else {
         command_line(memory, names, word, words)
     }
 }
 
-fn asked_line(memory: Memory, names: &Names, word: &[u8], words: &[u8]) -> Result<Line, LineFault>
+fn asked_line<'a>(
+    memory: Memory,
+    names: &Names,
+    word: &'a [u8],
+    words: &'a [u8],
+) -> Result<Line, LineFault<'a>>
     ensures { Gives to_line (asked_line names.now word.now (words_of words.now)) result }
 {
-    if word == b"block".as_slice() {
+    if word == BLOCK.word {
         block_line(words)
-    } else if word == b"limit".as_slice() {
+    } else if word == LIMIT.word {
         limit_line(words)
-    } else if word == b"last".as_slice() {
+    } else if word == LAST.word {
         last_line(words)
-    } else if word == b"tick".as_slice() {
+    } else if word == TICK.word {
         tick_line(words)
     } else {
         declaration_line(memory, names, word, words)
+    }
+}
+
+// What is wrong with a line that isn't clean.
+fn unclean(line: &[u8]) -> Reason<'_> {
+    if line.len() > MAX_LINE_BYTES {
+        return Reason::LongLine;
+    }
+    match line.iter().find(|byte| **byte < b' ' || b'~' < **byte) {
+        Some(byte) => Reason::Byte(*byte),
+        None => Reason::LongLine,
     }
 }
 
@@ -103,11 +126,11 @@ impl Line {
     /// `Bad` where the line is none of the language: a byte that isn't printable, over 4,096 bytes, a first word that it
     /// doesn't know, or words that don't follow the rules of that line. `NoMemory` may stand in place of each answer.
     #[tactic(auto, unfolding(crate::specs::Lines::line_of))]
-    pub fn parse(memory: Memory, names: &Names, line: &[u8]) -> Result<Line, LineFault>
+    pub fn parse<'a>(memory: Memory, names: &Names, line: &'a [u8]) -> Result<Line, LineFault<'a>>
         ensures { Gives to_line (line_of names.now line.now) result }
     {
         if !is_clean(line) {
-            return Err(LineFault::Bad);
+            return Err(LineFault::Bad(unclean(line)));
         }
         if is_comment_or_blank(line) {
             return Ok(Line::Blank);

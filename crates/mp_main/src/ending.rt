@@ -6,9 +6,7 @@ ghost use Rattle.clap.specs.Words.{kind_of};
 
 use clap::Error;
 use clap::error::ErrorKind;
-use mp_driver::Fault;
-use mp_explain::explain;
-use mp_memory::Memory;
+use mp_driver::{Fault, Stop};
 use std::io;
 use std::process::ExitCode;
 
@@ -28,23 +26,21 @@ pub fn end_run(rt: &HostRuntime, ended: Result<(), Fault>) -> ExitCode
     }
 }
 
-/// After a run of the text: 0, or 1 and the fault's line, and behind a bad line what is wrong with it.
-pub fn end_explained(
-    rt: &HostRuntime,
-    memory: Memory,
-    text: &[u8],
-    ended: Result<(), Fault>,
-) -> ExitCode
-    ensures done { IfOk ended (λ _. exit_status result ≡ 0) }
-    ensures fault { IfErr ended (λ _. exit_status result ≡ 1) }
+/// After the answers to a text: 0, or 1 and the fault's line, and behind a bad line what is wrong with it.
+pub fn end_explained(rt: &HostRuntime, ended: Result<(), Stop<'_>>) -> ExitCode
+    ensures done { IfOk ended.entry (λ _. exit_status result ≡ 0) }
+    ensures fault { IfErr ended.entry (λ _. exit_status result ≡ 1) }
 {
-    let status = end_run(rt, ended);
-    if let Err(Fault::BadLine(number)) = ended
-        && let Some(reason) = explain(memory, text, number)
-    {
-        let _ = rt.eprintln(format_args!("bad line {number}: {reason}"));
+    match ended {
+        Ok(()) => ExitCode::SUCCESS,
+        Err(stop) => {
+            let _ = rt.eprintln(stop.fault());
+            if let Stop::BadLine(number, reason) = stop {
+                let _ = rt.eprintln(format_args!("bad line {number}: {reason}"));
+            }
+            ExitCode::FAILURE
+        }
     }
-    status
 }
 
 /// Where a word of the command line is no text: 2, or 1 where there is no memory for it.

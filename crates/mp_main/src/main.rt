@@ -6,7 +6,7 @@ mod ending;
 
 use ending::{end_explained, end_run, end_unparsed, end_unread, end_unworded};
 use mp_command_line::{Asked, asked_run};
-use mp_driver::{Fault, run};
+use mp_driver::{Fault, answer_text, run};
 use mp_memory::Memory;
 use mp_text::{InputFault, read_all};
 use std::fs::File;
@@ -56,10 +56,7 @@ fn run_scenario<R: io::Read>(rt: &HostRuntime, explains: bool, reader: &mut R) -
 /// The same, and says what is wrong with a bad line.
 fn run_explained<R: io::Read>(rt: &HostRuntime, memory: Memory, reader: &mut R) -> ExitCode {
     match read_all(memory, reader) {
-        Ok(text) => {
-            let ended = run(memory, &mut text.as_slice(), &mut rt.stdout());
-            end_explained(rt, memory, &text, ended)
-        }
+        Ok(text) => end_explained(rt, answer_text(memory, &text, &mut rt.stdout())),
         Err(InputFault::NoMemory) => end_run(rt, Err(Fault::NoMemory)),
         Err(InputFault::Read) => end_run(rt, Err(Fault::ReadFault)),
     }

@@ -39,13 +39,13 @@ token_of names None = Some coin
 token_of names (Some word) = token_by names (split_once 46 word).0 (split_once 46 word).1
 
 -- Q, Q*POLICY or Q*POLICY.TOKEN; 42 is the star
-abbrev pub entry_by : Option Token → Option ℤ → Option Entry
-entry_by (Some t) (Some q) = Some (t, q)
-entry_by (Some t) None = None
-entry_by None q = None
+abbrev pub entry_by : Option ℤ → Option Token → Option Entry
+entry_by (Some q) (Some t) = Some (t, q)
+entry_by (Some q) None = None
+entry_by None t = None
 
 unfoldable pub entry_of : Names → List ℕ → Option Entry
-entry_of names word = entry_by (token_of names (split_once 42 word).1) (signed_quantity_of (split_once 42 word).0)
+entry_of names word = entry_by (signed_quantity_of (split_once 42 word).0) (token_of names (split_once 42 word).1)
 
 abbrev pub put_entries : Names → List Entry → List (List ℕ) → Option (List Entry)
 put_entries names entries [] = Some entries

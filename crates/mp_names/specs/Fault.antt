@@ -7,8 +7,14 @@ use Rattle.mp_names.specs.declared.fault.LineFault.TheVariants.{NoMemory, Bad}
 abbrev pub Gives : {X Y : Type 0} → (X → Y) → Option Y → Result X LineFault → Type 0
 Gives view wanted (Ok x) = wanted ≡ Some (view x)
 Gives view wanted (Err NoMemory) = Unit {0}
-Gives view wanted (Err Bad) = wanted ≡ None
+Gives view wanted (Err (Bad reason)) = wanted ≡ None
 
 -- the same of an answer that is seen as it is
 abbrev pub Reads : {X : Type 0} → Option X → Result X LineFault → Type 0
 Reads wanted result = Gives (λ x. x) wanted result
+
+-- the answer is that the line is bad, for whatever reason
+abbrev pub IsBad : {X : Type 0} → Result X LineFault → Type 0
+IsBad (Ok x) = ⊥
+IsBad (Err NoMemory) = ⊥
+IsBad (Err (Bad reason)) = Unit {0}

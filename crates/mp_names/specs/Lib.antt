@@ -5,6 +5,7 @@ pub mod Names
 pub mod Bundles
 pub mod Payments
 pub mod References
+pub mod Numbers
 pub mod Settings
 pub mod Once
 pub mod Outputs

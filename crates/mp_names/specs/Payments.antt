@@ -22,11 +22,11 @@ abbrev pub datum_or_unit : Names → Option (List ℕ) → Option (List ℕ)
 datum_or_unit names None = datum_named (codes "unit") names
 datum_or_unit names (Some word) = datum_named word names
 
-abbrev pub payment_by : Option (List ℕ) → Option (List ℕ) → Option (List Entry) → Option Payment
-payment_by (Some s) (Some d) (Some v) = Some (record { value = v; script = s; datum = d })
-payment_by (Some s) (Some d) None = None
-payment_by (Some s) None v = None
-payment_by None d v = None
+abbrev pub payment_by : Option (List Entry) → Option (List ℕ) → Option (List ℕ) → Option Payment
+payment_by (Some v) (Some s) (Some d) = Some (record { value = v; script = s; datum = d })
+payment_by (Some v) (Some s) None = None
+payment_by (Some v) None d = None
+payment_by None s d = None
 
 -- SCRIPT or SCRIPT/DATUM, 47 being the slash: its two words
 abbrev pub lock_words : Option (List ℕ) → Option (List ℕ) × Option (List ℕ)
@@ -37,4 +37,4 @@ lock_words (Some word) = (Some (split_once 47 word).0, (split_once 47 word).1)
 unfoldable pub payment_of : Names → List ℕ → Option Payment
 payment_of names word =
     let parts = split_once 64 word in
-    payment_by (script_or_yes names (lock_words parts.1).0) (datum_or_unit names (lock_words parts.1).1) (bundle_of names parts.0)
+    payment_by (bundle_of names parts.0) (script_or_yes names (lock_words parts.1).0) (datum_or_unit names (lock_words parts.1).1)

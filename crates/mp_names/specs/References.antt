@@ -1,11 +1,11 @@
 -- References, as words write them.
-use Rattle.std.specs.Prelude.{ℕ, ◌^◌, nat_lt, List, replicate, slice_get, Option, None, Some, option_and_then, option_map, if◌then◌else◌}
-use Rattle.mp_text.specs.Numbers.{number_of}
+use Rattle.std.specs.Prelude.{ℕ, ◌-◌, ◌^◌, List, replicate, slice_get, Option, None, Some, option_and_then, option_map}
 use Rattle.mp_tx.specs.declared.reference.OutRef.{OutRef}
 use Rattle.mp_tx.specs.Spelling.{id_of}
 use Rattle.mp_names.specs.declared.payment.Payment.{Payment}
 use Rattle.mp_names.specs.declared.names.Binding.{Binding}
 use Rattle.mp_names.specs.declared.names.Binding.TheVariants.{Opening, Made}
+use Rattle.mp_names.specs.Numbers.{number_in}
 use Rattle.mp_names.specs.Splitting.{split_once}
 use Rattle.mp_names.specs.DeclaredTx.{DeclaredTx}
 use Rattle.mp_names.specs.Names.{Names, binding_named, tx_named}
@@ -16,7 +16,7 @@ opening_ref k = record { id = replicate 32 0; index = k }
 
 -- a place below 2^16
 abbrev pub place_of : List ℕ → Option ℕ
-place_of word = option_and_then (λ k. if nat_lt k (2 ^ 16) then Some k else None) (number_of word)
+place_of word = number_in 0 (2 ^ 16 - 1) word
 
 -- an output of the opening ledger state
 abbrev pub opening_of : Binding → Option (OutRef × Payment)

@@ -1,6 +1,7 @@
 //! Bundles, as words write them.
 
 ghost use Rattle.std.specs.Prelude.{◌≡◌, ◌==◌, [], ◌∷◌, neg_ℤ, pos, Some, None, if◌then◌else◌, ◌≤◌, length, position, IfOk, OnOk, is_none, is_some, option_copied, option_map};
+ghost use Rattle.std.specs.Result.{result_ok};
 ghost use Rattle.std.specs.List.{position_or_len, list_all, slice_split};
 ghost use Rattle.std.specs.Ordering.{is_lt};
 ghost use Rattle.mp_bundle.specs.Token.{token, token_cmp};
@@ -12,20 +13,24 @@ ghost use Rattle.mp_names.specs.Fault.{Reads, Gives};
 
 use crate::fault::LineFault;
 use crate::names::{COIN, Names};
+use crate::reason::Reason;
+use crate::repeats::first_repeat;
 use crate::rising::insert_rising;
 use crate::splitting::split_once;
 use mp_bundle::{Bundle, Entry, MAX_NAME_BYTES, PolicyId, Token};
 use mp_memory::Memory;
 use mp_text::quantity;
 
-fn policy_named(names: &Names, word: &[u8]) -> Option<PolicyId>
-    ensures { result ≡ policy_named names.now word.now }
+const COMMA: u8 = b',';
+
+fn policy_named<'a>(names: &Names, word: &'a [u8]) -> Result<PolicyId, Reason<'a>>
+    ensures { result_ok result ≡ policy_named names.now word.now }
 {
     if word == COIN {
-        return Some(Token::COIN.policy);
+        return Ok(Token::COIN.policy);
     }
     let script = names.script(word)?;
-    Some(*script.hash())
+    Ok(*script.hash())
 }
 
 fn are_letters_or_digits(word: &[u8]) -> bool
@@ -55,7 +60,7 @@ fn negative_quantity(word: &[u8]) -> Option<i64>
     Some(-(quantity as i64))
 }
 
-fn signed_quantity(word: &[u8]) -> Option<i64>
+fn read_quantity(word: &[u8]) -> Option<i64>
     ensures { result ≡ signed_quantity_of word.now }
 {
     match word {
@@ -64,7 +69,16 @@ fn signed_quantity(word: &[u8]) -> Option<i64>
     }
 }
 
-fn token_named(policy: PolicyId, name: &[u8]) -> Option<Token>
+fn signed_quantity(word: &[u8]) -> Result<i64, Reason<'_>>
+    ensures { result_ok result ≡ signed_quantity_of word.now }
+{
+    match read_quantity(word) {
+        Some(quantity) => Ok(quantity),
+        None => Err(Reason::Quantity(word)),
+    }
+}
+
+fn make_token(policy: PolicyId, name: &[u8]) -> Option<Token>
     ensures { result ≡ if is_token_name name.now then Some (token policy name.now) else None }
 {
     if is_token_name(name) {
@@ -74,39 +88,56 @@ fn token_named(policy: PolicyId, name: &[u8]) -> Option<Token>
     }
 }
 
-// POLICY, whose token has no name, or POLICY.TOKEN.
-fn token_by(names: &Names, policy: &[u8], name: Option<&[u8]>) -> Option<Token>
-    ensures { result ≡ token_by names.now policy.now (option_copied name.entry) }
+fn token_named(policy: PolicyId, name: &[u8]) -> Result<Token, Reason<'_>>
+    ensures { result_ok result
+        ≡ if is_token_name name.now then Some (token policy name.now) else None }
 {
-    let policy = policy_named(names, policy)?;
+    match make_token(policy, name) {
+        Some(token) => Ok(token),
+        None => Err(Reason::TokenName(name)),
+    }
+}
+
+// POLICY, whose token has no name, or POLICY.TOKEN.
+fn token_by<'a>(
+    names: &Names,
+    policy: &'a [u8],
+    name: Option<&'a [u8]>,
+) -> Result<Token, Reason<'a>>
+    ensures { result_ok result ≡ token_by names.now policy.now (option_copied name.entry) }
+{
+    let hash = policy_named(names, policy)?;
     match name {
-        Some(name) => token_named(policy, name),
-        None => Token::of(&policy, b""),
+        Some(name) => token_named(hash, name),
+        None => Ok(Token {
+            policy: hash,
+            name: Token::COIN.name,
+        }),
     }
 }
 
 // Coin is meant where no token is named.
-fn token_of(names: &Names, word: Option<&[u8]>) -> Option<Token>
-    ensures { result ≡ token_of names.now (option_copied word.entry) }
+fn token_of<'a>(names: &Names, word: Option<&'a [u8]>) -> Result<Token, Reason<'a>>
+    ensures { result_ok result ≡ token_of names.now (option_copied word.entry) }
 {
     match word {
         Some(word) => {
             let (policy, name) = split_once(word, b'.');
             token_by(names, policy, name)
         }
-        None => Some(Token::COIN),
+        None => Ok(Token::COIN),
     }
 }
 
 // Q, Q*POLICY or Q*POLICY.TOKEN.
 #[tactic(auto, unfolding(crate::specs::Bundles::entry_of))]
-fn entry_of(names: &Names, word: &[u8]) -> Option<Entry>
-    ensures { result ≡ entry_of names.now word.now }
+fn entry_of<'a>(names: &Names, word: &'a [u8]) -> Result<Entry, Reason<'a>>
+    ensures { result_ok result ≡ entry_of names.now word.now }
 {
     let (quantity, token) = split_once(word, b'*');
-    let token = token_of(names, token)?;
     let quantity = signed_quantity(quantity)?;
-    Some((token, quantity))
+    let token = token_of(names, token)?;
+    Ok((token, quantity))
 }
 
 fn follows(before: Option<Token>, token: &Token) -> bool
@@ -147,40 +178,74 @@ fn is_faultless(entries: &[Entry]) -> bool
 }
 
 // The entries between commas, in rising order.
-fn entries_of(memory: Memory, names: &Names, word: &[u8]) -> Result<Vec<Entry, Memory>, LineFault>
+fn entries_of<'a>(
+    memory: Memory,
+    names: &Names,
+    word: &'a [u8],
+) -> Result<Vec<Entry, Memory>, LineFault<'a>>
     ensures { Gives (λ v. v.items)
         (put_entries names.now [] (slice_split (λ b. b == 44) word.now)) result }
 {
     let mut entries = Vec::new(memory);
     let mut rest = Some(word);
     while let Some(part) = rest {
-        let (first, others) = split_once(part, b',');
-        let Some(entry) = entry_of(names, first) else {
-            return Err(LineFault::Bad);
-        };
+        let (first, others) = split_once(part, COMMA);
+        let entry = entry_of(names, first)?;
         insert_rising(&mut entries, entry)?;
         rest = others;
     }
     Ok(entries)
 }
 
-fn bundle_by(memory: Memory, entries: Vec<Entry, Memory>) -> Result<Bundle, LineFault>
+// The first entry whose token an earlier one has, unless one before it is bad.
+fn repeat_in<'a>(names: &Names, word: &'a [u8]) -> Option<Reason<'a>> {
+    first_repeat(
+        word,
+        COMMA,
+        |entry| entry_of(names, entry).is_err(),
+        |one, other| match (entry_of(names, one), entry_of(names, other)) {
+            (Ok((first, _)), Ok((second, _))) => first == second,
+            _ => false,
+        },
+    )
+}
+
+// Entries that were read have no fault but a token that stands twice. Which one it is isn't known here.
+fn bundle_by<'a>(
+    memory: Memory,
+    entries: Vec<Entry, Memory>,
+    word: &'a [u8],
+) -> Result<Bundle, LineFault<'a>>
     ensures { Reads (bundle_by entries.items) result }
 {
     if !is_faultless(&entries) {
-        return Err(LineFault::Bad);
+        return Err(LineFault::Bad(Reason::Repeats {
+            later: word,
+            earlier: word,
+        }));
     }
     Ok(Bundle::of_faultless(memory, entries)?)
 }
 
-/// The bundle that a word is: entries in any order between commas, or `-` for none. No token may stand twice.
 #[tactic(auto, unfolding(crate::specs::Bundles::bundle_of))]
-pub fn bundle_of(memory: Memory, names: &Names, word: &[u8]) -> Result<Bundle, LineFault>
+fn read_bundle<'a>(memory: Memory, names: &Names, word: &'a [u8]) -> Result<Bundle, LineFault<'a>>
     ensures { Reads (bundle_of names.now word.now) result }
 {
     if word == b"-".as_slice() {
         return Ok(Bundle::empty());
     }
     let entries = entries_of(memory, names, word)?;
-    bundle_by(memory, entries)
+    bundle_by(memory, entries, word)
+}
+
+/// The bundle that a word is: entries in any order between commas, or `-` for none. No token may stand twice.
+pub fn bundle_of<'a>(memory: Memory, names: &Names, word: &'a [u8]) -> Result<Bundle, LineFault<'a>>
+    ensures { Reads (bundle_of names.now word.now) result }
+{
+    match read_bundle(memory, names, word) {
+        Err(LineFault::Bad(reason)) => {
+            Err(LineFault::Bad(repeat_in(names, word).unwrap_or(reason)))
+        }
+        read => read,
+    }
 }

@@ -3,37 +3,46 @@
 ghost use Rattle.std.specs.Prelude.{◌≡◌};
 ghost use Rattle.mp_names.specs.declared.fault.LineFault.TheVariants as line_faults;
 
+use crate::reason::Reason;
 use mp_memory::NoMemory;
 use std::alloc::{AllocError, AllocFailed};
 
 /// Why a line does nothing.
 #[derive(Clone, Copy)]
-pub enum LineFault {
+pub enum LineFault<'a> {
     NoMemory,
-    /// The line is none of the language.
-    Bad,
+    /// The line is none of the language, and this is wrong with it.
+    Bad(Reason<'a>),
 }
 
-impl From<NoMemory> for LineFault {
+impl<'a> From<Reason<'a>> for LineFault<'a> {
+    ghost from_gives = { λ reason e. e ≡ line_faults.Bad reason };
+
+    fn from(reason: Reason<'a>) -> LineFault<'a> {
+        LineFault::Bad(reason)
+    }
+}
+
+impl<'a> From<NoMemory> for LineFault<'a> {
     ghost from_gives = { λ _ e. e ≡ line_faults.NoMemory };
 
-    fn from(_error: NoMemory) -> LineFault {
+    fn from(_error: NoMemory) -> LineFault<'a> {
         LineFault::NoMemory
     }
 }
 
-impl<T: Drop> From<AllocFailed<T>> for LineFault {
+impl<'a, T: Drop> From<AllocFailed<T>> for LineFault<'a> {
     ghost from_gives = { λ _ e. e ≡ line_faults.NoMemory };
 
-    fn from(_refused: AllocFailed<T>) -> LineFault {
+    fn from(_refused: AllocFailed<T>) -> LineFault<'a> {
         LineFault::NoMemory
     }
 }
 
-impl From<AllocError> for LineFault {
+impl<'a> From<AllocError> for LineFault<'a> {
     ghost from_gives = { λ _ e. e ≡ line_faults.NoMemory };
 
-    fn from(_error: AllocError) -> LineFault {
+    fn from(_error: AllocError) -> LineFault<'a> {
         LineFault::NoMemory
     }
 }

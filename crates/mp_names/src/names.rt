@@ -1,11 +1,13 @@
 //! What the names of a scenario stand for.
 
-ghost use Rattle.std.specs.Prelude.{◌≡◌, [], ◌∷◌, ◌++◌, find, option_copied, IfOk, OnOk};
+ghost use Rattle.std.specs.Prelude.{◌≡◌, [], ◌∷◌, ◌++◌, find, nat_eq, option_copied, IfOk, OnOk};
+ghost use Rattle.std.specs.Cmp.Lexicographic.{pointwise};
 ghost use Rattle.mp_names.specs.Names.{first_names, has_hash};
 
 use crate::binding_table::BindingTable;
 use crate::declared_tx::DeclaredTx;
 use crate::payment::Payment;
+use crate::reason::Reason;
 use mp_bundle::{PolicyId, Token};
 use mp_bytes::Hash;
 use mp_memory::{Memory, NoMemory};
@@ -176,8 +178,30 @@ fn has_hash(script: &Script, hash: &Hash) -> bool
     *hash == *script.hash()
 }
 
+fn script_under<'a>(scripts: &'a [NamedScript], word: &[u8]) -> Option<&'a NamedScript>
+    ensures { option_copied result ≡ find (λ n. pointwise nat_eq word.now n.name) scripts.now }
+{
+    scripts.iter().find(|named| word == named.name.as_bytes())
+}
+
+fn datum_under<'a>(datums: &'a [NamedDatum], word: &[u8]) -> Option<&'a NamedDatum>
+    ensures { option_copied result ≡ find (λ n. pointwise nat_eq word.now n.name) datums.now }
+{
+    datums.iter().find(|named| word == named.name.as_bytes())
+}
+
+/// Why a word that isn't new can't be declared: it is no name, or is taken.
+pub fn refused_name(word: &[u8]) -> Reason<'_> {
+    if is_name(word) {
+        Reason::Taken(word)
+    } else {
+        Reason::NoName(word)
+    }
+}
+
 impl Names {
     ghost use Rattle.std.specs.Prelude.{◌≡◌, [], ◌∷◌, ◌++◌, IfOk, OnOk, OnErr, option_copied, option_map};
+    ghost use Rattle.std.specs.Result.{result_ok};
     ghost use Rattle.mp_names.specs.Names.{first_names, binding_named, script_named, datum_named, tx_named, is_new_binding, is_new_script, is_new_datum, name_of, policy_name, with_binding, with_script, with_datum};
 
     /// The names that are declared beforehand.
@@ -254,34 +278,32 @@ impl Names {
     }
 
     /// The script that the word stands for, if there is one.
-    pub fn script(&self, word: &[u8]) -> Option<&Script>
-        ensures { option_copied result ≡ script_named word.now self.now }
+    pub fn script<'a>(&self, word: &'a [u8]) -> Result<&Script, Reason<'a>>
+        ensures { option_copied (result_ok result) ≡ script_named word.now self.now }
     {
-        let found = self
-            .scripts
-            .iter()
-            .find(|named| word == named.name.as_bytes())?;
-        Some(&found.script)
+        match script_under(&self.scripts, word) {
+            Some(named) => Ok(&named.script),
+            None => Err(Reason::NoScript(word)),
+        }
     }
 
     /// The datum that the word stands for, if there is one.
-    pub fn datum(&self, word: &[u8]) -> Option<&Data>
-        ensures { option_copied result ≡ datum_named word.now self.now }
+    pub fn datum<'a>(&self, word: &'a [u8]) -> Result<&Data, Reason<'a>>
+        ensures { option_copied (result_ok result) ≡ datum_named word.now self.now }
     {
-        let found = self
-            .datums
-            .iter()
-            .find(|named| word == named.name.as_bytes())?;
-        Some(&found.datum)
+        match datum_under(&self.datums, word) {
+            Some(named) => Ok(&named.datum),
+            None => Err(Reason::NoData(word)),
+        }
     }
 
     /// The transaction that the word stands for, if there is one.
-    pub fn tx(&self, word: &[u8]) -> Option<&DeclaredTx>
-        ensures { option_copied result ≡ tx_named word.now self.now }
+    pub fn tx<'a>(&self, word: &'a [u8]) -> Result<&DeclaredTx, Reason<'a>>
+        ensures { option_copied (result_ok result) ≡ tx_named word.now self.now }
     {
         match self.binding(word) {
-            Some(Binding::Made(tx)) => Some(tx),
-            _ => None,
+            Some(Binding::Made(tx)) => Ok(tx),
+            _ => Err(Reason::NoTransaction(word)),
         }
     }
 
@@ -296,13 +318,13 @@ impl Names {
     pub fn is_new_script(&self, word: &[u8]) -> bool
         ensures { result ≡ is_new_script word.now self.now }
     {
-        is_name(word) && word != COIN && self.script(word).is_none()
+        is_name(word) && word != COIN && self.script(word).is_err()
     }
 
     /// Whether the word is a name that no datum has.
     pub fn is_new_datum(&self, word: &[u8]) -> bool
         ensures { result ≡ is_new_datum word.now self.now }
     {
-        is_name(word) && self.datum(word).is_none()
+        is_name(word) && self.datum(word).is_err()
     }
 }

@@ -1,13 +1,15 @@
 //! The ledger state that a scenario's pool is to adopt.
 
-ghost use Rattle.std.specs.Prelude.{◌≡◌, None, Some, OnOk, OnErr, IsErrOf, option_copied};
+ghost use Rattle.std.specs.Prelude.{◌≡◌, None, Some, OnOk, OnErr, option_copied};
 ghost use Rattle.std.specs.List.{list_any};
 ghost use Rattle.mp_tx.specs.Reference.{same_ref};
 ghost use Rattle.mp_tx.specs.Ledger.{refs, AreDistinct};
+ghost use Rattle.mp_names.specs.Fault.{IsBad};
 ghost use Rattle.mp_names.specs.Outputs.{with_output};
 
 use crate::fault::LineFault;
 use crate::payment::Payment;
+use crate::reason::Reason;
 use crate::settings::BlockBytes;
 use mp_memory::Memory;
 use mp_tx::{OutRef, Output};
@@ -48,21 +50,22 @@ fn has_reference(entries: &[(OutRef, Output)], reference: &OutRef) -> bool
 }
 
 // Puts the output last, unless the reference stands there.
-fn put_output(
+fn put_output<'a>(
     entries: &mut Vec<(OutRef, Output), Memory>,
     reference: OutRef,
     payment: &Payment,
-) -> Result<(), LineFault>
+    reason: Reason<'a>,
+) -> Result<(), LineFault<'a>>
     ensures ok { OnOk result
         (with_output entries.old.items (Some reference) (Some payment.now)
         ≡ Some entries.new.items) }
-    ensures bad { IsErrOf result LineFault.Bad
+    ensures bad { IsBad result
         → with_output entries.old.items (Some reference) (Some payment.now) ≡ None }
     ensures err { OnErr result (entries.new.items ≡ entries.old.items) }
     ensures distinct { AreDistinct (refs entries.old.items) → AreDistinct (refs entries.new.items) }
 {
     if has_reference(entries, &reference) {
-        return Err(LineFault::Bad);
+        return Err(LineFault::Bad(reason));
     }
     let output = payment.to_output()?;
     entries.push((reference, output))?;
@@ -70,7 +73,8 @@ fn put_output(
 }
 
 impl Outputs {
-    ghost use Rattle.std.specs.Prelude.{◌≡◌, [], None, Some, OnOk, OnErr, IsErrOf, option_copied};
+    ghost use Rattle.std.specs.Prelude.{◌≡◌, [], None, Some, OnOk, OnErr, option_copied};
+    ghost use Rattle.mp_names.specs.Fault.{IsBad};
     ghost use Rattle.mp_tx.specs.Ledger.{refs, AreDistinct};
     ghost use Rattle.mp_names.specs.Outputs.{with_output};
 
@@ -83,16 +87,21 @@ impl Outputs {
         }
     }
 
-    /// Puts the output last that has the reference and pays this, unless the reference stands there. After an `Err` the
-    /// outputs are as they were.
-    pub fn push(&mut self, reference: OutRef, payment: &Payment) -> Result<(), LineFault>
+    /// Puts the output last that has the reference and pays this, unless the reference stands there: then it is `Bad` for the
+    /// reason given. After an `Err` the outputs are as they were.
+    pub fn push<'a>(
+        &mut self,
+        reference: OutRef,
+        payment: &Payment,
+        reason: Reason<'a>,
+    ) -> Result<(), LineFault<'a>>
         ensures ok { OnOk result
             (with_output self.old (Some reference) (Some payment.now) ≡ Some self.new) }
-        ensures bad { IsErrOf result LineFault.Bad
+        ensures bad { IsBad result
             → with_output self.old (Some reference) (Some payment.now) ≡ None }
         ensures err { OnErr result (self.new ≡ self.old) }
     {
-        put_output(&mut self.entries, reference, payment)
+        put_output(&mut self.entries, reference, payment, reason)
     }
 
     /// The outputs under their references.

@@ -1,18 +1,24 @@
 //! What may stand once.
 
-ghost use Rattle.std.specs.Prelude.{◌≡◌, None, Some, OnOk, IsErrOf};
+ghost use Rattle.std.specs.Prelude.{◌≡◌, None, Some, OnOk};
+ghost use Rattle.mp_names.specs.Fault.{IsBad};
 ghost use Rattle.mp_names.specs.Once.{set_once};
 
 use crate::fault::LineFault;
+use crate::reason::Reason;
 
-/// Sets what isn't set yet. `Bad` says that it was, and then it stays as it was.
-pub fn set_once<T: Drop>(set: &mut Option<T>, value: T) -> Result<(), LineFault>
+/// Sets what isn't set yet. `Bad` says that it was, for the reason given, and then it stays as it was.
+pub fn set_once<'a, T: Drop>(
+    set: &mut Option<T>,
+    value: T,
+    reason: Reason<'a>,
+) -> Result<(), LineFault<'a>>
     ensures ok { OnOk result (set_once set.old value ≡ Some set.new) }
-    ensures bad { IsErrOf result LineFault.Bad → set_once set.old value ≡ None }
-    ensures stays { IsErrOf result LineFault.Bad → set.new ≡ set.old }
+    ensures bad { IsBad result → set_once set.old value ≡ None }
+    ensures stays { IsBad result → set.new ≡ set.old }
 {
     if set.is_some() {
-        return Err(LineFault::Bad);
+        return Err(LineFault::Bad(reason));
     }
     *set = Some(value);
     Ok(())

@@ -1,6 +1,7 @@
 //! Payments, as words write them.
 
 ghost use Rattle.std.specs.Prelude.{◌≡◌, Ok, IfOk, option_copied};
+ghost use Rattle.std.specs.Result.{result_ok};
 ghost use Rattle.mp_names.specs.Payments.{script_or_yes, datum_or_unit, lock_words, payment_of};
 ghost use Rattle.mp_names.specs.Fault.{Reads};
 
@@ -8,6 +9,7 @@ use crate::bundles::bundle_of;
 use crate::fault::LineFault;
 use crate::names::Names;
 use crate::payment::Payment;
+use crate::reason::Reason;
 use crate::splitting::split_once;
 use mp_bundle::Bundle;
 use mp_memory::{Memory, NoMemory};
@@ -18,8 +20,12 @@ const YES: &[u8] = b"yes";
 const UNIT: &[u8] = b"unit";
 
 /// The script that a word names; `yes` where there is no word.
-pub fn script_or_yes<'a>(names: &'a Names, word: Option<&[u8]>) -> Option<&'a Script>
-    ensures { option_copied result ≡ script_or_yes names.now (option_copied word.entry) }
+pub fn script_or_yes<'n, 'a>(
+    names: &'n Names,
+    word: Option<&'a [u8]>,
+) -> Result<&'n Script, Reason<'a>>
+    ensures { option_copied (result_ok result)
+        ≡ script_or_yes names.now (option_copied word.entry) }
 {
     match word {
         Some(word) => names.script(word),
@@ -28,8 +34,12 @@ pub fn script_or_yes<'a>(names: &'a Names, word: Option<&[u8]>) -> Option<&'a Sc
 }
 
 /// The datum that a word names; `unit` where there is no word.
-pub fn datum_or_unit<'a>(names: &'a Names, word: Option<&[u8]>) -> Option<&'a Data>
-    ensures { option_copied result ≡ datum_or_unit names.now (option_copied word.entry) }
+pub fn datum_or_unit<'n, 'a>(
+    names: &'n Names,
+    word: Option<&'a [u8]>,
+) -> Result<&'n Data, Reason<'a>>
+    ensures { option_copied (result_ok result)
+        ≡ datum_or_unit names.now (option_copied word.entry) }
 {
     match word {
         Some(word) => names.datum(word),
@@ -67,17 +77,17 @@ fn pay(memory: Memory, value: Bundle, script: &Script, datum: &Data) -> Result<P
 
 /// The payment that a word is: a bundle, and behind an at sign the script that locks it and its datum.
 #[tactic(auto, unfolding(crate::specs::Payments::payment_of))]
-pub fn payment_of(memory: Memory, names: &Names, word: &[u8]) -> Result<Payment, LineFault>
+pub fn payment_of<'a>(
+    memory: Memory,
+    names: &Names,
+    word: &'a [u8],
+) -> Result<Payment, LineFault<'a>>
     ensures { Reads (payment_of names.now word.now) result }
 {
     let (bundle, lock) = split_once(word, b'@');
-    let (script, datum) = lock_words(lock);
-    let Some(script) = script_or_yes(names, script) else {
-        return Err(LineFault::Bad);
-    };
-    let Some(datum) = datum_or_unit(names, datum) else {
-        return Err(LineFault::Bad);
-    };
     let value = bundle_of(memory, names, bundle)?;
+    let (script, datum) = lock_words(lock);
+    let script = script_or_yes(names, script)?;
+    let datum = datum_or_unit(names, datum)?;
     Ok(pay(memory, value, script, datum)?)
 }

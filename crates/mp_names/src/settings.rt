@@ -1,6 +1,7 @@
 //! Settings of a scenario.
 
-use mp_text::number;
+use crate::numbers::{any_number, number_in};
+use crate::reason::Reason;
 use mp_tx::MAX_BLOCK_BYTES;
 use std::marker::Model;
 
@@ -25,19 +26,16 @@ impl Model for BlockBytes {
 
 impl BlockBytes {
     ghost use Rattle.std.specs.Prelude.{◌≡◌};
+    ghost use Rattle.std.specs.Result.{result_ok};
     ghost use Rattle.mp_tx.specs.Ledger.{HasBlockBytes};
     ghost use Rattle.mp_names.specs.Settings.{block_bytes_of};
 
     /// What a word tells, if it is a number in the range.
-    pub fn parse(word: &[u8]) -> Option<BlockBytes>
-        ensures { result ≡ block_bytes_of word.now }
+    pub fn parse(word: &[u8]) -> Result<BlockBytes, Reason<'_>>
+        ensures { result_ok result ≡ block_bytes_of word.now }
     {
-        let bytes = number(word)?;
-        if 1 <= bytes && bytes <= MAX_BLOCK_BYTES {
-            Some(BlockBytes { bytes })
-        } else {
-            None
-        }
+        let bytes = number_in(word, 1, MAX_BLOCK_BYTES)?;
+        Ok(BlockBytes { bytes })
     }
 
     /// The number.
@@ -68,18 +66,15 @@ impl Model for Limit {
 
 impl Limit {
     ghost use Rattle.std.specs.Prelude.{◌≡◌};
+    ghost use Rattle.std.specs.Result.{result_ok};
     ghost use Rattle.mp_names.specs.Settings.{IsLimit, limit_of};
 
     /// What a word tells, if it is a number in the range.
-    pub fn parse(word: &[u8]) -> Option<Limit>
-        ensures { result ≡ limit_of word.now }
+    pub fn parse(word: &[u8]) -> Result<Limit, Reason<'_>>
+        ensures { result_ok result ≡ limit_of word.now }
     {
-        let changes = number(word)?;
-        if 1 <= changes && changes <= MAX_LIMIT {
-            Some(Limit { changes })
-        } else {
-            None
-        }
+        let changes = number_in(word, 1, MAX_LIMIT)?;
+        Ok(Limit { changes })
     }
 
     /// The number.
@@ -104,39 +99,40 @@ pub enum Setting {
 
 impl Setting {
     ghost use Rattle.std.specs.Prelude.{◌≡◌, option_map};
+    ghost use Rattle.std.specs.Result.{result_ok};
     ghost use Rattle.mp_text.specs.Numbers.{number_of};
     ghost use Rattle.mp_names.specs.declared.settings.Setting.TheVariants as told;
     ghost use Rattle.mp_names.specs.Settings.{block_bytes_of, limit_of};
 
     /// The bytes of a block that a word tells.
-    pub fn block_bytes(word: &[u8]) -> Option<Setting>
-        ensures { result ≡ option_map told.BlockBytes (block_bytes_of word.now) }
+    pub fn block_bytes(word: &[u8]) -> Result<Setting, Reason<'_>>
+        ensures { result_ok result ≡ option_map told.BlockBytes (block_bytes_of word.now) }
     {
         let bytes = BlockBytes::parse(word)?;
-        Some(Setting::BlockBytes(bytes))
+        Ok(Setting::BlockBytes(bytes))
     }
 
     /// The changes that a word tells.
-    pub fn limit(word: &[u8]) -> Option<Setting>
-        ensures { result ≡ option_map told.Limit (limit_of word.now) }
+    pub fn limit(word: &[u8]) -> Result<Setting, Reason<'_>>
+        ensures { result_ok result ≡ option_map told.Limit (limit_of word.now) }
     {
         let limit = Limit::parse(word)?;
-        Some(Setting::Limit(limit))
+        Ok(Setting::Limit(limit))
     }
 
     /// The last ticket that a word tells.
-    pub fn last(word: &[u8]) -> Option<Setting>
-        ensures { result ≡ option_map told.Last (number_of word.now) }
+    pub fn last(word: &[u8]) -> Result<Setting, Reason<'_>>
+        ensures { result_ok result ≡ option_map told.Last (number_of word.now) }
     {
-        let ticket = number(word)?;
-        Some(Setting::Last(ticket))
+        let ticket = any_number(word)?;
+        Ok(Setting::Last(ticket))
     }
 
     /// The tick that a word tells.
-    pub fn tick(word: &[u8]) -> Option<Setting>
-        ensures { result ≡ option_map told.Tick (number_of word.now) }
+    pub fn tick(word: &[u8]) -> Result<Setting, Reason<'_>>
+        ensures { result_ok result ≡ option_map told.Tick (number_of word.now) }
     {
-        let tick = number(word)?;
-        Some(Setting::Tick(tick))
+        let tick = any_number(word)?;
+        Ok(Setting::Tick(tick))
     }
 }

@@ -1,9 +1,9 @@
 //! Scenarios whose last line is bad, and what is said of it.
 
-use anyhow::{Context, Result};
-use mp_driver::{Fault, run};
-use mp_explain::explain;
+use anyhow::{Context, Result, ensure};
+use mp_driver::{Stop, answer_text};
 use mp_memory::Memory;
+use mp_text::MAX_BYTES;
 use std::alloc::Global;
 use std::fs;
 use std::rt::Files;
@@ -23,11 +23,9 @@ fn lines_of(alloc: Global, text: &str) -> Result<Vec<u8>> {
 
 // What is said of the bad line that ends the scenario; nothing where none does.
 fn explanation_of(alloc: Global, memory: Memory, scenario: &[u8]) -> Result<String> {
-    let mut reader = scenario;
+    ensure!(scenario.len() <= MAX_BYTES, "a scenario is too long");
     let mut written = Vec::new(alloc);
-    if let Err(Fault::BadLine(number)) = run(memory, &mut reader, &mut written)
-        && let Some(reason) = explain(memory, scenario, number)
-    {
+    if let Err(Stop::BadLine(number, reason)) = answer_text(memory, scenario, &mut written) {
         return Ok(format!(in alloc; "bad line {number}: {reason}")?);
     }
     Ok(String::new(alloc))

@@ -1,49 +1,50 @@
 //! What is wrong with a line.
 
 use mp_script::{DataFault, ScriptFault};
-use std::fmt;
+use std::{fmt, str};
 
 /// What is wrong with a line. Its text is what the program prints behind the line's number.
 #[derive(Clone, Copy)]
 pub enum Reason<'a> {
     LongLine,
     Byte(u8),
-    FirstWord(&'a str),
-    FewWords(&'static str),
-    ManyWords(&'static str),
-    Form(&'static str),
-    NoName(&'a str),
-    Taken(&'a str),
-    NoTransaction(&'a str),
-    NoOutput(&'a str),
-    NoScript(&'a str),
-    NoData(&'a str),
+    FirstWord(&'a [u8]),
+    FewWords(&'a [u8]),
+    ManyWords(&'a [u8]),
+    NoName(&'a [u8]),
+    Taken(&'a [u8]),
+    NoTransaction(&'a [u8]),
+    NoOutput(&'a [u8]),
+    NoScript(&'a [u8]),
+    NoData(&'a [u8]),
     Number {
-        word: &'a str,
+        word: &'a [u8],
         least: u64,
         most: u64,
     },
-    Quantity(&'a str),
-    TokenName(&'a str),
-    Digits(&'a str),
-    ScriptBytes(&'a str, ScriptFault),
-    DataBytes(&'a str, DataFault),
-    Item(&'a str),
+    Quantity(&'a [u8]),
+    TokenName(&'a [u8]),
+    Digits(&'a [u8]),
+    ScriptBytes(&'a [u8], ScriptFault),
+    DataBytes(&'a [u8], DataFault),
+    Item(&'a [u8]),
     /// Two words of the line, where no two may stand for the same.
     Repeats {
-        later: &'a str,
-        earlier: &'a str,
+        later: &'a [u8],
+        earlier: &'a [u8],
     },
     Interval,
     LargeTransaction,
     LateSetting,
-    SetBefore(&'static str),
+    SetBefore(&'a [u8]),
     LateOutput,
     ManyOutputs,
 }
 
+const NOTHING: &[u8] = b"";
+
 // A text round a word.
-type Told<'a> = (&'static str, &'a str, &'static str);
+type Told<'a> = (&'static str, &'a [u8], &'static str);
 
 const NAME: &str =
     "' is no name: a lower-case letter, and then up to 15 lower-case letters or digits";
@@ -63,11 +64,10 @@ impl<'a> Reason<'a> {
     // What is told round one word, or with none.
     fn tell(&self) -> Told<'a> {
         match *self {
-            Reason::LongLine => ("a line has at most 4096 bytes", "", ""),
+            Reason::LongLine => ("a line has at most 4096 bytes", NOTHING, ""),
             Reason::FirstWord(word) => ("no line begins with '", word, "'"),
             Reason::FewWords(form) => ("too few words, expected '", form, "'"),
             Reason::ManyWords(form) => ("too many words, expected '", form, "'"),
-            Reason::Form(form) => ("expected '", form, "'"),
             Reason::NoName(word) => ("'", word, NAME),
             Reason::Taken(word) => ("the name '", word, "' is taken"),
             Reason::NoTransaction(word) => ("no transaction '", word, "'"),
@@ -82,21 +82,26 @@ impl<'a> Reason<'a> {
             Reason::DataBytes(word, _) => ("'", word, "' isn't the bytes of a datum: "),
             Reason::Item(word) => ("'", word, ITEM),
             Reason::Repeats { later, .. } => ("'", later, "' repeats '"),
-            Reason::Interval => ("the interval ends before it begins", "", ""),
-            Reason::LargeTransaction => (LARGE, "", ""),
-            Reason::LateSetting => ("a setting stands above the first command", "", ""),
+            Reason::Interval => ("the interval ends before it begins", NOTHING, ""),
+            Reason::LargeTransaction => (LARGE, NOTHING, ""),
+            Reason::LateSetting => ("a setting stands above the first command", NOTHING, ""),
             Reason::SetBefore(word) => ("'", word, "' was set before"),
-            Reason::LateOutput => ("an output stands above the first command", "", ""),
-            Reason::ManyOutputs => ("there are at most 65536 outputs", "", ""),
-            Reason::Byte(_) => ("it has the byte ", "", ""),
+            Reason::LateOutput => ("an output stands above the first command", NOTHING, ""),
+            Reason::ManyOutputs => ("there are at most 65536 outputs", NOTHING, ""),
+            Reason::Byte(_) => ("it has the byte ", NOTHING, ""),
         }
     }
+}
+
+// The bytes of a line that isn't bad for its bytes are a text.
+fn text_of(word: &[u8]) -> &str {
+    str::from_utf8(word).unwrap_or("")
 }
 
 fn put_told<W: fmt::Write>(f: &mut fmt::Formatter<W>, told: Told<'_>) -> fmt::Result {
     let (before, word, after) = told;
     f.write_str(before)?;
-    f.write_str(word)?;
+    f.write_str(text_of(word))?;
     f.write_str(after)
 }
 

@@ -1,7 +1,7 @@
 use Rattle.std.proofs.Common.{◌≡◌, [], length}
 use Rattle.mp_text.specs.Words.{words_of}
 use Rattle.mp_lines.specs.Lines.{put_outputs}
-use Rattle.mp_lines.proofs.commands.outputs_of.Given as goal
+use Rattle.mp_lines.proofs.commands.read_outputs.Given as goal
 
 -- the rest makes of those so far what all make of none
 abbrev pub invariant-loop-word : goal.invariant-loop-word

@@ -1,0 +1,29 @@
+//! Why the answers to a text end before it does.
+
+ghost use Rattle.std.specs.Prelude.{◌≡◌};
+ghost use Rattle.mp_driver.specs.Ending.{fault_of};
+
+use crate::fault::Fault;
+use mp_names::Reason;
+
+/// Why the answers to a text end before it does.
+#[derive(Clone, Copy)]
+pub enum Stop<'a> {
+    NoMemory,
+    /// The number of the bad line, from 1, and what is wrong with it.
+    BadLine(u64, Reason<'a>),
+    Write,
+}
+
+impl Stop<'_> {
+    /// The fault that a run ends with.
+    pub fn fault(&self) -> Fault
+        ensures { result ≡ fault_of self.now }
+    {
+        match self {
+            Stop::NoMemory => Fault::NoMemory,
+            Stop::BadLine(number, _) => Fault::BadLine(*number),
+            Stop::Write => Fault::WriteFault,
+        }
+    }
+}
