@@ -1,3 +1,3 @@
 pub mod Numbered
-pub mod Lawful
+pub mod Alone
 pub mod Progress

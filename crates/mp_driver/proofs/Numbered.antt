@@ -19,22 +19,16 @@ weaken a b lt = omega arith
 same_not_less : (a b : ℕ) → a ≡ b → a < b → ⊥
 same_not_less a b e lt = omega arith
 
-pub no_repeat : (es : List (OutRef × Output)) (place : ℕ) → AreNumbered es → IsFirstRepeat (refs es) place → ⊥
-no_repeat es place n h =
-    let d : OutRef = opening_ref 0 in
-    let e : OutRef × Output = (d, record { address = []; datum_hash = []; value = [] }) in
-    let rs : List OutRef = refs es in
-    let r : OutRef = get_or rs place d in
-    let lt : place < length es = subst (λ m. place < m) (length-map es (λ (e : OutRef × Output). e.0)) h.within in
-    let again = h.again d in
-    let j : ℕ = again.0 in
-    let j_lt : j < place = subst (λ m. j < m) (length-take-le place rs (weaken place (length rs) h.within)) again.1 in
-    same_not_less j place
-    (sym (numbered-at es n j e r (below j place (length es) j_lt lt)) ∙ ap (λ (r : OutRef). r.index) (sym (get_or-take place rs j r j_lt) ∙ again.2) ∙ numbered-at es n place e d lt)
+pub numbered_apart : (es : List (OutRef × Output)) → AreNumbered es → AreDistinct (refs es)
+numbered_apart es n j k r j_lt k_lt same =
+    let e : OutRef × Output = (r, record { address = []; datum_hash = []; value = [] }) in
+    let lt : k < length es = subst (λ m. k < m) (length-map es (λ (e : OutRef × Output). e.0)) k_lt in
+    same_not_less j k
+    (sym (numbered-at es n j e r (below j k (length es) j_lt lt)) ∙ ap (λ (r : OutRef). r.index) same ∙ numbered-at es n k e r lt)
     j_lt
 
-pub no_repeat_apart : (rs : List OutRef) (place : ℕ) → AreDistinct rs → IsFirstRepeat rs place → ⊥
-no_repeat_apart rs place apart h =
+pub no_repeat : (rs : List OutRef) (place : ℕ) → AreDistinct rs → IsFirstRepeat rs place → ⊥
+no_repeat rs place apart h =
     let d : OutRef = opening_ref 0 in
     let r : OutRef = get_or rs place d in
     let again = h.again d in

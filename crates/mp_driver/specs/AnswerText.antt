@@ -68,10 +68,10 @@ answer_text names answer = told_text names answer ++ 10 ∷ []
 abbrev pub item_text : Names → ℕ × Transaction → List ℕ
 item_text names item = number_text item.0 ++ 58 ∷ name_of (id_of item.1) names
 
+-- the items, oldest first
+abbrev pub items_text : Names → List (ℕ × Transaction) → List ℕ
+items_text names items = flat_map (item_text names) items
+
 -- how many transactions, how many bytes, the last ticket
 abbrev pub numbers_text : Pool → List ℕ
 numbers_text p = number_text (length p.items) ++ number_text (bytes_held p) ++ number_text p.last
-
--- the numbers, and the items, oldest first
-unfoldable pub snapshot_text : Names → Pool → List ℕ
-snapshot_text names p = codes "snapshot" ++ numbers_text p ++ flat_map (item_text names) p.items ++ 10 ∷ []

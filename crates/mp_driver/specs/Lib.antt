@@ -1,7 +1,10 @@
 pub mod Settings
 pub mod Verifier
 pub mod AnswerText
+pub mod QueryText
 pub mod Scene
+pub mod Missing
+pub mod Halt
 pub mod Ending
 pub mod Fault
 pub mod Inside

@@ -3,6 +3,7 @@ use Rattle.std.specs.Prelude.{ℕ, ◌+◌, ◌^◌, nat_lt, List, [], ◌∷◌
 use Rattle.mp_tx.specs.declared.reference.OutRef.{OutRef}
 use Rattle.mp_tx.specs.declared.output.Output.{Output}
 use Rattle.mp_tx.specs.Ledger.{LedgerState, ledger_of}
+use Rattle.mp_resync.specs.Keep.{keep}
 use Rattle.mp_seqpool.specs.Command.{Command}
 use Rattle.mp_seqpool.specs.Command as commands
 use Rattle.mp_seqpool.specs.Pool.{Pool}
@@ -14,11 +15,13 @@ use Rattle.mp_names.specs.declared.new_ledger.NewLedger.{NewLedger}
 use Rattle.mp_names.specs.Names.{Names, first_names, with_binding, with_script, with_datum}
 use Rattle.mp_names.specs.Payments.{output_of}
 use Rattle.mp_names.specs.References.{opening_ref}
-use Rattle.mp_lines.specs.Lines.{Line, Blank, Sets, Script, Data, Out, Tx, Submit, Remove, Sync, Snapshot, line_of}
+use Rattle.mp_lines.specs.declared.query.Query.{Query}
+use Rattle.mp_lines.specs.Lines.{Line, Blank, Sets, Script, Data, Out, Tx, Submit, Remove, Sync, For, Asks, line_of}
 use Rattle.mp_driver.specs.declared.settings.Settings.{Settings}
 use Rattle.mp_driver.specs.Settings.{no_settings, with_setting, block_bytes_of, limit_of, last_of, tick_of}
 use Rattle.mp_driver.specs.Verifier.{is_key_and_id}
-use Rattle.mp_driver.specs.AnswerText.{answer_text, snapshot_text}
+use Rattle.mp_driver.specs.AnswerText.{answer_text}
+use Rattle.mp_driver.specs.QueryText.{query_text, for_text, cursor_after}
 
 -- the opening outputs before the first command, and the pool from it on
 pub data Stage : Type 0 where
@@ -28,10 +31,12 @@ pub data Stage : Type 0 where
 pub record Scene : Type 0 where
   pub names : Names
   pub settings : Settings
+  -- the last ticket that the peer was offered
+  pub cursor : ℕ
   pub stage : Stage
 
 abbrev pub empty_scene : Scene
-empty_scene = record { names = first_names; settings = no_settings; stage = Before [] }
+empty_scene = record { names = first_names; settings = no_settings; cursor = 0; stage = Before [] }
 
 -- the ledger state at the opening
 abbrev pub opening_ledger : Settings → List (OutRef × Output) → LedgerState
@@ -76,6 +81,17 @@ reply_to s c = (
   answer_text s.names (answer is_key_and_id (pool_at s.settings s.stage) c),
 )
 
+-- the pool stays as it is; an offer moves the cursor
+abbrev pub with_cursor : Scene → ℕ → Pool → Scene
+with_cursor s cursor p = record s { cursor = cursor; stage = Open p }
+
+abbrev pub answer_query : Scene → Pool → Query → Scene × List ℕ
+answer_query s p query = (with_cursor s (cursor_after s.cursor p query) p, query_text s.names s.cursor p query)
+
+-- what would stay upon this ledger state
+abbrev pub try_ledger : Scene → Pool → LedgerState → Scene × List ℕ
+try_ledger s p l = (with_pool s p, for_text s.names (keep is_key_and_id l p.items))
+
 -- where the line tells no bytes of a block, the setting holds
 abbrev pub ledger_at : Settings → NewLedger → LedgerState
 ledger_at g l = ledger_of l.tick (unwrap_or l.block_bytes (block_bytes_of g)) l.outputs
@@ -90,7 +106,8 @@ take s (Tx name t) = Some (with_names s (with_binding s.names (record { name = n
 take s (Submit t) = Some (reply_to s (commands.Submit t))
 take s (Remove ids) = Some (reply_to s (commands.Remove ids))
 take s (Sync l) = Some (reply_to s (commands.Sync (ledger_at s.settings l)))
-take s Snapshot = Some (with_pool s (pool_at s.settings s.stage), snapshot_text s.names (pool_at s.settings s.stage))
+take s (For l) = Some (try_ledger s (pool_at s.settings s.stage) (ledger_at s.settings l))
+take s (Asks query) = Some (answer_query s (pool_at s.settings s.stage) query)
 
 unfoldable pub line_step : Scene → List ℕ → Step
 line_step s line = option_and_then (take s) (line_of s.names line)
@@ -104,3 +121,8 @@ follow n others (Some step) = (step.1 ++ (others step.0).0, (others step.0).1)
 abbrev pub outcome : Scene → ℕ → List (List ℕ) → List ℕ × Option ℕ
 outcome s n [] = ([], None)
 outcome s n (line ∷ lines) = follow n (λ t. outcome t (n + 1) lines) (line_step s line)
+
+-- the scene after the lines, if none of them is bad
+abbrev pub reached : Scene → List (List ℕ) → Option Scene
+reached s [] = Some s
+reached s (line ∷ lines) = option_and_then (λ step. reached step.0 lines) (line_step s line)

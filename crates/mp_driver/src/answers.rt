@@ -1,13 +1,12 @@
 //! The lines that commands write.
 
-ghost use Rattle.std.specs.Prelude.{◌≡◌, ℕ, List, [], ◌∷◌, ◌++◌, length, flat_map, IfOk, OnOk, codes};
-ghost use Rattle.mp_driver.specs.AnswerText.{number_text, tickets_text, reply_text, refusal_text, told_text, answer_text, item_text, numbers_text, snapshot_text};
+ghost use Rattle.std.specs.Prelude.{◌≡◌, ◌++◌, IfOk, OnOk, codes};
+ghost use Rattle.mp_driver.specs.AnswerText.{number_text, tickets_text, reply_text, refusal_text, told_text, answer_text};
 
-use crate::pool::ScenarioPool;
 use crate::refusals::{put_number, put_refusal, put_word};
 use mp_memory::{Memory, NoMemory};
 use mp_names::Names;
-use mp_seqpool::{Answer, Item, Refusal, Reply};
+use mp_seqpool::{Answer, Refusal, Reply};
 
 type Text = Vec<u8, Memory>;
 
@@ -111,72 +110,6 @@ pub fn answer_line(memory: Memory, names: &Names, answer: &Answer) -> Result<Tex
 {
     let mut text = Vec::new(memory);
     put_answer(memory, &mut text, names, answer)?;
-    text.push(b'\n')?;
-    Ok(text)
-}
-
-fn put_item(
-    memory: Memory,
-    text: &mut Text,
-    names: &Names,
-    ticket: u64,
-    item: &Item,
-) -> Result<(), NoMemory>
-    ensures { OnOk result (text.new.items ≡ text.old.items
-        ++ item_text names.now (ticket, item.now.tx)) }
-{
-    put_number(memory, text, ticket)?;
-    text.push(b':')?;
-    text.extend_from_slice(names.name_of(item.tx.id()))?;
-    Ok(())
-}
-
-fn put_items(
-    memory: Memory,
-    text: &mut Text,
-    names: &Names,
-    pool: &ScenarioPool,
-) -> Result<(), NoMemory>
-    ensures { OnOk result (text.new.items ≡ text.old.items
-        ++ flat_map (item_text names.now) pool.now.items) }
-{
-    for (ticket, item) in pool.contents() {
-        put_item(memory, text, names, ticket, item)?;
-    }
-    Ok(())
-}
-
-// How many transactions there are, their bytes, and the last ticket.
-fn put_numbers(memory: Memory, text: &mut Text, pool: &ScenarioPool) -> Result<(), NoMemory>
-    ensures { OnOk result (text.new.items ≡ text.old.items ++ numbers_text pool.now) }
-{
-    put_number(memory, text, pool.len() as u64)?;
-    put_number(memory, text, pool.bytes())?;
-    put_number(memory, text, pool.last_ticket())
-}
-
-fn put_snapshot(
-    memory: Memory,
-    text: &mut Text,
-    names: &Names,
-    pool: &ScenarioPool,
-) -> Result<(), NoMemory>
-    ensures { OnOk result (text.new.items ≡ text.old.items
-        ++ (codes "snapshot" ++ numbers_text pool.now
-        ++ flat_map (item_text names.now) pool.now.items)) }
-{
-    put_word(text, b"snapshot")?;
-    put_numbers(memory, text, pool)?;
-    put_items(memory, text, names, pool)
-}
-
-/// The line of a snapshot.
-#[tactic(auto, unfolding(crate::specs::AnswerText::snapshot_text))]
-pub fn snapshot_line(memory: Memory, names: &Names, pool: &ScenarioPool) -> Result<Text, NoMemory>
-    ensures { IfOk result (λ text. text.items ≡ snapshot_text names.now pool.now) }
-{
-    let mut text = Vec::new(memory);
-    put_snapshot(memory, &mut text, names, pool)?;
     text.push(b'\n')?;
     Ok(text)
 }

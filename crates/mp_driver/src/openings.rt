@@ -29,7 +29,7 @@ impl Model for Openings {
 impl Openings {
     ghost use Rattle.std.specs.Prelude.{◌≡◌, ◌<◌, ◌^◌, [], ◌∷◌, ◌++◌, length, OnOk};
     ghost use Rattle.mp_names.specs.References.{opening_ref};
-    ghost use Rattle.mp_driver.specs.Inside.Openings.{AreNumbered};
+    ghost use Rattle.mp_tx.specs.Ledger.{refs, AreDistinct};
 
     /// No output.
     pub fn new(memory: Memory) -> Openings
@@ -72,7 +72,7 @@ impl Openings {
     /// The outputs under their references.
     pub fn into_entries(self) -> Vec<(OutRef, Output), Memory>
         ensures entries { result.items ≡ self }
-        ensures numbered { AreNumbered result.items }
+        ensures distinct { AreDistinct (refs result.items) }
     {
         let Openings { entries } = self;
         entries

@@ -1,8 +1,8 @@
 //! The settings of a scenario.
 
 use mp_lines::{BLOCK, LAST, LIMIT, TICK};
+use mp_mempool::Config;
 use mp_names::{BlockBytes, Limit, LineFault, Reason, Setting, set_once};
-use mp_seqpool::Config;
 
 const BLOCK_BYTES: u64 = 500_000;
 
@@ -23,6 +23,7 @@ impl Settings {
     ghost use Rattle.std.specs.Prelude.{◌≡◌, Some, None, OnOk};
     ghost use Rattle.mp_tx.specs.Ledger.{HasBlockBytes};
     ghost use Rattle.mp_names.specs.Fault.{IsBad};
+    ghost use Rattle.mp_names.specs.Settings.{IsLimit};
     ghost use Rattle.mp_driver.specs.Settings.{no_settings, with_setting, block_bytes_of, limit_of, last_of, tick_of};
 
     /// Nothing is set.
@@ -78,6 +79,7 @@ impl Settings {
     /// The limit, 1,000,000 where nothing is set, and the last ticket.
     pub fn config(&self) -> Config
         ensures limit { result.limit ≡ limit_of self.now }
+        ensures range { IsLimit result.limit }
         ensures last { result.last ≡ last_of self.now }
     {
         let limit = match &self.limit {

@@ -1,29 +1,44 @@
 //! Why the answers to a text end before it does.
 
 ghost use Rattle.std.specs.Prelude.{◌≡◌};
-ghost use Rattle.mp_driver.specs.Ending.{fault_of};
+ghost use Rattle.mp_driver.specs.Ending.{bad_line_of, fault_of};
 
 use crate::fault::Fault;
+use crate::missing_entry::MissingEntry;
+use mp_history::PoolName;
 use mp_names::Reason;
 
 /// Why the answers to a text end before it does.
-#[derive(Clone, Copy)]
-pub enum Stop<'a> {
+#[derive(Drop)]
+pub enum Stop<'a, N: PoolName> {
     NoMemory,
     /// The number of the bad line, from 1, and what is wrong with it.
     BadLine(u64, Reason<'a>),
     Write,
+    /// What was seen that no answer told of.
+    Missing(MissingEntry<N>),
 }
 
-impl Stop<'_> {
+impl<'a, N: PoolName> Stop<'a, N> {
+    /// The number of the bad line and what is wrong with it, if it is for one.
+    pub fn bad_line(&self) -> Option<(u64, Reason<'a>)>
+        ensures { result ≡ bad_line_of self.now }
+    {
+        match self {
+            Stop::BadLine(number, reason) => Some((*number, *reason)),
+            _ => None,
+        }
+    }
+
     /// The fault that a run ends with.
-    pub fn fault(&self) -> Fault
-        ensures { result ≡ fault_of self.now }
+    pub fn into_fault(self) -> Fault<N>
+        ensures { result ≡ fault_of self.entry }
     {
         match self {
             Stop::NoMemory => Fault::NoMemory,
-            Stop::BadLine(number, _) => Fault::BadLine(*number),
+            Stop::BadLine(number, _) => Fault::BadLine(number),
             Stop::Write => Fault::WriteFault,
+            Stop::Missing(entry) => Fault::MissingEntry(entry),
         }
     }
 }

@@ -1,4 +1,7 @@
+pub mod Words
 pub mod Items
 pub mod Draft
+pub mod Ledgers
+pub mod Queries
 pub mod Lines
 pub mod Inside

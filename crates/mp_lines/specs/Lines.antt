@@ -8,8 +8,6 @@ use Rattle.mp_text.specs.Words.{words_of, are_none_or_comment}
 use Rattle.mp_text.specs.Lines.{is_clean}
 use Rattle.mp_script.specs.ScriptReading.{script_of}
 use Rattle.mp_script.specs.DataReading.{datum_of}
-use Rattle.mp_tx.specs.declared.reference.OutRef.{OutRef}
-use Rattle.mp_tx.specs.declared.output.Output.{Output}
 use Rattle.mp_tx.specs.Transaction.{Transaction}
 use Rattle.mp_tx.specs.Spelling.{id_of}
 use Rattle.mp_names.specs.declared.payment.Payment.{Payment}
@@ -19,13 +17,14 @@ use Rattle.mp_names.specs.declared.settings.Setting.{Setting}
 use Rattle.mp_names.specs.declared.settings.Setting.TheVariants.{BlockBytes, Limit, Last, Tick}
 use Rattle.mp_names.specs.declared.new_ledger.NewLedger.{NewLedger}
 use Rattle.mp_names.specs.Settings.{block_bytes_of, limit_of}
-use Rattle.mp_names.specs.Splitting.{split_once}
 use Rattle.mp_names.specs.DeclaredTx.{DeclaredTx}
 use Rattle.mp_names.specs.Names.{Names, tx_named, is_new_binding, is_new_script, is_new_datum}
 use Rattle.mp_names.specs.Payments.{payment_of}
-use Rattle.mp_names.specs.References.{ref_of, paid_at}
-use Rattle.mp_names.specs.Outputs.{with_output}
+use Rattle.mp_lines.specs.declared.query.Query.{Query}
+use Rattle.mp_lines.specs.Words.{one_word, two_words}
 use Rattle.mp_lines.specs.Draft.{empty_draft, draft_of, declared_of}
+use Rattle.mp_lines.specs.Ledgers.{ledger_of}
+use Rattle.mp_lines.specs.Queries.{query_of}
 
 pub data Line : Type 0 where
   -- no word, or a comment
@@ -39,20 +38,9 @@ pub data Line : Type 0 where
   -- the ids
   Remove : List (List ℕ) → Line
   Sync : NewLedger → Line
-  Snapshot : Line
-
--- the word of a line that has no other
-abbrev pub one_word : List (List ℕ) → Option (List ℕ)
-one_word [] = None
-one_word (word ∷ []) = Some word
-one_word (word ∷ other ∷ more) = None
-
--- the words of a line that has two
-abbrev pub two_words : List (List ℕ) → Option (List ℕ × List ℕ)
-two_words [] = None
-two_words (word ∷ []) = None
-two_words (word ∷ other ∷ []) = Some (word, other)
-two_words (word ∷ other ∷ another ∷ more) = None
+  -- what would stay upon this ledger state
+  For : NewLedger → Line
+  Asks : Query → Line
 
 -- block N, limit N, last N, tick N
 abbrev pub block_line : List (List ℕ) → Option Line
@@ -134,40 +122,17 @@ abbrev pub remove_line : Names → List (List ℕ) → Option Line
 remove_line names [] = None
 remove_line names (word ∷ words) = option_map Remove (put_ids names [] (word ∷ words))
 
--- the outputs named, behind these
-abbrev pub put_outputs : Names → List (OutRef × Output) → List (List ℕ) → Option (List (OutRef × Output))
-put_outputs names outputs [] = Some outputs
-put_outputs names outputs (word ∷ words) = option_and_then (λ o. put_outputs names o words) (with_output outputs (ref_of names word) (paid_at names word))
-
-abbrev pub sync_to : ℕ → Option ℕ → List (OutRef × Output) → Line
-sync_to tick block_bytes outputs = Sync (record { tick = tick; block_bytes = block_bytes; outputs = outputs })
-
--- what stands behind `block=`, 61 being the sign of equality
-unfoldable pub block_word : List ℕ → Option (List ℕ)
-block_word word = if pointwise nat_eq (split_once 61 word).0 (codes "block") then (split_once 61 word).1 else None
-
--- with the bytes of a block
-abbrev pub sync_told : Names → ℕ → List (List ℕ) → ℕ → Option Line
-sync_told names tick words n = option_map (sync_to tick (Some n)) (put_outputs names [] words)
-
--- the outputs, and before them the bytes of a block, where they are told
-abbrev pub sync_with : Names → ℕ → Option (List ℕ) → List (List ℕ) → List (List ℕ) → Option Line
-sync_with names tick None all others = option_map (sync_to tick None) (put_outputs names [] all)
-sync_with names tick (Some value) all others = option_and_then (sync_told names tick others) (block_bytes_of value)
-
-abbrev pub sync_at : Names → List (List ℕ) → ℕ → Option Line
-sync_at names [] tick = Some (sync_to tick None [])
-sync_at names (word ∷ words) tick = sync_with names tick (block_word word) (word ∷ words) words
-
 -- sync TICK [block=N] REF ..
 abbrev pub sync_line : Names → List (List ℕ) → Option Line
-sync_line names [] = None
-sync_line names (tick ∷ words) = option_and_then (sync_at names words) (number_of tick)
+sync_line names words = option_map Sync (ledger_of names words)
 
--- snapshot
-abbrev pub snapshot_line : List (List ℕ) → Option Line
-snapshot_line [] = Some Snapshot
-snapshot_line (other ∷ more) = None
+-- for TICK [block=N] REF ..
+abbrev pub for_line : Names → List (List ℕ) → Option Line
+for_line names words = option_map For (ledger_of names words)
+
+-- a line that only reads
+abbrev pub query_line : Names → List ℕ → List (List ℕ) → Option Line
+query_line names word words = option_map Asks (query_of names word words)
 
 -- by the first word
 abbrev pub command_line : Names → List ℕ → List (List ℕ) → Option Line
@@ -175,8 +140,8 @@ command_line names word words =
     if pointwise nat_eq word (codes "submit") then submit_line names words
     else if pointwise nat_eq word (codes "remove") then remove_line names words
     else if pointwise nat_eq word (codes "sync") then sync_line names words
-    else if pointwise nat_eq word (codes "snapshot") then snapshot_line words
-    else None
+    else if pointwise nat_eq word (codes "for") then for_line names words
+    else query_line names word words
 
 abbrev pub declaration_line : Names → List ℕ → List (List ℕ) → Option Line
 declaration_line names word words =

@@ -1,10 +1,9 @@
 //! Items put together.
 
-ghost use Rattle.std.specs.Prelude.{◌≡◌, [], ◌∷◌, ◌++◌, Ok, Some, None, option_and_then, option_map, unwrap_or, IfOk, IfErr, OnOk};
+ghost use Rattle.std.specs.Prelude.{◌≡◌, [], ◌∷◌, ◌++◌, Ok, Some, None, option_and_then, unwrap_or, IfOk, IfErr, OnOk};
 ghost use Rattle.mp_names.specs.declared.fault.LineFault.TheVariants as line_faults;
 ghost use Rattle.std.specs.Arc.{arc_value};
 ghost use Rattle.mp_text.specs.Words.{words_of};
-ghost use Rattle.mp_tx.specs.Spelling.{id_of};
 ghost use Rattle.mp_tx.specs.TxFault.{parts_of};
 ghost use Rattle.mp_names.specs.Rising.{insert_rising};
 ghost use Rattle.mp_lines.specs.Draft.{empty_draft, draft_of, transaction_of, if_fits, signatures_of, signed, declared_of};
@@ -210,20 +209,29 @@ fn make_tx<'a>(
     put_together(memory, parts)
 }
 
-fn unsigned_id<'a>(memory: Memory, draft: &Draft) -> Result<TxId, LineFault<'a>>
-    ensures { Reads (option_map id_of (if_fits (transaction_of draft.now []))) result }
+fn make_unsigned<'a>(memory: Memory, draft: &Draft) -> Result<Tx, LineFault<'a>>
+    ensures { Reads (if_fits (transaction_of draft.now [])) result }
 {
-    let unsigned = make_tx(memory, draft, &NO_ID, &[])?;
-    Ok(*unsigned.id())
+    make_tx(memory, draft, &NO_ID, &[])
 }
 
-// It is made twice: first without signatures, for its id.
+// Whoever signs needs the id, so what is signed is made again.
+fn sign<'a>(memory: Memory, draft: &Draft, unsigned: Tx) -> Result<Tx, LineFault<'a>>
+    requires { if_fits (transaction_of draft.now []) ≡ Some unsigned }
+    ensures { Reads (signed draft.now unsigned) result }
+{
+    if draft.signers.is_empty() {
+        return Ok(unsigned);
+    }
+    make_tx(memory, draft, unsigned.id(), &draft.signers)
+}
+
 fn make_signed<'a>(memory: Memory, draft: &Draft) -> Result<Tx, LineFault<'a>>
     ensures { Reads
         (option_and_then (signed draft.now) (if_fits (transaction_of draft.now []))) result }
 {
-    let id = unsigned_id(memory, draft)?;
-    make_tx(memory, draft, &id, &draft.signers)
+    let unsigned = make_unsigned(memory, draft)?;
+    sign(memory, draft, unsigned)
 }
 
 fn make_shared<'a>(memory: Memory, draft: &Draft) -> Result<Arc<Tx, Memory>, LineFault<'a>>

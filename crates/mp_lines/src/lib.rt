@@ -7,7 +7,10 @@ mod declarations;
 mod draft;
 mod forms;
 mod items;
+mod ledgers;
 mod line;
+mod queries;
+mod query;
 mod settings;
 mod signing;
 mod subjects;
@@ -15,3 +18,4 @@ mod words;
 
 pub use forms::{BLOCK, Form, LAST, LIMIT, TICK};
 pub use line::{Line, MAX_OUTPUTS};
+pub use query::Query;

@@ -6,11 +6,10 @@ ghost use Rattle.mp_lines.specs.Lines.{command_line, declaration_line, asked_lin
 ghost use Rattle.mp_names.specs.Fault.{Gives};
 ghost use Rattle.mp_lines.specs.Inside.Line.{to_line};
 
-use crate::commands::{remove_line, snapshot_line, submit_line, sync_line};
+use crate::commands::{for_line, query_line, remove_line, submit_line, sync_line};
 use crate::declarations::{data_line, output_line, script_line, tx_line};
-use crate::forms::{
-    BLOCK, DATA, LAST, LIMIT, OUT, REMOVE, SCRIPT, SNAPSHOT, SUBMIT, SYNC, TICK, TX,
-};
+use crate::forms::{BLOCK, DATA, FOR, LAST, LIMIT, OUT, REMOVE, SCRIPT, SUBMIT, SYNC, TICK, TX};
+use crate::query::Query;
 use crate::settings::{block_line, last_line, limit_line, tick_line};
 use mp_memory::Memory;
 use mp_names::{
@@ -38,7 +37,9 @@ pub enum Line {
     Submit(Arc<Tx, Memory>),
     Remove(Vec<TxId, Memory>),
     Sync(NewLedger),
-    Snapshot,
+    /// What would stay upon this ledger state.
+    For(NewLedger),
+    Asks(Query),
 }
 
 fn command_line<'a>(
@@ -55,10 +56,10 @@ fn command_line<'a>(
         remove_line(memory, names, words)
     } else if word == SYNC.word {
         sync_line(memory, names, words)
-    } else if word == SNAPSHOT.word {
-        snapshot_line(words)
+    } else if word == FOR.word {
+        for_line(memory, names, words)
     } else {
-        Err(LineFault::Bad(Reason::FirstWord(word)))
+        query_line(names, word, words)
     }
 }
 

@@ -3,10 +3,20 @@
 ghost use Rattle.std.specs.Prelude.{◌≡◌, option_copied, option_map};
 ghost use Rattle.std.specs.Result.{result_ok};
 ghost use Rattle.mp_text.specs.Words.{words_of};
-ghost use Rattle.mp_lines.specs.Lines.{one_word, two_words};
+ghost use Rattle.mp_lines.specs.Words.{no_word, one_word, two_words};
 
 use mp_names::Reason;
 use mp_text::first_word;
+
+/// That a line of this form has no word behind its first.
+pub fn no_word<'a>(form: &'static [u8], words: &'a [u8]) -> Result<(), Reason<'a>>
+    ensures { result_ok result ≡ no_word (words_of words.now) }
+{
+    match first_word(words) {
+        None => Ok(()),
+        Some(_) => Err(Reason::ManyWords(form)),
+    }
+}
 
 /// The one word of a line of this form.
 pub fn one_word<'a>(form: &'static [u8], words: &'a [u8]) -> Result<&'a [u8], Reason<'a>>

@@ -7,35 +7,35 @@ ghost use Rattle.clap.specs.Words.{kind_of};
 use clap::Error;
 use clap::error::ErrorKind;
 use mp_driver::{Fault, Stop};
+use mp_history::PoolName;
 use std::io;
 use std::process::ExitCode;
 
 const REFUSED: u8 = 2;
 
-/// After a run: 0, or 1 and the fault's line.
-pub fn end_run(rt: &HostRuntime, ended: Result<(), Fault>) -> ExitCode
-    ensures done { IfOk ended (λ _. exit_status result ≡ 0) }
-    ensures fault { IfErr ended (λ _. exit_status result ≡ 1) }
+/// Where a run ends with a fault: 1, and the fault's line.
+pub fn end_fault<N: PoolName>(rt: &HostRuntime, fault: Fault<N>) -> ExitCode
+    ensures { exit_status result ≡ 1 }
 {
-    match ended {
-        Ok(()) => ExitCode::SUCCESS,
-        Err(fault) => {
-            let _ = rt.eprintln(fault);
-            ExitCode::FAILURE
-        }
-    }
+    let _ = rt.eprintln(fault);
+    ExitCode::FAILURE
 }
 
-/// After the answers to a text: 0, or 1 and the fault's line, and behind a bad line what is wrong with it.
-pub fn end_explained(rt: &HostRuntime, ended: Result<(), Stop<'_>>) -> ExitCode
+/// After the answers to a text: 0, or 1 and the fault's line. Where it explains, what is wrong with a bad line stands behind it.
+pub fn end_answers<N: PoolName>(
+    rt: &HostRuntime,
+    explains: bool,
+    ended: Result<(), Stop<'_, N>>,
+) -> ExitCode
     ensures done { IfOk ended.entry (λ _. exit_status result ≡ 0) }
     ensures fault { IfErr ended.entry (λ _. exit_status result ≡ 1) }
 {
     match ended {
         Ok(()) => ExitCode::SUCCESS,
         Err(stop) => {
-            let _ = rt.eprintln(stop.fault());
-            if let Stop::BadLine(number, reason) = stop {
+            let bad_line = stop.bad_line();
+            let _ = rt.eprintln(stop.into_fault());
+            if let (true, Some((number, reason))) = (explains, bad_line) {
                 let _ = rt.eprintln(format_args!("bad line {number}: {reason}"));
             }
             ExitCode::FAILURE

@@ -3,4 +3,4 @@ pub mod Entries
 pub mod Places
 pub mod Preparing
 pub mod Points
-pub mod Trials
+pub mod KeptItems

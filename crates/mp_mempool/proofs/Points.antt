@@ -17,11 +17,11 @@ use Rattle.mp_history.proofs.Logs.{legal-append, pool_of-append}
 use Rattle.mp_mempool.specs.Locked.{Locked, holding}
 use Rattle.mp_mempool.specs.Pass.{Pass, IsOwn}
 use Rattle.mp_mempool.specs.declared.refusal.Refusal.TheVariants.{Pool}
-use Rattle.mp_mempool.specs.Answers.{IsEntered, IsRefusedAt, IsRefused, IsSeen, IsTrial, continued, with_entry}
+use Rattle.mp_mempool.specs.Answers.{IsEntered, IsRefusedAt, IsRefused, IsSeen, IsSnapshotFor, continued, with_entry}
 use Rattle.mp_versions.specs.Version.{Version}
 use Rattle.mp_versions.specs.Shown.{IsVersionOf}
 use Rattle.mp_versions.proofs.Histories.{number_of}
-use Rattle.mp_mempool.specs.declared.trial.SnapshotFor.{SnapshotFor}
+use Rattle.mp_mempool.specs.declared.snapshot_for.SnapshotFor.{SnapshotFor}
 use Rattle.mp_mempool.proofs.Entries.{others, goes_on}
 
 module _ (accepts : Accepts) where
@@ -134,10 +134,10 @@ module _ (accepts : Accepts) where
   refusal_told N callers before after log (refusals.Invalid fault) c other own b known legal is refused = is_refused callers before after log c (refusals.Invalid fault) own b known legal refused is
 
 -- what stays valid upon another ledger state, of a version
-pub is_trial : (a accepts : Accepts) (callers : ℕ) (log front_now : Log) (v : Version) (ledger : LedgerState) (s : SnapshotFor) → a ≡ accepts → IsLegalLog accepts callers log
+pub is_snapshot_for : (a accepts : Accepts) (callers : ℕ) (log front_now : Log) (v : Version) (ledger : LedgerState) (s : SnapshotFor) → a ≡ accepts → IsLegalLog accepts callers log
     → v.pool ≡ state_after accepts log → front_now ≡ log
-    → s.items ≡ keep a ledger v.pool.items → s.bytes ≡ bytes_of s.items → s.number ≡ v.pool.changes → IsTrial accepts front_now ledger s
-is_trial a accepts callers log front_now v ledger s same legal state front items bytes number = record {
+    → s.items ≡ keep a ledger v.pool.items → s.bytes ≡ bytes_of s.items → s.number ≡ v.pool.changes → IsSnapshotFor accepts front_now ledger s
+is_snapshot_for a accepts callers log front_now v ledger s same legal state front items bytes number = record {
   items = items ∙ ap₂ (λ b p. keep b ledger p.items) same state ∙ ap (λ l. keep accepts ledger (state_after accepts l).items) (sym front);
   bytes = bytes;
   number = number ∙ ap (λ p. p.changes) state ∙ number_of accepts callers log legal ∙ ap (λ l. length l.entries) (sym front);

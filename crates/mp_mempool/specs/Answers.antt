@@ -10,7 +10,7 @@ use Rattle.mp_seqpool.specs.Command.{Command}
 use Rattle.mp_seqpool.specs.SlowPool.{answer}
 use Rattle.mp_history.specs.Entry.{Entry}
 use Rattle.mp_history.specs.Log.{Log, Begins, IsLegalLog, entered, last_of, state_after}
-use Rattle.mp_mempool.specs.declared.trial.SnapshotFor.{SnapshotFor}
+use Rattle.mp_mempool.specs.declared.snapshot_for.SnapshotFor.{SnapshotFor}
 use Rattle.mp_mempool.specs.declared.refusal.Refusal.{Refusal}
 use Rattle.mp_mempool.specs.declared.refusal.Refusal.TheVariants.{Pool, Foreign}
 use Rattle.mp_mempool.specs.Pass.{Pass, IsEntryOf}
@@ -89,7 +89,7 @@ IsOfLog log (Pool refusal) after = after.front ≡ log
 IsOfLog log (Foreign front) after = front ≡ log
 
 -- What stays valid upon another ledger state, of the state after a history.
-pub record IsTrial (accepts : Accepts) (log : Log) (ledger : LedgerState) (s : SnapshotFor) : Type 0 where
+pub record IsSnapshotFor (accepts : Accepts) (log : Log) (ledger : LedgerState) (s : SnapshotFor) : Type 0 where
   pub items : s.items ≡ keep accepts ledger (state_after accepts log).items
   pub bytes : s.bytes ≡ bytes_of s.items
   pub number : s.number ≡ length log.entries

@@ -1,4 +1,4 @@
 -- What only the crate's own clauses, views and invariants cite.
 pub mod Locked
 pub mod Ready
-pub mod Trial
+pub mod Kept

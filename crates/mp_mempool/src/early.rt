@@ -9,7 +9,7 @@ use mp_versions::Version;
 
 // An output is looked for in so many of the newest transactions: a walk over all of a large pool would cost more than
 // the scripts.
-const RECENT: usize = 1024;
+const RECENT: usize = 128;
 
 // The output under the reference: the ledger state's, else that of one of the newest transactions.
 fn output_of<'a>(version: &'a Version, reference: &OutRef) -> Option<&'a Output> {

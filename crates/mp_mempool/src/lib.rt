@@ -12,7 +12,7 @@ mod reader;
 mod ready;
 mod receipt;
 mod refusal;
-mod trial;
+mod snapshot_for;
 pub mod under_lock;
 
 pub use config::Config;
@@ -22,4 +22,4 @@ pub use pass::Pass;
 pub use reader::Reader;
 pub use receipt::Receipt;
 pub use refusal::{OpenRefusal, Refusal};
-pub use trial::SnapshotFor;
+pub use snapshot_for::SnapshotFor;

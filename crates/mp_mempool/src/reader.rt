@@ -2,11 +2,11 @@
 ghost use Rattle.std.specs.Prelude.{◌≡◌, ◌<◌, ◌≤◌, length, IfSome, IfOk, OnOk, OnErr};
 ghost use Rattle.mp_rules.specs.Checked.{IsChecked};
 ghost use Rattle.mp_history.specs.Log.{Begins, IsLegalLog};
-ghost use Rattle.mp_mempool.specs.Answers.{IsSeen, IsTrial};
+ghost use Rattle.mp_mempool.specs.Answers.{IsSeen, IsSnapshotFor};
 
 use crate::early::check_early;
 use crate::pass::Pass;
-use crate::trial::{SnapshotFor, keep_valid};
+use crate::snapshot_for::{SnapshotFor, keep_valid};
 use mp_history::PoolName;
 use mp_memory::{Memory, NoMemory};
 use mp_rules::{Checked, Verifier};
@@ -159,7 +159,7 @@ impl<N: PoolName, V: Verifier> Reader<N, V> {
         pass: &mut Pass<N>,
         ledger: &Ledger,
     ) -> Result<SnapshotFor, NoMemory>
-        ensures kept { IfOk result (IsTrial N.accepts pass.new.front ledger.now) }
+        ensures kept { IfOk result (IsSnapshotFor N.accepts pass.new.front ledger.now) }
         ensures seen { OnOk result (IsSeen N.accepts N.callers pass.old pass.new) }
         ensures err { OnErr result (pass.new ≡ pass.old) }
     {

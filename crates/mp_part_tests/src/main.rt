@@ -1,5 +1,5 @@
-//! Tests the parts of the product for what no contract says: growths that are refused, devices that fail, threads and drops. It
-//! prints each case that is found otherwise, and for each part how many held.
+//! Tests the parts of the product for what no contract says: growths that are refused, devices that fail, threads and drops, and
+//! cases of the rules from files. It prints each case that is found otherwise, and for each part and file how many held.
 #![tactic(auto)]
 
 mod bundle;
@@ -10,12 +10,12 @@ mod output;
 mod rows;
 mod rules;
 mod script;
-mod signed;
 mod text;
 mod threads;
 mod tickets;
 mod tx;
 mod utxo;
+mod vectors;
 mod ways;
 
 use anyhow::Result;
@@ -24,6 +24,7 @@ use rows::tell;
 use std::alloc::Global;
 use std::io;
 use std::thread::Threads;
+use vectors::{Kind, check_file};
 
 fn try_memory(rt: &(impl Print + Threads), memory: Memory, other: Memory) -> io::Result<()> {
     let armings = handle::armings(memory);
@@ -77,5 +78,8 @@ fn main(rt: HostRuntime) -> Result<()> {
     try_tickets(&rt, alloc, memory, other)?;
     try_transactions(&rt, memory)?;
     try_text(&rt, alloc, memory)?;
+    for kind in Kind::ALL {
+        check_file(&rt, memory, kind)?;
+    }
     Ok(())
 }

@@ -1,11 +1,55 @@
 //! The rules of validity: which of their calls take memory, and how often they verify a signature. A call of which nothing has
 //! to be gathered for scripts is seen by how many growths it makes.
+ghost use Rattle.std.specs.Prelude.{true};
+
 use crate::rows::Row;
-use crate::signed::{Counting, ledger_of, named, of_all_parts};
-use mp_memory::{Memory, NoMemory};
-use mp_rules::{Invalid, Resolved, check, check_with, precheck};
-use mp_testing::{Call, Seen, TrialFault, Trialled, ledger, opening, parts, under_each_refusal};
-use mp_tx::{Ledger, LedgerFault, Output, Tx, TxFault};
+use crate::vectors::transaction::transaction;
+use crate::vectors::{Names, ledger, upon};
+use anyhow::Result as Made;
+use mp_memory::Memory;
+use mp_rules::{Invalid, Resolved, Verifier, check, check_with, precheck};
+use mp_testing::{Call, Seen, TrialFault, Trialled, under_each_refusal};
+use mp_tx::{Key, Ledger, Output, Sig, Tx, TxId};
+use std::sync::atomic::{AtomicU64, Ordering};
+
+// Two outputs of 100 coin each, and what spends them.
+const COINS: &str = "has=0.0:100 has=0.1:100";
+
+const COIN: &str = "in=0.0 in=0.1 out=150 out=50";
+
+// Three outputs, and a transaction that spends two and looks at the third, forges 7 of a token, carries its script, and is
+// signed.
+const OUTPUTS: &str = "has=0.0:100,5*01.x has=0.1:100 has=0.2:100";
+
+const ALL: &str = "in=0.0 in=0.1 see=0.2 out=100 out=100,12*01.x forge=7*01.x policy=01 badsign=5";
+
+// Outputs of which the third has less.
+const LESS: &str = "has=0.0:100,5*01.x has=0.1:100 has=0.2:99";
+
+// The three outputs, where the transaction was found upon them before.
+const BEFORE: &str = "upon=100,5*01.x upon=100 upon=100";
+
+// Accepts each signature, and counts them.
+#[derive(Drop)]
+struct Counting {
+    calls: AtomicU64,
+}
+
+impl Counting {
+    // How many signatures were verified since this was asked last.
+    fn taken(&self) -> u64 {
+        self.calls.swap(0, Ordering::SeqCst)
+    }
+}
+
+impl Verifier for Counting {
+    ghost accepts = { λ _ _ _ _. true };
+
+    fn verify(&self, _key: &Key, _id: &TxId, _sig: &Sig) -> bool {
+        self.calls.fetch_add(1, Ordering::SeqCst);
+        true
+    }
+}
 
 // A transaction upon a ledger state.
 #[derive(Drop)]
@@ -13,17 +57,17 @@ struct Checking {
     memory: Memory,
     tx: Tx,
     ledger: Ledger,
-    // What it was found upon before, if it was.
-    before: Option<Vec<Output, Memory>>,
+    // What it was found upon before; none where it wasn't.
+    before: Vec<Output, Memory>,
     verifier: Counting,
 }
 
-fn check_again(checking: &Checking, before: &[Output]) -> Result<Resolved, Invalid> {
+fn check_again(checking: &Checking) -> Result<Resolved, Invalid> {
     let Checking {
         memory,
         tx,
         ledger,
-        before: _,
+        before,
         verifier,
     } = checking;
     if before.len() != tx.inputs().len() + tx.references().len() {
@@ -55,9 +99,10 @@ impl Call for Checking {
 
     fn call(&self, _nothing: &mut ()) -> Option<Seen> {
         let _earlier = self.verifier.taken();
-        let answer = match &self.before {
-            Some(before) => check_again(self, before),
-            None => check(self.memory, &self.tx, &self.ledger, 0, &self.verifier),
+        let answer = if self.before.is_empty() {
+            check(self.memory, &self.tx, &self.ledger, 0, &self.verifier)
+        } else {
+            check_again(self)
         };
         let [spent, referenced, fault] = counted(answer)?;
         Some([spent, referenced, fault, self.verifier.taken(), 0, 0])
@@ -68,67 +113,23 @@ impl Call for Checking {
     }
 }
 
-fn checking_upon(
-    memory: Memory,
-    tx: Tx,
-    ledger: Result<Ledger, LedgerFault>,
-    before: Option<Vec<Output, Memory>>,
-) -> Option<Checking> {
-    match ledger {
-        Ok(ledger) => Some(Checking {
-            memory,
-            tx,
-            ledger,
-            before,
-            verifier: Counting::new(),
-        }),
-        Err(_) => None,
-    }
-}
-
-// It spends two outputs of 100 coin each.
-fn of_coin(memory: Memory) -> Result<Tx, TxFault> {
-    Tx::of_parts(
+fn make_checking(memory: Memory, outputs: &str, parts: &str, before: &str) -> Made<Checking> {
+    let names = Names::new(memory);
+    Ok(Checking {
         memory,
-        parts(memory, &[opening(0), opening(1)], &[150, 50])?,
-    )
+        tx: transaction(&names, parts)?,
+        ledger: ledger(&names, None, outputs)?,
+        before: upon(&names, before)?,
+        verifier: Counting {
+            calls: AtomicU64::new(0),
+        },
+    })
 }
 
-fn plain(memory: Memory) -> Option<Checking> {
-    match of_coin(memory) {
-        Ok(tx) => checking_upon(memory, tx, ledger(memory, 2, 1000), None),
-        Err(_) => None,
-    }
-}
-
-fn signed_after(
-    memory: Memory,
-    last: i64,
-    before: Option<Vec<Output, Memory>>,
-) -> Option<Checking> {
-    match of_all_parts(memory) {
-        Ok(tx) => checking_upon(memory, tx, ledger_of(memory, last), before),
-        Err(_) => None,
-    }
-}
-
-// A transaction of all parts, upon a ledger state whose third output has so much coin.
-fn signed(memory: Memory, last: i64) -> Option<Checking> {
-    signed_after(memory, last, None)
-}
-
-// The same, where it was found before upon outputs of which the third has 100 coin.
-fn again(memory: Memory, last: i64) -> Option<Checking> {
-    match named(memory, 100) {
-        Ok(before) => signed_after(memory, last, Some(before)),
-        Err(NoMemory) => None,
-    }
-}
-
-fn tried(memory: Memory, checking: Option<Checking>) -> Result<Trialled, TrialFault> {
-    match checking {
-        Some(checking) => under_each_refusal(&memory, &checking),
-        None => Err(TrialFault::NotMade),
+fn tried(memory: Memory, outputs: &str, parts: &str, before: &str) -> Result<Trialled, TrialFault> {
+    match make_checking(memory, outputs, parts, before) {
+        Ok(checking) => under_each_refusal(&memory, &checking),
+        Err(_fault) => Err(TrialFault::NotMade),
     }
 }
 
@@ -142,28 +143,28 @@ fn tried(memory: Memory, checking: Option<Checking>) -> Result<Trialled, TrialFa
 pub fn growths(memory: Memory) -> [Row; 5] {
     let [coin, all] = [[2, 0, 0, 0], [2, 1, 0, 1]];
     [
-        Row::tried("a check of coin", tried(memory, plain(memory)), coin, 2),
+        Row::tried("a check of coin", tried(memory, COINS, COIN, ""), coin, 2),
         Row::tried(
             "a check of all parts",
-            tried(memory, signed(memory, 100)),
+            tried(memory, OUTPUTS, ALL, ""),
             all,
             8,
         ),
         Row::tried(
             "the same upon another",
-            tried(memory, signed(memory, 99)),
+            tried(memory, LESS, ALL, ""),
             all,
             8,
         ),
         Row::tried(
             "a check after another",
-            tried(memory, again(memory, 100)),
+            tried(memory, OUTPUTS, ALL, BEFORE),
             all,
             10,
         ),
         Row::tried(
             "upon other outputs",
-            tried(memory, again(memory, 99)),
+            tried(memory, LESS, ALL, BEFORE),
             all,
             14,
         ),

@@ -1,10 +1,17 @@
 //! Runs of scenarios: devices that fail, as many bytes as an input may have, the texts of faults, and refusals of memory.
-use crate::rows::{Growths, count, count_trial};
+ghost use Rattle.std.specs.Prelude.{◌≡◌};
+ghost use Rattle.mp_history.specs.PoolName.{head_of};
+ghost use Rattle.mp_driver.specs.Verifier.{is_key_and_id};
+
+use crate::rows::count;
 use mp_driver::{Fault, run};
+use mp_history::{NewName, PoolName};
 use mp_memory::Memory;
-use mp_testing::{Call, FailingReader, FailingWriter, MAX_GROWTHS, Seen, under_each_refusal};
+use mp_testing::{FailingReader, FailingWriter, MAX_GROWTHS, Seen};
 use std::alloc::Global;
 use std::io;
+use std::marker::Brand;
+use std::sync::Wait;
 
 const SCENARIO: &[u8] = b"out g0 100\ntx a in=g0 out=100\nsubmit a\nsnapshot\n";
 
@@ -37,25 +44,48 @@ const FAILURES: [(u64, u64, u64, u64); 17] = [
 // line.
 const LENGTHS: [(usize, u64, u64); 2] = [(16_777_216 - 11, 2, 2), (16_777_217 - 11, 3, 0)];
 
-const TEXTS: [(Fault, u64, &str); 4] = [
-    (Fault::NoMemory, 1, "fault: no memory"),
-    (Fault::BadLine(7), 2, "fault: bad line 7"),
-    (Fault::ReadFault, 3, "fault: read"),
-    (Fault::WriteFault, 4, "fault: write"),
+const TEXTS: [(u64, &str); 4] = [
+    (1, "fault: no memory"),
+    (2, "fault: bad line 7"),
+    (3, "fault: read"),
+    (4, "fault: write"),
 ];
 
-// The number of the fault and its line, or 0.
-fn fault_of(ended: Result<(), Fault>) -> (u64, u64) {
-    match ended {
-        Ok(()) => (0, 0),
-        Err(Fault::BadLine(line)) => (2, line),
-        Err(fault) => (fault.number(), 0),
+// How a run ends: well, or with the number of a fault, and its line or 0.
+type Ended = Result<(), (u64, u64)>;
+
+// A run on a pool under the name.
+fn run_named<N: PoolName, R: io::Read, W: io::Write>(
+    rt: &impl Wait,
+    memory: Memory,
+    name: NewName,
+    reader: &mut R,
+    writer: &mut W,
+) -> Ended
+    requires name { name ≡ head_of N.book N.root }
+    requires callers { N.callers ≡ 1 }
+    requires accepts { N.accepts ≡ is_key_and_id }
+{
+    match run::<N, R, W>(rt, memory, name, reader, writer) {
+        Ok(()) => Ok(()),
+        Err(Fault::BadLine(line)) => Err((2, line)),
+        Err(fault) => Err((fault.number(), 0)),
     }
 }
 
+// A run on a pool of its own.
+fn run_new<R: io::Read, W: io::Write>(
+    rt: &impl Wait,
+    memory: Memory,
+    reader: &mut R,
+    writer: &mut W,
+) -> Ended {
+    run_named::<Brand, R, W>(rt, memory, NewName::new(), reader, writer)
+}
+
 // The fault, its line, how much was written, and whether that is a front of the text.
-fn see(ended: Result<(), Fault>, written: &[u8], text: &[u8]) -> Seen {
-    let (number, line) = fault_of(ended);
+fn see(ended: Ended, written: &[u8], text: &[u8]) -> Seen {
+    let (number, line) = ended.err().unwrap_or((0, 0));
     let is_front = text.starts_with(written);
     [
         number,
@@ -67,46 +97,56 @@ fn see(ended: Result<(), Fault>, written: &[u8], text: &[u8]) -> Seen {
     ]
 }
 
-fn fail_at(memory: Memory, alloc: Global, read: u64, write: u64) -> Seen {
+fn fail_at(rt: &impl Wait, memory: Memory, alloc: Global, read: u64, write: u64) -> Seen {
     let mut reader = FailingReader::of(SCENARIO);
     reader.at_once = 11;
     reader.fails_at = read;
     let mut writer = FailingWriter::new(alloc);
     writer.at_once = 4;
     writer.fails_at = write;
-    let ended = run(memory, &mut reader, &mut writer);
+    let ended = run_new(rt, memory, &mut reader, &mut writer);
     see(ended, &writer.taken, TEXT)
 }
 
-fn held_failures(rt: &impl Print, memory: Memory, alloc: Global) -> io::Result<u64> {
+fn held_failures(rt: &(impl Print + Wait), memory: Memory, alloc: Global) -> io::Result<u64> {
     let mut held: u64 = 0;
     for (read, write, fault, written) in FAILURES {
-        let seen = fail_at(memory, alloc, read, write);
+        let seen = fail_at(rt, memory, alloc, read, write);
         let wanted = [fault, 0, written, 1, 0, 0];
         held = held.saturating_add(count(rt, "a failing device", Some(seen), wanted)?);
     }
     Ok(held)
 }
 
-fn read_long(memory: Memory, alloc: Global, filler: usize) -> Seen {
+fn read_long(rt: &impl Wait, memory: Memory, alloc: Global, filler: usize) -> Seen {
     let mut reader = FailingReader::of(b"out g0 100\n");
     reader.filler = filler;
     let mut writer = FailingWriter::new(alloc);
-    let ended = run(memory, &mut reader, &mut writer);
+    let ended = run_new(rt, memory, &mut reader, &mut writer);
     see(ended, &writer.taken, b"")
 }
 
-fn held_lengths(rt: &impl Print, memory: Memory, alloc: Global) -> io::Result<u64> {
+fn held_lengths(rt: &(impl Print + Wait), memory: Memory, alloc: Global) -> io::Result<u64> {
     let mut held: u64 = 0;
     for (filler, fault, line) in LENGTHS {
-        let seen = read_long(memory, alloc, filler);
+        let seen = read_long(rt, memory, alloc, filler);
         let wanted = [fault, line, 0, 1, 0, 0];
         held = held.saturating_add(count(rt, "a long input", Some(seen), wanted)?);
     }
     Ok(held)
 }
 
-fn is_text(alloc: Global, fault: Fault, text: &str) -> bool {
+// The fault with the number, at line 7.
+fn fault_with(number: u64) -> Fault<Brand> {
+    match number {
+        1 => Fault::NoMemory,
+        2 => Fault::BadLine(7),
+        3 => Fault::ReadFault,
+        _ => Fault::WriteFault,
+    }
+}
+
+fn is_text(alloc: Global, fault: &Fault<Brand>, text: &str) -> bool {
     match fault.to_string(alloc) {
         Ok(told) => told.as_str() == text,
         Err(_) => false,
@@ -115,21 +155,16 @@ fn is_text(alloc: Global, fault: Fault, text: &str) -> bool {
 
 fn held_texts(rt: &impl Print, alloc: Global) -> io::Result<u64> {
     let mut held: u64 = 0;
-    for (fault, number, text) in TEXTS {
-        let seen = [
-            fault.number(),
-            u64::from(is_text(alloc, fault, text)),
-            0,
-            0,
-            0,
-            0,
-        ];
+    for (number, text) in TEXTS {
+        let fault = fault_with(number);
+        let is_told = u64::from(is_text(alloc, &fault, text));
+        let seen = [fault.number(), is_told, 0, 0, 0, 0];
         held = held.saturating_add(count(rt, text, Some(seen), [number, 1, 0, 0, 0, 0])?);
     }
     Ok(held)
 }
 
-// A scenario with its text, and what was written of it.
+// A scenario and its text.
 #[derive(Clone, Copy)]
 struct Case {
     scenario: &'static [u8],
@@ -160,15 +195,18 @@ const REMOVES_AND_SYNCS: Case = Case {
         kept 2 3 4 dropped 1\nremoved 3 4 dropped\nsnapshot 1 181 4 2:b\n",
 };
 
-const TEN_OR_MORE: Growths = [10, MAX_GROWTHS];
+// Each line that only reads. Upon a ledger state with `a.0` alone `a` isn't valid, and `b` is.
+const QUERIES: Case = Case {
+    scenario: b"out g0 100\nout g1 50\ntx a in=g0 out=100\ntx b in=a.0 out=100\ntx c in=g1 out=50\n\
+        submit a\nsubmit b\nafter 1\nlookup 1\nlookup 3\nhas b\nhas c\ntake 361\nforge 362\n\
+        offer 1 1000\noffer 9 1000\noffer 9 1000\nfor 0 a.0\nsnapshot\n",
+    text: b"accepted 1\naccepted 2\nafter 2:b\nlookup a\nlookup none\nhas yes\nhas no\n\
+        take 1 181 1:a\nblock 2 362 1:a 2:b\noffer 1:a\noffer 2:b\noffer\nfor 2:b\n\
+        snapshot 2 362 2 1:a 2:b\n",
+};
 
-// A run of the case. It is called on whether the last run wrote the lines of some first commands.
-#[derive(Drop)]
-struct Run {
-    memory: Memory,
-    alloc: Global,
-    case: Case,
-}
+// Any of these scenarios makes at least so many growths.
+const FEWEST: u64 = 10;
 
 fn are_whole_lines(text: &[u8]) -> bool {
     match text.last() {
@@ -177,52 +215,62 @@ fn are_whole_lines(text: &[u8]) -> bool {
     }
 }
 
-fn answer_of(ended: Result<(), Fault>, written: &[u8], text: &[u8]) -> Option<Seen> {
+// Where memory was wanting, the answers of some first lines are written. A growth for what is only found earlier than it
+// has to be stops nothing.
+fn is_right(ended: Ended, written: &[u8], text: &[u8]) -> bool {
     match ended {
-        Err(Fault::NoMemory) => None,
-        Ok(()) => Some([u64::from(written == text), 0, 0, 0, 0, 0]),
-        Err(_) => Some([2, 0, 0, 0, 0, 0]),
+        Ok(()) => written == text,
+        Err((1, _)) => are_whole_lines(written) && text.starts_with(written),
+        Err(_) => false,
     }
 }
 
-impl Call for Run {
-    type Value = bool;
-
-    fn make(&self) -> Option<bool> {
-        Some(true)
-    }
-
-    fn call(&self, is_front: &mut bool) -> Option<Seen> {
-        let mut writer = FailingWriter::new(self.alloc);
-        let mut reader = FailingReader::of(self.case.scenario);
-        let ended = run(self.memory, &mut reader, &mut writer);
-        let written: &[u8] = &writer.taken;
-        *is_front = are_whole_lines(written) && self.case.text.starts_with(written);
-        answer_of(ended, written, self.case.text)
-    }
-
-    fn look(&self, is_front: &bool) -> Seen {
-        [u64::from(*is_front), 0, 0, 0, 0, 0]
-    }
+fn is_right_run(rt: &impl Wait, memory: Memory, alloc: Global, case: Case) -> bool {
+    let mut writer = FailingWriter::new(alloc);
+    let mut reader = FailingReader::of(case.scenario);
+    let ended = run_new(rt, memory, &mut reader, &mut writer);
+    is_right(ended, &writer.taken, case.text)
 }
 
-fn held_refusals(rt: &impl Print, memory: Memory, alloc: Global) -> io::Result<u64> {
+// How many growths the case makes, each of which is refused once; none where a run isn't right.
+fn growths_of(rt: &impl Wait, memory: Memory, alloc: Global, case: Case) -> Option<u64> {
+    for nth in 1..MAX_GROWTHS {
+        memory.refuse(nth);
+        let right = is_right_run(rt, memory, alloc, case);
+        let is_met = !memory.waits();
+        memory.refuse(0);
+        if !right {
+            return None;
+        }
+        if !is_met {
+            return Some(nth - 1);
+        }
+    }
+    None
+}
+
+// The case as it runs where nothing is refused, and under each refusal.
+fn see_case(rt: &impl Wait, memory: Memory, alloc: Global, case: Case) -> Option<Seen> {
+    let mut writer = FailingWriter::new(alloc);
+    let mut reader = FailingReader::of(case.scenario);
+    let ended = run_new(rt, memory, &mut reader, &mut writer);
+    let [fault, ..] = see(ended, &writer.taken, case.text);
+    let is_whole = u64::from(writer.taken.as_slice() == case.text);
+    let are_many = u64::from(FEWEST <= growths_of(rt, memory, alloc, case)?);
+    Some([fault, is_whole, are_many, 0, 0, 0])
+}
+
+fn held_refusals(rt: &(impl Print + Wait), memory: Memory, alloc: Global) -> io::Result<u64> {
     let mut held: u64 = 0;
-    for case in [SUBMITS, SETTINGS_AND_SCRIPTS, REMOVES_AND_SYNCS] {
-        let call = Run {
-            memory,
-            alloc,
-            case,
-        };
-        let trial = under_each_refusal(&memory, &call);
-        let wanted = [1, 0, 0, 0, 0, 0];
-        held = held.saturating_add(count_trial(rt, "a run", trial, wanted, TEN_OR_MORE)?);
+    for case in [SUBMITS, SETTINGS_AND_SCRIPTS, REMOVES_AND_SYNCS, QUERIES] {
+        let seen = see_case(rt, memory, alloc, case);
+        held = held.saturating_add(count(rt, "a run", seen, [0, 1, 1, 0, 0, 0])?);
     }
     Ok(held)
 }
 
 /// How many cases hold.
-pub fn held(rt: &impl Print, memory: Memory, alloc: Global) -> io::Result<u64> {
+pub fn held(rt: &(impl Print + Wait), memory: Memory, alloc: Global) -> io::Result<u64> {
     let failures = held_failures(rt, memory, alloc)?;
     let lengths = held_lengths(rt, memory, alloc)?;
     let texts = held_texts(rt, alloc)?;

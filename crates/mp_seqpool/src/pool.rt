@@ -174,7 +174,7 @@ impl SeqPool {
             return Some(Refusal::AlreadyInPool(ticket));
         }
         let need = tx.size();
-        let free = (2 * self.overlay.ledger().block_bytes()).saturating_sub(self.bytes);
+        let free = self.free_bytes();
         if need > free {
             return Some(Refusal::Full { need, free });
         }
@@ -545,5 +545,26 @@ impl SeqPool {
         ensures last { result.last ≡ self.now.pool.opening_ticket }
     {
         self.config
+    }
+}
+
+impl SeqPool {
+    ghost use Rattle.std.specs.Prelude.{◌≡◌, ◌+◌, ◌*◌, ◌≤◌, ◌^◌};
+    ghost use Rattle.mp_seqpool.specs.SlowPool.{bytes_held, free_bytes};
+
+    /// How many bytes the transactions may have together: twice those of a block of the adopted ledger state.
+    pub fn capacity(&self) -> u64
+        ensures twice { result ≡ 2 * self.now.pool.ledger.block_bytes }
+        ensures most { result ≤ 2 ^ 40 }
+    {
+        2 * self.overlay.ledger().block_bytes()
+    }
+
+    /// How many bytes are free, which is 0 where the transactions have more than they may.
+    pub fn free_bytes(&self) -> u64
+        ensures free { result ≡ free_bytes self.now.pool }
+        ensures most { bytes_held self.now.pool + result ≤ 2 ^ 40 }
+    {
+        self.capacity().saturating_sub(self.bytes)
     }
 }

@@ -1,5 +1,5 @@
 //! What a caller reads of the pool.
-ghost use Rattle.std.specs.Prelude.{◌≡◌, ◌≤◌, length, is_some, IfSome};
+ghost use Rattle.std.specs.Prelude.{◌≡◌, ◌≤◌, ◌*◌, length, is_some, IfSome};
 ghost use Rattle.std.specs.Prelude.{option_map};
 ghost use Rattle.std.specs.Arc.{arc_value};
 ghost use Rattle.mp_tickets.specs.Tickets.{after, item_at};
@@ -79,6 +79,13 @@ impl<'a, N: PoolName> Snapshot<'a, N> {
     {
         let version = self.shown.version();
         (version.len(), version.bytes())
+    }
+
+    /// How many bytes the transactions may have together: twice those of a block of the adopted ledger state.
+    pub fn capacity(&self) -> u64
+        ensures { result ≡ 2 * (state_after N.accepts self.now).ledger.block_bytes }
+    {
+        2 * self.shown.version().ledger().block_bytes()
     }
 
     /// The tick of the adopted ledger state.

@@ -14,4 +14,5 @@ to_line (lines.Tx name tx) = told.Tx name tx
 to_line (lines.Submit tx) = told.Submit (arc_value tx)
 to_line (lines.Remove ids) = told.Remove ids.items
 to_line (lines.Sync ledger) = told.Sync ledger
-to_line lines.Snapshot = told.Snapshot
+to_line (lines.For ledger) = told.For ledger
+to_line (lines.Asks query) = told.Asks query

@@ -1,7 +1,7 @@
 use Rattle.std.proofs.Common.{ap}
 use Rattle.mp_mempool.specs.Pass.{Pass}
 use Rattle.mp_mempool.proofs.Preparing.{signed_after}
-use Rattle.mp_mempool.proofs.Points.{is_trial}
+use Rattle.mp_mempool.proofs.Points.{is_snapshot_for}
 use Rattle.mp_mempool.proofs.reader.Reader.snapshot_for.Goals as goal
 
 pub keep_valid-requires : goal.keep_valid-requires
@@ -10,6 +10,6 @@ keep_valid-requires g c =
 
 pub returns-clause-kept : goal.returns-clause-kept
 returns-clause-kept g c =
-    is_trial (g.V.Verifier.accepts c.args.self.now.verifier) g.N.PoolName.accepts g.N.PoolName.callers c.in_ok-shown.shown c.see.new.self.front c.version.result.now c.args.ledger.now c.in_ok-kept.kept
+    is_snapshot_for (g.V.Verifier.accepts c.args.self.now.verifier) g.N.PoolName.accepts g.N.PoolName.callers c.in_ok-shown.shown c.see.new.self.front c.version.result.now c.args.ledger.now c.in_ok-kept.kept
     c.args.self.now.accepts c.version.ensures.legal c.version.ensures.state (ap (λ (p : Pass). p.front) c.see.ensures) c.in_ok-kept.ensures.items c.in_ok-kept.ensures.bytes
     c.in_ok-kept.ensures.number

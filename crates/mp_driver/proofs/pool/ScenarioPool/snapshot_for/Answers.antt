@@ -1,0 +1,37 @@
+use Rattle.std.proofs.Common.{◌≡◌, sym, ap, subst, ◌∙◌}
+use Rattle.mp_resync.specs.Keep.{keep}
+use Rattle.mp_seqpool.specs.Pool.{Pool}
+use Rattle.mp_history.specs.Log.{state_after}
+use Rattle.mp_mempool.specs.Pass.{Pass}
+use Rattle.mp_driver.specs.Verifier.{is_key_and_id}
+use Rattle.mp_driver.specs.Inside.ScenarioPool.{IsAlone}
+use Rattle.mp_driver.proofs.Alone.{nothing_told}
+use Rattle.mp_driver.proofs.pool.ScenarioPool.snapshot_for.Goals as goal
+
+pub of-requires : goal.of-requires
+of-requires g c =
+    let accepts = g.N.PoolName.accepts in
+    let callers = g.N.PoolName.callers in
+    let own = c.self.invariant in
+    subst (IsAlone accepts callers) (sym (nothing_told accepts callers c.self.inside.pass own c.args.self c.told-place.result c.snapshot_for.new.pass (sym c.self.view_is) c.told-place.ensures c.in_ok-kept.ensures.seen c.in_ok-look_behind.ensures.ok)) own
+
+pub returns-clause-same : goal.returns-clause-same
+returns-clause-same g c =
+    let accepts = g.N.PoolName.accepts in
+    let callers = g.N.PoolName.callers in
+    let own = c.self.invariant in
+    let same = nothing_told accepts callers c.self.inside.pass own c.args.self c.told-place.result c.snapshot_for.new.pass (sym c.self.view_is) c.told-place.ensures c.in_ok-kept.ensures.seen c.in_ok-look_behind.ensures.ok in
+    c.of.ensures ∙ ap (λ (p : Pass). state_after is_key_and_id p.front) same ∙ c.self.view_is
+
+pub returns-clause-kept : goal.returns-clause-kept
+returns-clause-kept g c =
+    let accepts = g.N.PoolName.accepts in
+    let callers = g.N.PoolName.callers in
+    let own = c.self.invariant in
+    let ledger = c.args.ledger.now in
+    let kept = c.in_ok-kept.kept.items in
+    let before : Pass = c.self.inside.pass in
+    let same = nothing_told accepts callers before own c.args.self c.told-place.result c.snapshot_for.new.pass (sym c.self.view_is) c.told-place.ensures c.in_ok-kept.ensures.seen c.in_ok-look_behind.ensures.ok in
+    let here : kept ≡ keep accepts ledger (state_after accepts before.front).items =
+    subst (λ (p : Pass). kept ≡ keep accepts ledger (state_after accepts p.front).items) same c.in_ok-kept.ensures.kept.items in
+    subst (λ a. kept ≡ keep a ledger (state_after a before.front).items) own.verifier here ∙ ap (λ (p : Pool). keep is_key_and_id ledger p.items) c.self.view_is

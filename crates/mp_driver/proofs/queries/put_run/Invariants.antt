@@ -1,0 +1,8 @@
+use Rattle.std.proofs.Common.{◌≡◌, ◌++◌}
+use Rattle.mp_driver.specs.AnswerText.{items_text}
+use Rattle.mp_driver.proofs.queries.put_run.Given as goal
+
+-- with the items that are left it is the whole text
+abbrev pub invariant-loop-item : goal.invariant-loop-item
+invariant-loop-item l =
+    l.text.items ++ items_text l.names l.item-iterator ≡ l.fn.text.items ++ items_text l.names l.fn.run

@@ -1,0 +1,229 @@
+//! The lines that queries write.
+
+ghost use Rattle.std.specs.Prelude.{◌≡◌, ◌++◌, codes, option_map, IfOk, OnOk};
+ghost use Rattle.std.specs.Arc.{arc_value};
+ghost use Rattle.mp_resync.specs.Keep.{bytes_of};
+ghost use Rattle.mp_history.specs.Log.{state_after};
+ghost use Rattle.mp_versions.specs.Item.{item_of, items_of};
+ghost use Rattle.mp_versions.specs.Reading.{within};
+ghost use Rattle.mp_peer.specs.Offers.{offer, moved};
+ghost use Rattle.mp_driver.specs.AnswerText.{item_text, items_text, numbers_text};
+ghost use Rattle.mp_driver.specs.QueryText.{sized_text, found_text, has_text, words_text, query_text, for_text, cursor_after};
+
+use crate::refusals::{put_number, put_word};
+use mp_history::PoolName;
+use mp_lines::Query;
+use mp_memory::{Memory, NoMemory};
+use mp_names::Names;
+use mp_peer::{PeerReader, forge};
+use mp_tx::Tx;
+use mp_versions::{Item, Run, Snapshot};
+use std::sync::Arc;
+
+type Text = Vec<u8, Memory>;
+
+fn put_item(memory: Memory, text: &mut Text, names: &Names, item: &Item) -> Result<(), NoMemory>
+    ensures { OnOk result (text.new.items ≡ text.old.items
+        ++ item_text names.now (item_of item.now)) }
+{
+    put_number(memory, text, item.ticket)?;
+    text.push(b':')?;
+    text.extend_from_slice(names.name_of(item.tx.id()))?;
+    Ok(())
+}
+
+fn put_run(memory: Memory, text: &mut Text, names: &Names, run: Run<'_>) -> Result<(), NoMemory>
+    ensures { OnOk result (text.new.items ≡ text.old.items ++ items_text names.now run.entry) }
+{
+    for item in run {
+        put_item(memory, text, names, item)?;
+    }
+    Ok(())
+}
+
+fn put_items(memory: Memory, text: &mut Text, names: &Names, items: &[Item]) -> Result<(), NoMemory>
+    ensures { OnOk result (text.new.items ≡ text.old.items
+        ++ items_text names.now (items_of items.now)) }
+{
+    for item in items {
+        put_item(memory, text, names, item)?;
+    }
+    Ok(())
+}
+
+// How many transactions there are, their bytes, and the last ticket.
+fn put_numbers<N: PoolName>(
+    memory: Memory,
+    text: &mut Text,
+    snapshot: &Snapshot<'_, N>,
+) -> Result<(), NoMemory>
+    ensures { OnOk result (text.new.items ≡ text.old.items
+        ++ numbers_text (state_after N.accepts snapshot.now)) }
+{
+    let (count, bytes) = snapshot.size();
+    put_number(memory, text, count as u64)?;
+    put_number(memory, text, bytes)?;
+    put_number(memory, text, snapshot.last())
+}
+
+fn put_snapshot<N: PoolName>(
+    memory: Memory,
+    text: &mut Text,
+    names: &Names,
+    snapshot: &Snapshot<'_, N>,
+) -> Result<(), NoMemory>
+    ensures { OnOk result (text.new.items ≡ text.old.items
+        ++ (codes "snapshot" ++ numbers_text (state_after N.accepts snapshot.now)
+        ++ items_text names.now (state_after N.accepts snapshot.now).items)) }
+{
+    put_word(text, b"snapshot")?;
+    put_numbers(memory, text, snapshot)?;
+    put_run(memory, text, names, snapshot.txs())
+}
+
+fn put_after(memory: Memory, text: &mut Text, names: &Names, run: Run<'_>) -> Result<(), NoMemory>
+    ensures { OnOk result (text.new.items ≡ text.old.items
+        ++ (codes "after" ++ items_text names.now run.entry)) }
+{
+    put_word(text, b"after")?;
+    put_run(memory, text, names, run)
+}
+
+fn put_found(
+    text: &mut Text,
+    names: &Names,
+    found: Option<&Arc<Tx, Memory>>,
+) -> Result<(), NoMemory>
+    ensures { OnOk result (text.new.items ≡ text.old.items
+        ++ found_text names.now (option_map (λ tx. arc_value tx.now) found.entry)) }
+{
+    match found {
+        None => put_word(text, b"lookup none"),
+        Some(tx) => {
+            put_word(text, b"lookup ")?;
+            put_word(text, names.name_of(tx.id()))
+        }
+    }
+}
+
+fn put_has(text: &mut Text, has: bool) -> Result<(), NoMemory>
+    ensures { OnOk result (text.new.items ≡ text.old.items ++ has_text has) }
+{
+    if has {
+        put_word(text, b"has yes")
+    } else {
+        put_word(text, b"has no")
+    }
+}
+
+// How many items there are, their bytes, and the items.
+fn put_sized(
+    memory: Memory,
+    text: &mut Text,
+    names: &Names,
+    bytes: u64,
+    items: &[Item],
+) -> Result<(), NoMemory>
+    requires { bytes ≡ bytes_of (items_of items.now) }
+    ensures { OnOk result (text.new.items ≡ text.old.items
+        ++ sized_text names.now (items_of items.now)) }
+{
+    put_number(memory, text, items.len() as u64)?;
+    put_number(memory, text, bytes)?;
+    put_items(memory, text, names, items)
+}
+
+// The word, and the oldest transactions that fit into so many bytes together.
+fn put_oldest<N: PoolName>(
+    memory: Memory,
+    text: &mut Text,
+    names: &Names,
+    snapshot: &Snapshot<'_, N>,
+    word: &[u8],
+    bytes: u64,
+) -> Result<(), NoMemory>
+    ensures { OnOk result (text.new.items ≡ text.old.items ++ (word.now
+        ++ sized_text names.now (within bytes (state_after N.accepts snapshot.now).items))) }
+{
+    put_word(text, word)?;
+    let block = forge(memory, snapshot, bytes)?;
+    put_sized(memory, text, names, block.bytes, block.items.as_slice())
+}
+
+// What the peer is offered next.
+fn put_offer<N: PoolName>(
+    memory: Memory,
+    text: &mut Text,
+    names: &Names,
+    peer: &mut PeerReader,
+    snapshot: &Snapshot<'_, N>,
+    count: u64,
+    bytes: u64,
+) -> Result<(), NoMemory>
+    ensures text { OnOk result (text.new.items ≡ text.old.items ++ (codes "offer"
+        ++ items_text names.now (offer peer.old count bytes (state_after N.accepts snapshot.now).items))) }
+    ensures cursor { OnOk result (peer.new ≡ moved peer.old
+        (offer peer.old count bytes (state_after N.accepts snapshot.now).items)) }
+{
+    put_word(text, b"offer")?;
+    let items = peer.offer(memory, snapshot, count, bytes)?;
+    put_items(memory, text, names, items.as_slice())
+}
+
+fn put_query<N: PoolName>(
+    memory: Memory,
+    text: &mut Text,
+    names: &Names,
+    peer: &mut PeerReader,
+    snapshot: &Snapshot<'_, N>,
+    query: Query,
+) -> Result<(), NoMemory>
+    ensures text { OnOk result (text.new.items ≡ text.old.items
+        ++ words_text names.now peer.old (state_after N.accepts snapshot.now) query) }
+    ensures cursor { OnOk result (peer.new
+        ≡ cursor_after peer.old (state_after N.accepts snapshot.now) query) }
+{
+    match query {
+        Query::Snapshot => put_snapshot(memory, text, names, snapshot),
+        Query::After(ticket) => put_after(memory, text, names, snapshot.after(ticket)),
+        Query::Lookup(ticket) => put_found(text, names, snapshot.lookup(ticket)),
+        Query::Has(id) => put_has(text, snapshot.has(&id)),
+        Query::Take(bytes) => put_oldest(memory, text, names, snapshot, b"take", bytes),
+        Query::Forge(bytes) => put_oldest(memory, text, names, snapshot, b"block", bytes),
+        Query::Offer { count, bytes } => {
+            put_offer(memory, text, names, peer, snapshot, count, bytes)
+        }
+    }
+}
+
+/// The line that the query writes. An offer moves the peer's cursor.
+#[tactic(auto, unfolding(crate::specs::QueryText::query_text))]
+pub fn query_line<N: PoolName>(
+    memory: Memory,
+    names: &Names,
+    peer: &mut PeerReader,
+    snapshot: &Snapshot<'_, N>,
+    query: Query,
+) -> Result<Text, NoMemory>
+    ensures text { IfOk result (λ text. text.items
+        ≡ query_text names.now peer.old (state_after N.accepts snapshot.now) query) }
+    ensures cursor { OnOk result (peer.new
+        ≡ cursor_after peer.old (state_after N.accepts snapshot.now) query) }
+{
+    let mut text = Vec::new(memory);
+    put_query(memory, &mut text, names, peer, snapshot, query)?;
+    text.push(b'\n')?;
+    Ok(text)
+}
+
+/// The line of what would stay upon another ledger state.
+#[tactic(auto, unfolding(crate::specs::QueryText::for_text))]
+pub fn for_line(memory: Memory, names: &Names, items: &[Item]) -> Result<Text, NoMemory>
+    ensures { IfOk result (λ text. text.items ≡ for_text names.now (items_of items.now)) }
+{
+    let mut text = Vec::new(memory);
+    put_word(&mut text, b"for")?;
+    put_items(memory, &mut text, names, items)?;
+    text.push(b'\n')?;
+    Ok(text)
+}

@@ -1,0 +1,60 @@
+//! Cases of the rules: text files with a case in each line, for everybody who writes a client.
+
+mod again;
+mod answer;
+mod case;
+mod check;
+mod kind;
+mod names;
+mod overlay;
+mod pieces;
+mod plain;
+pub mod transaction;
+mod verifier;
+
+use anyhow::{Context, Result, bail};
+pub use case::{ledger, upon};
+pub use kind::Kind;
+use mp_memory::Memory;
+pub use names::Names;
+use std::rt::Files;
+use std::{fs, io};
+
+// How many cases a line has, where they hold: one, or none where it is blank or a comment, or gives a name to something.
+fn count_held(names: &mut Names, kind: Kind, line: &str) -> Result<u64> {
+    if line.is_empty() || line.starts_with('#') {
+        return Ok(0);
+    }
+    match line.split_once(' ') {
+        Some(("word", rest)) => names.put_word(rest),
+        Some(("tx", rest)) => names.put_transaction(rest),
+        Some(_) => kind.check(names, line),
+        None => bail!("no words"),
+    }
+}
+
+// Prints each line that doesn't hold, and gives how many cases held.
+fn check_lines(rt: &impl Print, names: &mut Names, kind: Kind, text: &str) -> io::Result<u64> {
+    let name = kind.file_name();
+    let [mut held, mut number] = [0u64; 2];
+    for line in text.lines() {
+        number = number.wrapping_add(1);
+        match count_held(names, kind, line) {
+            Ok(cases) => held = held.wrapping_add(cases),
+            Err(fault) => println!(rt; "{name}:{number}: {fault}: {line}")?,
+        }
+    }
+    Ok(held)
+}
+
+/// Checks the cases of the kind's file. Prints each line that doesn't hold, and how many cases did.
+pub fn check_file(
+    rt: &(impl Files + Print + AllocGlobal),
+    memory: Memory,
+    kind: Kind,
+) -> Result<()> {
+    let name = kind.file_name();
+    let text = fs::read_to_string(rt, name).context(format_args!("reading {name}"))?;
+    let held = check_lines(rt, &mut Names::new(memory), kind, text.as_str())?;
+    Ok(println!(rt; "{name} {held}")?)
+}

@@ -1,0 +1,86 @@
+//! Transactions whose scripts were run before, and what `check_with` answers.
+
+use crate::vectors::answer::{check_answer, is_fault};
+use crate::vectors::case;
+use crate::vectors::check::check_tx;
+use crate::vectors::names::Names;
+use crate::vectors::transaction::transaction;
+use crate::vectors::verifier::KeyThenId;
+use anyhow::{Result, bail};
+use mp_rules::{Invalid, check_with, precheck};
+use mp_tx::{Ledger, Output, Tx};
+
+// What is found first before, and what is answered then.
+#[derive(Clone, Copy)]
+struct Wanted<'a> {
+    before: &'a str,
+    answer: &'a str,
+}
+
+fn is_before(names: &Names, before: &Option<Invalid>, wanted: &str) -> Result<bool> {
+    match before {
+        None => Ok(wanted == "none"),
+        Some(_) if wanted == "none" => Ok(false),
+        Some(found) => is_fault(names, found, wanted),
+    }
+}
+
+fn check_before(names: &Names, before: &Option<Invalid>, wanted: &str) -> Result<()> {
+    if is_before(names, before, wanted)? {
+        Ok(())
+    } else {
+        bail!("before: {before:?}")
+    }
+}
+
+fn check_upon(
+    names: &Names,
+    tx: &Tx,
+    ledger: &Ledger,
+    outputs: &[Output],
+    wanted: Wanted<'_>,
+) -> Result<()> {
+    if outputs.len() != tx.inputs().len() + tx.references().len() {
+        bail!("another number of outputs before")
+    }
+    let checked = precheck(names.memory(), tx, outputs, &KeyThenId)?;
+    check_before(names, &checked.fault(), wanted.before)?;
+    let answer = check_with(
+        names.memory(),
+        tx,
+        ledger,
+        ledger.tick(),
+        &checked,
+        &KeyThenId,
+    );
+    check_answer(names, ledger, tx, &answer, wanted.answer)
+}
+
+fn check_again(
+    names: &Names,
+    tx: &Tx,
+    ledger: &Ledger,
+    given: &str,
+    wanted: Wanted<'_>,
+) -> Result<()> {
+    let outputs = case::upon(names, given)?;
+    check_upon(names, tx, ledger, &outputs, wanted)?;
+    check_tx(names, tx, ledger, wanted.answer)
+}
+
+fn check_wanted(names: &Names, given: &str, wanted: Wanted<'_>) -> Result<()> {
+    let tx = transaction(names, given)?;
+    let ledger = case::ledger(names, Some(*tx.id()), given)?;
+    check_again(names, &tx, &ledger, given, wanted)
+}
+
+/// Fails unless what was found before and what is answered now are as they are wanted, and `check` answers the same.
+pub fn check_case(names: &Names, given: &str, wanted: &str) -> Result<()> {
+    match wanted.split_once(',') {
+        Some((before, answer)) => {
+            let (before, answer) = (before.trim(), answer.trim());
+            check_wanted(names, given, Wanted { before, answer })
+        }
+        None => bail!("no ','"),
+    }
+}

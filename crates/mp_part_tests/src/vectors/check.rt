@@ -1,0 +1,23 @@
+//! Transactions and what `check` answers.
+
+use crate::vectors::answer::check_answer;
+use crate::vectors::case;
+use crate::vectors::names::Names;
+use crate::vectors::transaction::transaction;
+use crate::vectors::verifier::KeyThenId;
+use anyhow::Result;
+use mp_rules::check;
+use mp_tx::{Ledger, Tx};
+
+/// Fails unless the transaction is answered as it is wanted upon the ledger state.
+pub fn check_tx(names: &Names, tx: &Tx, ledger: &Ledger, wanted: &str) -> Result<()> {
+    let answer = check(names.memory(), tx, ledger, ledger.tick(), &KeyThenId);
+    check_answer(names, ledger, tx, &answer, wanted)
+}
+
+/// Fails unless the transaction is answered as it is wanted.
+pub fn check_case(names: &Names, given: &str, wanted: &str) -> Result<()> {
+    let tx = transaction(names, given)?;
+    let ledger = case::ledger(names, Some(*tx.id()), given)?;
+    check_tx(names, &tx, &ledger, wanted)
+}

@@ -1,0 +1,39 @@
+//! The kinds of cases.
+
+use crate::vectors::names::Names;
+use crate::vectors::{again, check, overlay};
+use anyhow::{Context, Result};
+
+/// What the lines of a file are about.
+#[derive(Clone, Copy)]
+pub enum Kind {
+    Check,
+    Again,
+    Overlay,
+}
+
+impl Kind {
+    /// Each of them, in the order in which they are checked.
+    pub const ALL: [Kind; 3] = [Kind::Check, Kind::Again, Kind::Overlay];
+
+    /// The name of its file.
+    pub fn file_name(self) -> &'static str {
+        match self {
+            Kind::Check => "check.txt",
+            Kind::Again => "again.txt",
+            Kind::Overlay => "overlay.txt",
+        }
+    }
+
+    /// How many cases a line such as `GIVEN = WANTED` has, which is one. Fails unless what is given comes to what is wanted.
+    pub fn check(self, names: &Names, line: &str) -> Result<u64> {
+        let (given, wanted) = line.rsplit_once('=').context("no '='")?;
+        let (given, wanted) = (given.trim(), wanted.trim());
+        match self {
+            Kind::Check => check::check_case(names, given, wanted)?,
+            Kind::Again => again::check_case(names, given, wanted)?,
+            Kind::Overlay => overlay::check_case(names, given, wanted)?,
+        }
+        Ok(1)
+    }
+}

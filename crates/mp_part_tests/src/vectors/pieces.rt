@@ -1,0 +1,51 @@
+//! Bytes, as the lines write them.
+
+use crate::vectors::names::Names;
+use anyhow::Result;
+use mp_memory::Memory;
+use mp_script::{Data, Hash, Script};
+
+// Adds the bytes of hexadecimal digits, or of a number of times such digits, as `32*07`.
+fn add_digits(memory: Memory, bytes: &mut Vec<u8, Memory>, piece: &str) -> Result<()> {
+    let (times, digits) = piece.split_once('*').unwrap_or(("1", piece));
+    let times = times.parse::<u64>()?;
+    let decoded = hex::decode(memory, digits)?;
+    for _ in 0..times {
+        bytes.extend_from_slice(&decoded)?;
+    }
+    Ok(())
+}
+
+/// The bytes of all pieces, one after the other: names, and digits. They have spaces or plus signs between them.
+pub fn bytes(names: &Names, pieces: &str) -> Result<Vec<u8, Memory>> {
+    let mut bytes = Vec::new(names.memory());
+    for piece in pieces.split([' ', '+']) {
+        match names.bytes(piece) {
+            Some(named) => bytes.extend_from_slice(named)?,
+            None => add_digits(names.memory(), &mut bytes, piece)?,
+        }
+    }
+    Ok(bytes)
+}
+
+/// The datum that pieces spell.
+pub fn datum(names: &Names, pieces: &str) -> Result<Data> {
+    let bytes = bytes(names, pieces)?;
+    Ok(Data::decode(names.memory(), &bytes)?)
+}
+
+/// The hash of the datum that pieces spell.
+pub fn datum_hash(names: &Names, pieces: &str) -> Result<Hash> {
+    Ok(*datum(names, pieces)?.hash())
+}
+
+/// The script that pieces spell.
+pub fn script(names: &Names, pieces: &str) -> Result<Script> {
+    let bytes = bytes(names, pieces)?;
+    Ok(Script::decode(names.memory(), &bytes)?)
+}
+
+/// The hash of the script that pieces spell.
+pub fn script_hash(names: &Names, pieces: &str) -> Result<Hash> {
+    Ok(*script(names, pieces)?.hash())
+}
