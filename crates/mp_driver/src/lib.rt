@@ -18,6 +18,10 @@ mod unopened;
 mod verifier;
 
 pub use fault::Fault;
+pub use ledgers::{ledger_at, make_ledger};
 pub use missing_entry::MissingEntry;
+pub use openings::Openings;
 pub use running::{answer_text, run};
+pub use settings::Settings;
 pub use stop::Stop;
+pub use verifier::KeyAndId;

@@ -1,10 +1,8 @@
 //! The pool of a scenario.
 
 ghost use Rattle.std.specs.Prelude.{◌≡◌, ◌≤◌, [], ◌∷◌, length, Some, IfOk, IfErr, OnOk};
-ghost use Rattle.mp_seqpool.specs.Inside.Command.{command_of};
 ghost use Rattle.mp_history.specs.Log.{IsLegalLog};
 ghost use Rattle.mp_mempool.specs.Pass as told;
-ghost use Rattle.mp_mempool.specs.Answers.{IsEntered, IsRefused};
 ghost use Rattle.mp_driver.specs.Halt.{IsBad, TellsOf};
 ghost use Rattle.mp_driver.specs.Inside.ScenarioPool.{GoesOnBehind, IsSequential};
 
@@ -13,7 +11,7 @@ use crate::missing_entry::MissingEntry;
 use crate::verifier::KeyAndId;
 use mp_history::{NewName, PoolName};
 use mp_memory::{Memory, NoMemory};
-use mp_mempool::{Config, Mempool, OpenRefusal, Pass, Receipt, Refusal, SnapshotFor};
+use mp_mempool::{Config, Mempool, OpenRefusal, Pass, Refusal, SnapshotFor};
 use mp_seqpool::{Answer, Command};
 use mp_tx::Ledger;
 use mp_versions::Snapshot;
@@ -62,25 +60,6 @@ fn sole<N: PoolName>(mut passes: Vec<Pass<N>, Memory>) -> Option<Pass<N>>
     ensures { (p : told.Pass) → passes.items ≡ p ∷ [] → result ≡ Some p }
 {
     passes.pop()
-}
-
-// Asks the pool for what the command asks.
-fn ask<N: PoolName>(
-    rt: &impl Wait,
-    mempool: &Mempool<N, KeyAndId>,
-    pass: &mut Pass<N>,
-    command: &Command,
-) -> Result<Receipt, Refusal<N>>
-    ensures receipt { IfOk result (λ r. IsEntered N.accepts N.callers
-        pass.old (command_of command.now) r.place r.entry pass.new) }
-    ensures refused { IfErr result (λ r. IsRefused N.accepts N.callers
-        pass.old (command_of command.now) r pass.new) }
-{
-    match command {
-        Command::Submit(tx) => mempool.submit(rt, pass, tx),
-        Command::Remove(ids) => mempool.remove(rt, pass, ids),
-        Command::Sync(ledger) => mempool.sync(rt, pass, ledger),
-    }
 }
 
 // The sequential pool's refusal.
@@ -191,7 +170,7 @@ impl<N: PoolName> ScenarioPool<N> {
     {
         let place = self.told();
         let ScenarioPool { mempool, mut pass } = self;
-        match ask(rt, &mempool, &mut pass, command) {
+        match mempool.ask(rt, &mut pass, command) {
             Ok(receipt) => Ok((ScenarioPool::of(mempool, pass), Ok(receipt.entry.reply))),
             Err(refusal) => {
                 let refusal = told_refusal(place, refusal)?;

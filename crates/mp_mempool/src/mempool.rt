@@ -17,7 +17,7 @@ use crate::under_lock::{remove_in, submit_in, sync_in};
 use mp_history::{History, NewName, PoolName};
 use mp_memory::{Memory, NoMemory};
 use mp_rules::Verifier;
-use mp_seqpool::Ids;
+use mp_seqpool::{Command, Ids};
 use mp_tx::{Ledger, Tx};
 use std::sync::{Arc, Mutex, Wait};
 
@@ -167,5 +167,33 @@ impl<N: PoolName, V: Verifier> Mempool<N, V> {
     /// What reads the pool, for any number of callers at once. It has no lock.
     pub fn reader(&self) -> &Reader<N, V> {
         &self.reader
+    }
+}
+
+impl<N: PoolName, V: Verifier> Mempool<N, V> {
+    ghost use Rattle.std.specs.Prelude.{IfOk, IfErr};
+    ghost use Rattle.mp_seqpool.specs.Inside.Command.{command_of};
+    ghost use Rattle.mp_mempool.specs.Answers.{IsEntered, IsRefused};
+
+    /// Does what the command asks: `submit`, `remove` or `sync`. The call may wait for other callers.
+    ///
+    /// # Errors
+    /// As of that call.
+    pub fn ask(
+        &self,
+        rt: &impl Wait,
+        pass: &mut Pass<N>,
+        command: &Command,
+    ) -> Result<Receipt, Refusal<N>>
+        ensures receipt { IfOk result (λ r. IsEntered N.accepts N.callers
+            pass.old (command_of command.now) r.place r.entry pass.new) }
+        ensures refused { IfErr result (λ r. IsRefused N.accepts N.callers
+            pass.old (command_of command.now) r pass.new) }
+    {
+        match command {
+            Command::Submit(tx) => self.submit(rt, pass, tx),
+            Command::Remove(ids) => self.remove(rt, pass, ids),
+            Command::Sync(ledger) => self.sync(rt, pass, ledger),
+        }
     }
 }

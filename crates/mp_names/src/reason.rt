@@ -39,6 +39,7 @@ pub enum Reason<'a> {
     SetBefore(&'a [u8]),
     LateOutput,
     ManyOutputs,
+    NotInRace,
 }
 
 const NOTHING: &[u8] = b"";
@@ -59,6 +60,8 @@ const ITEM: &str =
 
 const LARGE: &str =
     "a transaction has at most 256 inputs, 256 reference inputs, 256 outputs and 16384 bytes";
+
+const RACE: &str = "a race has no commands but submit, remove, sync and snapshot";
 
 impl<'a> Reason<'a> {
     // What is told round one word, or with none.
@@ -88,6 +91,7 @@ impl<'a> Reason<'a> {
             Reason::SetBefore(word) => ("'", word, "' was set before"),
             Reason::LateOutput => ("an output stands above the first command", NOTHING, ""),
             Reason::ManyOutputs => ("there are at most 65536 outputs", NOTHING, ""),
+            Reason::NotInRace => (RACE, NOTHING, ""),
             Reason::Byte(_) => ("it has the byte ", NOTHING, ""),
         }
     }
