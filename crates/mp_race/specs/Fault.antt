@@ -1,0 +1,12 @@
+-- The numbers of faults.
+use Rattle.std.specs.Prelude.{ℕ}
+use Rattle.mp_race.specs.declared.fault.Fault.{Fault}
+use Rattle.mp_race.specs.declared.fault.Fault.TheVariants.{NoMemory, BadLine, ReadFault, WriteFault, Audit, MissingEntry}
+
+abbrev pub number : Fault → ℕ
+number NoMemory = 1
+number (BadLine line) = 2
+number ReadFault = 3
+number WriteFault = 4
+number (Audit fault) = 5
+number (MissingEntry place) = 6

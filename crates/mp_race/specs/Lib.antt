@@ -1,0 +1,4 @@
+pub mod Scenario
+pub mod Reading
+pub mod Fault
+pub mod Inside

@@ -1,0 +1,37 @@
+-- How the text of a scenario is read.
+use Rattle.std.specs.Prelude.{◌≡◌, ℕ, ◌≤◌, ◌^◌, List, length, Result, Ok, Err}
+use Rattle.mp_text.specs.Lines.{lines_of}
+use Rattle.mp_names.specs.declared.reason.Reason.{Reason}
+use Rattle.mp_race.specs.declared.fault.Fault.{Fault}
+use Rattle.mp_race.specs.declared.fault.Fault.TheVariants.{NoMemory, BadLine, ReadFault, WriteFault, Audit, MissingEntry}
+use Rattle.mp_race.specs.declared.stop.Stop.{Stop}
+use Rattle.mp_race.specs.declared.stop.Stop.TheVariants as stop
+use Rattle.mp_race.specs.Scenario.{Draft, Scenario, empty_draft, reading, scenario_of}
+
+abbrev pub scenario_in : Result Draft ℕ → Result Scenario ℕ
+scenario_in (Ok d) = Ok (scenario_of d)
+scenario_in (Err n) = Err n
+
+-- the scenario of the lines, or the number of the first bad one, from 1
+abbrev pub scenario_from : List (List ℕ) → Result Scenario ℕ
+scenario_from lines = scenario_in (reading empty_draft 1 lines)
+
+-- the fault that is told where a text isn't read
+abbrev pub fault_of : Stop → Fault
+fault_of stop.NoMemory = NoMemory
+fault_of (stop.BadLine n reason) = BadLine n
+
+-- the bad line is the first one. Memory may be wanting for any
+abbrev pub IsStopOf : {X : Type 0} → Result X ℕ → Stop → Type 0
+IsStopOf r stop.NoMemory = Unit {0}
+IsStopOf r (stop.BadLine n reason) = r ≡ Err n
+
+-- no more than 2^24 bytes are read
+abbrev pub AreRead : List ℕ → Result Scenario Fault → Type 0
+AreRead bytes (Ok s) = (length bytes ≤ 2 ^ 24) × (scenario_from (lines_of bytes) ≡ Ok s)
+AreRead bytes (Err (BadLine n)) = (length bytes ≤ 2 ^ 24) × (scenario_from (lines_of bytes) ≡ Err n)
+AreRead bytes (Err ReadFault) = Unit {0}
+AreRead bytes (Err NoMemory) = Unit {0}
+AreRead bytes (Err WriteFault) = ⊥
+AreRead bytes (Err (Audit fault)) = ⊥
+AreRead bytes (Err (MissingEntry place)) = ⊥

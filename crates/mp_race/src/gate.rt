@@ -1,0 +1,41 @@
+//! What is told of a race as it runs.
+
+use mp_driver::KeyAndId;
+use mp_seqpool::Verifier;
+use mp_tx::{Key, Sig, TxId};
+
+/// What is told of a race as it runs, by each of its threads. A call may hold a worker back, and changes no answer.
+pub trait Gate: Sync {
+    /// The worker is about to do the task with this number, both from 0.
+    fn start(&self, worker: u32, task: u32);
+
+    /// A signature of the transaction with this id is about to be looked at.
+    fn check(&self, id: &TxId);
+}
+
+/// Does nothing.
+#[derive(Drop)]
+pub struct NoGate;
+
+impl Gate for NoGate {
+    fn start(&self, _worker: u32, _task: u32) {}
+
+    fn check(&self, _id: &TxId) {}
+}
+
+/// Accepts a signature exactly where it is the key followed by the id, and tells the gate of each that it looks at.
+#[derive(Drop)]
+pub struct Watched<'a, G: Gate> {
+    pub gate: &'a G,
+}
+
+impl<G: Gate> Verifier for Watched<'_, G> {
+    ghost use Rattle.mp_driver.specs.Verifier.{is_key_and_id};
+
+    ghost accepts = { λ _. is_key_and_id };
+
+    fn verify(&self, key: &Key, id: &TxId, sig: &Sig) -> bool {
+        self.gate.check(id);
+        KeyAndId.verify(key, id, sig)
+    }
+}

@@ -1,0 +1,39 @@
+//! Why a text isn't read.
+
+ghost use Rattle.std.specs.Prelude.{◌≡◌};
+
+use crate::fault::Fault;
+use mp_memory::NoMemory;
+use mp_names::Reason;
+
+/// Why a text isn't read.
+#[derive(Clone, Copy)]
+pub enum Stop<'a> {
+    NoMemory,
+    /// The number of the first bad line, from 1, and what is wrong with it.
+    BadLine(u64, Reason<'a>),
+}
+
+impl Stop<'_> {
+    ghost use Rattle.mp_race.specs.Reading.{fault_of};
+
+    /// The fault that the program tells.
+    pub fn to_fault(&self) -> Fault
+        ensures { result ≡ fault_of self.now }
+    {
+        match self {
+            Stop::NoMemory => Fault::NoMemory,
+            Stop::BadLine(number, _) => Fault::BadLine(*number),
+        }
+    }
+}
+
+impl From<NoMemory> for Stop<'_> {
+    ghost use Rattle.mp_race.specs.declared.stop.Stop.TheVariants as stops;
+
+    ghost from_gives = { λ _ e. e ≡ stops.NoMemory };
+
+    fn from(_error: NoMemory) -> Self {
+        Stop::NoMemory
+    }
+}
