@@ -8,14 +8,14 @@ ghost use Rattle.mp_utxo.specs.Overlay.{unspent};
 ghost use Rattle.mp_rules.specs.Verifier.{Accepts};
 ghost use Rattle.mp_rules.specs.Checked.{IsSigned, ScriptsAccept};
 ghost use Rattle.mp_resync.specs.ById.{key_of};
-ghost use Rattle.mp_resync.specs.Item.{IsVouched, ticketed};
+ghost use Rattle.mp_resync.specs.ValidatedTx.{IsVouched, ticketed};
 ghost use Rattle.mp_resync.specs.Keep.{is_valid};
 ghost use Rattle.mp_resync.specs.Kept.{IsKeptOf};
 ghost use Rattle.mp_resync.specs.Inside.Judged.{AreBelow, Keeps, Judges, Handles};
 
-use crate::item::Item;
 use crate::kept::Kept;
 use crate::names::{Names, is_named, names_of};
+use crate::validated_tx::ValidatedTx;
 use mp_memory::{Memory, NoMemory};
 use mp_rules::{Invalid, Resolved, Verifier, recheck};
 use mp_tickets::{TicketList, Tickets};
@@ -62,7 +62,7 @@ pub fn stays_valid<V: Verifier>(
 }
 
 // Applies the item.
-fn keep(kept: &mut Kept, ticket: u64, item: &Item) -> Result<(), NoMemory>
+fn keep(kept: &mut Kept, ticket: u64, item: &ValidatedTx) -> Result<(), NoMemory>
     requires { All (λ t. t < ticket) kept.old.kept }
     ensures { OnOk result (Keeps kept.old (ticket, item.now.tx) kept.new) }
 {
@@ -77,7 +77,7 @@ fn judge<V: Verifier>(
     memory: Memory,
     kept: &mut Kept,
     ticket: u64,
-    item: &Item,
+    item: &ValidatedTx,
     verifier: &V,
 ) -> Result<(), NoMemory>
     requires vouched { IsVouched (V.accepts verifier.now) item.now }
@@ -99,7 +99,7 @@ fn handle<V: Verifier>(
     names: &Names,
     kept: &mut Kept,
     ticket: u64,
-    item: &Item,
+    item: &ValidatedTx,
     verifier: &V,
 ) -> Result<(), NoMemory>
     requires vouched { IsVouched (V.accepts verifier.now) item.now }
@@ -125,7 +125,7 @@ fn handle<V: Verifier>(
 pub fn revalidate<V: Verifier>(
     memory: Memory,
     ledger: &Ledger,
-    items: &TicketList<Item>,
+    items: &TicketList<ValidatedTx>,
     without: &[TxId],
     verifier: &V,
 ) -> Result<Kept, NoMemory>

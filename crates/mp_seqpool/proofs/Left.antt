@@ -12,7 +12,7 @@ use Rattle.mp_utxo.specs.Apply.{Unspent, apply}
 use Rattle.mp_rules.specs.Verifier.{Accepts}
 use Rattle.mp_rules.specs.Checked.{IsSigned, ScriptsAccept}
 use Rattle.mp_tickets.specs.Tickets.{IsRisingFrom, IsRising, has_ticket, among}
-use Rattle.mp_resync.specs.Item.{Item, IsVouched, ticketed}
+use Rattle.mp_resync.specs.ValidatedTx.{ValidatedTx, IsVouched, ticketed}
 use Rattle.mp_resync.specs.Keep.{transactions, tickets, is_named, named, unnamed, is_valid, keep_upon, keep, dropped}
 use Rattle.mp_resync.specs.declared.kept.Kept.{Kept}
 use Rattle.mp_resync.specs.Kept.{IsKeptOf}
@@ -88,7 +88,7 @@ among_some low ks (i ∷ is) r (inr s) =
     ∙ ap (λ l. i ∷ l) (lesser i.0 (tickets s.0) is (all_above i.0 i.0 is (omega arith) r.1) ∙ among_some i.0 s.0 is r.1 s.2)
     ∙ sym s.1
 
-pub rising_ticketed : (low : ℕ) (items : List (ℕ × Item)) → IsRisingFrom low items → IsRisingFrom low (ticketed items)
+pub rising_ticketed : (low : ℕ) (items : List (ℕ × ValidatedTx)) → IsRisingFrom low items → IsRisingFrom low (ticketed items)
 rising_ticketed low [] r = tt
 rising_ticketed low (e ∷ es) r = (r.0, rising_ticketed e.0 es r.1)
 
@@ -112,15 +112,15 @@ open_limit b reply e = ap (λ b. cond b (Err refusals.HistoryFull) (Ok reply)) e
 
 module _ (accepts : Accepts) where
   -- nothing in the pool needs to be looked at again
-  pub vouched : (items : List (ℕ × Item)) → All (IsSigned accepts) (transactions (ticketed items)) → All (λ e. ScriptsAccept e.1.tx e.1.resolved) items → All (λ e. IsVouched accepts e.1) items
-  vouched [] s a = All-nil (λ (e : ℕ × Item). IsVouched accepts e.1)
+  pub vouched : (items : List (ℕ × ValidatedTx)) → All (IsSigned accepts) (transactions (ticketed items)) → All (λ e. ScriptsAccept e.1.tx e.1.resolved) items → All (λ e. IsVouched accepts e.1) items
+  vouched [] s a = All-nil (λ (e : ℕ × ValidatedTx). IsVouched accepts e.1)
   vouched (e ∷ es) s a =
-      All-cons (λ (e : ℕ × Item). IsVouched accepts e.1) e es
+      All-cons (λ (e : ℕ × ValidatedTx). IsVouched accepts e.1) e es
       (record {
         signed = All-head (IsSigned accepts) e.1.tx (transactions (ticketed es)) s;
-        accepted = All-head (λ (e : ℕ × Item). ScriptsAccept e.1.tx e.1.resolved) e es a;
+        accepted = All-head (λ (e : ℕ × ValidatedTx). ScriptsAccept e.1.tx e.1.resolved) e es a;
       })
-      (vouched es (All-tail (IsSigned accepts) e.1.tx (transactions (ticketed es)) s) (All-tail (λ (e : ℕ × Item). ScriptsAccept e.1.tx e.1.resolved) e es a))
+      (vouched es (All-tail (IsSigned accepts) e.1.tx (transactions (ticketed es)) s) (All-tail (λ (e : ℕ × ValidatedTx). ScriptsAccept e.1.tx e.1.resolved) e es a))
 
   -- what has the tickets of what is kept is what is kept
   among_kept : (ledger : LedgerState) (ids : List (List ℕ)) (items : List (ℕ × Transaction)) (kept : List ℕ) → IsRising items → kept ≡ tickets (keep accepts ledger (unnamed ids items)) → among kept items ≡ keep accepts ledger (unnamed ids items)

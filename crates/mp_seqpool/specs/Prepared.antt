@@ -7,7 +7,7 @@ use Rattle.mp_utxo.specs.Overlay.{Overlay, HasRoomFor}
 use Rattle.mp_rules.specs.Verifier.{Accepts}
 use Rattle.mp_rules.specs.Checked.{ScriptsAccept}
 use Rattle.mp_tickets.specs.Tickets.{has_ticket, among}
-use Rattle.mp_resync.specs.Item.{Item}
+use Rattle.mp_resync.specs.ValidatedTx.{ValidatedTx}
 use Rattle.mp_resync.specs.Keep.{transactions}
 use Rattle.mp_seqpool.specs.declared.command.Reply.{Reply}
 use Rattle.mp_seqpool.specs.declared.command.Reply.TheVariants.{Accepted, Removed, Synced}
@@ -18,7 +18,7 @@ use Rattle.mp_seqpool.specs.SlowPool.{ticket_of, pool_with, pool_upon, HasPlace,
 -- what a step does to the pool
 pub data Change : Type 0 where
   -- the transaction comes last, under the next ticket
-  Append : Item → Change
+  Append : ValidatedTx → Change
   -- the transactions under these tickets stay, and are all that is applied upon the ledger state
   Keep : Overlay → List ℕ → Change
 
@@ -52,7 +52,7 @@ told p (Remove ids) reply = pool_upon p p.ledger (left_by reply p.items)
 told p (Sync ledger) reply = pool_upon p ledger (left_by reply p.items)
 
 -- the pool can take the item in without memory, and without a look at its rules
-pub record CanAppend (h : Holding) (item : Item) : Type 0 where
+pub record CanAppend (h : Holding) (item : ValidatedTx) : Type 0 where
   pub place : HasPlace h.pool item.tx
   pub new : ticket_of (id_of item.tx) h.pool.items ≡ None
   pub room : HasRoomFor h.room item.tx

@@ -16,7 +16,7 @@ use crate::refusal::Refusal;
 use crate::tickets_by_id::{TicketsById, forget_others, note, ticket_under};
 use indexmap::IndexMap;
 use mp_memory::{Memory, NoMemory};
-use mp_resync::{Item, Kept, revalidate};
+use mp_resync::{Kept, ValidatedTx, revalidate};
 use mp_rules::{Checked, Resolved, Verifier, check, check_with};
 use mp_tickets::{Iter, Node, TicketList, Tickets, make_node};
 use mp_tx::{Ledger, Tx, TxId};
@@ -39,7 +39,7 @@ pub struct SeqPool {
     config: Config,
     overlay: Overlay,
     tickets: TicketsById,
-    items: TicketList<Item>,
+    items: TicketList<ValidatedTx>,
     last: u64,
     bytes: u64,
     changes: u64,
@@ -87,7 +87,7 @@ fn append_step(
 {
     let asked = Arc::try_clone(tx)?;
     let applied = Arc::try_clone(tx)?;
-    let item = Item {
+    let item = ValidatedTx {
         tx: Arc::try_clone(tx)?,
         resolved,
     };
@@ -126,8 +126,8 @@ impl SeqPool {
     ghost use Rattle.mp_rules.specs.FirstFault.{first_fault};
     ghost use Rattle.mp_rules.specs.Checked.{IsChecked, ScriptsAccept};
     ghost use Rattle.mp_tickets.specs.Tickets.{IsRising, among, shown};
-    ghost use Rattle.mp_resync.specs.Item as resync;
-    ghost use Rattle.mp_resync.specs.Item.{ticketed};
+    ghost use Rattle.mp_resync.specs.ValidatedTx as resync;
+    ghost use Rattle.mp_resync.specs.ValidatedTx.{ticketed};
     ghost use Rattle.mp_resync.specs.Keep.{transactions, tickets};
     ghost use Rattle.mp_resync.specs.Kept.{IsKeptOf};
     ghost use Rattle.mp_seqpool.specs.Inside.Place.{misplaced};
@@ -324,7 +324,7 @@ impl SeqPool {
     }
 
     // Puts the item last.
-    fn append(&mut self, node: Node<Item>, applied: Arc<Tx, Memory>)
+    fn append(&mut self, node: Node<ValidatedTx>, applied: Arc<Tx, Memory>)
         requires one { arc_value applied ≡ node.tx }
         requires can { CanAppend self.old node }
         ensures { self.new.pool ≡ pool_with self.old.pool node.tx }
@@ -486,10 +486,10 @@ impl SeqPool {
     }
 
     /// The transactions with their tickets, oldest first: tickets rise, and are all above 0.
-    pub fn contents(&self) -> Iter<'_, Item>
+    pub fn contents(&self) -> Iter<'_, ValidatedTx>
         ensures all { ticketed result ≡ self.now.pool.items }
         ensures rising { IsRising self.now.pool.items }
-        ensures runs { ShowsInOrder (shown {T = resync.Item}) }
+        ensures runs { ShowsInOrder (shown {T = resync.ValidatedTx}) }
     {
         self.items.iter()
     }

@@ -2,7 +2,7 @@
 
 use crate::command::{Command, Reply};
 use mp_memory::Memory;
-use mp_resync::Item;
+use mp_resync::ValidatedTx;
 use mp_tickets::{Node, Tickets};
 use mp_tx::Tx;
 use mp_utxo::Overlay;
@@ -13,7 +13,7 @@ use std::sync::Arc;
 #[derive(Drop)]
 pub enum Change {
     /// The item comes last, and its transaction is applied.
-    Append(Node<Item>, Arc<Tx, Memory>),
+    Append(Node<ValidatedTx>, Arc<Tx, Memory>),
     /// Those under these tickets stay: all that the overlay has applied.
     Keep(Overlay, Tickets),
 }
