@@ -2,8 +2,8 @@
 #![tactic(auto)]
 
 mod by_id;
+mod id_set;
 mod kept;
-mod names;
 mod revalidation;
 mod validated_tx;
 

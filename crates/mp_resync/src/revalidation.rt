@@ -13,8 +13,8 @@ ghost use Rattle.mp_resync.specs.Keep.{is_valid};
 ghost use Rattle.mp_resync.specs.Kept.{IsKeptOf};
 ghost use Rattle.mp_resync.specs.Inside.Judged.{AreBelow, Keeps, Judges, Handles};
 
+use crate::id_set::{IdSet, id_set_of, is_named};
 use crate::kept::Kept;
-use crate::names::{Names, is_named, names_of};
 use crate::validated_tx::ValidatedTx;
 use mp_memory::{Memory, NoMemory};
 use mp_rules::{Invalid, Resolved, Verifier, recheck};
@@ -96,7 +96,7 @@ fn judge<V: Verifier>(
 // Passes over the item where its id is one of the names, and else judges it.
 fn handle<V: Verifier>(
     memory: Memory,
-    names: &Names,
+    names: &IdSet,
     kept: &mut Kept,
     ticket: u64,
     item: &ValidatedTx,
@@ -133,7 +133,7 @@ pub fn revalidate<V: Verifier>(
     ensures { IfOk result (IsKeptOf (V.accepts verifier.now)
         ledger.now (ticketed items.now) without.now) }
 {
-    let names = names_of(memory, ledger.salt(), without)?;
+    let names = id_set_of(memory, ledger.salt(), without)?;
     let mut kept = nothing_kept(memory, ledger)?;
     for (ticket, item) in items.iter() {
         handle(memory, &names, &mut kept, ticket, item, verifier)?;
