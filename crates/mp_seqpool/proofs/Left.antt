@@ -145,7 +145,7 @@ module _ (accepts : Accepts) where
       ∙ apart_dropped accepts (get ledger.utxo) ledger.tick 0 (unnamed [] items) (rising_unnamed 0 [] items rising)
 
   -- what a step of keeping leads to
-  leads_left : (p : Pool) (ledger : LedgerState) (ids : List (List ℕ)) (k : Kept) (q : Prepared) → IsRising p.items → IsKeptOf accepts ledger p.items ids k → q.change ≡ Keep k.overlay k.kept
+  leads_left : (p : Pool) (ledger : LedgerState) (ids : List (List ℕ)) (k : Kept) (q : Prepared) → IsRising p.items → IsKeptOf accepts ledger p.items ids k → q.effect ≡ Keep k.overlay k.kept
       → leads_to p q ≡ pool_upon p ledger (keep accepts ledger (unnamed ids p.items))
   leads_left p ledger ids k q rising is keeps =
       ap (changed p) keeps ∙ ap (λ l. pool_upon p l (among k.kept p.items)) is.base ∙ ap (pool_upon p ledger) (among_kept ledger ids p.items k.kept rising is.kept)
@@ -168,7 +168,7 @@ module _ (accepts : Accepts) where
 
   -- the step of a remove that nothing refuses
   pub ready_removed : (h : Holding) (ids : List (List ℕ)) (k : Kept) (q : Prepared) → h.pool.changes < h.pool.limit → IsRising h.pool.items → IsKeptOf accepts h.pool.ledger h.pool.items ids k
-      → q.command ≡ Remove ids → q.reply ≡ Removed k.named k.dropped → q.change ≡ Keep k.overlay k.kept → Prepares accepts h (Remove ids) q
+      → q.command ≡ Remove ids → q.reply ≡ Removed k.named k.dropped → q.effect ≡ Keep k.overlay k.kept → Prepares accepts h (Remove ids) q
   ready_removed h ids k q change rising is command reply keeps =
       let yes : answer accepts h.pool (Remove ids) ≡ Ok (Removed k.named k.dropped) = removed h.pool ids k (within h.pool.limit h.pool.changes change) is in
       let left = among_kept h.pool.ledger ids h.pool.items k.kept rising is.kept in
@@ -188,7 +188,7 @@ module _ (accepts : Accepts) where
 
   -- the step of a sync that nothing refuses
   pub ready_synced : (h : Holding) (ledger : LedgerState) (k : Kept) (q : Prepared) → h.pool.changes < h.pool.limit → IsRising h.pool.items → IsKeptOf accepts ledger h.pool.items [] k
-      → q.command ≡ Sync ledger → q.reply ≡ Synced k.kept k.dropped → q.change ≡ Keep k.overlay k.kept → Prepares accepts h (Sync ledger) q
+      → q.command ≡ Sync ledger → q.reply ≡ Synced k.kept k.dropped → q.effect ≡ Keep k.overlay k.kept → Prepares accepts h (Sync ledger) q
   ready_synced h ledger k q change rising is command reply keeps =
       let yes : answer accepts h.pool (Sync ledger) ≡ Ok (Synced k.kept k.dropped) = synced h.pool ledger k (within h.pool.limit h.pool.changes change) is in
       let left = among_kept ledger [] h.pool.items k.kept rising is.kept in

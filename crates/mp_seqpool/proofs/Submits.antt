@@ -160,13 +160,13 @@ module _ (accepts : Accepts) where
 
   -- the step of a submit that nothing refuses
   pub ready : (was : Pool) (h : Holding) (t : Transaction) (resolved : Resolved) (q : Prepared) → h.pool ≡ was → misplaced was t ≡ None → first_fault accepts (unspent was) was.ledger.tick t ≡ None
-      → q.command ≡ Submit t → q.reply ≡ Accepted (was.last + 1) → q.change ≡ Append (record { tx = t; resolved = resolved }) → HasRoom h q → Prepares accepts h (Submit t) q
-  ready was h t resolved q same place clear command reply change room =
+      → q.command ≡ Submit t → q.reply ≡ Accepted (was.last + 1) → q.effect ≡ Append (record { tx = t; resolved = resolved }) → HasRoom h q → Prepares accepts h (Submit t) q
+  ready was h t resolved q same place clear command reply effect room =
       let yes : answer accepts h.pool (Submit t) ≡ Ok (Accepted (was.last + 1)) = ap (λ p. answer accepts p (Submit t)) same ∙ accepted was t place clear in
       record {
         command = command;
         reply = yes ∙ sym (ap Ok reply);
-        leads = next-accepted h.pool t _ yes ∙ sym (ap (changed h.pool) change);
+        leads = next-accepted h.pool t _ yes ∙ sym (ap (changed h.pool) effect);
         prepared = record {
           change = room.change;
           fits = room.fits;

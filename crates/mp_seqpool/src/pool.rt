@@ -11,7 +11,7 @@ ghost use Rattle.mp_seqpool.specs.declared.command.Reply.TheVariants.{Accepted, 
 use crate::command::{Answer, Command, Reply};
 use crate::config::Config;
 use crate::ids::Ids;
-use crate::prepared::{Change, Prepared};
+use crate::prepared::{Effect, Prepared};
 use crate::refusal::Refusal;
 use crate::tickets_by_id::{TicketsById, forget_others, note, ticket_under};
 use indexmap::IndexMap;
@@ -82,7 +82,7 @@ fn append_step(
 ) -> Result<Prepared, NoMemory>
     ensures command { IfOk result (λ q. q.command ≡ Submit (arc_value tx.now)) }
     ensures reply { IfOk result (λ q. q.reply ≡ Accepted ticket) }
-    ensures change { IfOk result (λ q. q.change
+    ensures effect { IfOk result (λ q. q.effect
         ≡ Append (record { tx = arc_value tx.now; resolved = resolved })) }
 {
     let asked = Arc::try_clone(tx)?;
@@ -97,7 +97,7 @@ fn append_step(
     Ok(Prepared {
         command: Command::Submit(asked),
         reply: Reply::Accepted { ticket },
-        change: Change::Append(node, applied),
+        effect: Effect::Append(node, applied),
     })
 }
 
@@ -105,7 +105,7 @@ fn append_step(
 fn sync_step(adopted: Ledger, left: Kept) -> Result<Prepared, NoMemory>
     ensures command { IfOk result (λ q. q.command ≡ Sync adopted) }
     ensures reply { IfOk result (λ q. q.reply ≡ Synced left.kept left.dropped) }
-    ensures change { IfOk result (λ q. q.change ≡ Keep left.overlay left.kept) }
+    ensures effect { IfOk result (λ q. q.effect ≡ Keep left.overlay left.kept) }
 {
     let told = left.kept.copy()?;
     Ok(Prepared {
@@ -114,7 +114,7 @@ fn sync_step(adopted: Ledger, left: Kept) -> Result<Prepared, NoMemory>
             kept: told,
             dropped: left.dropped,
         },
-        change: Change::Keep(left.overlay, left.kept),
+        effect: Effect::Keep(left.overlay, left.kept),
     })
 }
 
@@ -215,7 +215,7 @@ impl SeqPool {
         ensures same { self.new.pool ≡ self.old.pool }
         ensures command { IfOk result (λ q. q.command ≡ Submit (arc_value tx.now)) }
         ensures reply { IfOk result (λ q. q.reply ≡ Accepted (self.old.pool.last + 1)) }
-        ensures change { IfOk result (λ q. q.change
+        ensures effect { IfOk result (λ q. q.effect
             ≡ Append (record { tx = arc_value tx.now; resolved = resolved })) }
         ensures room { IfOk result (HasRoom self.new) }
     {
@@ -295,7 +295,7 @@ impl SeqPool {
         Ok(Prepared {
             command: Command::Remove(asked),
             reply: Reply::Removed { named, dropped },
-            change: Change::Keep(overlay, kept),
+            effect: Effect::Keep(overlay, kept),
         })
     }
 
@@ -361,11 +361,11 @@ impl SeqPool {
         let Prepared {
             command: _,
             reply,
-            change,
+            effect,
         } = prepared;
-        match change {
-            Change::Append(node, applied) => self.append(node, applied),
-            Change::Keep(overlay, kept) => self.keep_only(overlay, &kept),
+        match effect {
+            Effect::Append(node, applied) => self.append(node, applied),
+            Effect::Keep(overlay, kept) => self.keep_only(overlay, &kept),
         }
         reply
     }

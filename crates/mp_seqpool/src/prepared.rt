@@ -11,7 +11,7 @@ use std::sync::Arc;
 
 /// What a step does to the pool.
 #[derive(Drop)]
-pub enum Change {
+pub enum Effect {
     /// The item comes last, and its transaction is applied.
     Append(Node<ValidatedTx>, Arc<Tx, Memory>),
     /// Those under these tickets stay: all that the overlay has applied.
@@ -24,7 +24,7 @@ pub enum Change {
 pub struct Prepared {
     pub(crate) command: Command,
     pub(crate) reply: Reply,
-    pub(crate) change: Change,
+    pub(crate) effect: Effect,
 }
 
 impl Model for Prepared {
@@ -36,11 +36,11 @@ impl Model for Prepared {
 
     ghost coded = { Prim.hlevel (codes, finite.code) };
 
-    ghost use Rattle.mp_seqpool.specs.Inside.Change.{prepared, IsOfOne};
+    ghost use Rattle.mp_seqpool.specs.Inside.Effect.{prepared, IsOfOne};
 
     ghost view = { prepared };
 
-    ghost invariant = { λ q. IsOfOne q.change };
+    ghost invariant = { λ q. IsOfOne q.effect };
 }
 
 impl Prepared {
