@@ -8,7 +8,7 @@ use Rattle.std.specs.Cmp.Lexicographic.{pointwise, texts_ties, nat_list_cmp_tota
 use Rattle.std.proofs.lemmas.List.Folds.{list_any_more}
 use Rattle.mp_tx.specs.Reference.{same_ref}
 use Rattle.mp_resync.specs.ById.{key_of}
-use Rattle.mp_resync.specs.Inside.Names.{Table, AreNamed, Notes}
+use Rattle.mp_resync.specs.Inside.IdSet.{Table, AreNamed, Notes}
 
 and_true : (b : Bool) → (b && true) ≡ b
 and_true true = refl

@@ -1,4 +1,4 @@
 -- What only the crate's own clauses, views and invariants cite.
-pub mod Item
+pub mod IdSet
 pub mod Judged
-pub mod Names
+pub mod ValidatedTx

@@ -1,5 +1,5 @@
 pub mod ById
-pub mod Item
 pub mod Keep
 pub mod Kept
+pub mod ValidatedTx
 pub mod Inside

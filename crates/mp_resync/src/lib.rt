@@ -2,12 +2,12 @@
 #![tactic(auto)]
 
 mod by_id;
-mod item;
+mod id_set;
 mod kept;
-mod names;
 mod revalidation;
+mod validated_tx;
 
 pub use by_id::{ById, key_of};
-pub use item::Item;
 pub use kept::Kept;
 pub use revalidation::{revalidate, stays_valid};
+pub use validated_tx::ValidatedTx;

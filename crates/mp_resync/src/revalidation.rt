@@ -8,14 +8,14 @@ ghost use Rattle.mp_utxo.specs.Overlay.{unspent};
 ghost use Rattle.mp_rules.specs.Verifier.{Accepts};
 ghost use Rattle.mp_rules.specs.Checked.{IsSigned, ScriptsAccept};
 ghost use Rattle.mp_resync.specs.ById.{key_of};
-ghost use Rattle.mp_resync.specs.Item.{IsVouched, ticketed};
+ghost use Rattle.mp_resync.specs.ValidatedTx.{IsVouched, ticketed};
 ghost use Rattle.mp_resync.specs.Keep.{is_valid};
 ghost use Rattle.mp_resync.specs.Kept.{IsKeptOf};
 ghost use Rattle.mp_resync.specs.Inside.Judged.{AreBelow, Keeps, Judges, Handles};
 
-use crate::item::Item;
+use crate::id_set::{IdSet, id_set_of, is_named};
 use crate::kept::Kept;
-use crate::names::{Names, is_named, names_of};
+use crate::validated_tx::ValidatedTx;
 use mp_memory::{Memory, NoMemory};
 use mp_rules::{Invalid, Resolved, Verifier, recheck};
 use mp_tickets::{TicketList, Tickets};
@@ -62,7 +62,7 @@ pub fn stays_valid<V: Verifier>(
 }
 
 // Applies the item.
-fn keep(kept: &mut Kept, ticket: u64, item: &Item) -> Result<(), NoMemory>
+fn keep(kept: &mut Kept, ticket: u64, item: &ValidatedTx) -> Result<(), NoMemory>
     requires { All (λ t. t < ticket) kept.old.kept }
     ensures { OnOk result (Keeps kept.old (ticket, item.now.tx) kept.new) }
 {
@@ -77,7 +77,7 @@ fn judge<V: Verifier>(
     memory: Memory,
     kept: &mut Kept,
     ticket: u64,
-    item: &Item,
+    item: &ValidatedTx,
     verifier: &V,
 ) -> Result<(), NoMemory>
     requires vouched { IsVouched (V.accepts verifier.now) item.now }
@@ -96,10 +96,10 @@ fn judge<V: Verifier>(
 // Passes over the item where its id is one of the names, and else judges it.
 fn handle<V: Verifier>(
     memory: Memory,
-    names: &Names,
+    names: &IdSet,
     kept: &mut Kept,
     ticket: u64,
-    item: &Item,
+    item: &ValidatedTx,
     verifier: &V,
 ) -> Result<(), NoMemory>
     requires vouched { IsVouched (V.accepts verifier.now) item.now }
@@ -125,7 +125,7 @@ fn handle<V: Verifier>(
 pub fn revalidate<V: Verifier>(
     memory: Memory,
     ledger: &Ledger,
-    items: &TicketList<Item>,
+    items: &TicketList<ValidatedTx>,
     without: &[TxId],
     verifier: &V,
 ) -> Result<Kept, NoMemory>
@@ -133,7 +133,7 @@ pub fn revalidate<V: Verifier>(
     ensures { IfOk result (IsKeptOf (V.accepts verifier.now)
         ledger.now (ticketed items.now) without.now) }
 {
-    let names = names_of(memory, ledger.salt(), without)?;
+    let names = id_set_of(memory, ledger.salt(), without)?;
     let mut kept = nothing_kept(memory, ledger)?;
     for (ticket, item) in items.iter() {
         handle(memory, &names, &mut kept, ticket, item, verifier)?;

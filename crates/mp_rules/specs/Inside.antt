@@ -2,4 +2,4 @@
 pub mod Checked
 pub mod Resolved
 pub mod Groups
-pub mod Scene
+pub mod ScriptContext

@@ -10,7 +10,7 @@ pub mod laws;
 mod map;
 mod own;
 mod resolved;
-mod scene;
+mod script_context;
 mod scripts;
 mod signatures;
 mod verifier;

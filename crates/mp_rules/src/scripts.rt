@@ -6,12 +6,12 @@ ghost use Rattle.mp_script.specs.View.{view_of, paid_to_of, referred_of};
 ghost use Rattle.mp_script.specs.Value.{value_of};
 ghost use Rattle.mp_rules.specs.Scripts.{paid_to, referred, is_true, script_accepts};
 ghost use Rattle.mp_rules.specs.Checked.{script_refused};
-ghost use Rattle.mp_rules.specs.Inside.Scene.{IsSceneOf, policy_scene, validator_scene};
+ghost use Rattle.mp_rules.specs.Inside.ScriptContext.{IsContextOf, policy_context, validator_context};
 
 use crate::balance::sum_of;
 use crate::invalid::Invalid;
 use crate::resolved::Resolved;
-use crate::scene::Scene;
+use crate::script_context::ScriptContext;
 use mp_memory::{Memory, NoMemory};
 use mp_script::{PaidTo, Referred, Value, View, eval};
 use mp_tx::{Input, Key, Output, Script, Signature, Tx};
@@ -56,10 +56,14 @@ fn referred<'a>(
     Ok(seen)
 }
 
-fn scene_of<'a>(memory: Memory, tx: &'a Tx, resolved: &'a Resolved) -> Result<Scene<'a>, NoMemory>
-    ensures { IfOk result (λ scene. IsSceneOf scene tx.now resolved.now) }
+fn context_of<'a>(
+    memory: Memory,
+    tx: &'a Tx,
+    resolved: &'a Resolved,
+) -> Result<ScriptContext<'a>, NoMemory>
+    ensures { IfOk result (λ context. IsContextOf context tx.now resolved.now) }
 {
-    Ok(Scene {
+    Ok(ScriptContext {
         from: tx.from(),
         to: tx.to(),
         keys: keys_of(memory, tx.signatures())?,
@@ -89,68 +93,69 @@ fn accepts<'a>(script: &'a Script, view: &View<'a>) -> bool
     is_true(value)
 }
 
-fn validator_accepts<'a>(scene: &'a Scene<'a>, input: &'a Input, output: &'a Output) -> bool
+fn validator_accepts<'a>(
+    context: &'a ScriptContext<'a>,
+    input: &'a Input,
+    output: &'a Output,
+) -> bool
     ensures { result ≡
-        script_accepts (validator_scene scene.now input.now output.now) input.now.validator }
+        script_accepts (validator_context context.now input.now output.now) input.now.validator }
 {
     let view = View {
         own_hash: input.validator.hash(),
         datum: Some(&input.datum),
         redeemer: Some(&input.redeemer),
         own_value: Some(&output.value),
-        from: scene.from,
-        to: scene.to,
-        keys: &scene.keys,
-        spent: &scene.spent,
-        forge: scene.forge,
-        outputs: &scene.outputs,
-        references: &scene.references,
+        from: context.from,
+        to: context.to,
+        keys: &context.keys,
+        spent: &context.spent,
+        forge: context.forge,
+        outputs: &context.outputs,
+        references: &context.references,
     };
     accepts(&input.validator, &view)
 }
 
-fn policy_accepts<'a>(scene: &'a Scene<'a>, script: &'a Script) -> bool
-    ensures { result ≡ script_accepts (policy_scene scene.now script.now) script.now }
+fn policy_accepts<'a>(context: &'a ScriptContext<'a>, script: &'a Script) -> bool
+    ensures { result ≡ script_accepts (policy_context context.now script.now) script.now }
 {
     let view = View {
         own_hash: script.hash(),
         datum: None,
         redeemer: None,
         own_value: None,
-        from: scene.from,
-        to: scene.to,
-        keys: &scene.keys,
-        spent: &scene.spent,
-        forge: scene.forge,
-        outputs: &scene.outputs,
-        references: &scene.references,
+        from: context.from,
+        to: context.to,
+        keys: &context.keys,
+        spent: &context.spent,
+        forge: context.forge,
+        outputs: &context.outputs,
+        references: &context.references,
     };
     accepts(script, &view)
 }
 
 // The first input whose validator refuses.
 fn refusing_input<'a>(
-    scene: &'a Scene<'a>,
+    context: &'a ScriptContext<'a>,
     inputs: &'a [Input],
     spent: &'a [Output],
 ) -> Option<usize>
-    ensures { result ≡ position (λ p. not (script_accepts (validator_scene scene.now p.0 p.1)
+    ensures { result ≡ position (λ p. not (script_accepts (validator_context context.now p.0 p.1)
         p.0.validator)) (zip inputs.now spent.now) }
 {
-    inputs
-        .iter()
-        .zip(spent)
-        .position(|(input, output)| !validator_accepts(scene, input, output))
+    inputs.iter().zip(spent).position(|(input, output)| !validator_accepts(context, input, output))
 }
 
 // The first policy script that refuses.
-fn refusing_policy<'a>(scene: &'a Scene<'a>, scripts: &'a [Script]) -> Option<usize>
+fn refusing_policy<'a>(context: &'a ScriptContext<'a>, scripts: &'a [Script]) -> Option<usize>
     ensures { result ≡
-        position (λ s. not (script_accepts (policy_scene scene.now s) s)) scripts.now }
+        position (λ s. not (script_accepts (policy_context context.now s) s)) scripts.now }
 {
     scripts
         .iter()
-        .position(|script| !policy_accepts(scene, script))
+        .position(|script| !policy_accepts(context, script))
 }
 
 /// The first validator that refuses, else the first policy script that does.
@@ -162,11 +167,11 @@ pub fn script_refused(
 ) -> Result<Option<Invalid>, NoMemory>
     ensures { IfOk result (λ fault. fault ≡ script_refused tx.now resolved.now) }
 {
-    let scene = scene_of(memory, tx, resolved)?;
-    if let Some(place) = refusing_input(&scene, tx.inputs(), resolved.spent()) {
+    let context = context_of(memory, tx, resolved)?;
+    if let Some(place) = refusing_input(&context, tx.inputs(), resolved.spent()) {
         return Ok(Some(Invalid::ValidatorRefused(place)));
     }
-    match refusing_policy(&scene, tx.scripts()) {
+    match refusing_policy(&context, tx.scripts()) {
         Some(place) => Ok(Some(Invalid::PolicyRefused(place))),
         None => Ok(None),
     }

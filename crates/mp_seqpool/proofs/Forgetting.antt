@@ -10,7 +10,7 @@ use Rattle.mp_tx.specs.Transaction.{Transaction}
 use Rattle.mp_tx.specs.Spelling.{id_of, size_of}
 use Rattle.mp_tickets.specs.Tickets.{has_ticket, among}
 use Rattle.mp_resync.specs.ById.{key_of}
-use Rattle.mp_resync.specs.Item.{Item, ticketed}
+use Rattle.mp_resync.specs.ValidatedTx.{ValidatedTx, ticketed}
 use Rattle.mp_resync.specs.Keep.{transactions}
 use Rattle.mp_seqpool.specs.SlowPool.{ticket_of}
 use Rattle.mp_seqpool.specs.Inside.TicketsById.{Noted, noted_at, Forgets, AreNoted}
@@ -91,8 +91,8 @@ forgotten xs e ys old new alone forgets noted = λ id.
 -- ---- all of them
 
 -- the items before the rest are gone through
-pub record IsForgetting (kept : List ℕ) (items rest : List (ℕ × Item)) (bytes : ℕ) (noted : Noted) : Type 0 where
-  pub done : List (ℕ × Item)
+pub record IsForgetting (kept : List ℕ) (items rest : List (ℕ × ValidatedTx)) (bytes : ℕ) (noted : Noted) : Type 0 where
+  pub done : List (ℕ × ValidatedTx)
   pub all : items ≡ done ++ rest
   pub counted : bytes ≡ sum_by size_of (transactions (among kept (ticketed done)))
   pub fits : bytes + sum_by size_of (transactions (ticketed rest)) ≤ 2 ^ 40
@@ -101,13 +101,13 @@ pub record IsForgetting (kept : List ℕ) (items rest : List (ℕ × Item)) (byt
 from_zero : (n : ℕ) → n ≤ 2 ^ 40 → 0 + n ≤ 2 ^ 40
 from_zero n h = omega arith
 
-pub begins : (kept : List ℕ) (items : List (ℕ × Item)) (noted : Noted) → sum_by size_of (transactions (ticketed items)) ≤ 2 ^ 40 → AreNoted (ticketed items) noted → IsForgetting kept items items 0 noted
+pub begins : (kept : List ℕ) (items : List (ℕ × ValidatedTx)) (noted : Noted) → sum_by size_of (transactions (ticketed items)) ≤ 2 ^ 40 → AreNoted (ticketed items) noted → IsForgetting kept items items 0 noted
 begins kept items noted fits known = record { done = []; all = refl; counted = refl; fits = from_zero (sum_by size_of (transactions (ticketed items))) fits; known = known }
 
 -- the kept ones with one item more
-one_more : (kept : List ℕ) (done : List (ℕ × Item)) (e : ℕ × Item) → among kept (ticketed (done ++ e ∷ [])) ≡ among kept (ticketed done) ++ cond (has_ticket kept e.0) ((e.0, e.1.tx) ∷ []) []
+one_more : (kept : List ℕ) (done : List (ℕ × ValidatedTx)) (e : ℕ × ValidatedTx) → among kept (ticketed (done ++ e ∷ [])) ≡ among kept (ticketed done) ++ cond (has_ticket kept e.0) ((e.0, e.1.tx) ∷ []) []
 one_more kept done e =
-    ap (among kept) (map-append (λ (e : ℕ × Item). (e.0, e.1.tx)) done (e ∷ []))
+    ap (among kept) (map-append (λ (e : ℕ × ValidatedTx). (e.0, e.1.tx)) done (e ∷ []))
     ∙ filter-append (λ (i : ℕ × Transaction). has_ticket kept i.0) (ticketed done) ((e.0, e.1.tx) ∷ [])
 
 sum_end : (ts : List Transaction) (t : Transaction) → sum_by size_of (ts ++ t ∷ []) ≡ sum_by size_of ts + size_of t
@@ -120,7 +120,7 @@ pub sum_first : (t : Transaction) (ts : List Transaction) → sum_by size_of (t 
 sum_first t ts = Prim.grind (arith, common_steps)
 
 -- what fits with the first of the rest
-parted : (bytes : ℕ) (e : ℕ × Item) (rest : List (ℕ × Item)) → bytes + sum_by size_of (transactions (ticketed (e ∷ rest))) ≤ 2 ^ 40 → bytes + (size_of e.1.tx + sum_by size_of (transactions (ticketed rest))) ≤ 2 ^ 40
+parted : (bytes : ℕ) (e : ℕ × ValidatedTx) (rest : List (ℕ × ValidatedTx)) → bytes + sum_by size_of (transactions (ticketed (e ∷ rest))) ≤ 2 ^ 40 → bytes + (size_of e.1.tx + sum_by size_of (transactions (ticketed rest))) ≤ 2 ^ 40
 parted bytes e rest h = subst (λ n. bytes + n ≤ 2 ^ 40) (sum_first e.1.tx (transactions (ticketed rest))) h
 
 regroup : (a b c : ℕ) → a + (b + c) ≤ 2 ^ 40 → (a + b) + c ≤ 2 ^ 40
@@ -129,7 +129,7 @@ regroup a b c h = omega arith
 shrink : (a b c : ℕ) → a + (b + c) ≤ 2 ^ 40 → a + c ≤ 2 ^ 40
 shrink a b c h = omega arith
 
-pub keeps_one : (kept : List ℕ) (items : List (ℕ × Item)) (e : ℕ × Item) (rest : List (ℕ × Item)) (bytes : ℕ) (noted : Noted) → has_ticket kept e.0 ≡ true → IsForgetting kept items (e ∷ rest) bytes noted → IsForgetting kept items rest (bytes + size_of e.1.tx) noted
+pub keeps_one : (kept : List ℕ) (items : List (ℕ × ValidatedTx)) (e : ℕ × ValidatedTx) (rest : List (ℕ × ValidatedTx)) (bytes : ℕ) (noted : Noted) → has_ticket kept e.0 ≡ true → IsForgetting kept items (e ∷ rest) bytes noted → IsForgetting kept items rest (bytes + size_of e.1.tx) noted
 keeps_one kept items e rest bytes noted is f =
     let x : ℕ × Transaction = (e.0, e.1.tx) in
     let more : among kept (ticketed (f.done ++ e ∷ [])) ≡ among kept (ticketed f.done) ++ x ∷ [] = one_more kept f.done e ∙ ap (λ b. among kept (ticketed f.done) ++ cond b (x ∷ []) []) is in
@@ -141,12 +141,12 @@ keeps_one kept items e rest bytes noted is f =
       known = subst (λ l. AreNoted l noted) (sym (ap (λ l. l ++ ticketed rest) more ∙ append_assoc (among kept (ticketed f.done)) (x ∷ []) (ticketed rest))) f.known;
     }
 
-pub drops_one : (kept : List ℕ) (items : List (ℕ × Item)) (e : ℕ × Item) (rest : List (ℕ × Item)) (bytes : ℕ) (noted new : Noted) → has_ticket kept e.0 ≡ false → AllPairs (λ a b. a ≢ b) (map id_of (transactions (ticketed items)))
+pub drops_one : (kept : List ℕ) (items : List (ℕ × ValidatedTx)) (e : ℕ × ValidatedTx) (rest : List (ℕ × ValidatedTx)) (bytes : ℕ) (noted new : Noted) → has_ticket kept e.0 ≡ false → AllPairs (λ a b. a ≢ b) (map id_of (transactions (ticketed items)))
     → Forgets noted (id_of e.1.tx) new → IsForgetting kept items (e ∷ rest) bytes noted → IsForgetting kept items rest bytes new
 drops_one kept items e rest bytes noted new is distinct forgets f =
     let x : ℕ × Transaction = (e.0, e.1.tx) in
     let more : among kept (ticketed (f.done ++ e ∷ [])) ≡ among kept (ticketed f.done) = one_more kept f.done e ∙ ap (λ b. among kept (ticketed f.done) ++ cond b (x ∷ []) []) is ∙ append-nil (among kept (ticketed f.done)) in
-    let far : Apart (ticketed f.done ++ x ∷ ticketed rest) = subst Apart (ap ticketed f.all ∙ map-append (λ (e : ℕ × Item). (e.0, e.1.tx)) f.done (e ∷ rest)) (apart (ticketed items) distinct) in
+    let far : Apart (ticketed f.done ++ x ∷ ticketed rest) = subst Apart (ap ticketed f.all ∙ map-append (λ (e : ℕ × ValidatedTx). (e.0, e.1.tx)) f.done (e ∷ rest)) (apart (ticketed items) distinct) in
     let alone : HasNot (id_of e.1.tx) (among kept (ticketed f.done) ++ ticketed rest) =
     both (id_of e.1.tx) (among kept (ticketed f.done)) (ticketed rest)
     (some_all (λ i. id_of i.1 ≢ id_of e.1.tx) (among kept (ticketed f.done)) (ticketed f.done) (some_filter (λ i. has_ticket kept i.0) (ticketed f.done)) (before (ticketed f.done) x (ticketed rest) far))
@@ -159,12 +159,12 @@ drops_one kept items e rest bytes noted new is distinct forgets f =
       known = subst (λ l. AreNoted l new) (sym (ap (λ l. l ++ ticketed rest) more)) (forgotten (among kept (ticketed f.done)) x (ticketed rest) noted new alone forgets f.known);
     }
 
-all_done : (kept : List ℕ) (items : List (ℕ × Item)) (bytes : ℕ) (noted : Noted) → (f : IsForgetting kept items [] bytes noted) → items ≡ f.done
+all_done : (kept : List ℕ) (items : List (ℕ × ValidatedTx)) (bytes : ℕ) (noted : Noted) → (f : IsForgetting kept items [] bytes noted) → items ≡ f.done
 all_done kept items bytes noted f = f.all ∙ append-nil f.done
 
-pub ends_noted : (kept : List ℕ) (items : List (ℕ × Item)) (bytes : ℕ) (noted : Noted) → IsForgetting kept items [] bytes noted → AreNoted (among kept (ticketed items)) noted
+pub ends_noted : (kept : List ℕ) (items : List (ℕ × ValidatedTx)) (bytes : ℕ) (noted : Noted) → IsForgetting kept items [] bytes noted → AreNoted (among kept (ticketed items)) noted
 ends_noted kept items bytes noted f =
     subst (λ l. AreNoted l noted) (append-nil (among kept (ticketed f.done)) ∙ ap (λ l. among kept (ticketed l)) (sym (all_done kept items bytes noted f))) f.known
 
-pub ends_counted : (kept : List ℕ) (items : List (ℕ × Item)) (bytes : ℕ) (noted : Noted) → IsForgetting kept items [] bytes noted → bytes ≡ sum_by size_of (transactions (among kept (ticketed items)))
+pub ends_counted : (kept : List ℕ) (items : List (ℕ × ValidatedTx)) (bytes : ℕ) (noted : Noted) → IsForgetting kept items [] bytes noted → bytes ≡ sum_by size_of (transactions (among kept (ticketed items)))
 ends_counted kept items bytes noted f = f.counted ∙ ap (λ l. sum_by size_of (transactions (among kept (ticketed l)))) (sym (all_done kept items bytes noted f))

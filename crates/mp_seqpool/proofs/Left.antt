@@ -12,7 +12,7 @@ use Rattle.mp_utxo.specs.Apply.{Unspent, apply}
 use Rattle.mp_rules.specs.Verifier.{Accepts}
 use Rattle.mp_rules.specs.Checked.{IsSigned, ScriptsAccept}
 use Rattle.mp_tickets.specs.Tickets.{IsRisingFrom, IsRising, has_ticket, among}
-use Rattle.mp_resync.specs.Item.{Item, IsVouched, ticketed}
+use Rattle.mp_resync.specs.ValidatedTx.{ValidatedTx, IsVouched, ticketed}
 use Rattle.mp_resync.specs.Keep.{transactions, tickets, is_named, named, unnamed, is_valid, keep_upon, keep, dropped}
 use Rattle.mp_resync.specs.declared.kept.Kept.{Kept}
 use Rattle.mp_resync.specs.Kept.{IsKeptOf}
@@ -88,7 +88,7 @@ among_some low ks (i ∷ is) r (inr s) =
     ∙ ap (λ l. i ∷ l) (lesser i.0 (tickets s.0) is (all_above i.0 i.0 is (omega arith) r.1) ∙ among_some i.0 s.0 is r.1 s.2)
     ∙ sym s.1
 
-pub rising_ticketed : (low : ℕ) (items : List (ℕ × Item)) → IsRisingFrom low items → IsRisingFrom low (ticketed items)
+pub rising_ticketed : (low : ℕ) (items : List (ℕ × ValidatedTx)) → IsRisingFrom low items → IsRisingFrom low (ticketed items)
 rising_ticketed low [] r = tt
 rising_ticketed low (e ∷ es) r = (r.0, rising_ticketed e.0 es r.1)
 
@@ -112,15 +112,15 @@ open_limit b reply e = ap (λ b. cond b (Err refusals.HistoryFull) (Ok reply)) e
 
 module _ (accepts : Accepts) where
   -- nothing in the pool needs to be looked at again
-  pub vouched : (items : List (ℕ × Item)) → All (IsSigned accepts) (transactions (ticketed items)) → All (λ e. ScriptsAccept e.1.tx e.1.resolved) items → All (λ e. IsVouched accepts e.1) items
-  vouched [] s a = All-nil (λ (e : ℕ × Item). IsVouched accepts e.1)
+  pub vouched : (items : List (ℕ × ValidatedTx)) → All (IsSigned accepts) (transactions (ticketed items)) → All (λ e. ScriptsAccept e.1.tx e.1.resolved) items → All (λ e. IsVouched accepts e.1) items
+  vouched [] s a = All-nil (λ (e : ℕ × ValidatedTx). IsVouched accepts e.1)
   vouched (e ∷ es) s a =
-      All-cons (λ (e : ℕ × Item). IsVouched accepts e.1) e es
+      All-cons (λ (e : ℕ × ValidatedTx). IsVouched accepts e.1) e es
       (record {
         signed = All-head (IsSigned accepts) e.1.tx (transactions (ticketed es)) s;
-        accepted = All-head (λ (e : ℕ × Item). ScriptsAccept e.1.tx e.1.resolved) e es a;
+        accepted = All-head (λ (e : ℕ × ValidatedTx). ScriptsAccept e.1.tx e.1.resolved) e es a;
       })
-      (vouched es (All-tail (IsSigned accepts) e.1.tx (transactions (ticketed es)) s) (All-tail (λ (e : ℕ × Item). ScriptsAccept e.1.tx e.1.resolved) e es a))
+      (vouched es (All-tail (IsSigned accepts) e.1.tx (transactions (ticketed es)) s) (All-tail (λ (e : ℕ × ValidatedTx). ScriptsAccept e.1.tx e.1.resolved) e es a))
 
   -- what has the tickets of what is kept is what is kept
   among_kept : (ledger : LedgerState) (ids : List (List ℕ)) (items : List (ℕ × Transaction)) (kept : List ℕ) → IsRising items → kept ≡ tickets (keep accepts ledger (unnamed ids items)) → among kept items ≡ keep accepts ledger (unnamed ids items)
@@ -145,7 +145,7 @@ module _ (accepts : Accepts) where
       ∙ apart_dropped accepts (get ledger.utxo) ledger.tick 0 (unnamed [] items) (rising_unnamed 0 [] items rising)
 
   -- what a step of keeping leads to
-  leads_left : (p : Pool) (ledger : LedgerState) (ids : List (List ℕ)) (k : Kept) (q : Prepared) → IsRising p.items → IsKeptOf accepts ledger p.items ids k → q.change ≡ Keep k.overlay k.kept
+  leads_left : (p : Pool) (ledger : LedgerState) (ids : List (List ℕ)) (k : Kept) (q : Prepared) → IsRising p.items → IsKeptOf accepts ledger p.items ids k → q.effect ≡ Keep k.overlay k.kept
       → leads_to p q ≡ pool_upon p ledger (keep accepts ledger (unnamed ids p.items))
   leads_left p ledger ids k q rising is keeps =
       ap (changed p) keeps ∙ ap (λ l. pool_upon p l (among k.kept p.items)) is.base ∙ ap (pool_upon p ledger) (among_kept ledger ids p.items k.kept rising is.kept)
@@ -168,7 +168,7 @@ module _ (accepts : Accepts) where
 
   -- the step of a remove that nothing refuses
   pub ready_removed : (h : Holding) (ids : List (List ℕ)) (k : Kept) (q : Prepared) → h.pool.changes < h.pool.limit → IsRising h.pool.items → IsKeptOf accepts h.pool.ledger h.pool.items ids k
-      → q.command ≡ Remove ids → q.reply ≡ Removed k.named k.dropped → q.change ≡ Keep k.overlay k.kept → Prepares accepts h (Remove ids) q
+      → q.command ≡ Remove ids → q.reply ≡ Removed k.named k.dropped → q.effect ≡ Keep k.overlay k.kept → Prepares accepts h (Remove ids) q
   ready_removed h ids k q change rising is command reply keeps =
       let yes : answer accepts h.pool (Remove ids) ≡ Ok (Removed k.named k.dropped) = removed h.pool ids k (within h.pool.limit h.pool.changes change) is in
       let left = among_kept h.pool.ledger ids h.pool.items k.kept rising is.kept in
@@ -188,7 +188,7 @@ module _ (accepts : Accepts) where
 
   -- the step of a sync that nothing refuses
   pub ready_synced : (h : Holding) (ledger : LedgerState) (k : Kept) (q : Prepared) → h.pool.changes < h.pool.limit → IsRising h.pool.items → IsKeptOf accepts ledger h.pool.items [] k
-      → q.command ≡ Sync ledger → q.reply ≡ Synced k.kept k.dropped → q.change ≡ Keep k.overlay k.kept → Prepares accepts h (Sync ledger) q
+      → q.command ≡ Sync ledger → q.reply ≡ Synced k.kept k.dropped → q.effect ≡ Keep k.overlay k.kept → Prepares accepts h (Sync ledger) q
   ready_synced h ledger k q change rising is command reply keeps =
       let yes : answer accepts h.pool (Sync ledger) ≡ Ok (Synced k.kept k.dropped) = synced h.pool ledger k (within h.pool.limit h.pool.changes change) is in
       let left = among_kept ledger [] h.pool.items k.kept rising is.kept in

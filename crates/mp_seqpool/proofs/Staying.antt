@@ -8,7 +8,7 @@ use Rattle.mp_tx.specs.Spelling.{id_of, size_of}
 use Rattle.mp_rules.specs.Checked.{ScriptsAccept}
 use Rattle.mp_tickets.specs.Tickets.{IsRising, has_ticket, among}
 use Rattle.mp_tickets.proofs.Rising.{rising_among}
-use Rattle.mp_resync.specs.Item.{Item, ticketed}
+use Rattle.mp_resync.specs.ValidatedTx.{ValidatedTx, ticketed}
 use Rattle.mp_resync.specs.Keep.{transactions, tickets}
 use Rattle.mp_seqpool.specs.declared.pool.SeqPool.TheInside.{Inside}
 use Rattle.mp_seqpool.specs.Inside.TicketsById.{AreNoted}
@@ -21,10 +21,10 @@ mapped_cond f true xs ys = refl
 mapped_cond f false xs ys = refl
 
 -- it makes no difference whether the shares are taken off first
-pub ticketed_among : (kept : List ℕ) (items : List (ℕ × Item)) → ticketed (among kept items) ≡ among kept (ticketed items)
+pub ticketed_among : (kept : List ℕ) (items : List (ℕ × ValidatedTx)) → ticketed (among kept items) ≡ among kept (ticketed items)
 ticketed_among kept [] = refl
 ticketed_among kept (e ∷ es) =
-    mapped_cond (λ (e : ℕ × Item). (e.0, e.1.tx)) (has_ticket kept e.0) (e ∷ among kept es) (among kept es)
+    mapped_cond (λ (e : ℕ × ValidatedTx). (e.0, e.1.tx)) (has_ticket kept e.0) (e ∷ among kept es) (among kept es)
     ∙ ap (λ l. cond (has_ticket kept e.0) ((e.0, e.1.tx) ∷ l) l) (ticketed_among kept es)
 
 with_it : (s a b : ℕ) → a ≤ b → s + a ≤ s + b
@@ -65,7 +65,7 @@ counted_left was new kept config last changes is applied noted bytes within law 
           (AllPairs-map id_of (λ a b. a ≢ b) (transactions (among kept all)) (AllPairs-map (λ i. i.1) (λ t s. id_of t ≢ id_of s) (among kept all)
           (AllPairs-filter (λ a b. id_of a.1 ≢ id_of b.1) (λ i. has_ticket kept i.0) all
           (AllPairs-unmap (λ i. i.1) (λ t s. id_of t ≢ id_of s) all (AllPairs-unmap id_of (λ a b. a ≢ b) (transactions all) law.distinct)))));
-      accepted = subst (All (λ e. ScriptsAccept e.1.tx e.1.resolved)) (sym is) (All-filter (λ e. has_ticket kept e.0) (λ (e : ℕ × Item). ScriptsAccept e.1.tx e.1.resolved) was.items law.accepted);
+      accepted = subst (All (λ e. ScriptsAccept e.1.tx e.1.resolved)) (sym is) (All-filter (λ e. has_ticket kept e.0) (λ (e : ℕ × ValidatedTx). ScriptsAccept e.1.tx e.1.resolved) was.items law.accepted);
       bytes = bytes ∙ sym (ap (λ l. sum_by size_of (transactions l)) items);
       most = subst (λ n. n ≤ 2 ^ 40) (sym bytes) (most_held (sum_by size_of (transactions (among kept all))) (sum_by size_of (transactions all)) was.bytes (no_more kept all) law.bytes law.most);
       changes = subst (λ n. n ≤ new.config.limit) (sym changes) (subst (λ c. was.changes + 1 ≤ c) (ap (λ c. c.limit) (sym config)) (one_change was.changes was.config.limit within));

@@ -9,7 +9,7 @@ use Rattle.mp_tx.specs.Transaction.{Transaction}
 use Rattle.mp_tx.specs.Spelling.{id_of, size_of}
 use Rattle.mp_rules.specs.Verifier.{Accepts}
 use Rattle.mp_rules.specs.FirstFault.{first_fault}
-use Rattle.mp_resync.specs.Item.{Item, ticketed}
+use Rattle.mp_resync.specs.ValidatedTx.{ValidatedTx, ticketed}
 use Rattle.mp_resync.specs.Keep.{transactions, tickets}
 use Rattle.mp_seqpool.specs.declared.refusal.Refusal.{Refusal}
 use Rattle.mp_seqpool.specs.declared.refusal.Refusal.TheVariants as refusals
@@ -33,8 +33,8 @@ use Rattle.mp_seqpool.proofs.Noting.{keeps}
 
 -- ---- the items with one more
 
-pub ticketed-push : (items : List (ℕ × Item)) (ticket : ℕ) (item : Item) → ticketed (items ++ (ticket, item) ∷ []) ≡ ticketed items ++ (ticket, item.tx) ∷ []
-ticketed-push items ticket item = map-append (λ (e : ℕ × Item). (e.0, e.1.tx)) items ((ticket, item) ∷ [])
+pub ticketed-push : (items : List (ℕ × ValidatedTx)) (ticket : ℕ) (item : ValidatedTx) → ticketed (items ++ (ticket, item) ∷ []) ≡ ticketed items ++ (ticket, item.tx) ∷ []
+ticketed-push items ticket item = map-append (λ (e : ℕ × ValidatedTx). (e.0, e.1.tx)) items ((ticket, item) ∷ [])
 
 transactions-push : (items : List (ℕ × Transaction)) (ticket : ℕ) (t : Transaction) → transactions (items ++ (ticket, t) ∷ []) ≡ transactions items ++ t ∷ []
 transactions-push items ticket t = map-append (λ (i : ℕ × Transaction). i.1) items ((ticket, t) ∷ [])
@@ -65,14 +65,14 @@ below_next : (k n : ℕ) → k ≤ n → k < n + 1
 below_next k n le = omega arith
 
 -- no ticket is above the last one, so each is below the next
-pub all_below : (n : ℕ) (items : List (ℕ × Item)) → All (λ k. k ≤ n) (tickets (ticketed items)) → All (λ e. e.0 < n + 1) items
-all_below n [] h = All-nil (λ (e : ℕ × Item). e.0 < n + 1)
+pub all_below : (n : ℕ) (items : List (ℕ × ValidatedTx)) → All (λ k. k ≤ n) (tickets (ticketed items)) → All (λ e. e.0 < n + 1) items
+all_below n [] h = All-nil (λ (e : ℕ × ValidatedTx). e.0 < n + 1)
 all_below n (e ∷ es) h =
-    All-cons (λ (e : ℕ × Item). e.0 < n + 1) e es (below_next e.0 n (All-head (λ k. k ≤ n) e.0 (tickets (ticketed es)) h))
+    All-cons (λ (e : ℕ × ValidatedTx). e.0 < n + 1) e es (below_next e.0 n (All-head (λ k. k ≤ n) e.0 (tickets (ticketed es)) h))
     (all_below n es (All-tail (λ k. k ≤ n) e.0 (tickets (ticketed es)) h))
 
 -- what the pool keeps beside is right with one more transaction too
-pub counted : (was new : Inside) (item : Item) → new.config ≡ was.config → new.overlay.applied ≡ was.overlay.applied ++ item.tx ∷ [] → Notes was.tickets.entries (id_of item.tx) (was.last + 1) new.tickets.entries
+pub counted : (was new : Inside) (item : ValidatedTx) → new.config ≡ was.config → new.overlay.applied ≡ was.overlay.applied ++ item.tx ∷ [] → Notes was.tickets.entries (id_of item.tx) (was.last + 1) new.tickets.entries
     → new.items ≡ was.items ++ (was.last + 1, item) ∷ [] → new.last ≡ was.last + 1 → new.bytes ≡ was.bytes + size_of item.tx → new.changes ≡ was.changes + 1
     → ticket_of (id_of item.tx) (ticketed was.items) ≡ None → HasPlace (state was) item.tx → ScriptsAccept item.tx item.resolved → IsCounted was → IsCounted new
 counted was new item config applied noted is last bytes changes absent_there room accepted law =
@@ -87,13 +87,13 @@ counted was new item config applied noted is last bytes changes absent_there roo
           (subst (AllPairs (λ a b. a ≢ b)) (sym (ids-push (ticketed was.items) (was.last + 1) t))
           (all_pairs_push (λ a b. a ≢ b) (map id_of (transactions (ticketed was.items))) (id_of t) law.distinct (no_such_id (id_of t) (ticketed was.items) absent_there)));
       accepted = subst (All (λ e. ScriptsAccept e.1.tx e.1.resolved)) (sym is)
-          (All-push (λ (e : ℕ × Item). ScriptsAccept e.1.tx e.1.resolved) was.items (was.last + 1, item) law.accepted accepted);
+          (All-push (λ (e : ℕ × ValidatedTx). ScriptsAccept e.1.tx e.1.resolved) was.items (was.last + 1, item) law.accepted accepted);
       bytes = bytes ∙ ap (λ n. n + size_of t) law.bytes
           ∙ sym (ap (λ l. sum_by size_of (transactions l)) items ∙ ap (sum_by size_of) (transactions-push (ticketed was.items) (was.last + 1) t) ∙ sum-last (transactions (ticketed was.items)) t);
       most = let held = law.bytes in let within = room.bytes in omega arith;
       changes = let one = room.change in let limit : new.config.limit ≡ was.config.limit = ap (λ x. x.limit) config in omega arith;
       rising = subst IsRising (sym is) (rising_push 0 was.items (was.last + 1, item) law.rising
-          (recursion_from_All (λ (e : ℕ × Item). e.0 < was.last + 1) was.items (all_below was.last was.items law.given)) (over_zero was.last));
+          (recursion_from_All (λ (e : ℕ × ValidatedTx). e.0 < was.last + 1) was.items (all_below was.last was.items law.given)) (over_zero was.last));
       given = subst (λ l. All (λ k. k ≤ new.last) (tickets l)) (sym items)
           (subst (λ n. All (λ k. k ≤ n) (tickets all)) last_is
           (tickets-last (λ k. k ≤ was.last + 1) (ticketed was.items) (was.last + 1) t (λ k d lt. one_higher was.last _ (law.given k d lt)) (itself (was.last + 1))));
@@ -160,13 +160,13 @@ module _ (accepts : Accepts) where
 
   -- the step of a submit that nothing refuses
   pub ready : (was : Pool) (h : Holding) (t : Transaction) (resolved : Resolved) (q : Prepared) → h.pool ≡ was → misplaced was t ≡ None → first_fault accepts (unspent was) was.ledger.tick t ≡ None
-      → q.command ≡ Submit t → q.reply ≡ Accepted (was.last + 1) → q.change ≡ Append (record { tx = t; resolved = resolved }) → HasRoom h q → Prepares accepts h (Submit t) q
-  ready was h t resolved q same place clear command reply change room =
+      → q.command ≡ Submit t → q.reply ≡ Accepted (was.last + 1) → q.effect ≡ Append (record { tx = t; resolved = resolved }) → HasRoom h q → Prepares accepts h (Submit t) q
+  ready was h t resolved q same place clear command reply effect room =
       let yes : answer accepts h.pool (Submit t) ≡ Ok (Accepted (was.last + 1)) = ap (λ p. answer accepts p (Submit t)) same ∙ accepted was t place clear in
       record {
         command = command;
         reply = yes ∙ sym (ap Ok reply);
-        leads = next-accepted h.pool t _ yes ∙ sym (ap (changed h.pool) change);
+        leads = next-accepted h.pool t _ yes ∙ sym (ap (changed h.pool) effect);
         prepared = record {
           change = room.change;
           fits = room.fits;

@@ -1,6 +1,6 @@
 -- What only the crate's own clauses, views and invariants cite.
 pub mod Command
-pub mod Change
+pub mod Effect
 pub mod TicketsById
 pub mod Place
 pub mod Rules

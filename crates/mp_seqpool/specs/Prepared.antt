@@ -7,7 +7,7 @@ use Rattle.mp_utxo.specs.Overlay.{Overlay, HasRoomFor}
 use Rattle.mp_rules.specs.Verifier.{Accepts}
 use Rattle.mp_rules.specs.Checked.{ScriptsAccept}
 use Rattle.mp_tickets.specs.Tickets.{has_ticket, among}
-use Rattle.mp_resync.specs.Item.{Item}
+use Rattle.mp_resync.specs.ValidatedTx.{ValidatedTx}
 use Rattle.mp_resync.specs.Keep.{transactions}
 use Rattle.mp_seqpool.specs.declared.command.Reply.{Reply}
 use Rattle.mp_seqpool.specs.declared.command.Reply.TheVariants.{Accepted, Removed, Synced}
@@ -16,24 +16,24 @@ use Rattle.mp_seqpool.specs.Pool.{Pool, Holding}
 use Rattle.mp_seqpool.specs.SlowPool.{ticket_of, pool_with, pool_upon, HasPlace, answer, next}
 
 -- what a step does to the pool
-pub data Change : Type 0 where
+pub data Effect : Type 0 where
   -- the transaction comes last, under the next ticket
-  Append : Item → Change
+  Append : ValidatedTx → Effect
   -- the transactions under these tickets stay, and are all that is applied upon the ledger state
-  Keep : Overlay → List ℕ → Change
+  Keep : Overlay → List ℕ → Effect
 
 pub record Prepared : Type 0 where
   pub command : Command
   pub reply : Reply
-  pub change : Change
+  pub effect : Effect
 
-abbrev pub changed : Pool → Change → Pool
+abbrev pub changed : Pool → Effect → Pool
 changed p (Append item) = pool_with p item.tx
 changed p (Keep overlay kept) = pool_upon p overlay.ledger (among kept p.items)
 
 -- the state that it leads to
 abbrev pub leads_to : Pool → Prepared → Pool
-leads_to p q = changed p q.change
+leads_to p q = changed p q.effect
 
 -- the items without these tickets
 abbrev pub apart : List ℕ → List (ℕ × Transaction) → List (ℕ × Transaction)
@@ -52,13 +52,13 @@ told p (Remove ids) reply = pool_upon p p.ledger (left_by reply p.items)
 told p (Sync ledger) reply = pool_upon p ledger (left_by reply p.items)
 
 -- the pool can take the item in without memory, and without a look at its rules
-pub record CanAppend (h : Holding) (item : Item) : Type 0 where
+pub record CanAppend (h : Holding) (item : ValidatedTx) : Type 0 where
   pub place : HasPlace h.pool item.tx
   pub new : ticket_of (id_of item.tx) h.pool.items ≡ None
   pub room : HasRoomFor h.room item.tx
   pub accepted : ScriptsAccept item.tx item.resolved
 
-abbrev pub CanChange : Holding → Change → Type 0
+abbrev pub CanChange : Holding → Effect → Type 0
 CanChange h (Append item) = CanAppend h item
 CanChange h (Keep overlay kept) = overlay.applied ≡ transactions (among kept h.pool.items)
 
@@ -66,7 +66,7 @@ CanChange h (Keep overlay kept) = overlay.applied ≡ transactions (among kept h
 pub record HasRoom (h : Holding) (q : Prepared) : Type 0 where
   -- one more change may be made
   pub change : h.pool.changes < h.pool.limit
-  pub fits : CanChange h q.change
+  pub fits : CanChange h q.effect
   -- it does what its command and its reply tell
   pub tells : leads_to h.pool q ≡ told h.pool q.command q.reply
 
@@ -74,7 +74,7 @@ pub record HasRoom (h : Holding) (q : Prepared) : Type 0 where
 -- until the next one on this pool, and no more where the slow pool would answer otherwise since.
 pub record IsPrepared (h : Holding) (q : Prepared) : Type 0 where
   pub change : h.pool.changes < h.pool.limit
-  pub fits : CanChange h q.change
+  pub fits : CanChange h q.effect
   pub tells : leads_to h.pool q ≡ told h.pool q.command q.reply
   -- which signatures were good when it was prepared
   pub accepts : Accepts

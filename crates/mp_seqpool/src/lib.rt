@@ -14,7 +14,7 @@ mod tickets_by_id;
 pub use command::{Answer, Command, Reply};
 pub use config::Config;
 pub use ids::Ids;
-pub use mp_resync::Item;
+pub use mp_resync::ValidatedTx;
 pub use mp_rules::{Checked, Invalid, Verifier};
 pub use mp_tickets::{Iter, Tickets};
 pub use playing::{Played, play};

@@ -11,12 +11,12 @@ ghost use Rattle.mp_seqpool.specs.declared.command.Reply.TheVariants.{Accepted, 
 use crate::command::{Answer, Command, Reply};
 use crate::config::Config;
 use crate::ids::Ids;
-use crate::prepared::{Change, Prepared};
+use crate::prepared::{Effect, Prepared};
 use crate::refusal::Refusal;
 use crate::tickets_by_id::{TicketsById, forget_others, note, ticket_under};
 use indexmap::IndexMap;
 use mp_memory::{Memory, NoMemory};
-use mp_resync::{Item, Kept, revalidate};
+use mp_resync::{Kept, ValidatedTx, revalidate};
 use mp_rules::{Checked, Resolved, Verifier, check, check_with};
 use mp_tickets::{Iter, Node, TicketList, Tickets, make_node};
 use mp_tx::{Ledger, Tx, TxId};
@@ -39,7 +39,7 @@ pub struct SeqPool {
     config: Config,
     overlay: Overlay,
     tickets: TicketsById,
-    items: TicketList<Item>,
+    items: TicketList<ValidatedTx>,
     last: u64,
     bytes: u64,
     changes: u64,
@@ -82,12 +82,12 @@ fn append_step(
 ) -> Result<Prepared, NoMemory>
     ensures command { IfOk result (λ q. q.command ≡ Submit (arc_value tx.now)) }
     ensures reply { IfOk result (λ q. q.reply ≡ Accepted ticket) }
-    ensures change { IfOk result (λ q. q.change
+    ensures effect { IfOk result (λ q. q.effect
         ≡ Append (record { tx = arc_value tx.now; resolved = resolved })) }
 {
     let asked = Arc::try_clone(tx)?;
     let applied = Arc::try_clone(tx)?;
-    let item = Item {
+    let item = ValidatedTx {
         tx: Arc::try_clone(tx)?,
         resolved,
     };
@@ -97,7 +97,7 @@ fn append_step(
     Ok(Prepared {
         command: Command::Submit(asked),
         reply: Reply::Accepted { ticket },
-        change: Change::Append(node, applied),
+        effect: Effect::Append(node, applied),
     })
 }
 
@@ -105,7 +105,7 @@ fn append_step(
 fn sync_step(adopted: Ledger, left: Kept) -> Result<Prepared, NoMemory>
     ensures command { IfOk result (λ q. q.command ≡ Sync adopted) }
     ensures reply { IfOk result (λ q. q.reply ≡ Synced left.kept left.dropped) }
-    ensures change { IfOk result (λ q. q.change ≡ Keep left.overlay left.kept) }
+    ensures effect { IfOk result (λ q. q.effect ≡ Keep left.overlay left.kept) }
 {
     let told = left.kept.copy()?;
     Ok(Prepared {
@@ -114,7 +114,7 @@ fn sync_step(adopted: Ledger, left: Kept) -> Result<Prepared, NoMemory>
             kept: told,
             dropped: left.dropped,
         },
-        change: Change::Keep(left.overlay, left.kept),
+        effect: Effect::Keep(left.overlay, left.kept),
     })
 }
 
@@ -126,8 +126,8 @@ impl SeqPool {
     ghost use Rattle.mp_rules.specs.FirstFault.{first_fault};
     ghost use Rattle.mp_rules.specs.Checked.{IsChecked, ScriptsAccept};
     ghost use Rattle.mp_tickets.specs.Tickets.{IsRising, among, shown};
-    ghost use Rattle.mp_resync.specs.Item as resync;
-    ghost use Rattle.mp_resync.specs.Item.{ticketed};
+    ghost use Rattle.mp_resync.specs.ValidatedTx as resync;
+    ghost use Rattle.mp_resync.specs.ValidatedTx.{ticketed};
     ghost use Rattle.mp_resync.specs.Keep.{transactions, tickets};
     ghost use Rattle.mp_resync.specs.Kept.{IsKeptOf};
     ghost use Rattle.mp_seqpool.specs.Inside.Place.{misplaced};
@@ -215,7 +215,7 @@ impl SeqPool {
         ensures same { self.new.pool ≡ self.old.pool }
         ensures command { IfOk result (λ q. q.command ≡ Submit (arc_value tx.now)) }
         ensures reply { IfOk result (λ q. q.reply ≡ Accepted (self.old.pool.last + 1)) }
-        ensures change { IfOk result (λ q. q.change
+        ensures effect { IfOk result (λ q. q.effect
             ≡ Append (record { tx = arc_value tx.now; resolved = resolved })) }
         ensures room { IfOk result (HasRoom self.new) }
     {
@@ -295,7 +295,7 @@ impl SeqPool {
         Ok(Prepared {
             command: Command::Remove(asked),
             reply: Reply::Removed { named, dropped },
-            change: Change::Keep(overlay, kept),
+            effect: Effect::Keep(overlay, kept),
         })
     }
 
@@ -324,7 +324,7 @@ impl SeqPool {
     }
 
     // Puts the item last.
-    fn append(&mut self, node: Node<Item>, applied: Arc<Tx, Memory>)
+    fn append(&mut self, node: Node<ValidatedTx>, applied: Arc<Tx, Memory>)
         requires one { arc_value applied ≡ node.tx }
         requires can { CanAppend self.old node }
         ensures { self.new.pool ≡ pool_with self.old.pool node.tx }
@@ -361,11 +361,11 @@ impl SeqPool {
         let Prepared {
             command: _,
             reply,
-            change,
+            effect,
         } = prepared;
-        match change {
-            Change::Append(node, applied) => self.append(node, applied),
-            Change::Keep(overlay, kept) => self.keep_only(overlay, &kept),
+        match effect {
+            Effect::Append(node, applied) => self.append(node, applied),
+            Effect::Keep(overlay, kept) => self.keep_only(overlay, &kept),
         }
         reply
     }
@@ -486,10 +486,10 @@ impl SeqPool {
     }
 
     /// The transactions with their tickets, oldest first: tickets rise, and are all above 0.
-    pub fn contents(&self) -> Iter<'_, Item>
+    pub fn contents(&self) -> Iter<'_, ValidatedTx>
         ensures all { ticketed result ≡ self.now.pool.items }
         ensures rising { IsRising self.now.pool.items }
-        ensures runs { ShowsInOrder (shown {T = resync.Item}) }
+        ensures runs { ShowsInOrder (shown {T = resync.ValidatedTx}) }
     {
         self.items.iter()
     }

@@ -2,7 +2,7 @@
 
 use crate::command::{Command, Reply};
 use mp_memory::Memory;
-use mp_resync::Item;
+use mp_resync::ValidatedTx;
 use mp_tickets::{Node, Tickets};
 use mp_tx::Tx;
 use mp_utxo::Overlay;
@@ -11,9 +11,9 @@ use std::sync::Arc;
 
 /// What a step does to the pool.
 #[derive(Drop)]
-pub enum Change {
+pub enum Effect {
     /// The item comes last, and its transaction is applied.
-    Append(Node<Item>, Arc<Tx, Memory>),
+    Append(Node<ValidatedTx>, Arc<Tx, Memory>),
     /// Those under these tickets stay: all that the overlay has applied.
     Keep(Overlay, Tickets),
 }
@@ -24,7 +24,7 @@ pub enum Change {
 pub struct Prepared {
     pub(crate) command: Command,
     pub(crate) reply: Reply,
-    pub(crate) change: Change,
+    pub(crate) effect: Effect,
 }
 
 impl Model for Prepared {
@@ -36,11 +36,11 @@ impl Model for Prepared {
 
     ghost coded = { Prim.hlevel (codes, finite.code) };
 
-    ghost use Rattle.mp_seqpool.specs.Inside.Change.{prepared, IsOfOne};
+    ghost use Rattle.mp_seqpool.specs.Inside.Effect.{prepared, IsOfOne};
 
     ghost view = { prepared };
 
-    ghost invariant = { λ q. IsOfOne q.change };
+    ghost invariant = { λ q. IsOfOne q.effect };
 }
 
 impl Prepared {

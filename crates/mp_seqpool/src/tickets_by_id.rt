@@ -5,12 +5,12 @@ ghost use Rattle.indexmap.specs.IndexMap.{spare};
 ghost use Rattle.mp_tx.specs.Spelling.{id_of, size_of};
 ghost use Rattle.mp_tickets.specs.Tickets.{among};
 ghost use Rattle.mp_resync.specs.ById.{key_of};
-ghost use Rattle.mp_resync.specs.Item.{ticketed};
+ghost use Rattle.mp_resync.specs.ValidatedTx.{ticketed};
 ghost use Rattle.mp_resync.specs.Keep.{transactions};
 ghost use Rattle.mp_seqpool.specs.Inside.TicketsById.{noted_at, Notes, Forgets, AreNoted};
 
 use indexmap::IndexMap;
-use mp_resync::{ById, Item, key_of};
+use mp_resync::{ById, ValidatedTx, key_of};
 use mp_tickets::{TicketList, Tickets};
 use mp_tx::TxId;
 
@@ -42,7 +42,11 @@ fn forget(tickets: &mut TicketsById, id: &TxId)
 }
 
 /// Takes out the ids of the items that aren't kept, and counts the bytes of those that are.
-pub fn forget_others(tickets: &mut TicketsById, items: &TicketList<Item>, kept: &Tickets) -> u64
+pub fn forget_others(
+    tickets: &mut TicketsById,
+    items: &TicketList<ValidatedTx>,
+    kept: &Tickets,
+) -> u64
     requires noted { AreNoted (ticketed items.now) tickets.old.entries }
     requires distinct { AllPairs (λ a b. a ≢ b) (map id_of (transactions (ticketed items.now))) }
     requires most { sum_by size_of (transactions (ticketed items.now)) ≤ 2 ^ 40 }

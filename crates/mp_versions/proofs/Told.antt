@@ -6,13 +6,13 @@ use Rattle.mp_tx.specs.Ledger.{LedgerState}
 use Rattle.mp_seqpool.specs.Command.{Submit, Remove, Sync}
 use Rattle.mp_seqpool.specs.Pool.{Pool, Holding}
 use Rattle.mp_seqpool.specs.SlowPool.{HasPlace, bytes_held, pool_with, pool_upon}
-use Rattle.mp_seqpool.specs.Prepared.{Prepared, Change, Append, Keep, changed, left_by, leads_to, told, CanChange, IsPrepared}
+use Rattle.mp_seqpool.specs.Prepared.{Prepared, Effect, Append, Keep, changed, left_by, leads_to, told, CanChange, IsPrepared}
 use Rattle.mp_seqpool.proofs.Forgetting.{sum-last}
 
 not_itself : (n : ℕ) → n + 1 ≡ n → ⊥
 not_itself n e = absurd (omega (arith, e))
 
-place : (h : Holding) (c : Change) (t : Transaction) → CanChange h c → changed h.pool c ≡ pool_with h.pool t → HasPlace h.pool t
+place : (h : Holding) (c : Effect) (t : Transaction) → CanChange h c → changed h.pool c ≡ pool_with h.pool t → HasPlace h.pool t
 place h (Append item) t can e =
     let more : bytes_held h.pool + size_of item.tx ≡ bytes_held h.pool + size_of t =
     sym (sum-last h.pool.items (h.pool.last + 1, item.tx)) ∙ ap bytes_held e ∙ sum-last h.pool.items (h.pool.last + 1, t) in
@@ -24,7 +24,7 @@ place h (Keep overlay kept) t can e = absurd (not_itself h.pool.last (sym (ap (�
 pub submit_tells : (h : Holding) (q : Prepared) (t : Transaction) → q.command ≡ Submit t → IsPrepared h q → HasPlace h.pool t × (leads_to h.pool q ≡ pool_with h.pool t)
 submit_tells h q t command is =
     let leads : leads_to h.pool q ≡ pool_with h.pool t = is.tells ∙ ap (λ c. told h.pool c q.reply) command in
-    (place h q.change t is.fits leads, leads)
+    (place h q.effect t is.fits leads, leads)
 
 pub remove_tells : (h : Holding) (q : Prepared) (ids : List (List ℕ)) → q.command ≡ Remove ids → IsPrepared h q → leads_to h.pool q ≡ pool_upon h.pool h.pool.ledger (left_by q.reply h.pool.items)
 remove_tells h q ids command is = is.tells ∙ ap (λ c. told h.pool c q.reply) command

@@ -3,7 +3,7 @@ use Rattle.std.proofs.lemmas.Map.Iter.{iter_end}
 use Rattle.std.proofs.lemmas.Map.Views.{All-turn}
 use Rattle.mp_tx.specs.Spelling.{id_of}
 use Rattle.mp_tickets.specs.Tickets.{shown}
-use Rattle.mp_resync.specs.Item.{IsVouched, ticketed}
+use Rattle.mp_resync.specs.ValidatedTx.{IsVouched, ticketed}
 use Rattle.mp_resync.specs.Kept.{IsKeptOf}
 use Rattle.mp_resync.proofs.Revalidated.{one_more, below}
 use Rattle.mp_resync.proofs.Turns.{below_turn, ticketed-last}

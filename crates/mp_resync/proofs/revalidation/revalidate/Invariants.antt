@@ -1,6 +1,6 @@
 use Rattle.std.proofs.Common.{map}
 use Rattle.mp_tickets.specs.Tickets.{shown}
-use Rattle.mp_resync.specs.Item.{ticketed}
+use Rattle.mp_resync.specs.ValidatedTx.{ticketed}
 use Rattle.mp_resync.specs.Kept.{IsKeptOf}
 use Rattle.mp_resync.proofs.revalidation.revalidate.Given as goal
 

@@ -7,8 +7,8 @@ returns-in_err-asked-clause-command c = no_value c.from_residual.result _ c.from
 pub returns-in_err-asked-clause-reply : goal.returns-in_err-asked-clause-reply
 returns-in_err-asked-clause-reply c = no_value c.from_residual.result _ c.from_residual.ensures.0
 
-pub returns-in_err-asked-clause-change : goal.returns-in_err-asked-clause-change
-returns-in_err-asked-clause-change c = no_value c.from_residual.result _ c.from_residual.ensures.0
+pub returns-in_err-asked-clause-effect : goal.returns-in_err-asked-clause-effect
+returns-in_err-asked-clause-effect c = no_value c.from_residual.result _ c.from_residual.ensures.0
 
 pub returns-in_err-applied-clause-command : goal.returns-in_err-applied-clause-command
 returns-in_err-applied-clause-command c = no_value c.from_residual-in_err-applied.result _ c.from_residual-in_err-applied.ensures.0
@@ -16,8 +16,8 @@ returns-in_err-applied-clause-command c = no_value c.from_residual-in_err-applie
 pub returns-in_err-applied-clause-reply : goal.returns-in_err-applied-clause-reply
 returns-in_err-applied-clause-reply c = no_value c.from_residual-in_err-applied.result _ c.from_residual-in_err-applied.ensures.0
 
-pub returns-in_err-applied-clause-change : goal.returns-in_err-applied-clause-change
-returns-in_err-applied-clause-change c = no_value c.from_residual-in_err-applied.result _ c.from_residual-in_err-applied.ensures.0
+pub returns-in_err-applied-clause-effect : goal.returns-in_err-applied-clause-effect
+returns-in_err-applied-clause-effect c = no_value c.from_residual-in_err-applied.result _ c.from_residual-in_err-applied.ensures.0
 
 pub returns-in_err-try_clone-clause-command : goal.returns-in_err-try_clone-clause-command
 returns-in_err-try_clone-clause-command c = no_value c.from_residual-in_err-try_clone.result _ c.from_residual-in_err-try_clone.ensures.0
@@ -25,5 +25,5 @@ returns-in_err-try_clone-clause-command c = no_value c.from_residual-in_err-try_
 pub returns-in_err-try_clone-clause-reply : goal.returns-in_err-try_clone-clause-reply
 returns-in_err-try_clone-clause-reply c = no_value c.from_residual-in_err-try_clone.result _ c.from_residual-in_err-try_clone.ensures.0
 
-pub returns-in_err-try_clone-clause-change : goal.returns-in_err-try_clone-clause-change
-returns-in_err-try_clone-clause-change c = no_value c.from_residual-in_err-try_clone.result _ c.from_residual-in_err-try_clone.ensures.0
+pub returns-in_err-try_clone-clause-effect : goal.returns-in_err-try_clone-clause-effect
+returns-in_err-try_clone-clause-effect c = no_value c.from_residual-in_err-try_clone.result _ c.from_residual-in_err-try_clone.ensures.0

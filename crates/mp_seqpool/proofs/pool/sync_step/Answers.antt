@@ -7,5 +7,5 @@ returns-in_err-told-clause-command c = no_value c.from_residual.result _ c.from_
 pub returns-in_err-told-clause-reply : goal.returns-in_err-told-clause-reply
 returns-in_err-told-clause-reply c = no_value c.from_residual.result _ c.from_residual.ensures.0
 
-pub returns-in_err-told-clause-change : goal.returns-in_err-told-clause-change
-returns-in_err-told-clause-change c = no_value c.from_residual.result _ c.from_residual.ensures.0
+pub returns-in_err-told-clause-effect : goal.returns-in_err-told-clause-effect
+returns-in_err-told-clause-effect c = no_value c.from_residual.result _ c.from_residual.ensures.0

@@ -1,7 +1,7 @@
 use Rattle.std.proofs.Common.{◌<◌, refl, sym, ap, subst, ◌∙◌}
 use Rattle.mp_tickets.specs.Tickets.{among}
 use Rattle.mp_resync.specs.Keep.{transactions}
-use Rattle.mp_resync.specs.Item.{ticketed}
+use Rattle.mp_resync.specs.ValidatedTx.{ticketed}
 use Rattle.mp_seqpool.specs.Pool.{Holding}
 use Rattle.mp_seqpool.specs.Inside.SeqPool.{state}
 use Rattle.mp_seqpool.specs.SlowPool.{pool_upon}

@@ -12,8 +12,8 @@ returns-in_err-reserve-clause-command c = no_value c.from_residual.result _ c.fr
 pub returns-in_err-reserve-clause-reply : goal.returns-in_err-reserve-clause-reply
 returns-in_err-reserve-clause-reply c = no_value c.from_residual.result _ c.from_residual.ensures.0
 
-pub returns-in_err-reserve-clause-change : goal.returns-in_err-reserve-clause-change
-returns-in_err-reserve-clause-change c = no_value c.from_residual.result _ c.from_residual.ensures.0
+pub returns-in_err-reserve-clause-effect : goal.returns-in_err-reserve-clause-effect
+returns-in_err-reserve-clause-effect c = no_value c.from_residual.result _ c.from_residual.ensures.0
 
 pub returns-in_err-reserve-clause-room : goal.returns-in_err-reserve-clause-room
 returns-in_err-reserve-clause-room c = no_value c.from_residual.result _ c.from_residual.ensures.0

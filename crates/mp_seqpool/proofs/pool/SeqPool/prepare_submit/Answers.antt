@@ -33,7 +33,7 @@ returns-clause-ready g c =
     let there : misplaced pool t ≡ None = ap (misplaced pool) (sym c.deref.ensures) ∙ sym c.in_default.ensures.refusal in
     ready accepts pool c.prepare_append.new.self t c.in_ok-resolved.resolved c.in_ok-prepare_append.field-0 c.in_ok-prepare_append.ensures.same there
     (ap (first_fault accepts (unspent pool) pool.ledger.tick) (sym c.deref-2.ensures) ∙ c.in_ok-resolved.ensures.clear)
-    c.in_ok-prepare_append.ensures.command c.in_ok-prepare_append.ensures.reply c.in_ok-prepare_append.ensures.change c.in_ok-prepare_append.ensures.room
+    c.in_ok-prepare_append.ensures.command c.in_ok-prepare_append.ensures.reply c.in_ok-prepare_append.ensures.effect c.in_ok-prepare_append.ensures.room
 
 pub returns-in_err-resolved-clause-ready : goal.returns-in_err-resolved-clause-ready
 returns-in_err-resolved-clause-ready g c = no_value c.from_residual.result _ c.from_residual.ensures.0

@@ -21,7 +21,7 @@ returns-clause-ready g c =
     (subst (λ (h : Holding). h.pool.changes < h.pool.limit) c.self.view_is c.if-self.false)
     (subst (λ (h : Holding). IsRising h.pool.items) c.self.view_is (rising_ticketed 0 c.self.inside.items c.self.invariant.rising))
     c.in_ok-left.ensures
-    (done.command ∙ ap Sync c.in_ok-adopted.ensures) done.reply done.change
+    (done.command ∙ ap Sync c.in_ok-adopted.ensures) done.reply done.effect
 
 pub returns-in_err-adopted-clause-ready : goal.returns-in_err-adopted-clause-ready
 returns-in_err-adopted-clause-ready g c = no_value c.from_residual.result _ c.from_residual.ensures.0

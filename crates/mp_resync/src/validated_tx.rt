@@ -8,17 +8,17 @@ use std::sync::Arc;
 
 /// A transaction that was found valid, and the outputs that it named then: upon them its scripts accepted.
 #[derive(Debug, Drop)]
-pub struct Item {
+pub struct ValidatedTx {
     pub tx: Arc<Tx, Memory>,
     pub resolved: Resolved,
 }
 
-impl Model for Item {
-    ghost use Rattle.mp_resync.specs.Item as told;
+impl Model for ValidatedTx {
+    ghost use Rattle.mp_resync.specs.ValidatedTx as told;
 
-    ghost Value = { told.Item };
+    ghost Value = { told.ValidatedTx };
 
-    ghost use Rattle.mp_resync.specs.Inside.Item.{item};
+    ghost use Rattle.mp_resync.specs.Inside.ValidatedTx.{validated_tx};
 
-    ghost view = { item };
+    ghost view = { validated_tx };
 }

@@ -5,16 +5,16 @@ use Rattle.mp_rules.specs.Resolved.{Resolved}
 use Rattle.mp_rules.specs.Verifier.{Accepts}
 use Rattle.mp_rules.specs.Checked.{IsSigned, ScriptsAccept}
 
-pub record Item : Type 0 where
+pub record ValidatedTx : Type 0 where
   pub tx : Transaction
   -- outputs that its scripts were run upon
   pub resolved : Resolved
 
 -- what needn't be looked at again: its signatures, and its scripts as long as it names these outputs
-pub record IsVouched (accepts : Accepts) (i : Item) : Type 0 where
-  pub signed : IsSigned accepts i.tx
-  pub accepted : ScriptsAccept i.tx i.resolved
+pub record IsVouched (accepts : Accepts) (v : ValidatedTx) : Type 0 where
+  pub signed : IsSigned accepts v.tx
+  pub accepted : ScriptsAccept v.tx v.resolved
 
 -- each ticket with its transaction
-abbrev pub ticketed : List (ℕ × Item) → List (ℕ × Transaction)
+abbrev pub ticketed : List (ℕ × ValidatedTx) → List (ℕ × Transaction)
 ticketed items = map (λ e. (e.0, e.1.tx)) items

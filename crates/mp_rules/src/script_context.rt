@@ -9,7 +9,7 @@ use mp_tx::Key;
 
 /// What all scripts of a transaction see, gathered once.
 #[derive(Drop)]
-pub struct Scene<'a> {
+pub struct ScriptContext<'a> {
     pub from: u64,
     pub to: u64,
     pub keys: Vec<Key, Memory>,

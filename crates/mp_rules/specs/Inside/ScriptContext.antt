@@ -7,22 +7,22 @@ use Rattle.mp_script.specs.View.{View, paid_to_of, referred_of}
 use Rattle.mp_tx.specs.declared.input.Input.{Input}
 use Rattle.mp_tx.specs.declared.output.Output.{Output}
 use Rattle.mp_tx.specs.Transaction.{Transaction}
-use Rattle.mp_rules.specs.declared.scene.Scene.{Scene}
+use Rattle.mp_rules.specs.declared.script_context.ScriptContext.{ScriptContext}
 use Rattle.mp_rules.specs.Resolved.{Resolved, values}
 use Rattle.mp_rules.specs.Scripts.{paid_to, referred}
 
-pub record IsSceneOf (scene : Scene) (t : Transaction) (r : Resolved) : Type 0 where
-  pub from : scene.from ≡ t.from
-  pub to : scene.to ≡ t.to
-  pub keys : scene.keys.items ≡ map (λ s. s.key) t.signatures
-  pub spent : IsSumOf (values r.spent) scene.spent
-  pub forge : scene.forge.now ≡ t.forge
-  pub outputs : map paid_to_of scene.outputs.items ≡ map paid_to t.outputs
-  pub references : map referred_of scene.references.items ≡ map referred r.referenced
+pub record IsContextOf (context : ScriptContext) (t : Transaction) (r : Resolved) : Type 0 where
+  pub from : context.from ≡ t.from
+  pub to : context.to ≡ t.to
+  pub keys : context.keys.items ≡ map (λ s. s.key) t.signatures
+  pub spent : IsSumOf (values r.spent) context.spent
+  pub forge : context.forge.now ≡ t.forge
+  pub outputs : map paid_to_of context.outputs.items ≡ map paid_to t.outputs
+  pub references : map referred_of context.references.items ≡ map referred r.referenced
 
 -- what a policy script sees of it
-abbrev pub policy_scene : Scene → List ℕ → View
-policy_scene s script = record {
+abbrev pub policy_context : ScriptContext → List ℕ → View
+policy_context s script = record {
   own_hash = sha256 script;
   datum = None;
   redeemer = None;
@@ -37,8 +37,8 @@ policy_scene s script = record {
 }
 
 -- and what a validator does
-abbrev pub validator_scene : Scene → Input → Output → View
-validator_scene s i o = record (policy_scene s i.validator) {
+abbrev pub validator_context : ScriptContext → Input → Output → View
+validator_context s i o = record (policy_context s i.validator) {
   datum = Some (tree_of i.datum);
   redeemer = Some (tree_of i.redeemer);
   own_value = Some o.value;

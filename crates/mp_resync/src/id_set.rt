@@ -5,7 +5,7 @@ ghost use Rattle.std.specs.Map.{lookup};
 ghost use Rattle.indexmap.specs.IndexMap.{hasher_of};
 ghost use Rattle.mp_tx.specs.Reference.{same_ref};
 ghost use Rattle.mp_resync.specs.ById.{key_of};
-ghost use Rattle.mp_resync.specs.Inside.Names.{AreNamed, Notes};
+ghost use Rattle.mp_resync.specs.Inside.IdSet.{AreNamed, Notes};
 
 use crate::by_id::{ById, key_of};
 use indexmap::IndexMap;
@@ -13,10 +13,10 @@ use mp_memory::{Memory, NoMemory};
 use mp_tx::{Salt, TxId};
 
 /// Ids in a table, so that none is looked for by a walk over them.
-pub type Names = ById<()>;
+pub type IdSet = ById<()>;
 
 // Puts the id in.
-fn note(names: &mut Names, id: &TxId) -> Result<(), NoMemory>
+fn note(names: &mut IdSet, id: &TxId) -> Result<(), NoMemory>
     ensures notes { OnOk result (Notes names.old.entries id.now names.new.entries) }
     ensures salt { hasher_of names.new ≡ hasher_of names.old }
 {
@@ -25,7 +25,7 @@ fn note(names: &mut Names, id: &TxId) -> Result<(), NoMemory>
 }
 
 /// A table of these ids.
-pub fn names_of(memory: Memory, salt: Salt, ids: &[TxId]) -> Result<Names, NoMemory>
+pub fn id_set_of(memory: Memory, salt: Salt, ids: &[TxId]) -> Result<IdSet, NoMemory>
     ensures named { IfOk result (λ names. AreNamed ids.now names.entries) }
     ensures salt { IfOk result (λ names. hasher_of names ≡ salt) }
 {
@@ -37,7 +37,7 @@ pub fn names_of(memory: Memory, salt: Salt, ids: &[TxId]) -> Result<Names, NoMem
 }
 
 /// Whether the id is one of them.
-pub fn is_named(names: &Names, id: &TxId) -> bool
+pub fn is_named(names: &IdSet, id: &TxId) -> bool
     ensures { result ≡ is_some (lookup (same_ref (key_of id.now)) names.now.entries) }
 {
     names.contains_key(&key_of(id))

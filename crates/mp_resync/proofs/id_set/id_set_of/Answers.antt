@@ -1,8 +1,8 @@
 use Rattle.std.proofs.Common.{◌∙◌, subst, arith}
 use Rattle.std.proofs.lemmas.List.{take_all}
-use Rattle.mp_resync.specs.Inside.Names.{AreNamed}
+use Rattle.mp_resync.specs.Inside.IdSet.{AreNamed}
 use Rattle.mp_resync.proofs.Naming.{named_more}
-use Rattle.mp_resync.proofs.names.names_of.Goals as goal
+use Rattle.mp_resync.proofs.id_set.id_set_of.Goals as goal
 
 pub loop-id-preserved : goal.loop-id-preserved
 loop-id-preserved c = record {
