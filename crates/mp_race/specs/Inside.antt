@@ -1,2 +1,4 @@
 -- What only the crate's own clauses, views and invariants cite.
+pub mod Task
 pub mod Draft
+pub mod Work

@@ -1,4 +1,7 @@
+pub mod Task
 pub mod Scenario
 pub mod Reading
 pub mod Fault
+pub mod Race
+pub mod Report
 pub mod Inside

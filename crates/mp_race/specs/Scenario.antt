@@ -18,12 +18,7 @@ use Rattle.mp_mempool.specs.declared.config.Config.{Config}
 use Rattle.mp_driver.specs.declared.settings.Settings.{Settings}
 use Rattle.mp_driver.specs.Settings.{no_settings, with_setting, limit_of, last_of}
 use Rattle.mp_driver.specs.Scene.{opening_ledger, ledger_at}
-
--- what a worker is told to do
-pub data Task : Type 0 where
-  Change : Command → Task
-  -- to take a snapshot
-  Look : Task
+use Rattle.mp_race.specs.Task.{Task, Change, Look}
 
 pub record Scenario : Type 0 where
   pub config : Config

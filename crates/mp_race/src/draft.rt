@@ -34,7 +34,8 @@ impl Draft {
     ghost use Rattle.mp_lines.specs.Lines.{Sync};
     ghost use Rattle.mp_lines.specs.Inside.Line.{to_line};
     ghost use Rattle.mp_race.specs.Scenario.{empty_draft, set_at, output_at, with_task, look_at, take, line_step};
-    ghost use Rattle.mp_race.specs.Inside.Draft.{task_of, draft_of};
+    ghost use Rattle.mp_race.specs.Inside.Task.{task_of};
+    ghost use Rattle.mp_race.specs.Inside.Draft.{draft_of};
 
     /// Nothing is read.
     pub fn new(memory: Memory) -> Result<Draft, NoMemory>

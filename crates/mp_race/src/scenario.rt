@@ -32,7 +32,7 @@ impl Model for Scenario {
     ghost use Rattle.std.specs.Coded.{codes};
     ghost use Rattle.std.specs.FinMap as finite;
     ghost use Rattle.mp_race.specs.Scenario as told;
-    ghost use Rattle.mp_race.specs.Inside.Draft.{tasks_of};
+    ghost use Rattle.mp_race.specs.Inside.Task.{tasks_of};
 
     ghost Value = { told.Scenario };
 

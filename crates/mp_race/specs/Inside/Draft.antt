@@ -1,18 +1,7 @@
 -- What the draft of the code says.
-use Rattle.std.specs.Prelude.{List, map}
-use Rattle.mp_seqpool.specs.Inside.Command.{command_of}
-use Rattle.mp_race.specs.declared.task.Task.{Task}
-use Rattle.mp_race.specs.declared.task.Task.TheVariants as tasks
 use Rattle.mp_race.specs.declared.draft.Draft.{Draft}
 use Rattle.mp_race.specs.Scenario as told
-
--- a task without the shares that its parts are held by
-abbrev pub task_of : Task → told.Task
-task_of (tasks.Change c) = told.Change (command_of c)
-task_of tasks.Look = told.Look
-
-abbrev pub tasks_of : List Task → List told.Task
-tasks_of ts = map task_of ts
+use Rattle.mp_race.specs.Inside.Task.{tasks_of}
 
 abbrev pub draft_of : Draft → told.Draft
 draft_of d = record { names = d.names; settings = d.settings; outputs = d.outputs; tasks = tasks_of d.tasks.items }

@@ -1,0 +1,13 @@
+-- A task without the shares that its parts are held by.
+use Rattle.std.specs.Prelude.{List, map}
+use Rattle.mp_seqpool.specs.Inside.Command.{command_of}
+use Rattle.mp_race.specs.declared.task.Task.{Task}
+use Rattle.mp_race.specs.declared.task.Task.TheVariants as tasks
+use Rattle.mp_race.specs.Task as told
+
+abbrev pub task_of : Task → told.Task
+task_of (tasks.Change c) = told.Change (command_of c)
+task_of tasks.Look = told.Look
+
+abbrev pub tasks_of : List Task → List told.Task
+tasks_of ts = map task_of ts

@@ -1,0 +1,54 @@
+-- How far a worker is.
+use Rattle.std.specs.Prelude.{◌≡◌, ◌⊎◌, ℕ, ◌+◌, ◌<◌, true, List, [], ◌∷◌, ◌++◌, length, take, Option, None, Some, IfSome, All, Result, Ok, Err, slice_get}
+use Rattle.mp_rules.specs.Verifier.{Accepts}
+use Rattle.mp_seqpool.specs.declared.refusal.Refusal.{Refusal}
+use Rattle.mp_seqpool.specs.Pool.{Pool}
+use Rattle.mp_history.specs.Entry.{Entry}
+use Rattle.mp_history.specs.Log.{Log, Begins, IsLegalLog, last_of}
+use Rattle.mp_mempool.specs.declared.receipt.Receipt.{Receipt}
+use Rattle.mp_mempool.specs.Pass.{Pass}
+use Rattle.mp_mempool.specs.Answers.{IsEntered, IsRefusedAt, IsSeen}
+use Rattle.mp_race.specs.Task.{Task, Change, Look}
+use Rattle.mp_race.specs.Race.{own, dealt, Plays}
+
+-- up to the last place, and with it
+abbrev pub upto : Option ℕ → List Entry → List Entry
+upto None es = []
+upto (Some k) es = take (k + 1) es
+
+-- what the caller made, as its pass knows it
+abbrev pub made : Pass → List Entry
+made p = own p.caller (upto p.last p.front.entries)
+
+-- the entry of the receipt stands at its place
+abbrev pub Stands : Log → Receipt → Type 0
+Stands log r = slice_get log.entries r.place ≡ Some r.entry
+
+-- a pass that hasn't been used, of a pool that opened so
+pub record IsUnused (opening : Pool) (p : Pass) : Type 0 where
+  pub opening : p.front.opening ≡ opening
+  pub last : p.last ≡ None
+
+module _ (accepts : Accepts) (callers : ℕ) where
+  -- A worker does a task: from its pass and its receipts to those after it.
+  abbrev pub Does : Pass → List Receipt → Task → Pass → List Receipt → Type 0
+  Does p rs Look q ss = IsSeen accepts callers p q × (ss ≡ rs)
+  Does p rs (Change c) q ss =
+      ((r : Receipt) × IsEntered accepts callers p c r.place r.entry q × (ss ≡ rs ++ r ∷ []))
+      ⊎ ((refusal : Refusal) × IsRefusedAt accepts callers p c refusal q × (ss ≡ rs))
+
+-- The worker has done what is dealt to it of these tasks.
+pub record HasDone (accepts : Accepts) (workers : ℕ) (opening : Pool) (ts : List Task) (p : Pass) : Type 0 where
+  pub opening : p.front.opening ≡ opening
+  pub within : IfSome p.last (λ k. k < length p.front.entries)
+  pub plays : Plays accepts p.front p.caller [] (dealt workers p.caller ts) (made p)
+
+-- the same, with its receipts
+pub record HasReceipts (accepts : Accepts) (workers : ℕ) (opening : Pool) (ts : List Task) (p : Pass) (rs : List Receipt) : Type 0 where
+  pub done : HasDone accepts workers opening ts p
+  pub stand : All (Stands p.front) rs
+
+-- Each of these passes belongs to the caller with its number, from k on, and knows its last entry.
+abbrev pub AreNumbered : List Entry → ℕ → List Pass → Type 0
+AreNumbered es k [] = Unit {0}
+AreNumbered es k (p ∷ ps) = (p.caller ≡ k) × (last_of k es ≡ p.last) × AreNumbered es (k + 1) ps

@@ -1,0 +1,52 @@
+-- What is told of a race.
+use Rattle.std.specs.Prelude.{◌≡◌, ℕ, ◌+◌, ◌-◌, Bool, true, false, List, length, count_by}
+use Rattle.mp_rules.specs.Verifier.{Accepts}
+use Rattle.mp_seqpool.specs.declared.command.Reply.{Reply}
+use Rattle.mp_seqpool.specs.declared.command.Reply.TheVariants.{Accepted, Removed, Synced}
+use Rattle.mp_seqpool.specs.Config.{fresh_pool}
+use Rattle.mp_history.specs.Entry.{Entry}
+use Rattle.mp_history.specs.Log.{Log, state_after}
+use Rattle.mp_mempool.specs.Opening.{fresh_log}
+use Rattle.mp_race.specs.declared.report.Report.{Report}
+use Rattle.mp_race.specs.Task.{Task, Change, Look}
+use Rattle.mp_race.specs.Scenario.{Scenario}
+use Rattle.mp_race.specs.Race.{IsRace}
+
+abbrev pub is_accepted : Reply → Bool
+is_accepted (Accepted ticket) = true
+is_accepted other = false
+
+abbrev pub is_removed : Reply → Bool
+is_removed (Removed named dropped) = true
+is_removed other = false
+
+abbrev pub is_synced : Reply → Bool
+is_synced (Synced kept dropped) = true
+is_synced other = false
+
+abbrev pub is_look : Task → Bool
+is_look Look = true
+is_look (Change c) = false
+
+-- how many entries were replied to so
+abbrev pub count_replies : (Reply → Bool) → List Entry → ℕ
+count_replies p es = count_by (λ e. p e.reply) es
+
+-- The report on this history. What isn't read and isn't entered was refused.
+abbrev pub report_of : Accepts → ℕ → List Task → Log → Report
+report_of accepts workers ts log = record {
+  workers = workers;
+  accepted = count_replies is_accepted log.entries;
+  refused = length ts - (count_by is_look ts + length log.entries);
+  removes = count_replies is_removed log.entries;
+  syncs = count_replies is_synced log.entries;
+  reads = count_by is_look ts;
+  entries = length log.entries;
+  last = (state_after accepts log).last;
+}
+
+-- There is one legal history of the race, and the report is on it.
+pub record IsReportOf (accepts : Accepts) (workers : ℕ) (s : Scenario) (r : Report) : Type 0 where
+  pub log : Log
+  pub race : IsRace accepts (fresh_log s.config s.ledger).opening workers s.tasks log
+  pub report : r ≡ report_of accepts workers s.tasks log
