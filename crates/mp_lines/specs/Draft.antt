@@ -1,4 +1,4 @@
--- Items put together, and the transaction that they make.
+-- Fields put together, and the transaction that they make.
 use Rattle.std.specs.Prelude.{ℕ, ◌+◌, ◌-◌, ◌%◌, ◌^◌, ◌==◌, List, [], ◌∷◌, ◌++◌, map, replicate, is_none, Option, None, Some, option_map, option_and_then, unwrap_or, if◌then◌else◌}
 use Rattle.mp_bundle.specs.Bundle.{Entry}
 use Rattle.mp_tx.specs.declared.reference.OutRef.{OutRef}
@@ -9,15 +9,15 @@ use Rattle.mp_tx.specs.Transaction.{Transaction, script_cmp, signature_cmp}
 use Rattle.mp_tx.specs.Spelling.{id_of}
 use Rattle.mp_tx.specs.TxFault.{parts_fault}
 use Rattle.mp_names.specs.declared.payment.Payment.{Payment}
-use Rattle.mp_lines.specs.declared.items.Item.{Item}
-use Rattle.mp_lines.specs.declared.items.Item.TheVariants.{Spends, LooksAt, Pays, From, To, Forges, Carries, Signs}
-use Rattle.mp_lines.specs.declared.items.Signer.{Signer}
+use Rattle.mp_lines.specs.declared.fields.Field.{Field}
+use Rattle.mp_lines.specs.declared.fields.Field.TheVariants.{Spends, LooksAt, Pays, From, To, Forges, Carries, Signs}
+use Rattle.mp_lines.specs.declared.fields.Signer.{Signer}
 use Rattle.mp_names.specs.Once.{set_once}
 use Rattle.mp_names.specs.Rising.{input_cmp, insert_rising}
 use Rattle.mp_names.specs.DeclaredTx.{DeclaredTx}
 use Rattle.mp_names.specs.Names.{Names}
 use Rattle.mp_names.specs.Payments.{output_of}
-use Rattle.mp_lines.specs.Items.{item_of}
+use Rattle.mp_lines.specs.Fields.{field_of}
 
 -- inputs, references and policy scripts rise, and what is paid keeps its order
 pub record Draft : Type 0 where
@@ -33,20 +33,20 @@ pub record Draft : Type 0 where
 abbrev pub empty_draft : Draft
 empty_draft = record { inputs = []; references = []; payments = []; from = None; to = None; forge = None; scripts = []; signers = [] }
 
-abbrev pub with_item : Draft → Item → Option Draft
-with_item d (Spends i) = Some (record d { inputs = insert_rising input_cmp i d.inputs })
-with_item d (LooksAt r) = Some (record d { references = insert_rising ref_cmp r d.references })
-with_item d (Pays p) = Some (record d { payments = d.payments ++ p ∷ [] })
-with_item d (From n) = option_map (λ x. record d { from = x }) (set_once d.from n)
-with_item d (To n) = option_map (λ x. record d { to = x }) (set_once d.to n)
-with_item d (Forges b) = option_map (λ x. record d { forge = x }) (set_once d.forge b)
-with_item d (Carries s) = Some (record d { scripts = insert_rising script_cmp s d.scripts })
-with_item d (Signs s) = Some (record d { signers = d.signers ++ s ∷ [] })
+abbrev pub with_field : Draft → Field → Option Draft
+with_field d (Spends i) = Some (record d { inputs = insert_rising input_cmp i d.inputs })
+with_field d (LooksAt r) = Some (record d { references = insert_rising ref_cmp r d.references })
+with_field d (Pays p) = Some (record d { payments = d.payments ++ p ∷ [] })
+with_field d (From n) = option_map (λ x. record d { from = x }) (set_once d.from n)
+with_field d (To n) = option_map (λ x. record d { to = x }) (set_once d.to n)
+with_field d (Forges b) = option_map (λ x. record d { forge = x }) (set_once d.forge b)
+with_field d (Carries s) = Some (record d { scripts = insert_rising script_cmp s d.scripts })
+with_field d (Signs s) = Some (record d { signers = d.signers ++ s ∷ [] })
 
--- all words are items
+-- all words are fields
 abbrev pub draft_of : Names → Draft → List (List ℕ) → Option Draft
 draft_of names d [] = Some d
-draft_of names d (word ∷ words) = option_and_then (λ i. option_and_then (λ e. draft_of names e words) (with_item d i)) (item_of names word)
+draft_of names d (word ∷ words) = option_and_then (λ f. option_and_then (λ e. draft_of names e words) (with_field d f)) (field_of names word)
 
 -- at any tick that isn't excluded, and forging nothing where nothing is said
 abbrev pub transaction_of : Draft → List Signature → Transaction

@@ -1,5 +1,5 @@
 pub mod Words
-pub mod Items
+pub mod Fields
 pub mod Draft
 pub mod Ledgers
 pub mod Queries

@@ -1,4 +1,4 @@
-//! Items put together.
+//! Fields put together.
 
 ghost use Rattle.std.specs.Prelude.{◌≡◌, [], ◌∷◌, ◌++◌, Ok, Some, None, option_and_then, unwrap_or, IfOk, IfErr, OnOk};
 ghost use Rattle.mp_names.specs.declared.fault.LineFault.TheVariants as line_faults;
@@ -11,7 +11,7 @@ ghost use Rattle.mp_names.specs.Fault.{Reads, Gives, IsBad};
 ghost use Rattle.mp_lines.specs.Inside.Draft.{bare_of};
 
 use crate::copies::{copy_inputs, copy_scripts, put_outputs};
-use crate::items::{Item, Signer, item_of};
+use crate::fields::{Field, Signer, field_of};
 use crate::signing::put_signatures;
 use crate::subjects::repeat_in;
 use mp_bundle::Bundle;
@@ -27,7 +27,7 @@ use std::sync::Arc;
 // Nobody signs it, so no id is needed yet.
 const NO_ID: TxId = [0; 32];
 
-/// Items put together: inputs, references and policy scripts rise, and payments and signers keep their order.
+/// Fields put together: inputs, references and policy scripts rise, and payments and signers keep their order.
 #[derive(Drop)]
 pub struct Draft {
     inputs: Vec<Input, Memory>,
@@ -72,9 +72,9 @@ fn put_rising<'a, T: Rising + Drop>(
 impl Draft {
     ghost use Rattle.std.specs.Prelude.{◌≡◌, [], ◌∷◌, ◌++◌, Some, None, option_map, option_copied, OnOk};
     ghost use Rattle.mp_names.specs.Fault.{IsBad};
-    ghost use Rattle.mp_lines.specs.Draft.{empty_draft, with_item};
+    ghost use Rattle.mp_lines.specs.Draft.{empty_draft, with_field};
 
-    /// No item.
+    /// No field.
     pub fn new(memory: Memory) -> Draft
         ensures { result ≡ empty_draft }
     {
@@ -90,21 +90,21 @@ impl Draft {
         }
     }
 
-    /// Puts the item in. The first tick, the last tick and what is forged may be said once; said again they are `Bad`, for the
+    /// Puts the field in. The first tick, the last tick and what is forged may be said once; said again they are `Bad`, for the
     /// reason given.
-    pub fn add<'a>(&mut self, item: Item, reason: Reason<'a>) -> Result<(), LineFault<'a>>
-        ensures ok { OnOk result (with_item self.old item ≡ Some self.new) }
-        ensures bad { IsBad result → with_item self.old item ≡ None }
+    pub fn add<'a>(&mut self, field: Field, reason: Reason<'a>) -> Result<(), LineFault<'a>>
+        ensures ok { OnOk result (with_field self.old field ≡ Some self.new) }
+        ensures bad { IsBad result → with_field self.old field ≡ None }
     {
-        match item {
-            Item::Spends(input) => put_rising(&mut self.inputs, input),
-            Item::LooksAt(reference) => put_rising(&mut self.references, reference),
-            Item::Pays(payment) => put_last(&mut self.payments, payment),
-            Item::From(tick) => set_once(&mut self.from, tick, reason),
-            Item::To(tick) => set_once(&mut self.to, tick, reason),
-            Item::Forges(bundle) => set_once(&mut self.forge, bundle, reason),
-            Item::Carries(script) => put_rising(&mut self.scripts, script),
-            Item::Signs(signer) => put_last(&mut self.signers, signer),
+        match field {
+            Field::Spends(input) => put_rising(&mut self.inputs, input),
+            Field::LooksAt(reference) => put_rising(&mut self.references, reference),
+            Field::Pays(payment) => put_last(&mut self.payments, payment),
+            Field::From(tick) => set_once(&mut self.from, tick, reason),
+            Field::To(tick) => set_once(&mut self.to, tick, reason),
+            Field::Forges(bundle) => set_once(&mut self.forge, bundle, reason),
+            Field::Carries(script) => put_rising(&mut self.scripts, script),
+            Field::Signs(signer) => put_last(&mut self.signers, signer),
         }
     }
 }
@@ -117,7 +117,7 @@ fn repeated(word: &[u8]) -> Reason<'_> {
     }
 }
 
-// Puts in the items that the words are.
+// Puts in the fields that the words are.
 fn fill<'a>(
     draft: &mut Draft,
     memory: Memory,
@@ -131,8 +131,8 @@ fn fill<'a>(
 {
     let mut rest = words;
     while let Some((word, others)) = first_word(rest) {
-        let item = item_of(memory, names, word)?;
-        draft.add(item, repeated(word))?;
+        let field = field_of(memory, names, word)?;
+        draft.add(field, repeated(word))?;
         rest = others;
     }
     Ok(())
@@ -265,7 +265,7 @@ fn make_declared<'a>(
     declared_of(memory, &mut draft)
 }
 
-/// The transaction that the items make which the words are.
+/// The transaction that the fields make which the words are.
 pub fn declared_by<'a>(
     memory: Memory,
     names: &Names,

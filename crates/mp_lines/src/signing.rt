@@ -3,7 +3,7 @@
 ghost use Rattle.std.specs.Prelude.{◌≡◌, OnOk};
 ghost use Rattle.mp_lines.specs.Draft.{flip, first_byte, signature_of, signatures_of};
 
-use crate::items::Signer;
+use crate::fields::Signer;
 use mp_memory::{Memory, NoMemory};
 use mp_names::insert_rising;
 use mp_tx::{Signature, TxId};

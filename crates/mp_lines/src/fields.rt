@@ -1,14 +1,14 @@
-//! The items of a transaction's line.
+//! The fields of a transaction's line.
 
 ghost use Rattle.std.specs.Prelude.{◌≡◌, Ok, None, Some, option_copied, option_map};
 ghost use Rattle.std.specs.Result.{result_ok};
 ghost use Rattle.mp_text.specs.Numbers.{number_of};
-ghost use Rattle.mp_lines.specs.declared.items.Item.TheVariants as told;
+ghost use Rattle.mp_lines.specs.declared.fields.Field.TheVariants as told;
 ghost use Rattle.mp_names.specs.Names.{script_named};
 ghost use Rattle.mp_names.specs.Bundles.{bundle_of};
 ghost use Rattle.mp_names.specs.Payments.{payment_of};
 ghost use Rattle.mp_names.specs.References.{ref_of};
-ghost use Rattle.mp_lines.specs.Items.{validator_of, spent_datum_of, input_of, key_of, good_signer, bad_signer, witness_item, limit_item, item_by, item_of};
+ghost use Rattle.mp_lines.specs.Fields.{validator_of, spent_datum_of, input_of, key_of, good_signer, bad_signer, witness_field, limit_field, field_by, field_of};
 ghost use Rattle.mp_names.specs.Fault.{Reads};
 
 use crate::copies::make_input;
@@ -30,9 +30,9 @@ pub struct Signer {
     pub is_good: bool,
 }
 
-/// One item of a transaction.
+/// One field of a transaction's line, as `in=REF`.
 #[derive(Drop)]
-pub enum Item {
+pub enum Field {
     Spends(Input),
     LooksAt(OutRef),
     Pays(Payment),
@@ -74,7 +74,7 @@ fn spent_datum_of<'n, 'a>(
 }
 
 // REF, and behind a colon the script, the datum and the redeemer.
-#[tactic(auto, unfolding(crate::specs::Items::input_of))]
+#[tactic(auto, unfolding(crate::specs::Fields::input_of))]
 fn input_of<'a>(memory: Memory, names: &Names, word: &'a [u8]) -> Result<Input, LineFault<'a>>
     ensures { Reads (input_of names.now word.now) result }
 {
@@ -96,80 +96,80 @@ fn key_of(word: &[u8]) -> Result<u8, Reason<'_>>
     Ok(key as u8)
 }
 
-fn looks_at<'a>(names: &Names, word: &'a [u8]) -> Result<Item, Reason<'a>>
+fn looks_at<'a>(names: &Names, word: &'a [u8]) -> Result<Field, Reason<'a>>
     ensures { result_ok result ≡ option_map told.LooksAt (ref_of names.now word.now) }
 {
     let reference = ref_of(names, word)?;
-    Ok(Item::LooksAt(reference))
+    Ok(Field::LooksAt(reference))
 }
 
-fn from(word: &[u8]) -> Result<Item, Reason<'_>>
+fn from(word: &[u8]) -> Result<Field, Reason<'_>>
     ensures { result_ok result ≡ option_map told.From (number_of word.now) }
 {
     let tick = any_number(word)?;
-    Ok(Item::From(tick))
+    Ok(Field::From(tick))
 }
 
-fn to(word: &[u8]) -> Result<Item, Reason<'_>>
+fn to(word: &[u8]) -> Result<Field, Reason<'_>>
     ensures { result_ok result ≡ option_map told.To (number_of word.now) }
 {
     let tick = any_number(word)?;
-    Ok(Item::To(tick))
+    Ok(Field::To(tick))
 }
 
-fn signs(word: &[u8]) -> Result<Item, Reason<'_>>
+fn signs(word: &[u8]) -> Result<Field, Reason<'_>>
     ensures { result_ok result ≡ option_map good_signer (key_of word.now) }
 {
     let key = key_of(word)?;
-    Ok(Item::Signs(Signer { key, is_good: true }))
+    Ok(Field::Signs(Signer { key, is_good: true }))
 }
 
-fn signs_badly(word: &[u8]) -> Result<Item, Reason<'_>>
+fn signs_badly(word: &[u8]) -> Result<Field, Reason<'_>>
     ensures { result_ok result ≡ option_map bad_signer (key_of word.now) }
 {
     let key = key_of(word)?;
-    Ok(Item::Signs(Signer {
+    Ok(Field::Signs(Signer {
         key,
         is_good: false,
     }))
 }
 
-fn spends<'a>(memory: Memory, names: &Names, word: &'a [u8]) -> Result<Item, LineFault<'a>>
+fn spends<'a>(memory: Memory, names: &Names, word: &'a [u8]) -> Result<Field, LineFault<'a>>
     ensures { Reads (option_map told.Spends (input_of names.now word.now)) result }
 {
     let input = input_of(memory, names, word)?;
-    Ok(Item::Spends(input))
+    Ok(Field::Spends(input))
 }
 
-fn pays<'a>(memory: Memory, names: &Names, word: &'a [u8]) -> Result<Item, LineFault<'a>>
+fn pays<'a>(memory: Memory, names: &Names, word: &'a [u8]) -> Result<Field, LineFault<'a>>
     ensures { Reads (option_map told.Pays (payment_of names.now word.now)) result }
 {
     let payment = payment_of(memory, names, word)?;
-    Ok(Item::Pays(payment))
+    Ok(Field::Pays(payment))
 }
 
-fn forges<'a>(memory: Memory, names: &Names, word: &'a [u8]) -> Result<Item, LineFault<'a>>
+fn forges<'a>(memory: Memory, names: &Names, word: &'a [u8]) -> Result<Field, LineFault<'a>>
     ensures { Reads (option_map told.Forges (bundle_of names.now word.now)) result }
 {
     let bundle = bundle_of(memory, names, word)?;
-    Ok(Item::Forges(bundle))
+    Ok(Field::Forges(bundle))
 }
 
-fn carries<'a>(memory: Memory, names: &Names, word: &'a [u8]) -> Result<Item, LineFault<'a>>
+fn carries<'a>(memory: Memory, names: &Names, word: &'a [u8]) -> Result<Field, LineFault<'a>>
     ensures { Reads (option_map told.Carries (script_named word.now names.now)) result }
 {
     let script = names.script(word)?;
-    Ok(Item::Carries(script.copy(memory)?))
+    Ok(Field::Carries(script.copy(memory)?))
 }
 
-fn witness_item<'a>(
+fn witness_field<'a>(
     memory: Memory,
     names: &Names,
     item: &'a [u8],
     kind: &[u8],
     value: &'a [u8],
-) -> Result<Item, LineFault<'a>>
-    ensures { Reads (witness_item names.now kind.now value.now) result }
+) -> Result<Field, LineFault<'a>>
+    ensures { Reads (witness_field names.now kind.now value.now) result }
 {
     if kind == b"policy".as_slice() {
         carries(memory, names, value)
@@ -182,14 +182,14 @@ fn witness_item<'a>(
     }
 }
 
-fn limit_item<'a>(
+fn limit_field<'a>(
     memory: Memory,
     names: &Names,
     item: &'a [u8],
     kind: &[u8],
     value: &'a [u8],
-) -> Result<Item, LineFault<'a>>
-    ensures { Reads (limit_item names.now kind.now value.now) result }
+) -> Result<Field, LineFault<'a>>
+    ensures { Reads (limit_field names.now kind.now value.now) result }
 {
     if kind == b"from".as_slice() {
         Ok(from(value)?)
@@ -198,18 +198,18 @@ fn limit_item<'a>(
     } else if kind == b"forge".as_slice() {
         forges(memory, names, value)
     } else {
-        witness_item(memory, names, item, kind, value)
+        witness_field(memory, names, item, kind, value)
     }
 }
 
-fn item_by<'a>(
+fn field_by<'a>(
     memory: Memory,
     names: &Names,
     item: &'a [u8],
     kind: &[u8],
     value: &'a [u8],
-) -> Result<Item, LineFault<'a>>
-    ensures { Reads (item_by names.now kind.now value.now) result }
+) -> Result<Field, LineFault<'a>>
+    ensures { Reads (field_by names.now kind.now value.now) result }
 {
     if kind == b"in".as_slice() {
         spends(memory, names, value)
@@ -218,17 +218,17 @@ fn item_by<'a>(
     } else if kind == b"out".as_slice() {
         pays(memory, names, value)
     } else {
-        limit_item(memory, names, item, kind, value)
+        limit_field(memory, names, item, kind, value)
     }
 }
 
-/// The item that a word is, by the kind before its sign of equality.
-#[tactic(auto, unfolding(crate::specs::Items::item_of))]
-pub fn item_of<'a>(memory: Memory, names: &Names, word: &'a [u8]) -> Result<Item, LineFault<'a>>
-    ensures { Reads (item_of names.now word.now) result }
+/// The field that a word is, by the kind before its sign of equality.
+#[tactic(auto, unfolding(crate::specs::Fields::field_of))]
+pub fn field_of<'a>(memory: Memory, names: &Names, word: &'a [u8]) -> Result<Field, LineFault<'a>>
+    ensures { Reads (field_of names.now word.now) result }
 {
     match split_once(word, b'=') {
-        (kind, Some(value)) => item_by(memory, names, word, kind, value),
+        (kind, Some(value)) => field_by(memory, names, word, kind, value),
         (_, None) => Err(LineFault::Bad(Reason::Item(word))),
     }
 }

@@ -1,12 +1,12 @@
--- The items of a transaction's line.
+-- The fields of a transaction's line.
 use Rattle.std.specs.Prelude.{ℕ, true, false, nat_eq, List, codes, Option, None, Some, option_map, option_and_then, if◌then◌else◌}
 use Rattle.std.specs.Cmp.Lexicographic.{pointwise}
 use Rattle.mp_text.specs.Numbers.{number_of}
 use Rattle.mp_tx.specs.declared.reference.OutRef.{OutRef}
 use Rattle.mp_tx.specs.declared.input.Input.{Input}
 use Rattle.mp_names.specs.declared.payment.Payment.{Payment}
-use Rattle.mp_lines.specs.declared.items.Item.{Item}
-use Rattle.mp_lines.specs.declared.items.Item.TheVariants.{Spends, LooksAt, Pays, From, To, Forges, Carries, Signs}
+use Rattle.mp_lines.specs.declared.fields.Field.{Field}
+use Rattle.mp_lines.specs.declared.fields.Field.TheVariants.{Spends, LooksAt, Pays, From, To, Forges, Carries, Signs}
 use Rattle.mp_names.specs.Numbers.{number_in}
 use Rattle.mp_names.specs.Splitting.{split_once}
 use Rattle.mp_names.specs.Names.{Names, script_named}
@@ -45,34 +45,34 @@ input_of names word =
 abbrev pub key_of : List ℕ → Option ℕ
 key_of word = number_in 0 255 word
 
-abbrev pub good_signer : ℕ → Item
+abbrev pub good_signer : ℕ → Field
 good_signer k = Signs (record { key = k; is_good = true })
 
-abbrev pub bad_signer : ℕ → Item
+abbrev pub bad_signer : ℕ → Field
 bad_signer k = Signs (record { key = k; is_good = false })
 
 -- each kind by the word that stands before its value
-abbrev pub witness_item : Names → List ℕ → List ℕ → Option Item
-witness_item names key value =
+abbrev pub witness_field : Names → List ℕ → List ℕ → Option Field
+witness_field names key value =
     if pointwise nat_eq key (codes "policy") then option_map Carries (script_named value names)
     else if pointwise nat_eq key (codes "sign") then option_map good_signer (key_of value)
     else if pointwise nat_eq key (codes "badsign") then option_map bad_signer (key_of value)
     else None
 
-abbrev pub limit_item : Names → List ℕ → List ℕ → Option Item
-limit_item names key value =
+abbrev pub limit_field : Names → List ℕ → List ℕ → Option Field
+limit_field names key value =
     if pointwise nat_eq key (codes "from") then option_map From (number_of value)
     else if pointwise nat_eq key (codes "to") then option_map To (number_of value)
     else if pointwise nat_eq key (codes "forge") then option_map Forges (bundle_of names value)
-    else witness_item names key value
+    else witness_field names key value
 
-abbrev pub item_by : Names → List ℕ → List ℕ → Option Item
-item_by names key value =
+abbrev pub field_by : Names → List ℕ → List ℕ → Option Field
+field_by names key value =
     if pointwise nat_eq key (codes "in") then option_map Spends (input_of names value)
     else if pointwise nat_eq key (codes "ref") then option_map LooksAt (ref_of names value)
     else if pointwise nat_eq key (codes "out") then option_map Pays (payment_of names value)
-    else limit_item names key value
+    else limit_field names key value
 
 -- KIND=VALUE; 61 is the sign of equality
-unfoldable pub item_of : Names → List ℕ → Option Item
-item_of names word = option_and_then (item_by names (split_once 61 word).0) (split_once 61 word).1
+unfoldable pub field_of : Names → List ℕ → Option Field
+field_of names word = option_and_then (field_by names (split_once 61 word).0) (split_once 61 word).1
