@@ -2,3 +2,5 @@
 pub mod Task
 pub mod Draft
 pub mod Work
+pub mod Gathered
+pub mod Counts

@@ -1,9 +1,8 @@
 -- What is told of a race.
-use Rattle.std.specs.Prelude.{◌≡◌, ℕ, ◌+◌, ◌-◌, Bool, true, false, List, length, count_by}
+use Rattle.std.specs.Prelude.{◌≡◌, ℕ, ◌-◌, Bool, true, false, List, length, count_by}
 use Rattle.mp_rules.specs.Verifier.{Accepts}
 use Rattle.mp_seqpool.specs.declared.command.Reply.{Reply}
 use Rattle.mp_seqpool.specs.declared.command.Reply.TheVariants.{Accepted, Removed, Synced}
-use Rattle.mp_seqpool.specs.Config.{fresh_pool}
 use Rattle.mp_history.specs.Entry.{Entry}
 use Rattle.mp_history.specs.Log.{Log, state_after}
 use Rattle.mp_mempool.specs.Opening.{fresh_log}
@@ -37,7 +36,7 @@ abbrev pub report_of : Accepts → ℕ → List Task → Log → Report
 report_of accepts workers ts log = record {
   workers = workers;
   accepted = count_replies is_accepted log.entries;
-  refused = length ts - (count_by is_look ts + length log.entries);
+  refused = (length ts - count_by is_look ts) - length log.entries;
   removes = count_replies is_removed log.entries;
   syncs = count_replies is_synced log.entries;
   reads = count_by is_look ts;

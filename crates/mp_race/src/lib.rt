@@ -4,11 +4,18 @@
 mod draft;
 mod fault;
 mod gate;
+mod gathering;
+mod ordering;
+mod racing;
+mod report;
 mod scenario;
 mod stop;
 mod task;
+mod worker;
 
 pub use fault::Fault;
 pub use gate::{Gate, NoGate};
+pub use racing::race;
+pub use report::Report;
 pub use scenario::Scenario;
 pub use stop::Stop;

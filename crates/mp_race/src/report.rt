@@ -1,12 +1,17 @@
 //! What is told of a race.
 
-ghost use Rattle.std.specs.Prelude.{◌≡◌, ◌+◌, ◌<◌, ◌^◌, length, count_by};
-ghost use Rattle.mp_race.specs.Report.{count_replies, is_accepted, is_removed, is_synced, is_look};
-ghost use Rattle.mp_race.specs.Inside.Draft.{tasks_of};
+ghost use Rattle.std.specs.Prelude.{◌≡◌, ◌<◌, ◌^◌, count_by};
+ghost use Rattle.mp_race.specs.Report.{is_look};
+ghost use Rattle.mp_race.specs.Inside.Task.{tasks_of};
+ghost use Rattle.mp_race.specs.Inside.Counts.{with_reply, counts_of};
 
+use crate::fault::Fault;
 use crate::task::Task;
 use mp_history::Entry;
+use mp_memory::Memory;
 use mp_seqpool::Reply;
+use mp_text::write_all;
+use std::io::Write;
 
 /// What is told of a race. All its commands are its entries, its refusals and its reads.
 #[derive(Clone, Copy, Debug, PartialEq, Eq)]
@@ -52,28 +57,53 @@ pub struct Counts {
     pub syncs: u64,
 }
 
-impl Counts {
-    ghost use Rattle.std.specs.Prelude.{◌≡◌, ◌<◌, ◌^◌};
-    ghost use Rattle.mp_race.specs.Inside.Counts.{with_reply, most};
+// One more reply.
+fn add_reply(counts: Counts, reply: &Reply) -> Counts
+    requires accepted { counts.accepted < 2 ^ 63 }
+    requires removes { counts.removes < 2 ^ 63 }
+    requires syncs { counts.syncs < 2 ^ 63 }
+    ensures { result ≡ with_reply counts reply.now }
+{
+    match reply {
+        Reply::Accepted { .. } => Counts {
+            accepted: counts.accepted + 1,
+            ..counts
+        },
+        Reply::Removed { .. } => Counts {
+            removes: counts.removes + 1,
+            ..counts
+        },
+        Reply::Synced { .. } => Counts {
+            syncs: counts.syncs + 1,
+            ..counts
+        },
+    }
+}
 
-    // One more reply.
-    fn add(self, reply: &Reply) -> Counts
-        requires { most self < 2 ^ 64 - 1 }
-        ensures { result ≡ with_reply self reply.now }
-    {
-        match reply {
-            Reply::Accepted { .. } => Counts {
-                accepted: self.accepted + 1,
-                ..self
-            },
-            Reply::Removed { .. } => Counts {
-                removes: self.removes + 1,
-                ..self
-            },
-            Reply::Synced { .. } => Counts {
-                syncs: self.syncs + 1,
-                ..self
-            },
+/// How many of the entries were replied to in each way.
+pub fn count_replies(entries: &[Entry]) -> Counts
+    ensures { result ≡ counts_of entries.now }
+{
+    let mut counts = Counts {
+        accepted: 0,
+        removes: 0,
+        syncs: 0,
+    };
+    for entry in entries {
+        counts = add_reply(counts, &entry.reply);
+    }
+    counts
+}
+
+/// How many of the tasks are snapshots.
+pub fn count_looks(tasks: &[Task]) -> u64
+    ensures { result ≡ count_by is_look (tasks_of tasks.now) }
+{
+    let mut count = 0;
+    for task in tasks {
+        if matches!(task, Task::Look) {
+            count += 1;
         }
     }
+    count
 }

@@ -1,0 +1,26 @@
+-- What all workers came back with.
+use Rattle.std.specs.Prelude.{◌≡◌, ℕ, List, All}
+use Rattle.mp_rules.specs.Verifier.{Accepts}
+use Rattle.mp_seqpool.specs.Pool.{Pool}
+use Rattle.mp_history.specs.Entry.{Entry}
+use Rattle.mp_history.specs.Log.{Log, Begins, IsLegalLog}
+use Rattle.mp_mempool.specs.declared.receipt.Receipt.{Receipt}
+use Rattle.mp_mempool.specs.Pass.{Pass}
+use Rattle.mp_race.specs.Task.{Task}
+use Rattle.mp_race.specs.Race.{IsRace}
+use Rattle.mp_race.specs.Inside.Work.{Stands, HasDone}
+
+module _ (accepts : Accepts) (workers : ℕ) (opening : Pool) (ts : List Task) where
+  -- Each of these workers has done what was dealt to it, and has seen a beginning of this history, of which the receipts are.
+  pub record AreGathered (log : Log) (ps : List Pass) (rs : List Receipt) : Type 0 where
+    pub opening : log.opening ≡ opening
+    pub legal : IsLegalLog accepts workers log
+    pub done : All (HasDone accepts workers opening ts) ps
+    pub begin : All (λ p. Begins p.front log) ps
+    pub stand : All (Stands log) rs
+
+-- there is a history of the race, and these are its entries
+pub record IsExplained (accepts : Accepts) (opening : Pool) (workers : ℕ) (ts : List Task) (es : List Entry) : Type 0 where
+  pub log : Log
+  pub entries : log.entries ≡ es
+  pub race : IsRace accepts opening workers ts log

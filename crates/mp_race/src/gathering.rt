@@ -1,0 +1,125 @@
+//! What all workers came back with.
+
+ghost use Rattle.std.specs.Prelude.{◌≡◌, ◌≤◌, ◌++◌, ◌∷◌, [], true, length, All, IfOk, OnOk};
+ghost use Rattle.mp_seqpool.specs.Pool.{Pool};
+ghost use Rattle.mp_history.specs.Log.{Begins, IsLegalLog};
+ghost use Rattle.mp_race.specs.Task.{Task};
+ghost use Rattle.mp_race.specs.Inside.Work.{HasReceipts};
+ghost use Rattle.mp_race.specs.Inside.Gathered.{AreGathered};
+
+use crate::worker::Worker;
+use mp_history::{Front, PoolName};
+use mp_memory::{Memory, NoMemory};
+use mp_mempool::{Pass, Receipt};
+
+/// What all workers came back with.
+#[derive(Drop)]
+pub struct Gathered<N: PoolName> {
+    /// The longest front that one of them has.
+    pub front: Front<N>,
+    /// By their numbers.
+    pub passes: Vec<Pass<N>, Memory>,
+    pub receipts: Vec<Receipt, Memory>,
+    /// Whether the pass of each knew each entry of its own that the pool had.
+    pub is_sure: bool,
+}
+
+// What the pass holds is legal. That costs nothing when it runs.
+fn look_at<N: PoolName>(pass: &Pass<N>)
+    ensures { IsLegalLog N.accepts N.callers pass.now.front }
+{
+    let _version = pass.shown().version();
+}
+
+// The longer of the two, of which the other is a beginning.
+fn longer<N: PoolName>(front: Front<N>, pass: &Pass<N>) -> Front<N>
+    ensures this { Begins front result }
+    ensures that { Begins pass.now.front result }
+    ensures legal { IsLegalLog N.accepts N.callers front → IsLegalLog N.accepts N.callers result }
+{
+    look_at(pass);
+    front.compare(pass.front());
+    if front.len() < pass.front().len() {
+        pass.front().again()
+    } else {
+        front
+    }
+}
+
+impl<N: PoolName> Gathered<N> {
+    ghost use Rattle.std.specs.Prelude.{◌≡◌, [], true, List, IfOk};
+    ghost use Rattle.mp_seqpool.specs.Pool.{Pool};
+    ghost use Rattle.mp_race.specs.Task.{Task};
+    ghost use Rattle.mp_race.specs.Inside.Work.{HasReceipts};
+    ghost use Rattle.mp_race.specs.Inside.Gathered.{AreGathered};
+
+    // Of no worker.
+    fn new(memory: Memory, front: Front<N>) -> Gathered<N>
+        ensures front { result.front ≡ front }
+        ensures passes { result.passes.items ≡ [] }
+        ensures receipts { result.receipts.items ≡ [] }
+    {
+        Gathered {
+            front,
+            passes: Vec::new(memory),
+            receipts: Vec::new(memory),
+            is_sure: true,
+        }
+    }
+
+    // With one more worker.
+    fn add(self, worker: Worker<N>) -> Result<Gathered<N>, NoMemory>
+        ensures sure { IfOk result (λ g. g.is_sure ≡ true → self.is_sure ≡ true) }
+        ensures worker { IfOk result (λ g. g.is_sure ≡ true → worker.is_sure ≡ true) }
+        ensures gathered { (opening : Pool) (ts : List Task) → IfOk result (λ g.
+            AreGathered N.accepts N.callers opening ts
+                self.front self.passes.items self.receipts.items
+            → HasReceipts N.accepts N.callers opening ts worker.pass worker.receipts.items
+            → AreGathered N.accepts N.callers opening ts
+                g.front g.passes.items g.receipts.items) }
+    {
+        let Gathered {
+            front,
+            mut passes,
+            mut receipts,
+            is_sure,
+        } = self;
+        let Worker {
+            pass,
+            receipts: mut more,
+            is_sure: knows,
+        } = worker;
+        let front = longer(front, &pass);
+        receipts.append(&mut more)?;
+        passes.push(pass)?;
+        Ok(Gathered {
+            front,
+            passes,
+            receipts,
+            is_sure: is_sure && knows,
+        })
+    }
+}
+
+/// Puts together what all workers came back with, who have seen no less than the front.
+///
+/// # Errors
+/// `NoMemory`, also where it was wanting for a worker.
+pub fn gather<N: PoolName>(
+    memory: Memory,
+    front: Front<N>,
+    workers: Vec<Result<Worker<N>, NoMemory>, Memory>,
+) -> Result<Gathered<N>, NoMemory>
+    requires { IsLegalLog N.accepts N.callers front }
+    ensures { (opening : Pool) (ts : List Task) → front.opening ≡ opening
+        → All (λ r. IfOk r (λ w. w.is_sure ≡ true
+            → HasReceipts N.accepts N.callers opening ts w.pass w.receipts.items)) workers.items
+        → IfOk result (λ g. g.is_sure ≡ true → AreGathered N.accepts N.callers opening ts
+            g.front g.passes.items g.receipts.items) }
+{
+    let mut gathered = Gathered::new(memory, front);
+    for worker in workers {
+        gathered = gathered.add(worker?)?;
+    }
+    Ok(gathered)
+}

@@ -1,0 +1,248 @@
+//! A race of workers.
+
+ghost use Rattle.std.specs.Prelude.{◌≡◌, ◌<◌, ◌≤◌, ◌∷◌, true, List, length, All, IfOk};
+ghost use Rattle.mp_seqpool.specs.Pool.{Pool};
+ghost use Rattle.mp_history.specs.Log.{Log, IsLegalLog, state_after};
+ghost use Rattle.mp_history.specs.PoolName.{head_of};
+ghost use Rattle.mp_mempool.specs.Opening.{fresh_log, fresh_passes};
+ghost use Rattle.mp_mempool.specs.Pass as told;
+ghost use Rattle.mp_driver.specs.Verifier.{is_key_and_id};
+ghost use Rattle.mp_race.specs.Task.{Task};
+ghost use Rattle.mp_race.specs.Report.{report_of, IsReportOf};
+ghost use Rattle.mp_race.specs.Inside.Work.{IsUnused, HasReceipts};
+ghost use Rattle.mp_race.specs.Inside.Gathered.{AreGathered, IsExplained};
+
+use crate::fault::Fault;
+use crate::gate::{Gate, Watched};
+use crate::gathering::{Gathered, gather};
+use crate::ordering::{all_know, history_of};
+use crate::report::{Report, count_looks, count_replies};
+use crate::scenario::Scenario;
+use crate::worker::{Worker, work};
+use mp_driver::KeyAndId;
+use mp_history::{AuditFault, Entry, Front, NewName, PoolName, audit};
+use mp_memory::{Memory, NoMemory};
+use mp_mempool::{Mempool, OpenRefusal, Pass};
+use std::sync::Wait;
+use std::thread::{Threads, map_vec};
+
+// What a race runs on: a pool, and a pass for each worker.
+type Opened<'a, N, G> = (Mempool<N, Watched<'a, G>>, Vec<Pass<N>, Memory>);
+
+// Each worker does what is dealt to it, in a thread of its own.
+fn work_all<N: PoolName + Send + Sync, R: Threads + Wait + Sync, G: Gate>(
+    rt: &R,
+    memory: Memory,
+    mempool: &Mempool<N, Watched<'_, G>>,
+    gate: &G,
+    scenario: &Scenario,
+    workers: u32,
+    passes: Vec<Pass<N>, Memory>,
+) -> Result<Vec<Result<Worker<N>, NoMemory>, Memory>, NoMemory>
+    requires number { workers ≡ N.callers }
+    requires some { 1 ≤ workers }
+    requires unused { passes.items
+        ≡ fresh_passes workers (fresh_log scenario.now.config scenario.now.ledger) }
+    ensures { IfOk result (λ rs. All (λ r. IfOk r (λ w. w.is_sure ≡ true
+        → HasReceipts N.accepts N.callers
+            (fresh_log scenario.now.config scenario.now.ledger).opening scenario.now.tasks
+            w.pass w.receipts.items)) rs.items) }
+{
+    Ok(map_vec(rt, passes, &|pass: Pass<N>| -> Result<Worker<N>, NoMemory>
+        requires { IsUnused (fresh_log scenario.now.config scenario.now.ledger).opening pass }
+        ensures { IfOk result (λ w. w.is_sure ≡ true
+            → HasReceipts N.accepts N.callers
+                (fresh_log scenario.entry.now.config scenario.entry.now.ledger).opening
+                scenario.entry.now.tasks w.pass w.receipts.items) }
+    {
+        work(rt, memory, mempool, gate, &scenario.tasks, workers, pass)
+    })?)
+}
+
+// Opens the pool of a race.
+fn open<'a, N: PoolName, G: Gate>(
+    rt: &impl Wait,
+    memory: Memory,
+    name: NewName,
+    scenario: &Scenario,
+    workers: u32,
+    gate: &'a G,
+) -> Result<Opened<'a, N, G>, NoMemory>
+    requires name { name ≡ head_of N.book N.root }
+    requires number { workers ≡ N.callers }
+    requires accepts { N.accepts ≡ is_key_and_id }
+    requires some { 1 ≤ workers }
+    requires most { workers ≤ 64 }
+    ensures { IfOk result (λ o. o.1.items
+        ≡ fresh_passes workers (fresh_log scenario.now.config scenario.now.ledger)) }
+{
+    let verifier = Watched { gate };
+    match Mempool::open(
+        rt,
+        memory,
+        name,
+        scenario.config,
+        &scenario.ledger,
+        verifier,
+        workers,
+    ) {
+        Ok(opened) => Ok(opened),
+        Err((refusal, _)) => match refusal {
+            OpenRefusal::NoMemory => Err(NoMemory),
+            OpenRefusal::BadCallers => unreachable!(),
+            OpenRefusal::BadLimit => unreachable!(),
+        },
+    }
+}
+
+// The front that the first of the passes has, which is legal.
+fn first_front<N: PoolName>(passes: &[Pass<N>]) -> Front<N>
+    requires { 0 < length passes.now }
+    ensures legal { IsLegalLog N.accepts N.callers result }
+    ensures first { (p : told.Pass) (ps : List told.Pass) → passes.now ≡ p ∷ ps
+        → result ≡ p.front }
+{
+    let pass = &passes[0];
+    let _version = pass.shown().version();
+    pass.front().again()
+}
+
+// Opens the pool, has the workers do their tasks, and puts together what they come back with.
+fn run_workers<N: PoolName + Send + Sync, R: Threads + Wait + Sync, G: Gate>(
+    rt: &R,
+    memory: Memory,
+    name: NewName,
+    scenario: &Scenario,
+    workers: u32,
+    gate: &G,
+) -> Result<Gathered<N>, NoMemory>
+    requires name { name ≡ head_of N.book N.root }
+    requires number { workers ≡ N.callers }
+    requires accepts { N.accepts ≡ is_key_and_id }
+    requires some { 1 ≤ workers }
+    requires most { workers ≤ 64 }
+    ensures { IfOk result (λ g. g.is_sure ≡ true → AreGathered N.accepts N.callers
+        (fresh_log scenario.now.config scenario.now.ledger).opening scenario.now.tasks
+        g.front g.passes.items g.receipts.items) }
+{
+    let (mempool, passes) = open(rt, memory, name, scenario, workers, gate)?;
+    let front = first_front(&passes);
+    let done = work_all(rt, memory, &mempool, gate, scenario, workers, passes)?;
+    gather(memory, front, done)
+}
+
+// The history that explains what the workers came back with.
+fn explain<N: PoolName>(
+    memory: Memory,
+    workers: u32,
+    gathered: Gathered<N>,
+) -> Result<Vec<Entry, Memory>, Fault>
+    requires { workers ≡ N.callers }
+    ensures { (opening : Pool) (ts : List Task) → (gathered.is_sure ≡ true
+        → AreGathered N.accepts N.callers opening ts
+            gathered.front gathered.passes.items gathered.receipts.items)
+        → IfOk result (λ es. IsExplained N.accepts opening workers ts es.items) }
+{
+    let Gathered {
+        front,
+        passes,
+        receipts,
+        is_sure,
+    } = gathered;
+    let entries = history_of(memory, receipts)?;
+    let number = entries.len() as u64;
+    if !is_sure
+        || number < front.len()
+        || passes.len() != workers as usize
+        || !all_know(&passes, &entries)
+    {
+        return Err(Fault::MissingEntry(number));
+    }
+    Ok(entries)
+}
+
+// Audits the history, and gives the last ticket after it.
+fn audit_last(
+    memory: Memory,
+    scenario: &Scenario,
+    workers: u32,
+    entries: &[Entry],
+) -> Result<u64, Fault>
+    ensures { (log : Log) → log.entries ≡ entries.now
+        → log.opening ≡ (fresh_log scenario.now.config scenario.now.ledger).opening
+        → IfOk result (λ last. last ≡ (state_after is_key_and_id log).last) }
+{
+    let config = mp_seqpool::Config {
+        limit: scenario.config.limit,
+        last: scenario.config.last,
+    };
+    match audit(
+        memory,
+        config,
+        &scenario.ledger,
+        workers,
+        entries,
+        &KeyAndId,
+    ) {
+        Ok(pool) => Ok(pool.last_ticket()),
+        Err(AuditFault::NoMemory) => Err(Fault::NoMemory),
+        Err(fault) => Err(Fault::Audit(fault)),
+    }
+}
+
+// The report on a history.
+fn report_on(
+    memory: Memory,
+    scenario: &Scenario,
+    workers: u32,
+    entries: &[Entry],
+) -> Result<Report, Fault>
+    ensures { (log : Log) → log.entries ≡ entries.now
+        → log.opening ≡ (fresh_log scenario.now.config scenario.now.ledger).opening
+        → IfOk result (λ r. r ≡ report_of is_key_and_id workers scenario.now.tasks log) }
+{
+    let last = audit_last(memory, scenario, workers, entries)?;
+    let counts = count_replies(entries);
+    let reads = count_looks(&scenario.tasks);
+    let number = entries.len() as u64;
+    let tasks = scenario.tasks.len() as u64;
+    Ok(Report {
+        workers,
+        accepted: counts.accepted,
+        refused: tasks.saturating_sub(reads).saturating_sub(number),
+        removes: counts.removes,
+        syncs: counts.syncs,
+        reads,
+        entries: number,
+        last,
+    })
+}
+
+/// Runs the scenario by so many workers, each in a thread of its own, on one pool under the name, and gives the report. Task j,
+/// from 0, goes to worker j mod workers. There is one legal history that explains every answer: each worker's entries in it are the
+/// changes dealt to it, each once and in order, but for those that the sequential pool refuses at a beginning of the history with
+/// just the worker's entries before. The gate is told of each task and of each signature that is looked at.
+///
+/// # Errors
+/// `NoMemory`, where it was wanting for any worker, after all have ended. `MissingEntry` with the least place of the history below
+/// the number of the receipts of which no receipt tells, or two do, and with their number where the pool has another entry. None is
+/// to be met, as little as `Audit`.
+pub fn race<N: PoolName + Send + Sync, R: Threads + Wait + Sync, G: Gate>(
+    rt: &R,
+    memory: Memory,
+    name: NewName,
+    scenario: &Scenario,
+    workers: u32,
+    gate: &G,
+) -> Result<Report, Fault>
+    requires name { name ≡ head_of N.book N.root }
+    requires number { workers ≡ N.callers }
+    requires accepts { N.accepts ≡ is_key_and_id }
+    requires some { 1 ≤ workers }
+    requires most { workers ≤ 64 }
+    ensures { IfOk result (IsReportOf is_key_and_id workers scenario.now) }
+{
+    let gathered = run_workers::<N, R, G>(rt, memory, name, scenario, workers, gate)?;
+    let entries = explain(memory, workers, gathered)?;
+    report_on(memory, scenario, workers, &entries)
+}

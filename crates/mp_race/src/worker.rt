@@ -1,0 +1,88 @@
+//! What one worker does.
+
+ghost use Rattle.std.specs.Prelude.{◌≡◌, ◌≤◌, ◌<◌, true, IfOk};
+ghost use Rattle.mp_seqpool.specs.Pool.{Pool};
+ghost use Rattle.mp_race.specs.Inside.Task.{task_of, tasks_of};
+ghost use Rattle.mp_race.specs.Inside.Work.{IsUnused, Does, HasReceipts};
+
+use crate::gate::Gate;
+use crate::task::Task;
+use mp_history::PoolName;
+use mp_memory::{Memory, NoMemory};
+use mp_mempool::{Mempool, Pass, Receipt, Refusal};
+use mp_rules::Verifier;
+use std::sync::Wait;
+
+/// What a worker comes back with.
+#[derive(Drop)]
+pub struct Worker<N: PoolName> {
+    pub pass: Pass<N>,
+    /// Of its entries, in order.
+    pub receipts: Vec<Receipt, Memory>,
+    /// Whether its pass knew each entry of its own that the pool had.
+    pub is_sure: bool,
+}
+
+// Does the task. Whether the pool had no entry of the caller that its pass doesn't know.
+fn do_task<N: PoolName, V: Verifier>(
+    rt: &impl Wait,
+    mempool: &Mempool<N, V>,
+    pass: &mut Pass<N>,
+    receipts: &mut Vec<Receipt, Memory>,
+    task: &Task,
+) -> Result<bool, NoMemory>
+    ensures { IfOk result (λ sure. sure ≡ true → Does N.accepts N.callers
+        pass.old receipts.old.items (task_of task.now) pass.new receipts.new.items) }
+{
+    match task {
+        Task::Look => {
+            mempool.reader().refresh(pass);
+            Ok(true)
+        }
+        Task::Change(command) => match mempool.ask(rt, pass, command) {
+            Ok(receipt) => {
+                receipts.push(receipt)?;
+                Ok(true)
+            }
+            Err(Refusal::Pool(mp_seqpool::Refusal::NoMemory)) => Err(NoMemory),
+            Err(Refusal::Pool(_)) => Ok(true),
+            Err(Refusal::Foreign(_)) => Ok(false),
+        },
+    }
+}
+
+/// Does those of the tasks that are dealt to the pass's caller: of so many workers task j goes to worker j mod workers. The gate is
+/// told of each.
+pub fn work<N: PoolName, V: Verifier, G: Gate>(
+    rt: &impl Wait,
+    memory: Memory,
+    mempool: &Mempool<N, V>,
+    gate: &G,
+    tasks: &[Task],
+    workers: u32,
+    mut pass: Pass<N>,
+) -> Result<Worker<N>, NoMemory>
+    requires some { 1 ≤ workers }
+    ensures { (opening : Pool) → IsUnused opening pass → IfOk result (λ w. w.is_sure ≡ true
+        → HasReceipts N.accepts workers opening (tasks_of tasks.now) w.pass w.receipts.items) }
+{
+    let mut receipts = Vec::new(memory);
+    let number = pass.caller();
+    for (place, task) in tasks.iter().enumerate() {
+        if place % workers as usize == number as usize {
+            gate.start(number, place as u32);
+            if !do_task(rt, mempool, &mut pass, &mut receipts, task)? {
+                return Ok(Worker {
+                    pass,
+                    receipts,
+                    is_sure: false,
+                });
+            }
+        }
+    }
+    Ok(Worker {
+        pass,
+        receipts,
+        is_sure: true,
+    })
+}
