@@ -21,6 +21,7 @@ pub use fault::Fault;
 pub use ledgers::{ledger_at, make_ledger};
 pub use missing_entry::MissingEntry;
 pub use openings::Openings;
+pub use refusals::{put_number, put_word};
 pub use running::{answer_text, run};
 pub use settings::Settings;
 pub use stop::Stop;

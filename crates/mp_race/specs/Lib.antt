@@ -4,4 +4,5 @@ pub mod Reading
 pub mod Fault
 pub mod Race
 pub mod Report
+pub mod ReportText
 pub mod Inside

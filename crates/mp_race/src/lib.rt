@@ -8,6 +8,7 @@ mod gathering;
 mod ordering;
 mod racing;
 mod report;
+mod report_text;
 mod scenario;
 mod stop;
 mod task;

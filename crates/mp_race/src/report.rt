@@ -6,6 +6,7 @@ ghost use Rattle.mp_race.specs.Inside.Task.{tasks_of};
 ghost use Rattle.mp_race.specs.Inside.Counts.{with_reply, counts_of};
 
 use crate::fault::Fault;
+use crate::report_text::report_text;
 use crate::task::Task;
 use mp_history::Entry;
 use mp_memory::Memory;
@@ -32,7 +33,7 @@ pub struct Report {
 }
 
 impl Report {
-    ghost use Rattle.std.specs.Prelude.{◌++◌, length, OnOk, IfOk};
+    ghost use Rattle.mp_race.specs.ReportText.{IsWritten};
 
     /// Writes the report: a line of numbers, and that the history was found legal.
     ///
@@ -41,7 +42,7 @@ impl Report {
     pub fn write<W: Write>(&self, memory: Memory, writer: &mut W) -> Result<(), Fault>
         ensures { IsWritten self.now (W.contents writer.old) (W.contents writer.new) result }
     {
-        let text = self.text(memory)?;
+        let text = report_text(memory, self)?;
         match write_all(writer, &text) {
             Ok(()) => Ok(()),
             Err(_) => Err(Fault::WriteFault),
