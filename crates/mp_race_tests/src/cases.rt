@@ -1,0 +1,90 @@
+//! Races of texts.
+ghost use Rattle.std.specs.Prelude.{◌≡◌, ◌≤◌};
+ghost use Rattle.mp_history.specs.PoolName.{head_of};
+ghost use Rattle.mp_driver.specs.Verifier.{is_key_and_id};
+
+use mp_history::{NewName, PoolName};
+use mp_memory::Memory;
+use mp_race::{Fault, Gate, Report, Scenario, race};
+use std::marker::Brand;
+use std::sync::Wait;
+use std::thread::Threads;
+
+/// The numbers of a report behind that of its workers.
+pub type Numbers = [u64; 7];
+
+/// How a race ends: with the numbers of its report, or with the number of a fault, and its line, its place or 0.
+pub type Ended = Result<Numbers, (u64, u64)>;
+
+/// The fault's number, and its line, its place or 0.
+pub fn number_of(fault: &Fault) -> (u64, u64) {
+    match fault {
+        Fault::BadLine(line) => (fault.number(), *line),
+        Fault::MissingEntry(place) => (fault.number(), *place),
+        _ => (fault.number(), 0),
+    }
+}
+
+fn numbers_of(report: &Report) -> Numbers {
+    [
+        report.accepted,
+        report.refused,
+        report.removes,
+        report.syncs,
+        report.reads,
+        report.entries,
+        report.last,
+    ]
+}
+
+// A race on a pool under the name.
+fn race_named<N: PoolName + Send + Sync, R: Threads + Wait + Sync, G: Gate>(
+    rt: &R,
+    memory: Memory,
+    name: NewName,
+    scenario: &Scenario,
+    workers: u32,
+    gate: &G,
+) -> Ended
+    requires name { name ≡ head_of N.book N.root }
+    requires number { workers ≡ N.callers }
+    requires accepts { N.accepts ≡ is_key_and_id }
+    requires some { 1 ≤ workers }
+    requires most { workers ≤ 64 }
+{
+    match race::<N, R, G>(rt, memory, name, scenario, workers, gate) {
+        Ok(report) => Ok(numbers_of(&report)),
+        Err(fault) => Err(number_of(&fault)),
+    }
+}
+
+/// A race of the scenario, on a pool of its own.
+pub fn race_new<R: Threads + Wait + Sync, G: Gate>(
+    rt: &R,
+    memory: Memory,
+    scenario: &Scenario,
+    workers: u32,
+    gate: &G,
+) -> Ended
+    requires some { 1 ≤ workers }
+    requires most { workers ≤ 64 }
+{
+    race_named::<Brand, R, G>(rt, memory, NewName::new(), scenario, workers, gate)
+}
+
+/// A race of the scenario that the text is of, by 1 to 64 workers.
+pub fn race_text<R: Threads + Wait + Sync, G: Gate>(
+    rt: &R,
+    memory: Memory,
+    mut text: &[u8],
+    workers: u32,
+    gate: &G,
+) -> Ended {
+    if workers < 1 || workers > 64 {
+        return Err((0, 0));
+    }
+    match Scenario::read(memory, &mut text) {
+        Ok(scenario) => race_new(rt, memory, &scenario, workers, gate),
+        Err(fault) => Err(number_of(&fault)),
+    }
+}

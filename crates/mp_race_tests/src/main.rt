@@ -1,0 +1,29 @@
+//! Tests races for what no contract says: that they come to their end, on as many threads as there are workers, growths that are
+//! refused, devices that fail, and reports that were worked out by hand. It prints each case that is found otherwise, and for each
+//! part how many held.
+#![tactic(auto)]
+
+mod cases;
+mod devices;
+mod meeting;
+mod reports;
+
+use mp_memory::Memory;
+use std::alloc::Global;
+use std::io;
+use std::sync::Wait;
+use std::thread::Threads;
+
+fn check_all<R: Print + Threads + Wait + Sync>(rt: &R, memory: Memory, alloc: Global) -> io::Result<()> {
+    println!(rt; "reports {}", reports::held(rt, memory)?)?;
+    println!(rt; "meetings {}", meeting::held(rt, memory)?)?;
+    println!(rt; "devices {}", devices::held(rt, memory, alloc)?)?;
+    Ok(())
+}
+
+fn main(rt: HostRuntime) -> io::Result<()> {
+    match Memory::new(rt.alloc()) {
+        Ok(memory) => check_all(&rt, memory, rt.alloc()),
+        Err(_) => println!(rt; "no memory"),
+    }
+}
