@@ -20,7 +20,7 @@ module _ (accepts : Accepts) (workers : ℕ) (opening : Pool) (ts : List Task) w
   -- before any worker has come back
   pub nobody : (log : Log) → log.opening ≡ opening → IsLegalLog accepts workers log → AreGathered accepts workers opening ts log [] []
   nobody log is legal = record {
-    opening = is;
+    opens = is;
     legal = legal;
     done = All-nil (HasDone accepts workers opening ts);
     begin = All-nil (λ (p : Pass). Begins p.front log);
@@ -31,7 +31,7 @@ module _ (accepts : Accepts) (workers : ℕ) (opening : Pool) (ts : List Task) w
   pub one_more : (a b : Log) (ps : List Pass) (rs ss : List Receipt) (p : Pass) → Begins a b → Begins p.front b → IsLegalLog accepts workers b
       → AreGathered accepts workers opening ts a ps rs → HasReceipts accepts workers opening ts p ss → AreGathered accepts workers opening ts b (ps ++ p ∷ []) (rs ++ ss)
   one_more a b ps rs ss p on seen legal is h = record {
-    opening = sym on.opening ∙ is.opening;
+    opens = sym on.opening ∙ is.opens;
     legal = legal;
     done = All-push (HasDone accepts workers opening ts) ps p is.done h.done;
     begin = All-push (λ (q : Pass). Begins q.front b) ps p (λ k d lt. begins-trans (get_or ps k d).front a b (is.begin k d lt) on) seen;
@@ -91,7 +91,7 @@ module _ (accepts : Accepts) (workers : ℕ) (opening : Pool) (ts : List Task) w
         log = log;
         entries = same;
         race = record {
-          opening = is.opening;
+          opens = is.opens;
           legal = is.legal;
           played = λ w lt.
               let zero_first : 0 + w ≡ w = omega arith in

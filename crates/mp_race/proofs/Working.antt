@@ -1,5 +1,5 @@
 -- A worker does its tasks one after another.
-use Rattle.std.proofs.Common.{◌≡◌, ℕ, zero, suc, ◌+◌, ◌<◌, true, false, cond, List, [], ◌∷◌, ◌++◌, length, take, refl, sym, ap, subst, ◌∙◌, arith, append_assoc, append-nil, length-append}
+use Rattle.std.proofs.Common.{◌≡◌, ℕ, zero, suc, ◌+◌, ◌<◌, true, false, cond, List, [], ◌∷◌, ◌++◌, length, take, get_or, refl, sym, ap, subst, ◌∙◌, arith, append_assoc, append-nil, length-append}
 use Rattle.std.specs.Prelude.{◌==◌, ◌%◌, Option, None, Some, IfSome, slice_get, All, Err}
 use mathlib.Core.Logic.{inl, inr}
 use Rattle.std.proofs.lemmas.List.{take_all}
@@ -31,7 +31,9 @@ stands-last (x ∷ xs) e = stands-last xs e
 
 -- receipts of a history are receipts of one that goes on
 pub stand_on : (a b : Log) (rs : List Receipt) → Begins a b → All (Stands a) rs → All (Stands b) rs
-stand_on a b rs begins all k d lt = subst (λ es. slice_get es _ ≡ Some _) begins.entries.1 (stands-more a.entries begins.entries.0 _ _ (all k d lt))
+stand_on a b rs begins all k d lt =
+    let r : Receipt = get_or rs k d in
+    subst (λ es. slice_get es r.place ≡ Some r.entry) begins.entries.1 (stands-more a.entries begins.entries.0 r.place r.entry (all k d lt))
 
 within-more : (o : Option ℕ) (xs ys : List Entry) → IfSome o (λ k. k < length xs) → IfSome o (λ k. k < length (xs ++ ys))
 within-more None xs ys within = tt
@@ -57,7 +59,7 @@ module _ (accepts : Accepts) (callers workers : ℕ) (opening : Pool) where
   pub begins : (p : Pass) → IsUnused opening p → HasReceipts accepts workers opening [] p []
   begins p is = record {
     done = record {
-      opening = is.opening;
+      opens = is.opens;
       within = subst (λ o. IfSome o (λ k. k < length p.front.entries)) (sym is.last) tt;
       plays = sym (ap (λ o. own p.caller (upto o p.front.entries)) is.last);
     };
@@ -68,7 +70,7 @@ module _ (accepts : Accepts) (callers workers : ℕ) (opening : Pool) where
   pub skips : (ts : List Task) (t : Task) (p : Pass) (rs : List Receipt) → (length ts % workers == p.caller) ≡ false → HasReceipts accepts workers opening ts p rs → HasReceipts accepts workers opening (ts ++ t ∷ []) p rs
   skips ts t p rs others h = record {
     done = record {
-      opening = h.done.opening;
+      opens = h.done.opens;
       within = h.done.within;
       plays = subst (λ us. Plays accepts p.front p.caller [] us (made p)) (sym (dealt-less workers p.caller ts t others)) h.done.plays;
     };
@@ -89,7 +91,7 @@ module _ (accepts : Accepts) (callers workers : ℕ) (opening : Pool) where
         let same : made (seen p more) ≡ made p = ap (own p.caller) (upto-append p.last p.front.entries more h.done.within) in
         record {
           done = record {
-            opening = h.done.opening;
+            opens = h.done.opens;
             within = within-more p.last p.front.entries more h.done.within;
             plays = subst (λ us. Plays accepts log p.caller [] us (made (seen p more))) (sym (dealt-more workers p.caller ts t its))
                 (plays_then accepts log p.caller [] (dealt workers p.caller ts) (t ∷ []) (made p) (made (seen p more))
@@ -134,7 +136,7 @@ module _ (accepts : Accepts) (callers workers : ℕ) (opening : Pool) where
         subst (λ x. HasReceipts accepts workers opening (ts ++ Change c ∷ []) x (rs ++ r ∷ [])) (sym is.pass) (
         record {
           done = record {
-            opening = h.done.opening;
+            opens = h.done.opens;
             within = omega (arith, len);
             plays = subst (λ us. Plays accepts log p.caller [] us (made after)) (sym (dealt-more workers p.caller ts (Change c) its))
                 (plays_then accepts log p.caller [] (dealt workers p.caller ts) (Change c ∷ []) (made p) (made after)

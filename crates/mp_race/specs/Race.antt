@@ -48,7 +48,7 @@ module _ (accepts : Accepts) where
 
   -- A history of a race of so many workers, whose pool opened so.
   pub record IsRace (opening : Pool) (workers : ℕ) (ts : List Task) (log : Log) : Type 0 where
-    pub opening : log.opening ≡ opening
+    pub opens : log.opening ≡ opening
     -- each entry is by a worker, and its reply is the slow pool's after those before it
     pub legal : IsLegalLog accepts workers log
     -- the entries of a worker are those of the changes dealt to it, each once and in order, but for those that are refused

@@ -6,7 +6,7 @@ ghost use Rattle.mp_race.specs.declared.fault.Fault.TheVariants as faults;
 
 use mp_history::AuditFault;
 use mp_memory::NoMemory;
-use std::alloc::AllocError;
+use std::alloc::{AllocError, AllocFailed};
 use std::fmt;
 
 /// Why a race comes to no report. Its text is the line that the program prints.
@@ -43,6 +43,14 @@ impl From<NoMemory> for Fault {
     ghost from_gives = { λ _ e. e ≡ faults.NoMemory };
 
     fn from(_error: NoMemory) -> Fault {
+        Fault::NoMemory
+    }
+}
+
+impl<T: Drop> From<AllocFailed<T>> for Fault {
+    ghost from_gives = { λ _ e. e ≡ faults.NoMemory };
+
+    fn from(_refused: AllocFailed<T>) -> Fault {
         Fault::NoMemory
     }
 }

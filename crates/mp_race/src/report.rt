@@ -1,6 +1,6 @@
 //! What is told of a race.
 
-ghost use Rattle.std.specs.Prelude.{◌≡◌, ◌<◌, ◌^◌, count_by};
+ghost use Rattle.std.specs.Prelude.{◌≡◌, ◌+◌, ◌<◌, ◌^◌, count_by};
 ghost use Rattle.mp_race.specs.Report.{is_look};
 ghost use Rattle.mp_race.specs.Inside.Task.{tasks_of};
 ghost use Rattle.mp_race.specs.Inside.Counts.{with_reply, counts_of};
@@ -60,9 +60,9 @@ pub struct Counts {
 
 // One more reply.
 fn add_reply(counts: Counts, reply: &Reply) -> Counts
-    requires accepted { counts.accepted < 2 ^ 63 }
-    requires removes { counts.removes < 2 ^ 63 }
-    requires syncs { counts.syncs < 2 ^ 63 }
+    requires accepted { counts.accepted + 1 < 2 ^ 64 }
+    requires removes { counts.removes + 1 < 2 ^ 64 }
+    requires syncs { counts.syncs + 1 < 2 ^ 64 }
     ensures { result ≡ with_reply counts reply.now }
 {
     match reply {

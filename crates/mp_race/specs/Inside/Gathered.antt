@@ -13,7 +13,7 @@ use Rattle.mp_race.specs.Inside.Work.{Stands, HasDone}
 module _ (accepts : Accepts) (workers : ℕ) (opening : Pool) (ts : List Task) where
   -- Each of these workers has done what was dealt to it, and has seen a beginning of this history, of which the receipts are.
   pub record AreGathered (log : Log) (ps : List Pass) (rs : List Receipt) : Type 0 where
-    pub opening : log.opening ≡ opening
+    pub opens : log.opening ≡ opening
     pub legal : IsLegalLog accepts workers log
     pub done : All (HasDone accepts workers opening ts) ps
     pub begin : All (λ p. Begins p.front log) ps

@@ -26,7 +26,7 @@ Stands log r = slice_get log.entries r.place ≡ Some r.entry
 
 -- a pass that hasn't been used, of a pool that opened so
 pub record IsUnused (opening : Pool) (p : Pass) : Type 0 where
-  pub opening : p.front.opening ≡ opening
+  pub opens : p.front.opening ≡ opening
   pub last : p.last ≡ None
 
 module _ (accepts : Accepts) (callers : ℕ) where
@@ -39,7 +39,7 @@ module _ (accepts : Accepts) (callers : ℕ) where
 
 -- The worker has done what is dealt to it of these tasks.
 pub record HasDone (accepts : Accepts) (workers : ℕ) (opening : Pool) (ts : List Task) (p : Pass) : Type 0 where
-  pub opening : p.front.opening ≡ opening
+  pub opens : p.front.opening ≡ opening
   pub within : IfSome p.last (λ k. k < length p.front.entries)
   pub plays : Plays accepts p.front p.caller [] (dealt workers p.caller ts) (made p)
 

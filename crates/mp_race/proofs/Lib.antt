@@ -1,0 +1,4 @@
+pub mod Playing
+pub mod Working
+pub mod Explaining
+pub mod Ordered

@@ -1,0 +1,34 @@
+-- One more entry of a history.
+use Rattle.std.proofs.Common.{◌≡◌, ℕ, ◌+◌, ◌<◌, List, [], ◌∷◌, ◌++◌, length, take, get_or, refl, sym, ap, subst, ◌∙◌, arith, length-append, true, false, eqb-true}
+use Rattle.std.specs.Prelude.{◌==◌, Some, slice_get, All}
+use Rattle.std.specs.Vec.Iter.{into_iter_items, into_iter_steps}
+use Rattle.std.specs.declared.vec.IntoIter.{IntoIter}
+use Rattle.std.specs.Iterator.{Yields}
+use Rattle.std.proofs.lemmas.List.{take_more}
+use Rattle.std.proofs.lemmas.List.Elements.{All-head, All-tail}
+use Rattle.std.proofs.lemmas.Option.{slice_get_within, get_or_from_slice_get}
+use Rattle.mp_history.specs.Entry.{Entry}
+
+-- the first entries of a history, and the next one
+pub one_more : (ls es : List Entry) (e : Entry) → es ≡ take (length es) ls → slice_get ls (length es) ≡ Some e → es ++ e ∷ [] ≡ take (length (es ++ e ∷ [])) ls
+one_more ls es e is at =
+    let n : ℕ = length es in
+    let lt : n < length ls = slice_get_within ls n e at in
+    let len : length (es ++ e ∷ []) ≡ n + 1 = length-append es (e ∷ []) in
+    ap (λ l. l ++ e ∷ []) is ∙ ap (λ x. take n ls ++ x ∷ []) (sym (get_or_from_slice_get ls n e e at)) ∙ sym (take_more ls n e lt) ∙ ap (λ m. take m ls) (sym len)
+
+-- what an iterator has given stands before what it has left
+pub given : {X A : Type 0} (s : IntoIter X A) (xs : List X) (t : IntoIter X A) → Yields into_iter_steps s xs t → into_iter_items s ≡ xs ++ into_iter_items t
+given s [] t y = ap into_iter_items y
+given s (x ∷ xs) t y = y.1.0 ∙ ap (λ ys. x ∷ ys) (given y.0 xs t y.2)
+
+-- what holds of all holds of each
+pub each : {X : Type 0} (P : X → Type 0) (xs : List X) (x : X) (rest : List X) → All P (xs ++ x ∷ rest) → P x
+each P [] x rest all = All-head P x rest all
+each P (y ∷ xs) x rest all = each P xs x rest (All-tail P y (xs ++ x ∷ rest) all)
+
+pub apart : (a b : ℕ) → (b ≡ a → ⊥) → (a == b) ≡ false
+apart a b other = elim (a == b) as (λ t. (a == b) ≡ t → t ≡ false) [
+  | true ↦ λ same. absurd (other (sym (eqb-true a b same)))
+  | false ↦ λ differs. refl
+] refl
