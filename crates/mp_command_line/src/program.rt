@@ -1,11 +1,11 @@
-//! The program's own words: its name, its options, its help and its version.
+//! The program's own words: its name, its commands, their options, its help and its version.
 
 ghost use Rattle.std.specs.Prelude.{◌≡◌, IfOk, codes, false};
 ghost use Rattle.clap.specs.declared.builder.command.Command.TheViews.{out-Command as fields_of};
-ghost use Rattle.clap.specs.Words.{app_of};
+ghost use Rattle.clap.specs.Words.{app_of, rule_of};
 ghost use Rattle.mp_command_line.specs.CommandLine as spec;
 
-use clap::{Arg, ArgAction, Command};
+use clap::{Arg, ArgAction, Command, value_parser};
 use std::alloc::{AllocError, Global};
 
 const VERSION: &str = "0.1.0";
@@ -17,10 +17,12 @@ Examples:
   keltuvar run scenario.scn > out   keeps the answers
   keltuvar run --explain scenario.scn
                                     also says what is wrong with a bad line
+  keltuvar race --workers 4 scenario.scn
+                                    the scenario's commands dealt to 4 workers
 
 The status is 0, or 1 at a fault, as a bad line, or 2 where the command line is refused.";
 
-/// The program, with the one command that it has.
+/// The program, with the two commands that it has.
 pub(crate) fn program<'a>(alloc: Global) -> Result<Command<'a>, AllocError>
     ensures { IfOk result (λ c. app_of c ≡ spec.program) }
 {
@@ -32,20 +34,56 @@ pub(crate) fn program<'a>(alloc: Global) -> Result<Command<'a>, AllocError>
         .subcommand_required(true);
     command
         .bin_name("keltuvar")?
-        .subcommand(run_command(alloc)?)
+        .subcommand(run_command(alloc)?)?
+        .subcommand(race_command(alloc)?)
 }
 
 fn run_command<'a>(alloc: Global) -> Result<Command<'a>, AllocError>
     ensures shape { IfOk result (λ c. app_of c ≡ spec.run_command) }
     ensures local { IfOk result (λ c. (fields_of c).has_globals ≡ false) }
 {
-    let explain = Arg::new(alloc, "explain")
-        .long("explain")
-        .action(ArgAction::SetTrue)
-        .help("Says what is wrong with a bad line, in a second line on standard error");
-    let file = Arg::new(alloc, "FILE").help("The scenario; standard input where it's left out");
     Command::new(alloc, "run")
         .about("Runs a scenario and writes its answers to standard output")
-        .arg(explain)?
-        .arg(file)
+        .arg(explain_flag(alloc))?
+        .arg(scenario_file(alloc))
+}
+
+fn race_command<'a>(alloc: Global) -> Result<Command<'a>, AllocError>
+    ensures shape { IfOk result (λ c. app_of c ≡ spec.race_command) }
+    ensures local { IfOk result (λ c. (fields_of c).has_globals ≡ false) }
+{
+    Command::new(alloc, "race")
+        .about("Deals a scenario's commands to workers that race for one pool, and audits its log")
+        .arg(workers_option(alloc))?
+        .arg(explain_flag(alloc))?
+        .arg(scenario_file(alloc))
+}
+
+fn workers_option<'a>(alloc: Global) -> Arg<'a>
+    ensures rule { rule_of result ≡ spec.workers_rule }
+    ensures local { result.global ≡ false }
+{
+    Arg::new(alloc, "workers")
+        .long("workers")
+        .value_name("N")
+        .value_parser(value_parser!(u64).range(1..=64))
+        .required(true)
+        .help("How many workers race, from 1 to 64")
+}
+
+fn explain_flag<'a>(alloc: Global) -> Arg<'a>
+    ensures rule { rule_of result ≡ spec.explain_rule }
+    ensures local { result.global ≡ false }
+{
+    Arg::new(alloc, "explain")
+        .long("explain")
+        .action(ArgAction::SetTrue)
+        .help("Says what is wrong with a bad line, in a second line on standard error")
+}
+
+fn scenario_file<'a>(alloc: Global) -> Arg<'a>
+    ensures rule { rule_of result ≡ spec.file_rule }
+    ensures local { result.global ≡ false }
+{
+    Arg::new(alloc, "FILE").help("The scenario; standard input where it's left out")
 }
