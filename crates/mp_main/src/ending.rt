@@ -6,19 +6,27 @@ ghost use Rattle.clap.specs.Words.{kind_of};
 
 use clap::Error;
 use clap::error::ErrorKind;
-use mp_driver::{Fault, Stop};
+use mp_driver::Stop;
 use mp_history::PoolName;
-use std::io;
+use mp_names::Reason;
+use std::{fmt, io};
 use std::process::ExitCode;
 
 const REFUSED: u8 = 2;
 
-/// Where a run ends with a fault: 1, and the fault's line.
-pub fn end_fault<N: PoolName>(rt: &HostRuntime, fault: Fault<N>) -> ExitCode
+/// Where a run or a race ends with a fault: 1, and the fault's line.
+pub fn end_fault<F: fmt::Display>(rt: &HostRuntime, fault: F) -> ExitCode
     ensures { exit_status result ≡ 1 }
 {
     let _ = rt.eprintln(fault);
     ExitCode::FAILURE
+}
+
+// What is wrong with the line, where that is to be explained.
+fn explain(rt: &HostRuntime, explains: bool, bad_line: Option<(u64, Reason<'_>)>) {
+    if let (true, Some((number, reason))) = (explains, bad_line) {
+        let _ = rt.eprintln(format_args!("bad line {number}: {reason}"));
+    }
 }
 
 /// After the answers to a text: 0, or 1 and the fault's line. Where it explains, what is wrong with a bad line stands behind it.
@@ -35,12 +43,19 @@ pub fn end_answers<N: PoolName>(
         Err(stop) => {
             let bad_line = stop.bad_line();
             let _ = rt.eprintln(stop.into_fault());
-            if let (true, Some((number, reason))) = (explains, bad_line) {
-                let _ = rt.eprintln(format_args!("bad line {number}: {reason}"));
-            }
+            explain(rt, explains, bad_line);
             ExitCode::FAILURE
         }
     }
+}
+
+/// Where a race can't begin for its text: 1, and the fault's line, with what is wrong with a bad line where it explains.
+pub fn end_bad_line(rt: &HostRuntime, explains: bool, stop: mp_race::Stop<'_>) -> ExitCode
+    ensures { exit_status result ≡ 1 }
+{
+    let _ = rt.eprintln(stop.to_fault());
+    explain(rt, explains, stop.bad_line());
+    ExitCode::FAILURE
 }
 
 /// Where a word of the command line is no text: 2, or 1 where there is no memory for it.

@@ -8,6 +8,9 @@ use Rattle.std.proofs.lemmas.List.{take_more}
 use Rattle.std.proofs.lemmas.List.Elements.{All-head, All-tail}
 use Rattle.std.proofs.lemmas.Option.{slice_get_within, get_or_from_slice_get}
 use Rattle.mp_history.specs.Entry.{Entry}
+use Rattle.mp_history.specs.Log.{last_of}
+use Rattle.mp_mempool.specs.Pass.{Pass}
+use Rattle.mp_race.specs.Inside.Work.{AreNumbered}
 
 -- the first entries of a history, and the next one
 pub one_more : (ls es : List Entry) (e : Entry) → es ≡ take (length es) ls → slice_get ls (length es) ≡ Some e → es ++ e ∷ [] ≡ take (length (es ++ e ∷ [])) ls
@@ -32,3 +35,12 @@ apart a b other = elim (a == b) as (λ t. (a == b) ≡ t → t ≡ false) [
   | true ↦ λ same. absurd (other (sym (eqb-true a b same)))
   | false ↦ λ differs. refl
 ] refl
+
+-- one more pass, which has the next number
+pub numbered-push : (es : List Entry) (k : ℕ) (ps : List Pass) (p : Pass) → AreNumbered es k ps → p.caller ≡ k + length ps → last_of p.caller es ≡ p.last → AreNumbered es k (ps ++ p ∷ [])
+numbered-push es k [] p numbered at known =
+    let e : k + 0 ≡ k = omega arith in
+    (at ∙ e, subst (λ n. last_of n es ≡ p.last) (at ∙ e) known, tt)
+numbered-push es k (q ∷ ps) p numbered at known =
+    let e : k + length (q ∷ ps) ≡ (k + 1) + length ps = omega arith in
+    (numbered.0, numbered.1, numbered-push es (k + 1) ps p numbered.2 (at ∙ e) known)

@@ -152,3 +152,9 @@ module _ (accepts : Accepts) (callers workers : ℕ) (opening : Pool) where
     does Look q ss its is = subst (HasReceipts accepts workers opening (ts ++ Look ∷ []) q) (sym is.1) (looks q its is.0)
     does (Change c) q ss its (inl is) = subst (HasReceipts accepts workers opening (ts ++ Change c ∷ []) q) (sym is.2) (entered c q is.0 its is.1)
     does (Change c) q ss its (inr is) = subst (HasReceipts accepts workers opening (ts ++ Change c ∷ []) q) (sym is.2) (refused c q is.0 its is.1)
+
+  -- a caller stays the same
+  pub same_caller : (p : Pass) (rs : List Receipt) (t : Task) (q : Pass) (ss : List Receipt) → Does accepts callers p rs t q ss → q.caller ≡ p.caller
+  same_caller p rs Look q ss is = ap (λ (x : Pass). x.caller) is.0.pass
+  same_caller p rs (Change c) q ss (inl is) = ap (λ (x : Pass). x.caller) is.1.pass
+  same_caller p rs (Change c) q ss (inr is) = ap (λ (x : Pass). x.caller) is.1.pass

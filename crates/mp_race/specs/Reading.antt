@@ -1,5 +1,5 @@
 -- How the text of a scenario is read.
-use Rattle.std.specs.Prelude.{◌≡◌, ℕ, ◌≤◌, ◌^◌, List, length, Result, Ok, Err}
+use Rattle.std.specs.Prelude.{◌≡◌, ℕ, ◌≤◌, ◌^◌, List, length, Option, None, Some, Result, Ok, Err}
 use Rattle.mp_text.specs.Lines.{lines_of}
 use Rattle.mp_names.specs.declared.reason.Reason.{Reason}
 use Rattle.mp_race.specs.declared.fault.Fault.{Fault}
@@ -20,6 +20,10 @@ scenario_from lines = scenario_in (reading empty_draft 1 lines)
 abbrev pub fault_of : Stop → Fault
 fault_of stop.NoMemory = NoMemory
 fault_of (stop.BadLine n reason) = BadLine n
+
+abbrev pub bad_line_of : Stop → Option (ℕ × Reason)
+bad_line_of stop.NoMemory = None
+bad_line_of (stop.BadLine n reason) = Some (n, reason)
 
 -- the bad line is the first one. Memory may be wanting for any
 abbrev pub IsStopOf : {X : Type 0} → Result X ℕ → Stop → Type 0

@@ -14,8 +14,19 @@ pub enum Stop<'a> {
     BadLine(u64, Reason<'a>),
 }
 
-impl Stop<'_> {
-    ghost use Rattle.mp_race.specs.Reading.{fault_of};
+impl<'a> Stop<'a> {
+    ghost use Rattle.std.specs.Prelude.{◌≡◌};
+    ghost use Rattle.mp_race.specs.Reading.{fault_of, bad_line_of};
+
+    /// The number of the bad line, and what is wrong with it.
+    pub fn bad_line(&self) -> Option<(u64, Reason<'a>)>
+        ensures { result ≡ bad_line_of self.now }
+    {
+        match self {
+            Stop::NoMemory => None,
+            Stop::BadLine(number, reason) => Some((*number, *reason)),
+        }
+    }
 
     /// The fault that the program tells.
     pub fn to_fault(&self) -> Fault

@@ -1,0 +1,16 @@
+use Rattle.std.proofs.Common.{◌≡◌, true, List}
+use Rattle.std.specs.Prelude.{All, IfOk}
+use Rattle.mp_seqpool.specs.Pool.{Pool}
+use Rattle.mp_race.specs.Task.{Task}
+use Rattle.mp_race.specs.Inside.Work.{HasReceipts}
+use Rattle.mp_race.specs.Inside.Gathered.{AreGathered}
+use Rattle.mp_race.proofs.gathering.gather.Given as goal
+
+-- those who have come back so far
+abbrev pub invariant-loop-worker : goal.invariant-loop-worker
+invariant-loop-worker g l =
+    let accepts = g.N.PoolName.accepts in
+    let callers = g.N.PoolName.callers in
+    (opening : Pool) (ts : List Task) → l.fn.front.opening ≡ opening
+    → All (λ r. IfOk r (λ w. w.is_sure ≡ true → HasReceipts accepts callers opening ts w.pass w.receipts.items)) l.fn.workers.items
+    → l.gathered.is_sure ≡ true → AreGathered accepts callers opening ts l.gathered.front l.gathered.passes.items l.gathered.receipts.items
