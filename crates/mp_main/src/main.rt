@@ -3,8 +3,7 @@
 //! It ends with status 0, with 1 at a fault, and with 2 where the command line is refused.
 #![tactic(auto)]
 
-ghost use Rattle.std.specs.Prelude.{◌≡◌, ◌≤◌, IfOk, length};
-ghost use Rattle.std.specs.Vec.{vec_len};
+ghost use Rattle.std.specs.Prelude.{◌≡◌, ◌≤◌, IfOk, length, vec_len};
 ghost use Rattle.mp_history.specs.PoolName.{head_of};
 ghost use Rattle.mp_driver.specs.Verifier.{is_key_and_id};
 

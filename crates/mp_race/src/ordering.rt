@@ -45,12 +45,20 @@ fn last_of(entries: &[Entry], caller: u32) -> Option<u64>
     last
 }
 
+// Whether the pass is that of the caller with the number, and knows its last entry.
+fn knows<N: PoolName>(pass: &Pass<N>, number: usize, entries: &[Entry]) -> bool
+    ensures number { result ≡ true → pass.now.caller ≡ number }
+    ensures last { result ≡ true → last_of pass.now.caller entries.now ≡ pass.now.last }
+{
+    pass.caller() as usize == number && last_of(entries, pass.caller()) == pass.last()
+}
+
 /// Whether the passes are those of the callers 0, 1, .. in order, and each knows its caller's last entry.
 pub fn all_know<N: PoolName>(passes: &[Pass<N>], entries: &[Entry]) -> bool
     ensures { result ≡ true → AreNumbered entries.now 0 passes.now }
 {
     for (number, pass) in passes.iter().enumerate() {
-        if pass.caller() as usize != number || last_of(entries, pass.caller()) != pass.last() {
+        if !knows(pass, number, entries) {
             return false;
         }
     }

@@ -70,12 +70,13 @@ pub fn work<N: PoolName, V: Verifier, G: Gate>(
     let number = pass.caller();
     for (place, task) in tasks.iter().enumerate() {
         if place % workers as usize == number as usize {
-            gate.start(number, place as u32);
-            if !do_task(rt, mempool, &mut pass, &mut receipts, task)? {
+            gate.start(number, u32::try_from(place).unwrap_or(u32::MAX));
+            let is_sure = do_task(rt, mempool, &mut pass, &mut receipts, task)?;
+            if !is_sure {
                 return Ok(Worker {
                     pass,
                     receipts,
-                    is_sure: false,
+                    is_sure,
                 });
             }
         }

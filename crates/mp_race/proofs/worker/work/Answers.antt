@@ -1,0 +1,44 @@
+use Rattle.std.proofs.Common.{◌≡◌, ℕ, ◌+◌, ◌%◌, List, [], ◌∷◌, ◌++◌, take, length, true, false, sym, ap, subst, ◌∙◌, arith}
+use Rattle.std.specs.Prelude.{◌==◌}
+use Rattle.std.proofs.lemmas.List.{take_all, take_more, length-take-le, length-map, map-append}
+use Rattle.mp_seqpool.specs.Pool.{Pool}
+use Rattle.mp_history.proofs.Law.{eqb-refl}
+use Rattle.mp_race.specs.declared.task.Task.{Task}
+use Rattle.mp_race.specs.Inside.Task.{task_of, tasks_of}
+use Rattle.mp_race.specs.Inside.Work.{IsUnused, HasReceipts}
+use Rattle.mp_race.proofs.Ordered.{apart}
+use Rattle.mp_race.proofs.Working.{does, skips, same_caller}
+use Rattle.mp_race.proofs.worker.work.Goals as goal
+use Rattle.mp_race.proofs.worker.work.Goals.{then-place-workers+in_ok-is_sure+else-not-is_sure, else-place-workers}
+
+pub loop-place-preserved : goal.loop-place-preserved
+loop-place-preserved g c = λ opening unused.
+    let accepts = g.N.PoolName.accepts in
+    let callers = g.N.PoolName.callers in
+    let workers : ℕ = c.args.workers in
+    let ts : List Task = c.args.tasks.now in
+    let k : ℕ = c.loop-place.place in
+    let d : Task = c.index-tasks-place.result in
+    let p = c.loop-place.pass in
+    let rs = c.loop-place.receipts.items in
+    let before = tasks_of (take k ts) in
+    let h = c.loop-place.invariant opening unused in
+    let more : take (k + 1) ts ≡ take k ts ++ d ∷ [] = take_more ts k d c.loop-place-test.true ∙ ap (λ x. take k ts ++ x ∷ []) (sym c.index-tasks-place.is) in
+    let tasks_more : tasks_of (take (k + 1) ts) ≡ before ++ task_of d ∷ [] = ap tasks_of more ∙ map-append task_of (take k ts) (d ∷ []) in
+    let len : length before ≡ k = length-map task_of (take k ts) ∙ length-take-le k ts (omega (arith, c.loop-place-test.true)) in
+    elim c.if-place-workers.branch [
+      | then-place-workers+in_ok-is_sure+else-not-is_sure w ↦
+        let its : (length before % workers == p.caller) ≡ true =
+        subst (λ n. (n % workers == p.caller) ≡ true) (sym len) (subst (λ n. (k % workers == n) ≡ true) (w.if-place-workers.true ∙ sym h.1) (eqb-refl (k % workers))) in
+        ?
+      | else-place-workers w ↦
+        let others : (length before % workers == p.caller) ≡ false =
+        subst (λ n. (n % workers == p.caller) ≡ false) (sym len) (apart (k % workers) p.caller (λ same. w.if-place-workers.false (sym same ∙ h.1))) in
+        ?
+    ]
+
+pub returns : goal.returns
+returns g c = λ opening unused sure.
+    let ts : List Task = c.args.tasks.now in
+    subst (λ l. HasReceipts g.N.PoolName.accepts c.args.workers opening (tasks_of l) c.loop-place.pass c.loop-place.receipts.items)
+    (take_all c.loop-place.place ts c.loop-place-test.false) (c.loop-place.invariant opening unused).0
