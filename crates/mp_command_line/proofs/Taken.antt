@@ -66,12 +66,14 @@ longer how [] ws h =
 longer how (v ∷ vs) ws h = (h.0, h.1, h.2, h.3)
 
 with_values_good : (name : Text) (how : Reading) (s : ValueSource) (values : List Text)
-    → (bytes_eq name id ≡ true → IsNumber how values) → (rows : List Row) → AreGood rows → AreGood (with_values name how s values rows)
+    → (bytes_eq name id ≡ true → IsNumber how values)
+    → (rows : List Row) → AreGood rows → AreGood (with_values name how s values rows)
 with_values_good name how s values new rows p =
     at_row_good name (more_values s values) _ (λ r g. ((λ same. longer r.reading r.values values (g same)), tt)) (new, tt) rows p
 
 replaced_good : (name : Text) (how : Reading) (s : ValueSource) (values : List Text)
-    → (bytes_eq name id ≡ true → IsNumber how values) → (rows : List Row) → AreGood rows → AreGood (with_values name how s values (without name rows))
+    → (bytes_eq name id ≡ true → IsNumber how values)
+    → (rows : List Row) → AreGood rows → AreGood (with_values name how s values (without name rows))
 replaced_good name how s values new rows p = with_values_good name how s values new (without name rows) (without_good name rows p)
 
 -- ---- the arguments of a race
