@@ -47,8 +47,7 @@ both_good [] ys p q = q
 both_good (x ∷ xs) ys p q = (p.0, both_good xs ys p.1 q)
 
 at_row_good : (name : Text) (change : Row → List Row) (missing : List Row) → ((r : Row) → IsGood r → AreGood (change r))
-    → AreGood missing
-    → (rows : List Row) → AreGood rows → AreGood (at_row name change missing rows)
+    → AreGood missing → (rows : List Row) → AreGood rows → AreGood (at_row name change missing rows)
 at_row_good name change missing keep new [] p = new
 at_row_good name change missing keep new (r ∷ rs) p = go (bytes_eq r.id name) (at_row_good name change missing keep new rs p.1)
   where
@@ -66,25 +65,27 @@ longer how [] ws h =
     cc
 longer how (v ∷ vs) ws h = (h.0, h.1, h.2, h.3)
 
-with_values_good : (name : Text) (how : Reading) (s : ValueSource) (values : List Text) → (bytes_eq name id ≡ true
-    → IsNumber how values)
+with_values_good : (name : Text) (how : Reading) (s : ValueSource) (values : List Text)
+    → (bytes_eq name id ≡ true → IsNumber how values)
     → (rows : List Row) → AreGood rows → AreGood (with_values name how s values rows)
 with_values_good name how s values new rows p =
     at_row_good name (more_values s values) _ (λ r g. ((λ same. longer r.reading r.values values (g same)), tt)) (new, tt) rows p
 
-replaced_good : (name : Text) (how : Reading) (s : ValueSource) (values : List Text) → (bytes_eq name id ≡ true
-    → IsNumber how values)
+replaced_good : (name : Text) (how : Reading) (s : ValueSource) (values : List Text)
+    → (bytes_eq name id ≡ true → IsNumber how values)
     → (rows : List Row) → AreGood rows → AreGood (with_values name how s values (without name rows))
 replaced_good name how s values new rows p = with_values_good name how s values new (without name rows) (without_good name rows p)
 
 -- ---- the arguments of a race
 
+-- the command `race` as it is built
 abbrev race : Shape
 race = built_leaf (inherited (with_leaf_noted (marked_built program.top)) race_command.top)
 
 abbrev rule_at : ℕ → Rule
 rule_at k = unwrap_or (slice_get race.rules k) file_rule
 
+-- a value without a fault is such a number
 accepted : {C : Type 0} (v : Text) (more : Kinds) → (accepts false (Unsigned 1 64) v ≡ true → C)
     → or_else (value_kinds false (Unsigned 1 64) v) more ≡ [] → C
 accepted {C} v more then none =
@@ -104,8 +105,8 @@ keeps_workers (v ∷ vs) rows none p =
 
 other_good : (name : Text) (how : Reading) (s : ValueSource) (values : List Text) → bytes_eq name id ≡ false
     → (rows : List Row) → AreGood rows → AreGood (with_values name how s values (without name rows))
-other_good name how s values other rows p = replaced_good name how s values (λ same. absurd (true≢false (sym same
-    ∙ other))) rows p
+other_good name how s values other rows p =
+    replaced_good name how s values (λ same. absurd (true≢false (sym same ∙ other))) rows p
 
 keeps_explain : KeepsUse false AreGood (rule_at 1)
 keeps_explain values rows none p = other_good (codes "explain") _ _ _ refl rows p
@@ -120,8 +121,7 @@ keeps : Each (KeepsUse false AreGood) race.rules
 keeps = (keeps_workers, (keeps_explain, (keeps_file, (keeps_help, tt))))
 
 default_good : (name : Text) (how : Reading) (values : List Text) → bytes_eq name id ≡ false → (b : Bool) (rows : List Row)
-    → AreGood rows
-    → AreGood (cond b rows (default_rows name how values rows))
+    → AreGood rows → AreGood (cond b rows (default_rows name how values rows))
 default_good name how values other true rows p = p
 default_good name how [] other false rows p = p
 default_good name how (v ∷ vs) other false rows p =
@@ -191,6 +191,7 @@ race_taken words none =
 
 -- ---- the program
 
+-- the command `run` as it is built
 abbrev run : Shape
 run = built_leaf (inherited (with_leaf_noted (marked_built program.top)) run_command.top)
 
@@ -198,6 +199,7 @@ is_met : (rows : List Row) (has : Bool) → check_fault (built program).top rows
 is_met rows true none = refl
 is_met rows false none = not_none _ _ none
 
+-- a command was met, and it is one of the two
 met_taken : (stop : Option (Text × List Text)) → entered_fault (built program) stop ≡ []
     → is_some (entered (built program) stop) ≡ true
     → IsTaken (entered (built program) stop)
