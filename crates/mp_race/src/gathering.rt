@@ -119,7 +119,8 @@ pub fn gather<N: PoolName>(
 {
     let mut gathered = Gathered::new(memory, front);
     for worker in workers {
-        gathered = gathered.add(worker?)?;
+        let back = worker?;
+        gathered = gathered.add(back)?;
     }
     Ok(gathered)
 }

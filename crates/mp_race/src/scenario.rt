@@ -32,6 +32,7 @@ impl Model for Scenario {
     ghost use Rattle.std.specs.Coded.{codes};
     ghost use Rattle.std.specs.FinMap as finite;
     ghost use Rattle.mp_race.specs.Scenario as told;
+    ghost use Rattle.mp_names.specs.Settings.{IsLimit};
     ghost use Rattle.mp_race.specs.Inside.Task.{tasks_of};
 
     ghost Value = { told.Scenario };
@@ -43,6 +44,8 @@ impl Model for Scenario {
         ledger = s.ledger;
         tasks = tasks_of s.tasks.items;
     } };
+
+    ghost invariant = { λ s. IsLimit s.config.limit };
 }
 
 // Reads the lines of a text in order.

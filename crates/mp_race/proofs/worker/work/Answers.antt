@@ -25,15 +25,19 @@ loop-place-preserved g c = λ opening unused.
     let h = c.loop-place.invariant opening unused in
     let more : take (k + 1) ts ≡ take k ts ++ d ∷ [] = take_more ts k d c.loop-place-test.true ∙ ap (λ x. take k ts ++ x ∷ []) (sym c.index-tasks-place.is) in
     let tasks_more : tasks_of (take (k + 1) ts) ≡ before ++ task_of d ∷ [] = ap tasks_of more ∙ map-append task_of (take k ts) (d ∷ []) in
-    let len : length before ≡ k = length-map task_of (take k ts) ∙ length-take-le k ts (omega (arith, c.loop-place-test.true)) in
+    let len : length before ≡ k = length-map (take k ts) task_of ∙ length-take-le k ts (omega (arith, c.loop-place-test.true)) in
     elim c.if-place-workers.branch [
       | then-place-workers+in_ok-is_sure+else-not-is_sure w ↦
         let its : (length before % workers == p.caller) ≡ true =
         subst (λ n. (n % workers == p.caller) ≡ true) (sym len) (subst (λ n. (k % workers == n) ≡ true) (w.if-place-workers.true ∙ sym h.1) (eqb-refl (k % workers))) in
+        let did = w.in_ok-is_sure.ensures w.if-not-is_sure.false in
+        let after : HasReceipts accepts workers opening (before ++ task_of d ∷ []) w.do_task.new.pass w.do_task.new.receipts.items =
+        does accepts callers workers opening before p rs h.0 (task_of d) w.do_task.new.pass w.do_task.new.receipts.items its did in
         ?
       | else-place-workers w ↦
         let others : (length before % workers == p.caller) ≡ false =
         subst (λ n. (n % workers == p.caller) ≡ false) (sym len) (apart (k % workers) p.caller (λ same. w.if-place-workers.false (sym same ∙ h.1))) in
+        let after : HasReceipts accepts workers opening (before ++ task_of d ∷ []) p rs = skips accepts callers workers opening before (task_of d) p rs others h.0 in
         ?
     ]
 
