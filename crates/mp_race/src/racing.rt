@@ -1,14 +1,14 @@
 //! A race of workers.
 
-ghost use Rattle.std.specs.Prelude.{◌≡◌, ◌<◌, ◌≤◌, ◌∷◌, true, List, length, All, IfOk};
+ghost use Rattle.std.specs.Prelude.{◌≡◌, ◌<◌, ◌≤◌, true, List, length, All, IfOk};
 ghost use Rattle.mp_seqpool.specs.Pool.{Pool};
 ghost use Rattle.mp_history.specs.Log.{Log, IsLegalLog, state_after};
 ghost use Rattle.mp_history.specs.PoolName.{head_of};
 ghost use Rattle.mp_mempool.specs.Opening.{fresh_log, fresh_passes};
-ghost use Rattle.mp_mempool.specs.Pass as told;
 ghost use Rattle.mp_driver.specs.Verifier.{is_key_and_id};
 ghost use Rattle.mp_race.specs.Task.{Task};
 ghost use Rattle.mp_race.specs.Report.{report_of, IsReportOf};
+ghost use Rattle.mp_race.specs.Inside.Task.{tasks_of};
 ghost use Rattle.mp_race.specs.Inside.Work.{IsUnused, HasReceipts};
 ghost use Rattle.mp_race.specs.Inside.Gathered.{AreGathered, IsExplained};
 
@@ -18,6 +18,7 @@ use crate::gathering::{Gathered, gather};
 use crate::ordering::{all_know, history_of};
 use crate::report::{Report, count_looks, count_replies};
 use crate::scenario::Scenario;
+use crate::task::Task;
 use crate::worker::{Worker, work};
 use mp_driver::KeyAndId;
 use mp_history::{AuditFault, Entry, Front, NewName, PoolName, audit};
@@ -35,27 +36,24 @@ fn work_all<N: PoolName + Send + Sync, R: Threads + Wait + Sync, G: Gate>(
     memory: Memory,
     mempool: &Mempool<N, Watched<'_, G>>,
     gate: &G,
-    scenario: &Scenario,
+    tasks: &[Task],
     workers: u32,
     passes: Vec<Pass<N>, Memory>,
 ) -> Result<Vec<Result<Worker<N>, NoMemory>, Memory>, NoMemory>
-    requires number { workers ≡ N.callers }
-    requires some { 1 ≤ workers }
-    requires unused { passes.items
-        ≡ fresh_passes workers (fresh_log scenario.now.config scenario.now.ledger) }
-    ensures { IfOk result (λ rs. All (λ r. IfOk r (λ w. w.is_sure ≡ true
-        → HasReceipts N.accepts N.callers
-            (fresh_log scenario.now.config scenario.now.ledger).opening scenario.now.tasks
-            w.pass w.receipts.items)) rs.items) }
+    requires { 1 ≤ workers }
+    ensures { (opening : Pool) → All (IsUnused opening) passes.items
+        → IfOk result (λ rs. All (λ r. IfOk r (λ w. w.is_sure ≡ true
+            → HasReceipts N.accepts workers opening (tasks_of tasks.now)
+                w.pass w.receipts.items)) rs.items) }
 {
     Ok(map_vec(rt, passes, &|pass: Pass<N>| -> Result<Worker<N>, NoMemory>
-        requires { IsUnused (fresh_log scenario.now.config scenario.now.ledger).opening pass }
-        ensures { IfOk result (λ w. w.is_sure ≡ true
-            → HasReceipts N.accepts N.callers
-                (fresh_log scenario.entry.now.config scenario.entry.now.ledger).opening
-                scenario.entry.now.tasks w.pass w.receipts.items) }
+        requires { 1 ≤ workers }
+        ensures { (opening : Pool) → IsUnused opening pass
+            → IfOk result (λ w. w.is_sure ≡ true
+                → HasReceipts N.accepts workers opening (tasks_of tasks.entry.now)
+                    w.pass w.receipts.items) }
     {
-        work(rt, memory, mempool, gate, &scenario.tasks, workers, pass)
+        work(rt, memory, mempool, gate, tasks, workers, pass)
     })?)
 }
 
@@ -99,8 +97,7 @@ fn open<'a, N: PoolName, G: Gate>(
 fn first_front<N: PoolName>(passes: &[Pass<N>]) -> Front<N>
     requires { 0 < length passes.now }
     ensures legal { IsLegalLog N.accepts N.callers result }
-    ensures first { (p : told.Pass) (ps : List told.Pass) → passes.now ≡ p ∷ ps
-        → result ≡ p.front }
+    ensures same { (log : Log) → All (λ p. p.front ≡ log) passes.now → result ≡ log }
 {
     let pass = &passes[0];
     let _version = pass.shown().version();
@@ -127,7 +124,8 @@ fn run_workers<N: PoolName + Send + Sync, R: Threads + Wait + Sync, G: Gate>(
 {
     let (mempool, passes) = open(rt, memory, name, scenario, workers, gate)?;
     let front = first_front(&passes);
-    let done = work_all(rt, memory, &mempool, gate, scenario, workers, passes)?;
+    let tasks = &scenario.tasks;
+    let done = work_all(rt, memory, &mempool, gate, tasks, workers, passes)?;
     gather(memory, front, done)
 }
 

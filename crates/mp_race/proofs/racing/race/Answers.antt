@@ -1,0 +1,22 @@
+use Rattle.std.proofs.Common.{◌≡◌, subst}
+use Rattle.std.specs.Prelude.{Result, Ok, Err, IfOk}
+use Rattle.mp_seqpool.specs.Pool.{Pool}
+use Rattle.mp_mempool.specs.Opening.{fresh_log}
+use Rattle.mp_race.specs.Race.{IsRace}
+use Rattle.mp_race.specs.Report.{IsReportOf}
+use Rattle.mp_race.proofs.racing.race.Goals as goal
+
+if_ok : {X E : Type 0} (P Q : X → Type 0) (r : Result X E) → ((x : X) → P x → Q x) → IfOk r P → IfOk r Q
+if_ok P Q (Ok x) more is = more x is
+if_ok P Q (Err e) more is = tt
+
+pub returns : goal.returns
+returns g c =
+    let s = c.args.scenario.now in
+    let opening : Pool = (fresh_log s.config s.ledger).opening in
+    let x = c.in_ok-entries.ensures opening s.tasks c.in_ok-gathered.ensures in
+    if_ok _ _ c.report_on.result (λ r is. record {
+      log = x.log;
+      race = subst (λ a. IsRace a opening c.args.workers s.tasks x.log) c.requires.accepts x.race;
+      report = is;
+    }) (c.report_on.ensures x.log ? x.race.opens)
