@@ -4,8 +4,7 @@ ghost use Rattle.std.specs.Prelude.{◌≡◌, true, List, All, IfOk};
 ghost use Rattle.mp_seqpool.specs.Pool.{Pool};
 ghost use Rattle.mp_history.specs.Log.{Begins, IsLegalLog};
 ghost use Rattle.mp_race.specs.Task.{Task};
-ghost use Rattle.mp_race.specs.Inside.Work.{HasReceipts};
-ghost use Rattle.mp_race.specs.Inside.Gathered.{AreGathered};
+ghost use Rattle.mp_race.specs.Inside.Gathered.{IsBack, AreGathered};
 
 use crate::worker::Worker;
 use mp_history::{Front, PoolName};
@@ -112,8 +111,7 @@ pub fn gather<N: PoolName>(
 ) -> Result<Gathered<N>, NoMemory>
     requires { IsLegalLog N.accepts N.callers front }
     ensures { (opening : Pool) (ts : List Task) → front.opening ≡ opening
-        → All (λ r. IfOk r (λ w. w.is_sure ≡ true
-            → HasReceipts N.accepts N.callers opening ts w.pass w.receipts.items)) workers.items
+        → All (IsBack N.accepts N.callers opening ts) workers.items
         → IfOk result (λ g. g.is_sure ≡ true → AreGathered N.accepts N.callers opening ts
             g.front g.passes.items g.receipts.items) }
 {

@@ -6,11 +6,11 @@ ghost use Rattle.mp_history.specs.Log.{Log, IsLegalLog, state_after};
 ghost use Rattle.mp_history.specs.PoolName.{head_of};
 ghost use Rattle.mp_mempool.specs.Opening.{fresh_log, fresh_passes};
 ghost use Rattle.mp_driver.specs.Verifier.{is_key_and_id};
-ghost use Rattle.mp_race.specs.Task.{Task};
+ghost use Rattle.mp_race.specs.Task as told;
 ghost use Rattle.mp_race.specs.Report.{report_of, IsReportOf};
 ghost use Rattle.mp_race.specs.Inside.Task.{tasks_of};
-ghost use Rattle.mp_race.specs.Inside.Work.{IsUnused, HasReceipts};
-ghost use Rattle.mp_race.specs.Inside.Gathered.{AreGathered, IsExplained};
+ghost use Rattle.mp_race.specs.Inside.Work.{IsUnused};
+ghost use Rattle.mp_race.specs.Inside.Gathered.{IsBack, AreGathered, IsExplained};
 
 use crate::fault::Fault;
 use crate::gate::{Gate, Watched};
@@ -41,17 +41,13 @@ fn work_all<N: PoolName + Send + Sync, R: Threads + Wait + Sync, G: Gate>(
     passes: Vec<Pass<N>, Memory>,
 ) -> Result<Vec<Result<Worker<N>, NoMemory>, Memory>, NoMemory>
     requires { 1 ≤ workers }
-    ensures { (opening : Pool) → All (IsUnused opening) passes.items
-        → IfOk result (λ rs. All (λ r. IfOk r (λ w. w.is_sure ≡ true
-            → HasReceipts N.accepts workers opening (tasks_of tasks.now)
-                w.pass w.receipts.items)) rs.items) }
+    ensures { (opening : Pool) → All (IsUnused opening) passes.items → IfOk result (λ done.
+        All (IsBack N.accepts workers opening (tasks_of tasks.now)) done.items) }
 {
     Ok(map_vec(rt, passes, &|pass: Pass<N>| -> Result<Worker<N>, NoMemory>
         requires { 1 ≤ workers }
         ensures { (opening : Pool) → IsUnused opening pass
-            → IfOk result (λ w. w.is_sure ≡ true
-                → HasReceipts N.accepts workers opening (tasks_of tasks.entry.now)
-                    w.pass w.receipts.items) }
+            → IsBack N.accepts workers opening (tasks_of tasks.entry.now) result }
     {
         work(rt, memory, mempool, gate, tasks, workers, pass)
     })?)
@@ -136,7 +132,7 @@ fn explain<N: PoolName>(
     gathered: Gathered<N>,
 ) -> Result<Vec<Entry, Memory>, Fault>
     requires { workers ≡ N.callers }
-    ensures { (opening : Pool) (ts : List Task) → (gathered.is_sure ≡ true
+    ensures { (opening : Pool) (ts : List told.Task) → (gathered.is_sure ≡ true
         → AreGathered N.accepts N.callers opening ts
             gathered.front gathered.passes.items gathered.receipts.items)
         → IfOk result (λ es. IsExplained N.accepts opening workers ts es.items) }

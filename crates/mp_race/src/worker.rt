@@ -3,7 +3,8 @@
 ghost use Rattle.std.specs.Prelude.{◌≡◌, ◌≤◌, ◌<◌, true, IfOk};
 ghost use Rattle.mp_seqpool.specs.Pool.{Pool};
 ghost use Rattle.mp_race.specs.Inside.Task.{task_of, tasks_of};
-ghost use Rattle.mp_race.specs.Inside.Work.{IsUnused, Does, HasReceipts};
+ghost use Rattle.mp_race.specs.Inside.Work.{IsUnused, Does};
+ghost use Rattle.mp_race.specs.Inside.Gathered.{IsBack};
 
 use crate::gate::Gate;
 use crate::task::Task;
@@ -63,8 +64,8 @@ pub fn work<N: PoolName, V: Verifier, G: Gate>(
     mut pass: Pass<N>,
 ) -> Result<Worker<N>, NoMemory>
     requires some { 1 ≤ workers }
-    ensures { (opening : Pool) → IsUnused opening pass → IfOk result (λ w. w.is_sure ≡ true
-        → HasReceipts N.accepts workers opening (tasks_of tasks.now) w.pass w.receipts.items) }
+    ensures { (opening : Pool) → IsUnused opening pass
+        → IsBack N.accepts workers opening (tasks_of tasks.now) result }
 {
     let mut receipts = Vec::new(memory);
     let number = pass.caller();

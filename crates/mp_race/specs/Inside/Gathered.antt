@@ -1,5 +1,6 @@
 -- What all workers came back with.
-use Rattle.std.specs.Prelude.{◌≡◌, ℕ, List, All}
+use Rattle.std.specs.Prelude.{◌≡◌, ℕ, true, List, All, Result, Ok, Err}
+use Rattle.mp_memory.specs.declared.no_memory.NoMemory.{NoMemory}
 use Rattle.mp_rules.specs.Verifier.{Accepts}
 use Rattle.mp_seqpool.specs.Pool.{Pool}
 use Rattle.mp_history.specs.Entry.{Entry}
@@ -8,9 +9,15 @@ use Rattle.mp_mempool.specs.declared.receipt.Receipt.{Receipt}
 use Rattle.mp_mempool.specs.Pass.{Pass}
 use Rattle.mp_race.specs.Task.{Task}
 use Rattle.mp_race.specs.Race.{IsRace}
-use Rattle.mp_race.specs.Inside.Work.{Stands, HasDone}
+use Rattle.mp_race.specs.declared.worker.Worker.{Worker}
+use Rattle.mp_race.specs.Inside.Work.{Stands, HasDone, HasReceipts}
 
 module _ (accepts : Accepts) (workers : ℕ) (opening : Pool) (ts : List Task) where
+  -- Where a worker comes back that was sure of its entries, it has done its tasks and has their receipts.
+  abbrev pub IsBack : {N : Type 0} → Result (Worker N) NoMemory → Type 0
+  IsBack (Ok w) = w.is_sure ≡ true → HasReceipts accepts workers opening ts w.pass w.receipts.items
+  IsBack (Err error) = Unit {0}
+
   -- Each of these workers has done what was dealt to it, and has seen a beginning of this history, of which the receipts are.
   pub record AreGathered (log : Log) (ps : List Pass) (rs : List Receipt) : Type 0 where
     pub opens : log.opening ≡ opening

@@ -1,9 +1,8 @@
 use Rattle.std.proofs.Common.{◌≡◌, true, List}
-use Rattle.std.specs.Prelude.{All, IfOk}
+use Rattle.std.specs.Prelude.{All}
 use Rattle.mp_seqpool.specs.Pool.{Pool}
 use Rattle.mp_race.specs.Task.{Task}
-use Rattle.mp_race.specs.Inside.Work.{HasReceipts}
-use Rattle.mp_race.specs.Inside.Gathered.{AreGathered}
+use Rattle.mp_race.specs.Inside.Gathered.{IsBack, AreGathered}
 use Rattle.mp_race.proofs.gathering.gather.Given as goal
 
 -- those who have come back so far
@@ -12,5 +11,5 @@ invariant-loop-worker g l =
     let accepts = g.N.PoolName.accepts in
     let callers = g.N.PoolName.callers in
     (opening : Pool) (ts : List Task) → l.fn.front.opening ≡ opening
-    → All (λ r. IfOk r (λ w. w.is_sure ≡ true → HasReceipts accepts callers opening ts w.pass w.receipts.items)) l.fn.workers.items
+    → All (IsBack accepts callers opening ts) l.fn.workers.items
     → l.gathered.is_sure ≡ true → AreGathered accepts callers opening ts l.gathered.front l.gathered.passes.items l.gathered.receipts.items
