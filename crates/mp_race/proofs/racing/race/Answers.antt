@@ -1,4 +1,4 @@
-use Rattle.std.proofs.Common.{◌≡◌, subst}
+use Rattle.std.proofs.Common.{◌≡◌, sym, subst, ◌∙◌}
 use Rattle.std.specs.Prelude.{Result, Ok, Err, IfOk}
 use Rattle.mp_seqpool.specs.Pool.{Pool}
 use Rattle.mp_mempool.specs.Opening.{fresh_log}
@@ -19,4 +19,4 @@ returns g c =
       log = x.log;
       race = subst (λ a. IsRace a opening c.args.workers s.tasks x.log) c.requires.accepts x.race;
       report = is;
-    }) (c.report_on.ensures x.log ? x.race.opens)
+    }) (c.report_on.ensures x.log (x.entries ∙ sym c.deref.ensures.value) x.race.opens)
