@@ -15,7 +15,7 @@ use std::process::ExitCode;
 const REFUSED: u8 = 2;
 
 /// Where a run or a race ends with a fault: 1, and the fault's line.
-pub fn end_fault<F: fmt::Display>(rt: &HostRuntime, fault: F) -> ExitCode
+pub fn end_fault<F: fmt::Display + Drop>(rt: &HostRuntime, fault: F) -> ExitCode
     ensures { exit_status result ≡ 1 }
 {
     let _ = rt.eprintln(fault);

@@ -20,6 +20,7 @@ use std::fs::File;
 use std::marker::Brand;
 use std::process::ExitCode;
 use std::sync::Wait;
+use std::thread::Threads;
 use std::{env, io};
 
 // A scenario's text, and the memory that it is in.
@@ -28,8 +29,8 @@ type Text = (Memory, Vec<u8, Memory>);
 fn main(rt: HostRuntime) -> ExitCode {
     match read_words(&rt) {
         Ok(words) => match parse_words(rt.alloc(), &words) {
-            Ok(Asked::Run { input }) => run_scenario(&rt, input),
-            Ok(Asked::Race { input, workers }) => race_scenario(&rt, input, workers),
+            Ok(Asked::Run { input }) => run_scenario(&rt, &rt, input),
+            Ok(Asked::Race { input, workers }) => race_scenario(&rt, &rt, input, workers),
             Err(error) => end_unparsed(&rt, error),
         },
         Err(error) => end_unworded(&rt, error),
@@ -70,22 +71,27 @@ fn read_text(rt: &HostRuntime, file: Option<&str>) -> Result<Text, ExitCode>
 }
 
 /// Runs a scenario, and writes its answers to standard output.
-fn run_scenario(rt: &HostRuntime, input: Input<'_>) -> ExitCode {
+fn run_scenario(rt: &HostRuntime, waits: &impl Wait, input: Input<'_>) -> ExitCode {
     match read_text(rt, input.file) {
         Ok((memory, text)) => {
-            answer::<Brand>(rt, rt, memory, NewName::new(), input.explains, &text)
+            answer::<Brand>(rt, waits, memory, NewName::new(), input.explains, &text)
         }
         Err(code) => code,
     }
 }
 
 /// Has so many workers race over a scenario, and writes the report to standard output.
-fn race_scenario(rt: &HostRuntime, input: Input<'_>, workers: u32) -> ExitCode
+fn race_scenario<R: Threads + Wait + Sync>(
+    rt: &HostRuntime,
+    threads: &R,
+    input: Input<'_>,
+    workers: u32,
+) -> ExitCode
     requires some { 1 ≤ workers }
     requires most { workers ≤ 64 }
 {
     match read_text(rt, input.file) {
-        Ok((memory, text)) => race_text(rt, memory, input.explains, workers, &text),
+        Ok((memory, text)) => race_text(rt, threads, memory, input.explains, workers, &text),
         Err(code) => code,
     }
 }
@@ -109,8 +115,9 @@ fn answer<N: PoolName>(
 }
 
 /// Has so many workers race over the scenario, by a pool of its own, and writes the report.
-fn race_text(
+fn race_text<R: Threads + Wait + Sync>(
     rt: &HostRuntime,
+    threads: &R,
     memory: Memory,
     explains: bool,
     workers: u32,
@@ -125,7 +132,7 @@ fn race_text(
         Err(stop) => return end_bad_line(rt, explains, stop),
     };
     let name = NewName::new();
-    let report = match race::<Brand, _, _>(rt, memory, name, &scenario, workers, &NoGate) {
+    let report = match race::<Brand, R, NoGate>(threads, memory, name, &scenario, workers, &NoGate) {
         Ok(report) => report,
         Err(fault) => return end_fault(rt, fault),
     };
