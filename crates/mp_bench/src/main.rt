@@ -13,40 +13,79 @@ mod verifier;
 use anyhow::{Context, Result, bail, ensure};
 use measurement::{Asked, MEASUREMENTS, Measurement, SIZES, STEPS, Work};
 use mp_memory::Memory;
-use round::{Round, begin, time_alone};
+use mp_tx::Ledger;
+use round::{Round, Tally, encoded, fill, opening, time_alone};
 use shared::{Job, time_shared};
 use std::env::{self, Env};
 use std::rt::Clock;
 use std::sync::Wait;
 use std::thread::Threads;
 use std::time::Duration;
+use verifier::Spinning;
 
 const ROUNDS: u32 = 9;
 
 fn time<R: Clock + Threads + Wait + Sync>(
     rt: &R,
     memory: Memory,
-    round: &Round,
+    round: &Round<'_>,
 ) -> Option<Duration> {
     match round.work {
         Work::Decode | Work::Check | Work::Pool => time_alone(rt, memory, round),
-        _ => time_shared(rt, memory, &round.ledger, 1_001, Job::Steps(round)),
+        _ => time_shared(rt, memory, round.ledger, 1_001, Job::Steps(round)),
     }
 }
 
-// What the steps take in the best of several rounds.
+// What the steps take in the best of several rounds, once all is made.
 fn best<R: Clock + Threads + Wait + Sync>(
+    rt: &R,
+    memory: Memory,
+    filled: Option<()>,
+    round: &Round<'_>,
+) -> Option<Duration> {
+    filled?;
+    let mut best = Duration::MAX;
+    for _ in 0..ROUNDS {
+        best = best.min(time(rt, memory, round)?);
+    }
+    Some(best)
+}
+
+fn best_upon<R: Clock + Threads + Wait + Sync>(
+    rt: &R,
+    memory: Memory,
+    measurement: &Measurement,
+    size: u64,
+    ledger: &Ledger,
+) -> Option<Duration> {
+    let (_, work, _, asked, answered) = *measurement;
+    let (mut before, mut commands) = (Vec::new(memory), Vec::new(memory));
+    let filled = fill(memory, &mut before, &mut commands, measurement, size);
+    let bytes = encoded(memory, &commands);
+    let (verifier, tally) = (Spinning::new(), Tally::new());
+    let round = Round {
+        work,
+        asked,
+        size,
+        ledger,
+        before: &before,
+        commands: &commands,
+        bytes: &bytes,
+        answered,
+        verifier: &verifier,
+        tally: &tally,
+    };
+    best(rt, memory, filled, &round)
+}
+
+fn time_at<R: Clock + Threads + Wait + Sync>(
     rt: &R,
     memory: Memory,
     measurement: &Measurement,
     size: u64,
 ) -> Option<Duration> {
-    let round = begin(memory, measurement, size)?;
-    let mut best = Duration::MAX;
-    for _ in 0..ROUNDS {
-        best = best.min(time(rt, memory, &round)?);
-    }
-    Some(best)
+    let ledger = opening(memory, measurement.3, size)?;
+    best_upon(rt, memory, measurement, size, &ledger)
 }
 
 // Takes the measurement at each size. Of a remove or a sync the time for each transaction is told.
@@ -57,7 +96,7 @@ fn take<R: Clock + Threads + Wait + Print + Sync>(
 ) -> Result<()> {
     let (name, _, _, asked, _) = *measurement;
     for size in SIZES {
-        let time = best(rt, memory, measurement, size).context("a round went wrong")?;
+        let time = time_at(rt, memory, measurement, size).context("a round went wrong")?;
         let steps = if matches!(asked, Asked::Remove | Asked::Sync) {
             size
         } else {

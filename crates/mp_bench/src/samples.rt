@@ -47,6 +47,11 @@ fn parts_of(memory: Memory, spent: OutRef, paid: &[u32], is_signed: bool) -> Opt
     Some(made)
 }
 
+fn made(memory: Memory, parts: TxParts) -> Option<Arc<Tx, Memory>> {
+    let tx = Tx::of_parts(memory, parts).ok()?;
+    Arc::new(memory, tx).ok()
+}
+
 /// A submit comes last: of a transaction that spends this and pays so much, of 181 bytes for one output, or 277 where it is signed.
 /// Gives its id.
 pub fn push_submit(
@@ -56,35 +61,42 @@ pub fn push_submit(
     paid: &[u32],
     is_signed: bool,
 ) -> Option<TxId> {
-    let tx = Tx::of_parts(memory, parts_of(memory, spent, paid, is_signed)?).ok()?;
+    let parts = parts_of(memory, spent, paid, is_signed)?;
+    let tx = made(memory, parts)?;
     let id = *tx.id();
-    commands
-        .push(Command::Submit(Arc::new(memory, tx).ok()?))
-        .ok()?;
+    commands.push(Command::Submit(tx)).ok()?;
     Some(id)
 }
 
-/// Submits that spend the outputs from this number on, up to the one before that number.
-pub fn submits(memory: Memory, from: u64, to: u64, is_signed: bool) -> Option<Commands> {
-    let mut commands = Vec::new(memory);
+/// Submits come last that spend the outputs from this number on, up to the one before that number.
+pub fn push_submits(
+    memory: Memory,
+    commands: &mut Commands,
+    from: u64,
+    to: u64,
+    is_signed: bool,
+) -> Option<()> {
     for number in from..to {
-        push_submit(memory, &mut commands, reference(number), &[100], is_signed)?;
+        push_submit(memory, commands, reference(number), &[100], is_signed)?;
     }
-    Some(commands)
+    Some(())
 }
 
-fn ids_of(memory: Memory, commands: &[Command], places: &[usize]) -> Option<Vec<TxId, Memory>> {
-    let mut ids = Vec::new(memory);
-    for place in places {
-        if let Some(Command::Submit(tx)) = commands.get(*place) {
-            ids.push(*tx.id()).ok()?;
-        }
-    }
-    Some(ids)
+/// A remove of these comes last.
+pub fn push_remove(memory: Memory, commands: &mut Commands, ids: &[TxId]) -> Option<()> {
+    let ids = Ids::of(Vec::from_slice(memory, ids).ok()?);
+    let shared = Arc::new(memory, ids).ok()?;
+    commands.push(Command::Remove(shared)).ok()
 }
 
-/// A remove of what is submitted at these places.
-pub fn remove_of(memory: Memory, commands: &[Command], places: &[usize]) -> Option<Command> {
-    let ids = Ids::of(ids_of(memory, commands, places)?);
-    Some(Command::Remove(Arc::new(memory, ids).ok()?))
+/// A sync with a ledger state of `size` comes last.
+pub fn push_sync(
+    memory: Memory,
+    commands: &mut Commands,
+    step: u64,
+    block_bytes: u64,
+    size: u64,
+) -> Option<()> {
+    let ledger = ledger_by(memory, step, block_bytes, size)?;
+    commands.push(Command::Sync(ledger)).ok()
 }

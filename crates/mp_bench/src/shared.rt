@@ -4,7 +4,7 @@ ghost use Rattle.mp_history.specs.PoolName.{head_of};
 ghost use Rattle.mp_bench.specs.Signatures.{any};
 
 use crate::measurement::{STEPS, Work};
-use crate::round::Round;
+use crate::round::{Round, Tally};
 use crate::trial::{Trial, play_all};
 use crate::verifier::Spinning;
 use mp_history::{NewName, PoolName};
@@ -15,7 +15,7 @@ use mp_tx::Ledger;
 use std::marker::Brand;
 use std::rt::Clock;
 use std::sync::Wait;
-use std::sync::atomic::{AtomicBool, AtomicU64, Ordering};
+use std::sync::atomic::Ordering;
 use std::thread::{Threads, for_each_mut};
 use std::time::{Duration, Instant};
 
@@ -29,17 +29,9 @@ pub const CONFIG: Config = Config {
 #[derive(Clone, Copy)]
 pub enum Job<'a> {
     /// The steps of a round.
-    Steps(&'a Round),
+    Steps(&'a Round<'a>),
     /// A long trial.
     Trial(&'a Trial),
-}
-
-// What the threads of a round count.
-#[derive(Drop)]
-struct Tally {
-    answered: AtomicU64,
-    looks: AtomicU64,
-    has_ended: AtomicBool,
 }
 
 /// The command is asked of the mempool.
@@ -113,7 +105,7 @@ fn count_seen<N: PoolName>(
 }
 
 // What the caller asks in a thread of its own.
-fn part_of(round: &Round, caller: usize) -> &[Command] {
+fn part_of<'a>(round: &Round<'a>, caller: usize) -> &'a [Command] {
     let (from, to) = match round.work {
         Work::FourThreads => (
             caller.saturating_mul(250),
@@ -130,17 +122,16 @@ fn part_of(round: &Round, caller: usize) -> &[Command] {
 fn act<N: PoolName>(
     rt: &impl Wait,
     mempool: &Mempool<N, Spinning>,
-    round: &Round,
-    tally: &Tally,
+    round: &Round<'_>,
     caller: usize,
     pass: &mut Pass<N>,
 ) {
     if matches!(round.work, Work::Watch) && caller == 1 {
-        look_until(mempool, pass, tally);
+        look_until(mempool, pass, round.tally);
     } else {
         let answered = ask_all(rt, mempool, pass, part_of(round, caller));
-        tally.answered.fetch_add(answered, Ordering::SeqCst);
-        tally.has_ended.store(true, Ordering::SeqCst);
+        round.tally.answered.fetch_add(answered, Ordering::SeqCst);
+        round.tally.has_ended.store(true, Ordering::SeqCst);
     }
 }
 
@@ -148,14 +139,13 @@ fn take_steps<N: PoolName + Send + Sync, R: Threads + Wait + Sync>(
     rt: &R,
     mempool: &Mempool<N, Spinning>,
     passes: &mut [Pass<N>],
-    round: &Round,
-    tally: &Tally,
+    round: &Round<'_>,
 ) -> Option<()> {
     let (first, others) = passes.split_first_mut()?;
     match round.work {
         Work::Newer => {
             let seen = count_seen(mempool, others, round.size);
-            tally.answered.store(seen, Ordering::SeqCst);
+            round.tally.answered.store(seen, Ordering::SeqCst);
         }
         Work::FourThreads | Work::Watch => {
             let threads = if matches!(round.work, Work::Watch) {
@@ -167,12 +157,18 @@ fn take_steps<N: PoolName + Send + Sync, R: Threads + Wait + Sync>(
                 rt,
                 passes.get_mut(..threads)?,
                 threads,
-                &|caller, pass: &mut Pass<N>| act(rt, mempool, round, tally, caller, pass),
+                &|caller, pass: &mut Pass<N>| act(rt, mempool, round, caller, pass),
             );
         }
-        _ => act(rt, mempool, round, tally, 0, first),
+        _ => act(rt, mempool, round, 0, first),
     }
     Some(())
+}
+
+fn reset(tally: &Tally) {
+    tally.answered.store(0, Ordering::SeqCst);
+    tally.looks.store(STEPS, Ordering::SeqCst);
+    tally.has_ended.store(false, Ordering::SeqCst);
 }
 
 // What the steps take, once the mempool has its transactions.
@@ -180,21 +176,17 @@ fn time_steps<N: PoolName + Send + Sync, R: Clock + Threads + Wait + Sync>(
     rt: &R,
     mempool: &Mempool<N, Spinning>,
     passes: &mut [Pass<N>],
-    round: &Round,
+    round: &Round<'_>,
 ) -> Option<Duration> {
-    ask_all(rt, mempool, passes.first_mut()?, &round.before);
-    let tally = Tally {
-        answered: AtomicU64::new(0),
-        looks: AtomicU64::new(STEPS),
-        has_ended: AtomicBool::new(false),
-    };
+    ask_all(rt, mempool, passes.first_mut()?, round.before);
+    reset(round.tally);
     let start = Instant::now(rt).ok()?;
-    take_steps(rt, mempool, passes, round, &tally)?;
+    take_steps(rt, mempool, passes, round)?;
     let time = start.elapsed(rt).ok()?;
-    if tally.answered.load(Ordering::SeqCst) != round.answered {
+    if round.tally.answered.load(Ordering::SeqCst) != round.answered {
         return None;
     }
-    Some(of_thousand(time, tally.looks.load(Ordering::SeqCst)))
+    Some(of_thousand(time, round.tally.looks.load(Ordering::SeqCst)))
 }
 
 // What a thousand of so many take.

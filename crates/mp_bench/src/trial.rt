@@ -18,7 +18,7 @@ use std::rt::Clock;
 use std::sync::{Mutex, Wait};
 use std::thread::{Threads, for_each_mut};
 use std::time::{Duration, Instant};
-use table::{OUTPUTS, Table, set_table};
+use table::{OUTPUTS, Table, fill};
 
 // All callers together ask for some thousand commands a second: each change keeps a version.
 const MILLIS_FOR_EACH: u64 = 20;
@@ -111,17 +111,6 @@ fn play_out<R: Clock + Threads + Wait + Sync>(
     audit_all(memory, ledger, trial.callers, &entries)
 }
 
-fn set_trial(memory: Memory, seed: u64, seconds: u64, callers: u32) -> Option<Trial> {
-    Some(Trial {
-        seed,
-        seconds,
-        callers,
-        table: set_table(memory, seed)?,
-        counts: Counts::none(),
-        receipts: Mutex::new(Vec::new(memory)),
-    })
-}
-
 // Prints what came of the commands and of the audit. Gives whether that is as it should be.
 fn print(rt: &impl Print, counts: [u64; 5], audited: Option<(usize, u64)>) -> io::Result<bool> {
     let [entered, refused, snapshots, learned, strange] = counts;
@@ -137,18 +126,34 @@ fn print(rt: &impl Print, counts: [u64; 5], audited: Option<(usize, u64)>) -> io
     }
 }
 
+// What the audit comes to.
+fn try_upon<R: Clock + Threads + Wait + Sync>(
+    rt: &R,
+    memory: Memory,
+    trial: &mut Trial,
+) -> Option<(usize, u64)> {
+    fill(memory, &mut trial.table)?;
+    let ledger = ledger_by(memory, 1, MANY, OUTPUTS)?;
+    play_out(rt, memory, &ledger, trial)
+}
+
 /// Goes through a trial, and prints what came of it and whether the history is legal. Gives whether all is as it should be.
 pub fn run<R: Clock + Threads + Wait + Print + Sync>(
     rt: &R,
     memory: Memory,
     [seed, seconds, callers]: [u64; 3],
 ) -> io::Result<bool> {
-    let callers = u32::try_from(callers).unwrap_or(0);
-    let Some((trial, ledger)) = set_trial(memory, seed, seconds, callers).zip(ledger_by(
-        memory, 1, MANY, OUTPUTS,
-    )) else {
-        return Ok(false);
+    let mut trial = Trial {
+        seed,
+        seconds,
+        callers: u32::try_from(callers).unwrap_or(0),
+        table: Table {
+            changes: Vec::new(memory),
+            syncs: Vec::new(memory),
+        },
+        counts: Counts::none(),
+        receipts: Mutex::new(Vec::new(memory)),
     };
-    let audited = play_out(rt, memory, &ledger, &trial);
+    let audited = try_upon(rt, memory, &mut trial);
     print(rt, trial.counts.read(), audited)
 }

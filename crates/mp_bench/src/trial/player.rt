@@ -78,7 +78,7 @@ impl Counts {
 }
 
 /// What callers share, and when they play.
-#[derive(Clone, Copy)]
+#[derive(Drop)]
 pub struct Scene<'a, N: PoolName> {
     pub memory: Memory,
     pub mempool: &'a Mempool<N, Spinning>,

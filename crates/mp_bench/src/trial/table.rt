@@ -1,10 +1,9 @@
 //! What callers ask for.
 
-use super::dice::Dice;
-use crate::samples::{Commands, MANY, ledger_by, push_submit, reference, remove_of};
+use crate::samples::{Commands, MANY, push_remove, push_submit, push_sync, reference};
 use mp_memory::Memory;
-use mp_seqpool::Command;
 use mp_testing::output_of;
+use mp_tx::TxId;
 
 /// How many outputs the ledger states have at most.
 pub const OUTPUTS: u64 = 128;
@@ -21,53 +20,33 @@ pub struct Table {
     pub syncs: Commands,
 }
 
-fn push_family(memory: Memory, commands: &mut Commands, number: u64) -> Option<()> {
+// Gives the id of the first.
+fn push_family(memory: Memory, commands: &mut Commands, number: u64) -> Option<TxId> {
     let spent = reference(number);
     let id = push_submit(memory, commands, spent, &[100], false)?;
     push_submit(memory, commands, output_of(&id, 0), &[100], false)?;
     push_submit(memory, commands, spent, &[60, 40], false)?;
-    Some(())
+    Some(id)
 }
 
-fn push_submits(memory: Memory, commands: &mut Commands) -> Option<()> {
+fn push_changes(memory: Memory, commands: &mut Commands) -> Option<()> {
+    let mut ids = [[0; 32]; 3];
     for number in 0..OUTPUTS {
-        push_family(memory, commands, number)?;
+        ids = [push_family(memory, commands, number)?, ids[0], ids[1]];
+        push_remove(memory, commands, &ids[(number % 3) as usize..])?;
     }
     Some(())
 }
 
-// So many random places of submits.
-fn push_removes(memory: Memory, commands: &mut Commands, dice: &mut Dice) -> Option<()> {
-    let submits = commands.len() as u64;
-    for _ in 0..OUTPUTS {
-        let places = [0; 3].map(|_: u64| (dice.roll() % submits.max(1)) as usize);
-        let some = &places[(dice.roll() % 3) as usize..];
-        let remove = remove_of(memory, commands, some)?;
-        commands.push(remove).ok()?;
-    }
-    Some(())
-}
-
-fn syncs(memory: Memory) -> Option<Commands> {
-    let mut syncs = Vec::new(memory);
+fn push_syncs(memory: Memory, commands: &mut Commands) -> Option<()> {
     for (step, block_bytes) in [(1, MANY), (1, FEW), (2, MANY), (3, MANY)] {
-        let ledger = ledger_by(memory, step, block_bytes, OUTPUTS)?;
-        syncs.push(Command::Sync(ledger)).ok()?;
+        push_sync(memory, commands, step, block_bytes, OUTPUTS)?;
     }
-    Some(syncs)
+    Some(())
 }
 
-fn changes(memory: Memory, seed: u64) -> Option<Commands> {
-    let mut commands = Vec::new(memory);
-    push_submits(memory, &mut commands)?;
-    push_removes(memory, &mut commands, &mut Dice::of(seed))?;
-    Some(commands)
-}
-
-/// All that callers ask for.
-pub fn set_table(memory: Memory, seed: u64) -> Option<Table> {
-    Some(Table {
-        changes: changes(memory, seed)?,
-        syncs: syncs(memory)?,
-    })
+/// All that callers ask for is put into the table.
+pub fn fill(memory: Memory, table: &mut Table) -> Option<()> {
+    push_changes(memory, &mut table.changes)?;
+    push_syncs(memory, &mut table.syncs)
 }
