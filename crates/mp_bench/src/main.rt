@@ -108,18 +108,20 @@ fn take<R: Clock + Threads + Wait + Print + Sync>(
     Ok(())
 }
 
-// Takes those of the name, or all.
+// Takes those of the name, or all. Gives how many were taken.
 fn take_named<R: Clock + Threads + Wait + Print + Sync>(
     rt: &R,
     memory: Memory,
     wanted: Option<&String>,
-) -> Result<()> {
+) -> Result<u64> {
+    let mut taken: u64 = 0;
     for measurement in &MEASUREMENTS {
         if wanted.is_none_or(|name| name.as_str() == measurement.0) {
             take(rt, memory, measurement)?;
+            taken = taken.saturating_add(1);
         }
     }
-    Ok(())
+    Ok(taken)
 }
 
 fn print_names(rt: &impl Print) -> Result<()> {
@@ -146,19 +148,30 @@ fn words<R: Env + AllocGlobal>(rt: &R) -> Result<Vec<String>> {
     Ok(words)
 }
 
+fn obey<R: Clock + Threads + Wait + Print + Sync>(
+    rt: &R,
+    memory: Memory,
+    words: &[String],
+) -> Result<()> {
+    let Some(first) = words.get(1) else {
+        return print_names(rt);
+    };
+    match first.as_str() {
+        "run" => {
+            let taken = take_named(rt, memory, words.get(2))?;
+            ensure!(taken > 0, "no measurement has this name");
+        }
+        "mempool-hour" => {
+            let is_well = trial::run(rt, memory, numbers(words)?)?;
+            ensure!(is_well, "what must not come has come");
+        }
+        _ => bail!("expected nothing, 'run' or 'mempool-hour'"),
+    }
+    Ok(())
+}
+
 fn main(rt: HostRuntime) -> Result<()> {
     let memory = Memory::new(rt.alloc())?;
     let words = words(&rt)?;
-    match words.get(1) {
-        None => print_names(&rt),
-        Some(word) if word.as_str() == "run" => take_named(&rt, memory, words.get(2)),
-        Some(word) if word.as_str() == "mempool-hour" => {
-            ensure!(
-                trial::run(&rt, memory, numbers(&words)?)?,
-                "what must not come has come"
-            );
-            Ok(())
-        }
-        Some(_) => bail!("expected nothing, 'run' or 'mempool-hour'"),
-    }
+    obey(&rt, memory, &words)
 }

@@ -1,4 +1,5 @@
-//! What is measured is made of these: ledger states, and transactions with one input and one output. What can't be made is `None`.
+//! What is measured is made of these: ledger states, and transactions with one input and one output. What can't be made is
+//! `None`.
 
 use mp_bytes::digest;
 use mp_memory::Memory;
@@ -52,8 +53,8 @@ fn made(memory: Memory, parts: TxParts) -> Option<Arc<Tx, Memory>> {
     Arc::new(memory, tx).ok()
 }
 
-/// A submit comes last: of a transaction that spends this and pays so much, of 181 bytes for one output, or 277 where it is signed.
-/// Gives its id.
+/// A submit comes last: of a transaction that spends this and pays so much. It has 181 bytes for one output, and 277 where it is
+/// signed. Gives its id.
 pub fn push_submit(
     memory: Memory,
     commands: &mut Commands,
