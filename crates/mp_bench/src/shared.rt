@@ -178,7 +178,10 @@ fn time_steps<N: PoolName + Send + Sync, R: Clock + Threads + Wait + Sync>(
     passes: &mut [Pass<N>],
     round: &Round<'_>,
 ) -> Option<Duration> {
-    ask_all(rt, mempool, passes.first_mut()?, round.before);
+    let filled = ask_all(rt, mempool, passes.first_mut()?, round.before);
+    if filled != round.before.len() as u64 {
+        return None;
+    }
     reset(round.tally);
     let start = Instant::now(rt).ok()?;
     take_steps(rt, mempool, passes, round)?;
