@@ -3,59 +3,175 @@
 //! that one step took. With `mempool-hour` it tries a mempool for an hour.
 #![tactic(auto)]
 
-mod asked;
-mod hour;
 mod measurement;
-mod mempool;
-mod newer;
-mod pool;
+mod round;
 mod samples;
-mod spinning;
-mod threads;
-mod timing;
-mod watching;
+mod shared;
+mod trial;
+mod verifier;
 
-use anyhow::Result;
-use asked::{Asked, read_asked};
-use measurement::{Measurement, SIZES};
+use anyhow::{Context, Result, bail, ensure};
+use measurement::{Asked, MEASUREMENTS, Measurement, SIZES, STEPS, Work};
 use mp_memory::Memory;
+use mp_tx::Ledger;
+use round::{Round, Tally, encoded, fill, opening, time_alone};
+use shared::{Job, time_shared};
+use std::env::{self, Env};
 use std::rt::Clock;
 use std::sync::Wait;
 use std::thread::Threads;
-use timing::best_per_step;
+use std::time::Duration;
+use verifier::Spinning;
 
-fn take<R: Clock + Wait + Threads + Print + Sync>(
+const ROUNDS: u32 = 9;
+
+fn time<R: Clock + Threads + Wait + Sync>(
     rt: &R,
     memory: Memory,
-    measurement: Measurement,
+    round: &Round<'_>,
+) -> Option<Duration> {
+    match round.work {
+        Work::Decode | Work::Check | Work::Pool => time_alone(rt, memory, round),
+        _ => time_shared(rt, memory, round.ledger, 1_001, Job::Steps(round)),
+    }
+}
+
+// What the steps take in the best of several rounds, once all is made.
+fn best<R: Clock + Threads + Wait + Sync>(
+    rt: &R,
+    memory: Memory,
+    filled: Option<()>,
+    round: &Round<'_>,
+) -> Option<Duration> {
+    filled?;
+    let mut best = Duration::MAX;
+    for _ in 0..ROUNDS {
+        best = best.min(time(rt, memory, round)?);
+    }
+    Some(best)
+}
+
+fn best_upon<R: Clock + Threads + Wait + Sync>(
+    rt: &R,
+    memory: Memory,
+    measurement: &Measurement,
+    size: u64,
+    ledger: &Ledger,
+) -> Option<Duration> {
+    let (_, work, _, asked, answered) = *measurement;
+    let (mut before, mut commands) = (Vec::new(memory), Vec::new(memory));
+    let filled = fill(memory, &mut before, &mut commands, measurement, size);
+    let bytes = encoded(memory, &commands);
+    let (verifier, tally) = (Spinning::new(), Tally::new());
+    let round = Round {
+        work,
+        asked,
+        size,
+        ledger,
+        before: &before,
+        commands: &commands,
+        bytes: &bytes,
+        answered,
+        verifier: &verifier,
+        tally: &tally,
+    };
+    best(rt, memory, filled, &round)
+}
+
+fn time_at<R: Clock + Threads + Wait + Sync>(
+    rt: &R,
+    memory: Memory,
+    measurement: &Measurement,
+    size: u64,
+) -> Option<Duration> {
+    let ledger = opening(memory, measurement.3, size)?;
+    best_upon(rt, memory, measurement, size, &ledger)
+}
+
+// Takes the measurement at each size. Of a remove or a sync the time for each transaction is told.
+fn take<R: Clock + Threads + Wait + Print + Sync>(
+    rt: &R,
+    memory: Memory,
+    measurement: &Measurement,
 ) -> Result<()> {
+    let (name, _, _, asked, _) = *measurement;
     for size in SIZES {
-        let per_step = best_per_step(rt, memory, measurement, size)?;
-        println!(rt; "{} {size} {per_step}", measurement.name())?;
+        let time = time_at(rt, memory, measurement, size).context("a round went wrong")?;
+        let steps = if matches!(asked, Asked::Remove | Asked::Sync) {
+            size
+        } else {
+            STEPS
+        };
+        let tenths = time.as_nanos().saturating_mul(10) / u128::from(steps);
+        println!(rt; "{name} {size} {}.{}", tenths / 10, tenths % 10)?;
     }
     Ok(())
 }
 
-fn take_all<R: Clock + Wait + Threads + Print + Sync>(rt: &R, memory: Memory) -> Result<()> {
-    for measurement in Measurement::ALL {
-        take(rt, memory, measurement)?;
+// Takes those of the name, or all. Gives how many were taken.
+fn take_named<R: Clock + Threads + Wait + Print + Sync>(
+    rt: &R,
+    memory: Memory,
+    wanted: Option<&String>,
+) -> Result<u64> {
+    let mut taken: u64 = 0;
+    for measurement in &MEASUREMENTS {
+        if wanted.is_none_or(|name| name.as_str() == measurement.0) {
+            take(rt, memory, measurement)?;
+            taken = taken.saturating_add(1);
+        }
     }
-    Ok(())
+    Ok(taken)
 }
 
 fn print_names(rt: &impl Print) -> Result<()> {
-    for measurement in Measurement::ALL {
-        println!(rt; "{}", measurement.name())?;
+    for (name, ..) in &MEASUREMENTS {
+        println!(rt; "{name}")?;
+    }
+    Ok(())
+}
+
+// The numbers from the third word on, or the usual ones where there are none.
+fn numbers(words: &[String]) -> Result<[u64; 3]> {
+    let mut numbers = [1, 3_600, 64];
+    for (number, word) in numbers.iter_mut().zip(words.iter().skip(2)) {
+        *number = word.as_str().parse::<u64>().context("a word is no number")?;
+    }
+    Ok(numbers)
+}
+
+fn words<R: Env + AllocGlobal>(rt: &R) -> Result<Vec<String>> {
+    let mut words = Vec::new(rt.alloc());
+    for word in env::args(rt)? {
+        words.push(word)?;
+    }
+    Ok(words)
+}
+
+fn obey<R: Clock + Threads + Wait + Print + Sync>(
+    rt: &R,
+    memory: Memory,
+    words: &[String],
+) -> Result<()> {
+    let Some(first) = words.get(1) else {
+        return print_names(rt);
+    };
+    match first.as_str() {
+        "run" => {
+            let taken = take_named(rt, memory, words.get(2))?;
+            ensure!(taken > 0, "no measurement has this name");
+        }
+        "mempool-hour" => {
+            let is_well = trial::run(rt, memory, numbers(words)?)?;
+            ensure!(is_well, "what must not come has come");
+        }
+        _ => bail!("expected nothing, 'run' or 'mempool-hour'"),
     }
     Ok(())
 }
 
 fn main(rt: HostRuntime) -> Result<()> {
     let memory = Memory::new(rt.alloc())?;
-    match read_asked(&rt)? {
-        Asked::Names => print_names(&rt),
-        Asked::All => take_all(&rt, memory),
-        Asked::One(measurement) => take(&rt, memory, measurement),
-        Asked::Hour(trial) => hour::run(&rt, memory, trial),
-    }
+    let words = words(&rt)?;
+    obey(&rt, memory, &words)
 }

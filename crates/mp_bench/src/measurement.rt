@@ -1,65 +1,80 @@
 //! What is measured.
 
-/// The sizes that each measurement is taken at: how many items there are, and how many steps are taken.
+/// The sizes that each measurement is taken at: how many outputs or transactions there are.
 pub const SIZES: [u64; 3] = [1_000, 10_000, 100_000];
 
-/// A measurement. A step is one call.
+/// How many steps are taken, however large the ledger state or the pool is.
+pub const STEPS: u64 = 1_000;
+
+/// What takes the steps.
 #[derive(Clone, Copy)]
-pub enum Measurement {
-    /// The bytes of a transaction are decoded: one input, one output, 181 bytes.
+pub enum Work {
+    /// The bytes of a transaction are decoded.
     Decode,
-    /// A transaction of 181 bytes is checked upon a ledger state of so many outputs.
+    /// Transactions are checked upon the ledger state.
     Check,
-    /// A transaction of 181 bytes is submitted to a pool with so many.
-    PoolSubmit,
-    /// The first of so many is removed: what it takes for each of them.
-    PoolRemove,
-    /// A ledger state is adopted upon which every other one of so many is valid: what it takes for each of them.
-    PoolSync,
-    /// A transaction of 181 bytes is submitted to a mempool with so many.
-    MempoolSubmit,
-    /// One is submitted that stands in the mempool, and refused.
-    MempoolAgain,
-    /// A signed transaction of 277 bytes is submitted, by one thread, with a verifier that takes its time.
-    MempoolThreads1,
-    /// The same by four threads at once, each with a quarter of them.
-    MempoolThreads4,
-    /// A snapshot is taken while another thread submits.
-    MempoolSnapshot,
-    /// A snapshot is taken by a caller who hasn't seen any of so many transactions.
-    MempoolNewer,
+    /// The pool of one thread is asked.
+    Pool,
+    /// One caller asks the mempool.
+    OneThread,
+    /// Four callers ask the mempool at once, each a quarter.
+    FourThreads,
+    /// One caller asks the mempool, and another takes snapshots.
+    Watch,
+    /// Each of a thousand callers who haven't seen any of the transactions takes a snapshot.
+    Newer,
 }
 
-impl Measurement {
-    /// Each of them, in the order in which they are taken.
-    pub const ALL: [Measurement; 11] = [
-        Measurement::Decode,
-        Measurement::Check,
-        Measurement::PoolSubmit,
-        Measurement::PoolRemove,
-        Measurement::PoolSync,
-        Measurement::MempoolSubmit,
-        Measurement::MempoolAgain,
-        Measurement::MempoolThreads1,
-        Measurement::MempoolThreads4,
-        Measurement::MempoolSnapshot,
-        Measurement::MempoolNewer,
-    ];
-
-    /// What it is called.
-    pub fn name(self) -> &'static str {
-        match self {
-            Measurement::Decode => "decode",
-            Measurement::Check => "check",
-            Measurement::PoolSubmit => "pool-submit",
-            Measurement::PoolRemove => "pool-remove",
-            Measurement::PoolSync => "pool-sync",
-            Measurement::MempoolSubmit => "mempool-submit",
-            Measurement::MempoolAgain => "mempool-again",
-            Measurement::MempoolThreads1 => "mempool-threads-1",
-            Measurement::MempoolThreads4 => "mempool-threads-4",
-            Measurement::MempoolSnapshot => "mempool-snapshot",
-            Measurement::MempoolNewer => "mempool-snapshot-newer",
-        }
-    }
+/// What is asked.
+#[derive(Clone, Copy)]
+pub enum Asked {
+    /// Submits of the first thousand transactions.
+    First,
+    /// Submits of the next thousand.
+    Next,
+    /// The same, where each is signed.
+    Signed,
+    /// A remove of the first transaction.
+    Remove,
+    /// A sync with a ledger state upon which every other transaction is valid.
+    Sync,
+    /// Nothing.
+    Nothing,
 }
+
+/// A measurement: its name, what takes the steps, whether a pool has as many transactions as the size says before them, what is
+/// asked, and how much of that is answered.
+pub type Measurement = (&'static str, Work, bool, Asked, u64);
+
+/// All of them, in the order in which they are taken.
+pub static MEASUREMENTS: [Measurement; 11] = [
+    ("decode", Work::Decode, false, Asked::First, STEPS),
+    ("check", Work::Check, false, Asked::First, STEPS),
+    ("pool-submit", Work::Pool, true, Asked::Next, STEPS),
+    ("pool-remove", Work::Pool, true, Asked::Remove, 1),
+    ("pool-sync", Work::Pool, true, Asked::Sync, 1),
+    ("mempool-submit", Work::OneThread, true, Asked::Next, STEPS),
+    ("mempool-again", Work::OneThread, true, Asked::First, 0),
+    (
+        "mempool-threads-1",
+        Work::OneThread,
+        true,
+        Asked::Signed,
+        STEPS,
+    ),
+    (
+        "mempool-threads-4",
+        Work::FourThreads,
+        true,
+        Asked::Signed,
+        STEPS,
+    ),
+    ("mempool-snapshot", Work::Watch, true, Asked::Next, STEPS),
+    (
+        "mempool-snapshot-newer",
+        Work::Newer,
+        true,
+        Asked::Nothing,
+        STEPS,
+    ),
+];

@@ -1,35 +1,18 @@
-//! What is measured is made of these: a verifier, ledger states, and transactions with one input and one output.
+//! What is measured is made of these: ledger states, and transactions with one input and one output. What can't be made is
+//! `None`.
 
-use anyhow::Result;
 use mp_bytes::digest;
-use mp_memory::{Memory, NoMemory};
-use mp_rules::Verifier;
-use mp_testing::{output, parts, transaction};
-use mp_tx::{Key, Ledger, LedgerFault, OutRef, Output, Salt, Sig, Signature, Tx, TxFault, TxId};
+use mp_memory::Memory;
+use mp_seqpool::{Command, Ids};
+use mp_testing::{output, parts};
+use mp_tx::{Ledger, OutRef, Output, Salt, Signature, Tx, TxId, TxParts};
 use std::sync::Arc;
 
-/// A transaction that several hold.
-pub type Shared = Arc<Tx, Memory>;
+/// Commands in order.
+pub type Commands = Vec<Command, Memory>;
 
-/// How many steps are taken, however large the ledger state or the pool is.
-pub const STEPS: u64 = 1_000;
-
-// As many bytes as a ledger state's blocks may have.
-const BLOCK_BYTES: u64 = 1 << 39;
-
-/// A verifier that accepts each signature at once.
-#[derive(Clone, Copy)]
-pub struct AcceptsAll;
-
-impl Verifier for AcceptsAll {
-    ghost use Rattle.mp_bench.specs.Signatures.{any};
-
-    ghost accepts = { λ _. any };
-
-    fn verify(&self, _key: &Key, _id: &TxId, _sig: &Sig) -> bool {
-        true
-    }
-}
+/// Block bytes for all transactions.
+pub const MANY: u64 = 1 << 39;
 
 /// The reference to the output with this number.
 pub fn reference(number: u64) -> OutRef {
@@ -39,60 +22,82 @@ pub fn reference(number: u64) -> OutRef {
     }
 }
 
-fn outputs_by(
-    memory: Memory,
-    step: u64,
-    size: u64,
-) -> Result<Vec<(OutRef, Output), Memory>, NoMemory> {
+fn outputs_by(memory: Memory, step: u64, size: u64) -> Option<Vec<(OutRef, Output), Memory>> {
     let mut outputs = Vec::new(memory);
     for place in 0..size.div_ceil(step.max(1)) {
         let number = place.saturating_mul(step);
-        outputs.push((reference(number), output(memory, 100)?))?;
+        outputs
+            .push((reference(number), output(memory, 100).ok()?))
+            .ok()?;
     }
-    Ok(outputs)
+    Some(outputs)
 }
 
-/// A ledger state with every such output of `size`: with each of them, or with every other one.
-pub fn ledger_by(
+/// A ledger state with each output of `size`, or each second one, and so on.
+pub fn ledger_by(memory: Memory, step: u64, block_bytes: u64, size: u64) -> Option<Ledger> {
+    let outputs = outputs_by(memory, step, size)?;
+    Ledger::of_outputs(memory, Salt::new(7), 0, block_bytes, outputs).ok()
+}
+
+fn parts_of(memory: Memory, spent: OutRef, paid: &[u32], is_signed: bool) -> Option<TxParts> {
+    let mut made = parts(memory, &[spent], paid).ok()?;
+    if is_signed {
+        let (key, sig) = ([1; 32], [2; 64]);
+        made.signatures.push(Signature { key, sig }).ok()?;
+    }
+    Some(made)
+}
+
+fn made(memory: Memory, parts: TxParts) -> Option<Arc<Tx, Memory>> {
+    let tx = Tx::of_parts(memory, parts).ok()?;
+    Arc::new(memory, tx).ok()
+}
+
+/// A submit comes last: of a transaction that spends this and pays so much. It has 181 bytes for one output, and 277 where it is
+/// signed. Gives its id.
+pub fn push_submit(
     memory: Memory,
+    commands: &mut Commands,
+    spent: OutRef,
+    paid: &[u32],
+    is_signed: bool,
+) -> Option<TxId> {
+    let parts = parts_of(memory, spent, paid, is_signed)?;
+    let tx = made(memory, parts)?;
+    let id = *tx.id();
+    commands.push(Command::Submit(tx)).ok()?;
+    Some(id)
+}
+
+/// Submits come last that spend the outputs from this number on, up to the one before that number.
+pub fn push_submits(
+    memory: Memory,
+    commands: &mut Commands,
+    from: u64,
+    to: u64,
+    is_signed: bool,
+) -> Option<()> {
+    for number in from..to {
+        push_submit(memory, commands, reference(number), &[100], is_signed)?;
+    }
+    Some(())
+}
+
+/// A remove of these comes last.
+pub fn push_remove(memory: Memory, commands: &mut Commands, ids: &[TxId]) -> Option<()> {
+    let ids = Ids::of(Vec::from_slice(memory, ids).ok()?);
+    let shared = Arc::new(memory, ids).ok()?;
+    commands.push(Command::Remove(shared)).ok()
+}
+
+/// A sync with a ledger state of `size` comes last.
+pub fn push_sync(
+    memory: Memory,
+    commands: &mut Commands,
     step: u64,
     block_bytes: u64,
     size: u64,
-) -> Result<Ledger, LedgerFault> {
-    match outputs_by(memory, step, size) {
-        Ok(outputs) => Ledger::of_outputs(memory, Salt::new(7), 0, block_bytes, outputs),
-        Err(NoMemory) => Err(LedgerFault::NoMemory),
-    }
-}
-
-/// A ledger state with so many outputs, and room for all that is submitted.
-pub fn ledger_of(memory: Memory, size: u64) -> Result<Ledger, LedgerFault> {
-    ledger_by(memory, 1, BLOCK_BYTES, size)
-}
-
-/// Transactions of 181 bytes that spend the outputs from this number on, up to the one before that number.
-pub fn plain(memory: Memory, from: u64, to: u64) -> Result<Vec<Shared, Memory>, TxFault> {
-    let mut all = Vec::new(memory);
-    for number in from..to {
-        all.push(transaction(memory, &[reference(number)], &[100])?)?;
-    }
-    Ok(all)
-}
-
-fn sign(memory: Memory, number: u64) -> Result<Shared, TxFault> {
-    let mut made = parts(memory, &[reference(number)], &[100])?;
-    made.signatures.push(Signature {
-        key: [1; 32],
-        sig: [2; 64],
-    })?;
-    Ok(Arc::new(memory, Tx::of_parts(memory, made)?)?)
-}
-
-/// The same with a signature: 277 bytes.
-pub fn signed(memory: Memory, from: u64, to: u64) -> Result<Vec<Shared, Memory>, TxFault> {
-    let mut all = Vec::new(memory);
-    for number in from..to {
-        all.push(sign(memory, number)?)?;
-    }
-    Ok(all)
+) -> Option<()> {
+    let ledger = ledger_by(memory, step, block_bytes, size)?;
+    commands.push(Command::Sync(ledger)).ok()
 }

@@ -30,7 +30,8 @@ impl Block {
 pub fn fill(memory: Memory, run: RunWithin<'_>) -> Result<Block, NoMemory> {
     let mut block = Block::empty(memory);
     for item in run {
-        block.txs.push(Arc::try_clone(&item.tx)?)?;
+        let tx = Arc::try_clone(&item.tx)?;
+        block.txs.push(tx)?;
         block.bytes = block.bytes.saturating_add(item.tx.size());
     }
     Ok(block)

@@ -59,7 +59,8 @@ pub fn submit_all<N: PoolName + Send + Sync, R: Threads + Wait + Sync>(
 ) -> Result<Vec<Caller<N>, Memory>> {
     let mut callers = Vec::new(memory);
     for caller in map_vec(rt, passes, &|pass| submit_two(rt, memory, mempool, pass))? {
-        callers.push(caller?)?;
+        let caller = caller?;
+        callers.push(caller)?;
     }
     Ok(callers)
 }

@@ -25,7 +25,8 @@ fn left_by(memory: Memory, block: &Block) -> Result<Vec<(OutRef, Output), Memory
     let mut outputs = Vec::new(memory);
     for index in 0..OPENINGS {
         if !block.spends(&opening(index)) {
-            outputs.push((opening(index), payment(memory)?))?;
+            let output = payment(memory)?;
+            outputs.push((opening(index), output))?;
         }
     }
     Ok(outputs)
@@ -45,7 +46,8 @@ pub fn ledger_after(memory: Memory, block: &Block) -> Result<Ledger> {
             id: *tx.id(),
             index: 0,
         };
-        outputs.push((paid, payment(memory)?))?;
+        let output = payment(memory)?;
+        outputs.push((paid, output))?;
     }
     Ok(Ledger::of_outputs(memory, Salt::new(SALT), 1, BLOCK_BYTES, outputs)?)
 }

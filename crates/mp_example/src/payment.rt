@@ -1,7 +1,7 @@
 //! Plain payments: outputs of 100 coin that anyone may spend, and transactions that spend one and pay one.
 use anyhow::Result;
 use mp_bundle::{Bundle, COIN};
-use mp_memory::Memory;
+use mp_memory::{Memory, NoMemory};
 use mp_tx::{Data, Input, OutRef, Output, Script, Tx, TxParts};
 use std::sync::Arc;
 
@@ -15,34 +15,48 @@ fn unit(memory: Memory) -> Result<Data> {
     Ok(Data::decode(memory, &[3, 0, 0])?)
 }
 
+// A list of one.
+fn only<T: Drop>(memory: Memory, item: T) -> Result<Vec<T, Memory>, NoMemory> {
+    let mut items = Vec::new(memory);
+    items.push(item)?;
+    Ok(items)
+}
+
+fn coin(memory: Memory) -> Result<Bundle> {
+    let entries = only(memory, (COIN, Vec::new(memory), 100))?;
+    Ok(Bundle::of_entries(memory, entries)?)
+}
+
+fn output_of(script: &Script, datum: &Data, value: Bundle) -> Output {
+    Output {
+        address: *script.hash(),
+        datum_hash: *datum.hash(),
+        value,
+    }
+}
+
 /// An output of 100 coin that anyone may spend.
 pub fn payment(memory: Memory) -> Result<Output> {
-    let mut entries = Vec::new(memory);
-    entries.push((COIN, Vec::new(memory), 100))?;
-    Ok(Output {
-        address: *anyone(memory)?.hash(),
-        datum_hash: *unit(memory)?.hash(),
-        value: Bundle::of_entries(memory, entries)?,
-    })
+    let script = anyone(memory)?;
+    let datum = unit(memory)?;
+    Ok(output_of(&script, &datum, coin(memory)?))
 }
 
 // An input that spends such an output.
 fn spending(memory: Memory, from: OutRef) -> Result<Input> {
+    let validator = anyone(memory)?;
+    let datum = unit(memory)?;
+    let redeemer = unit(memory)?;
     Ok(Input {
         from,
-        validator: anyone(memory)?,
-        datum: unit(memory)?,
-        redeemer: unit(memory)?,
+        validator,
+        datum,
+        redeemer,
     })
 }
 
-/// A transaction that spends the output under the reference, and pays one like it. It is valid at every tick.
-pub fn pay_on(memory: Memory, from: OutRef) -> Result<Arc<Tx, Memory>> {
-    let mut inputs = Vec::new(memory);
-    inputs.push(spending(memory, from)?)?;
-    let mut outputs = Vec::new(memory);
-    outputs.push(payment(memory)?)?;
-    let parts = TxParts {
+fn parts(memory: Memory, inputs: Vec<Input, Memory>, outputs: Vec<Output, Memory>) -> TxParts {
+    TxParts {
         inputs,
         references: Vec::new(memory),
         outputs,
@@ -51,6 +65,13 @@ pub fn pay_on(memory: Memory, from: OutRef) -> Result<Arc<Tx, Memory>> {
         forge: Bundle::empty(),
         scripts: Vec::new(memory),
         signatures: Vec::new(memory),
-    };
-    Ok(Arc::new(memory, Tx::of_parts(memory, parts)?)?)
+    }
+}
+
+/// A transaction that spends the output under the reference, and pays one like it. It is valid at every tick.
+pub fn pay_on(memory: Memory, from: OutRef) -> Result<Arc<Tx, Memory>> {
+    let inputs = only(memory, spending(memory, from)?)?;
+    let outputs = only(memory, payment(memory)?)?;
+    let tx = Tx::of_parts(memory, parts(memory, inputs, outputs))?;
+    Ok(Arc::new(memory, tx)?)
 }

@@ -4,6 +4,7 @@
 
 mod history;
 mod mempool;
+mod peers;
 mod rows;
 mod runs;
 mod samples;
@@ -28,6 +29,7 @@ fn check_all<R: Print + Threads + Wait + Sync>(
     println!(rt; "history {}", history::held(rt, samples)?)?;
     println!(rt; "versions {}", versions::held(rt, samples)?)?;
     println!(rt; "mempool {}", mempool::held(rt, samples)?)?;
+    println!(rt; "peers {}", peers::held(rt, samples)?)?;
     println!(rt; "runs {}", runs::held(rt, samples.memory, alloc)?)?;
     Ok(())
 }

@@ -16,9 +16,11 @@ use crate::mempool::tables::held_tables;
 use crate::mempool::threads::held_threads;
 use crate::mempool::unshown::held_unshown;
 use crate::samples::Samples;
+pub use calls::ask;
 use std::io;
 use std::sync::Wait;
 use std::thread::Threads;
+pub use tables::count_owners;
 
 fn held_alone(rt: &(impl Print + Wait), samples: &Samples) -> io::Result<u64> {
     let tables = held_tables(rt, samples)?;

@@ -77,6 +77,9 @@ pub const MERGED: usize = 156;
 /// A submit that spends the same output as sample 1, and pays 50 twice. Behind it stands one that spends both of these.
 pub const EVEN: usize = 157;
 
+/// A remove of sample 2.
+pub const REMOVE_THIRD: usize = 159;
+
 /// Commands in order.
 pub type Commands = Vec<Command, Memory>;
 
@@ -138,18 +141,16 @@ fn ids_of(memory: Memory, commands: &[Command], numbers: &[usize]) -> Option<Vec
 
 /// A remove of what these samples submit comes last.
 pub fn push_remove(memory: Memory, commands: &mut Commands, numbers: &[usize]) -> Option<()> {
-    let ids = Ids::of(ids_of(memory, commands, numbers)?);
-    commands
-        .push(Command::Remove(Arc::new(memory, ids).ok()?))
-        .ok()
+    let ids = ids_of(memory, commands, numbers)?;
+    let shared = Arc::new(memory, Ids::of(ids)).ok()?;
+    commands.push(Command::Remove(shared)).ok()
 }
 
 /// The transaction's submit comes last.
 pub fn push_tx(memory: Memory, commands: &mut Commands, parts: TxParts) -> Option<()> {
     let tx = Tx::of_parts(memory, parts).ok()?;
-    commands
-        .push(Command::Submit(Arc::new(memory, tx).ok()?))
-        .ok()
+    let shared = Arc::new(memory, tx).ok()?;
+    commands.push(Command::Submit(shared)).ok()
 }
 
 fn push_all(memory: Memory, commands: &mut Commands) -> Option<()> {
@@ -160,7 +161,8 @@ fn push_all(memory: Memory, commands: &mut Commands) -> Option<()> {
     push_remove(memory, commands, &[1])?;
     push_remove(memory, commands, &[63, 64])?;
     push_remove(memory, commands, &[69])?;
-    push_merged(memory, commands)
+    push_merged(memory, commands)?;
+    push_remove(memory, commands, &[2])
 }
 
 /// Makes all samples.

@@ -36,7 +36,8 @@ pub enum Call {
 /// The passes of all callers.
 pub type Passes<N> = Vec<Pass<N>, Memory>;
 
-fn ask<N: PoolName>(
+/// The command is asked of the pool.
+pub fn ask<N: PoolName>(
     rt: &impl Wait,
     mempool: &Mempool<N, AcceptsAll>,
     pass: &mut Pass<N>,

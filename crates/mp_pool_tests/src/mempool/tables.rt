@@ -66,8 +66,8 @@ const DROPPED: [Line; 6] = [
     (0, Call::Ask(PART), Heard::Entered(4, Told::Synced(3, 0))),
 ];
 
-// How many owners the transactions have, all together.
-fn owners(commands: &[Command]) -> u64 {
+/// How many owners the transactions have that are submitted, all together.
+pub fn count_owners(commands: &[Command]) -> u64 {
     let mut owners: usize = 0;
     for command in commands {
         if let Command::Submit(tx) = command {
@@ -80,11 +80,11 @@ fn owners(commands: &[Command]) -> u64 {
 // How many owners the transactions have before the pool is made and once it is dropped, and whether all was as told.
 fn see_dropped(rt: &impl Wait, samples: &Samples) -> Seen {
     let commands = samples.commands(0, SUBMITS);
-    let before = owners(commands);
+    let before = count_owners(commands);
     let played = play(rt, samples, 3, LONG, &DROPPED);
     [
         before,
-        owners(commands),
+        count_owners(commands),
         u64::from(played.is_as_told()),
         0,
         0,

@@ -58,7 +58,8 @@ fn submit_some<N: PoolName>(
     receipts: &Mutex<Receipts>,
 ) -> Option<()> {
     for command in commands {
-        push(rt, receipts, submit(rt, mempool, pass, command)?)?;
+        let receipt = submit(rt, mempool, pass, command)?;
+        push(rt, receipts, receipt)?;
     }
     Some(())
 }

@@ -16,7 +16,8 @@ fn entry(memory: Memory, reference: OutRef) -> Result<Entries, NoMemory> {
 
 /// A sync with the ledger state comes last.
 pub fn push_sync(commands: &mut Commands, ledger: Result<Ledger, LedgerFault>) -> Option<()> {
-    commands.push(Command::Sync(ledger.ok()?)).ok()
+    let ledger = ledger.ok()?;
+    commands.push(Command::Sync(ledger)).ok()
 }
 
 // The ledger state at tick 1 of what sample 0 pays.

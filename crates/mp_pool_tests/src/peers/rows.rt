@@ -1,6 +1,7 @@
 //! What is asked in turn, and what is wanted.
-use crate::asks::Ask;
-use crate::growths::Trial;
+use crate::peers::asks::Ask;
+use crate::peers::growths::Trial;
+use crate::samples::{ALL, PART, REMOVE_THIRD};
 use mp_testing::Seen;
 
 /// What an ask is for, the ask, and what is to be seen of its answer.
@@ -10,9 +11,9 @@ pub type Row = (&'static str, Ask, Seen);
 pub static ROWS: [Row; 41] = [
     ("an empty pool", Ask::Offer(9, 1_000), [0; 6]),
     ("an empty block", Ask::Forge(1_000), [0; 6]),
-    ("a comes", Ask::Submit(0), [0; 6]),
-    ("b comes", Ask::Submit(1), [1, 0, 0, 0, 0, 0]),
-    ("c comes", Ask::Submit(2), [2, 0, 0, 0, 0, 0]),
+    ("a comes", Ask::Change(0), [0; 6]),
+    ("b comes", Ask::Change(1), [1, 0, 0, 0, 0, 0]),
+    ("c comes", Ask::Change(2), [2, 0, 0, 0, 0, 0]),
     ("no item", Ask::Offer(0, 1_000), [0; 6]),
     ("no byte", Ask::Offer(9, 0), [0; 6]),
     ("too few bytes for the first", Ask::Offer(9, 180), [0; 6]),
@@ -28,13 +29,13 @@ pub static ROWS: [Row; 41] = [
         [3, 3, 1, 3, 0, 0],
     ),
     ("all is offered", Ask::Offer(9, 1_000), [0, 0, 0, 3, 0, 0]),
-    ("c goes", Ask::Remove(2), [3, 0, 0, 0, 0, 0]),
+    ("c goes", Ask::Change(REMOVE_THIRD), [3, 0, 0, 0, 0, 0]),
     (
         "nothing comes with it",
         Ask::Offer(9, 1_000),
         [0, 0, 0, 3, 0, 0],
     ),
-    ("c comes again", Ask::Submit(2), [4, 0, 0, 0, 0, 0]),
+    ("c comes again", Ask::Change(2), [4, 0, 0, 0, 0, 0]),
     (
         "c has a new ticket",
         Ask::Offer(9, 1_000),
@@ -62,7 +63,7 @@ pub static ROWS: [Row; 41] = [
         Ask::Offer(9, 1_000),
         [0, 0, 0, 4, 0, 0],
     ),
-    ("only a stays", Ask::AdoptFirst, [5, 0, 0, 0, 0, 0]),
+    ("only a stays", Ask::Change(PART), [5, 0, 0, 0, 0, 0]),
     (
         "nothing comes with that",
         Ask::Offer(9, 1_000),
@@ -73,15 +74,19 @@ pub static ROWS: [Row; 41] = [
         Ask::Forge(1_000),
         [1, 1, 1, 181, 6, 0],
     ),
-    ("all may be spent again", Ask::AdoptAll, [6, 0, 0, 0, 0, 0]),
-    ("b comes again", Ask::Submit(1), [7, 0, 0, 0, 0, 0]),
+    (
+        "all may be spent again",
+        Ask::Change(ALL),
+        [6, 0, 0, 0, 0, 0],
+    ),
+    ("b comes again", Ask::Change(1), [7, 0, 0, 0, 0, 0]),
     ("b has a new ticket", Ask::Offer(1, 181), [5, 2, 1, 5, 0, 0]),
     ("another peer comes", Ask::NewPeer, [0; 6]),
     ("a first item", Ask::Offer(1, 1_000), [1, 1, 1, 1, 0, 0]),
-    ("c comes once more", Ask::Submit(2), [8, 0, 0, 0, 0, 0]),
-    ("d comes", Ask::Submit(3), [9, 0, 0, 0, 0, 0]),
-    ("e comes", Ask::Submit(4), [10, 0, 0, 0, 0, 0]),
-    ("f comes", Ask::Submit(5), [11, 0, 0, 0, 0, 0]),
+    ("c comes once more", Ask::Change(2), [8, 0, 0, 0, 0, 0]),
+    ("d comes", Ask::Change(3), [9, 0, 0, 0, 0, 0]),
+    ("e comes", Ask::Change(4), [10, 0, 0, 0, 0, 0]),
+    ("f comes", Ask::Change(5), [11, 0, 0, 0, 0, 0]),
     (
         "a byte less than two have",
         Ask::Offer(9, 361),
@@ -89,7 +94,7 @@ pub static ROWS: [Row; 41] = [
     ),
     (
         "c goes before it is offered",
-        Ask::Remove(2),
+        Ask::Change(REMOVE_THIRD),
         [12, 0, 0, 0, 0, 0],
     ),
     ("the bytes of two", Ask::Offer(9, 362), [78, 45, 2, 8, 0, 0]),

@@ -1,6 +1,6 @@
 //! An offer and a block under the refusal of each growth.
+use crate::peers::seen::{owners, see_block, see_offer};
 use crate::samples::Samples;
-use crate::seen::{see_block, see_offer};
 use mp_history::PoolName;
 use mp_mempool::Pass;
 use mp_peer::PeerReader;
@@ -38,7 +38,7 @@ impl<N: PoolName> Call for Trying<'_, N> {
     }
 
     fn look(&self, reader: &PeerReader) -> Seen {
-        [reader.cursor(), self.samples.owners(), 0, 0, 0, 0]
+        [reader.cursor(), owners(self.samples), 0, 0, 0, 0]
     }
 }
 

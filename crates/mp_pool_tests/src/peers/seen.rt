@@ -1,14 +1,34 @@
 //! What is seen of offers and of blocks, as numbers.
+use crate::mempool::count_owners;
 use crate::samples::Samples;
+use crate::told::with_digit;
 use mp_history::PoolName;
 use mp_peer::{PeerReader, forge};
+use mp_seqpool::Command;
 use mp_testing::Seen;
+use mp_tx::TxId;
 use mp_versions::{Item, Snapshot};
+
+// So many samples are submitted, from the first on: a list of all of them takes more than one growth.
+const SUBMITTED: usize = 6;
+
+/// How many owners the transactions have, all together.
+pub fn owners(samples: &Samples) -> u64 {
+    count_owners(samples.commands(0, SUBMITTED))
+}
+
+fn submits(command: &Command, id: &TxId) -> bool {
+    match command {
+        Command::Submit(tx) => tx.id() == id,
+        _ => false,
+    }
+}
 
 // The place of the item's transaction among the samples, from 1, or 0.
 fn place_of(samples: &Samples, item: &Item) -> u64 {
     let id = item.tx.id();
-    match samples.txs.iter().position(|tx| tx.id() == id) {
+    let commands = samples.commands(0, SUBMITTED);
+    match commands.iter().position(|command| submits(command, id)) {
         Some(place) => (place as u64).saturating_add(1),
         None => 0,
     }
@@ -19,10 +39,8 @@ fn digits(samples: &Samples, items: &[Item]) -> (u64, u64) {
     let mut tickets = 0u64;
     let mut places = 0u64;
     for item in items {
-        tickets = tickets.saturating_mul(10).saturating_add(item.ticket);
-        places = places
-            .saturating_mul(10)
-            .saturating_add(place_of(samples, item));
+        tickets = with_digit(tickets, item.ticket);
+        places = with_digit(places, place_of(samples, item));
     }
     (tickets, places)
 }
@@ -36,9 +54,9 @@ pub fn see_offer<N: PoolName>(
     count: u64,
     bytes: u64,
 ) -> Option<Seen> {
-    let before = samples.owners();
+    let before = owners(samples);
     let items = reader.offer(samples.memory, snapshot, count, bytes).ok()?;
-    let shared = samples.owners().wrapping_sub(before);
+    let shared = owners(samples).wrapping_sub(before);
     let (tickets, places) = digits(samples, items.as_slice());
     Some([tickets, places, shared, reader.cursor(), 0, 0])
 }
@@ -50,9 +68,9 @@ pub fn see_block<N: PoolName>(
     snapshot: &Snapshot<'_, N>,
     bytes: u64,
 ) -> Option<Seen> {
-    let before = samples.owners();
+    let before = owners(samples);
     let block = forge(samples.memory, snapshot, bytes).ok()?;
-    let shared = samples.owners().wrapping_sub(before);
+    let shared = owners(samples).wrapping_sub(before);
     let (tickets, places) = digits(samples, block.items.as_slice());
     Some([tickets, places, shared, block.bytes, block.number, 0])
 }

@@ -1,23 +1,20 @@
 //! Calls on the pool and on the reader of one peer, as data.
-use crate::RefusesAll;
-use crate::growths::{Trial, try_call};
+use crate::mempool::ask;
+use crate::peers::growths::{Trial, try_call};
+use crate::peers::seen::{see_block, see_offer};
 use crate::samples::Samples;
-use crate::seen::{see_block, see_offer};
+use crate::verifier::AcceptsAll;
 use mp_history::PoolName;
-use mp_mempool::{Mempool, Pass, Receipt, Refusal};
+use mp_mempool::{Mempool, Pass};
 use mp_peer::PeerReader;
 use mp_testing::Seen;
 use std::sync::Wait;
 
-/// What is asked. The samples are told by their places.
+/// What is asked.
 #[derive(Clone, Copy)]
 pub enum Ask {
-    Submit(usize),
-    Remove(usize),
-    /// The ledger state of all opening outputs is adopted.
-    AdoptAll,
-    /// That of the first one alone is.
-    AdoptFirst,
+    /// The sample is asked for.
+    Change(usize),
     /// Another peer comes, which has been offered nothing.
     NewPeer,
     /// At most so many items, and at most so many bytes.
@@ -29,26 +26,16 @@ pub enum Ask {
 }
 
 // The place of the entry.
-fn place_in<N: PoolName>(answer: Result<Receipt, Refusal<N>>) -> Option<u64> {
-    match answer {
-        Ok(receipt) => Some(receipt.place),
-        Err(_) => None,
-    }
-}
-
 fn change<N: PoolName>(
     rt: &impl Wait,
-    mempool: &Mempool<N, RefusesAll>,
+    mempool: &Mempool<N, AcceptsAll>,
     pass: &mut Pass<N>,
     samples: &Samples,
-    asked: Ask,
-) -> Option<u64> {
-    match asked {
-        Ask::Submit(place) => place_in(mempool.submit(rt, pass, samples.txs.get(place)?)),
-        Ask::Remove(place) => place_in(mempool.remove(rt, pass, samples.ids.get(place)?)),
-        Ask::AdoptAll => place_in(mempool.sync(rt, pass, &samples.all)),
-        Ask::AdoptFirst => place_in(mempool.sync(rt, pass, &samples.first)),
-        _ => None,
+    number: usize,
+) -> Option<Seen> {
+    match ask(rt, mempool, pass, samples.command(number)?) {
+        Ok(receipt) => Some([receipt.place, 0, 0, 0, 0, 0]),
+        Err(_) => None,
     }
 }
 
@@ -60,13 +47,14 @@ fn renew(reader: &mut PeerReader) -> Seen {
 /// What is seen of the answer: of a change it is the place of its entry. None where it is refused.
 pub fn make<N: PoolName>(
     rt: &impl Wait,
-    mempool: &Mempool<N, RefusesAll>,
+    mempool: &Mempool<N, AcceptsAll>,
     pass: &mut Pass<N>,
     reader: &mut PeerReader,
     samples: &Samples,
     asked: Ask,
 ) -> Option<Seen> {
     match asked {
+        Ask::Change(number) => change(rt, mempool, pass, samples, number),
         Ask::NewPeer => Some(renew(reader)),
         Ask::Offer(count, bytes) => {
             let snapshot = mempool.reader().snapshot(pass);
@@ -74,9 +62,5 @@ pub fn make<N: PoolName>(
         }
         Ask::Forge(bytes) => see_block(samples, &mempool.reader().snapshot(pass), bytes),
         Ask::Try(trial) => try_call(samples, pass, trial),
-        _ => {
-            let place = change(rt, mempool, pass, samples, asked)?;
-            Some([place, 0, 0, 0, 0, 0])
-        }
     }
 }

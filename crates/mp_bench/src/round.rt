@@ -1,0 +1,188 @@
+//! Rounds: what they begin with, and the steps of one thread.
+
+use crate::measurement::{Asked, Measurement, STEPS, Work};
+use crate::samples::{Commands, MANY, ledger_by, push_remove, push_submits, push_sync};
+use crate::verifier::Spinning;
+use mp_memory::Memory;
+use mp_rules::check;
+use mp_seqpool::{Command, Config, SeqPool};
+use mp_tx::{Ledger, Tx};
+use std::rt::Clock;
+use std::sync::atomic::{AtomicBool, AtomicU64};
+use std::time::{Duration, Instant};
+
+/// What the threads of a round count.
+#[derive(Drop)]
+pub struct Tally {
+    pub answered: AtomicU64,
+    pub looks: AtomicU64,
+    pub has_ended: AtomicBool,
+}
+
+impl Tally {
+    /// Nothing yet.
+    pub fn new() -> Tally {
+        Tally {
+            answered: AtomicU64::new(0),
+            looks: AtomicU64::new(0),
+            has_ended: AtomicBool::new(false),
+        }
+    }
+}
+
+/// What a round begins with.
+#[derive(Clone, Copy)]
+pub struct Round<'a> {
+    pub work: Work,
+    pub asked: Asked,
+    pub size: u64,
+    pub ledger: &'a Ledger,
+    /// What a pool is asked before the time is taken.
+    pub before: &'a [Command],
+    /// What is asked then, the bytes of the first transaction, and how much of it is answered.
+    pub commands: &'a [Command],
+    pub bytes: &'a [u8],
+    pub answered: u64,
+    pub verifier: &'a Spinning,
+    pub tally: &'a Tally,
+}
+
+fn push_first_remove(memory: Memory, commands: &mut Commands, before: &[Command]) -> Option<()> {
+    match before.first() {
+        Some(Command::Submit(tx)) => push_remove(memory, commands, &[*tx.id()]),
+        _ => None,
+    }
+}
+
+fn push_asked(
+    memory: Memory,
+    commands: &mut Commands,
+    before: &[Command],
+    asked: Asked,
+    size: u64,
+) -> Option<()> {
+    let last = size.saturating_add(STEPS);
+    match asked {
+        Asked::First => push_submits(memory, commands, 0, STEPS, false),
+        Asked::Next => push_submits(memory, commands, size, last, false),
+        Asked::Signed => push_submits(memory, commands, size, last, true),
+        Asked::Remove => push_first_remove(memory, commands, before),
+        Asked::Sync => push_sync(memory, commands, 2, MANY, size),
+        Asked::Nothing => Some(()),
+    }
+}
+
+/// What a pool is asked before the time is taken, and then.
+pub fn fill(
+    memory: Memory,
+    before: &mut Commands,
+    commands: &mut Commands,
+    measurement: &Measurement,
+    size: u64,
+) -> Option<()> {
+    let (_, _, is_filled, asked, _) = *measurement;
+    push_submits(memory, before, 0, if is_filled { size } else { 0 }, false)?;
+    push_asked(memory, commands, before, asked, size)
+}
+
+/// The ledger state that has the outputs that are spent.
+pub fn opening(memory: Memory, asked: Asked, size: u64) -> Option<Ledger> {
+    let outputs = match asked {
+        Asked::Next | Asked::Signed => size.saturating_add(STEPS),
+        _ => size,
+    };
+    ledger_by(memory, 1, MANY, outputs)
+}
+
+/// The bytes of the first transaction, or none where there isn't one.
+pub fn encoded(memory: Memory, commands: &[Command]) -> Vec<u8, Memory> {
+    let Some(Command::Submit(tx)) = commands.first() else {
+        return Vec::new(memory);
+    };
+    tx.encode(memory).unwrap_or(Vec::new(memory))
+}
+
+fn count_decoded(memory: Memory, bytes: &[u8]) -> u64 {
+    let mut decoded: u64 = 0;
+    for _ in 0..STEPS {
+        if Tx::decode(memory, bytes).is_ok() {
+            decoded = decoded.saturating_add(1);
+        }
+    }
+    decoded
+}
+
+fn is_valid(memory: Memory, ledger: &Ledger, command: &Command, verifier: &Spinning) -> bool {
+    match command {
+        Command::Submit(tx) => check(memory, tx, ledger, 0, verifier).is_ok(),
+        _ => false,
+    }
+}
+
+fn count_valid(memory: Memory, round: &Round<'_>) -> u64 {
+    let mut valid: u64 = 0;
+    for command in round.commands {
+        if is_valid(memory, round.ledger, command, round.verifier) {
+            valid = valid.saturating_add(1);
+        }
+    }
+    valid
+}
+
+fn is_answered(pool: &mut SeqPool, command: &Command, verifier: &Spinning) -> bool {
+    pool.execute(command, verifier).is_ok()
+}
+
+fn count_answered(pool: &mut SeqPool, commands: &[Command], verifier: &Spinning) -> u64 {
+    let mut answered: u64 = 0;
+    for command in commands {
+        if is_answered(pool, command, verifier) {
+            answered = answered.saturating_add(1);
+        }
+    }
+    answered
+}
+
+fn take_steps(memory: Memory, round: &Round<'_>, pool: &mut SeqPool) -> u64 {
+    match round.work {
+        Work::Decode => count_decoded(memory, round.bytes),
+        Work::Check => count_valid(memory, round),
+        _ => count_answered(pool, round.commands, round.verifier),
+    }
+}
+
+// How many transactions the pool has after the steps.
+fn left(round: &Round<'_>) -> u64 {
+    match round.asked {
+        Asked::Remove => round.size.saturating_sub(1),
+        Asked::Sync => round.size / 2,
+        Asked::Next => round.size.saturating_add(STEPS),
+        _ => 0,
+    }
+}
+
+fn time_steps(
+    clock: &impl Clock,
+    memory: Memory,
+    round: &Round<'_>,
+    pool: &mut SeqPool,
+) -> Option<Duration> {
+    count_answered(pool, round.before, round.verifier);
+    let start = Instant::now(clock).ok()?;
+    let answered = take_steps(memory, round, pool);
+    let time = start.elapsed(clock).ok()?;
+    if answered == round.answered && pool.len() as u64 == left(round) {
+        return Some(time);
+    }
+    None
+}
+
+/// What the steps take one thread. `None` where they don't come to what they should, so none can be left out.
+pub fn time_alone(clock: &impl Clock, memory: Memory, round: &Round<'_>) -> Option<Duration> {
+    let config = Config {
+        limit: 1 << 32,
+        last: 0,
+    };
+    let mut pool = SeqPool::start(memory, config, round.ledger).ok()?;
+    time_steps(clock, memory, round, &mut pool)
+}

@@ -1,0 +1,231 @@
+//! The mempool that callers share: what is asked of it, and the steps of its measurements.
+ghost use Rattle.std.specs.Prelude.{◌≡◌};
+ghost use Rattle.mp_history.specs.PoolName.{head_of};
+ghost use Rattle.mp_bench.specs.Signatures.{any};
+
+use crate::measurement::{STEPS, Work};
+use crate::round::{Round, Tally};
+use crate::trial::{Trial, play_all};
+use crate::verifier::Spinning;
+use mp_history::{NewName, PoolName};
+use mp_memory::Memory;
+use mp_mempool::{Config, Mempool, Pass, Receipt, Refusal};
+use mp_seqpool::Command;
+use mp_tx::Ledger;
+use std::marker::Brand;
+use std::rt::Clock;
+use std::sync::Wait;
+use std::sync::atomic::Ordering;
+use std::thread::{Threads, for_each_mut};
+use std::time::{Duration, Instant};
+
+/// As many changes as there may be, and the first ticket is 1.
+pub const CONFIG: Config = Config {
+    limit: 1 << 32,
+    last: 0,
+};
+
+/// What is done with a new mempool.
+#[derive(Clone, Copy)]
+pub enum Job<'a> {
+    /// The steps of a round.
+    Steps(&'a Round<'a>),
+    /// A long trial.
+    Trial(&'a Trial),
+}
+
+/// The command is asked of the mempool.
+pub fn ask<N: PoolName>(
+    rt: &impl Wait,
+    mempool: &Mempool<N, Spinning>,
+    pass: &mut Pass<N>,
+    command: &Command,
+) -> Result<Receipt, Refusal<N>> {
+    match command {
+        Command::Submit(tx) => mempool.submit(rt, pass, tx),
+        Command::Remove(ids) => mempool.remove(rt, pass, ids),
+        Command::Sync(ledger) => mempool.sync(rt, pass, ledger),
+    }
+}
+
+fn is_answered<N: PoolName>(
+    rt: &impl Wait,
+    mempool: &Mempool<N, Spinning>,
+    pass: &mut Pass<N>,
+    command: &Command,
+) -> bool {
+    ask(rt, mempool, pass, command).is_ok()
+}
+
+fn ask_all<N: PoolName>(
+    rt: &impl Wait,
+    mempool: &Mempool<N, Spinning>,
+    pass: &mut Pass<N>,
+    commands: &[Command],
+) -> u64 {
+    let mut answered: u64 = 0;
+    for command in commands {
+        if is_answered(rt, mempool, pass, command) {
+            answered = answered.saturating_add(1);
+        }
+    }
+    answered
+}
+
+fn number_of<N: PoolName>(mempool: &Mempool<N, Spinning>, pass: &mut Pass<N>) -> u64 {
+    mempool.reader().snapshot(pass).number()
+}
+
+// Takes snapshots until the other caller has ended, and counts them.
+fn look_until<N: PoolName>(mempool: &Mempool<N, Spinning>, pass: &mut Pass<N>, tally: &Tally) {
+    let mut looks: u64 = 0;
+    for _ in 0..u64::MAX {
+        number_of(mempool, pass);
+        looks = looks.saturating_add(1);
+        if tally.has_ended.load(Ordering::SeqCst) {
+            break;
+        }
+    }
+    tally.looks.store(looks, Ordering::SeqCst);
+}
+
+// How many of these callers see so many entries.
+fn count_seen<N: PoolName>(
+    mempool: &Mempool<N, Spinning>,
+    passes: &mut [Pass<N>],
+    entries: u64,
+) -> u64 {
+    let mut seen: u64 = 0;
+    for pass in passes {
+        if number_of(mempool, pass) == entries {
+            seen = seen.saturating_add(1);
+        }
+    }
+    seen
+}
+
+// What the caller asks in a thread of its own.
+fn part_of<'a>(round: &Round<'a>, caller: usize) -> &'a [Command] {
+    let (from, to) = match round.work {
+        Work::FourThreads => (
+            caller.saturating_mul(250),
+            caller.saturating_mul(250).saturating_add(250),
+        ),
+        _ => (0, 1_000),
+    };
+    match round.commands.get(from..to) {
+        Some(commands) => commands,
+        None => &[],
+    }
+}
+
+fn act<N: PoolName>(
+    rt: &impl Wait,
+    mempool: &Mempool<N, Spinning>,
+    round: &Round<'_>,
+    caller: usize,
+    pass: &mut Pass<N>,
+) {
+    if matches!(round.work, Work::Watch) && caller == 1 {
+        look_until(mempool, pass, round.tally);
+    } else {
+        let answered = ask_all(rt, mempool, pass, part_of(round, caller));
+        round.tally.answered.fetch_add(answered, Ordering::SeqCst);
+        round.tally.has_ended.store(true, Ordering::SeqCst);
+    }
+}
+
+fn take_steps<N: PoolName + Send + Sync, R: Threads + Wait + Sync>(
+    rt: &R,
+    mempool: &Mempool<N, Spinning>,
+    passes: &mut [Pass<N>],
+    round: &Round<'_>,
+) -> Option<()> {
+    let (first, others) = passes.split_first_mut()?;
+    match round.work {
+        Work::Newer => {
+            let seen = count_seen(mempool, others, round.size);
+            round.tally.answered.store(seen, Ordering::SeqCst);
+        }
+        Work::FourThreads | Work::Watch => {
+            let threads = if matches!(round.work, Work::Watch) {
+                2
+            } else {
+                4
+            };
+            for_each_mut(
+                rt,
+                passes.get_mut(..threads)?,
+                threads,
+                &|caller, pass: &mut Pass<N>| act(rt, mempool, round, caller, pass),
+            );
+        }
+        _ => act(rt, mempool, round, 0, first),
+    }
+    Some(())
+}
+
+fn reset(tally: &Tally) {
+    tally.answered.store(0, Ordering::SeqCst);
+    tally.looks.store(STEPS, Ordering::SeqCst);
+    tally.has_ended.store(false, Ordering::SeqCst);
+}
+
+// What the steps take, once the mempool has its transactions.
+fn time_steps<N: PoolName + Send + Sync, R: Clock + Threads + Wait + Sync>(
+    rt: &R,
+    mempool: &Mempool<N, Spinning>,
+    passes: &mut [Pass<N>],
+    round: &Round<'_>,
+) -> Option<Duration> {
+    let filled = ask_all(rt, mempool, passes.first_mut()?, round.before);
+    if filled != round.before.len() as u64 {
+        return None;
+    }
+    reset(round.tally);
+    let start = Instant::now(rt).ok()?;
+    take_steps(rt, mempool, passes, round)?;
+    let time = start.elapsed(rt).ok()?;
+    if round.tally.answered.load(Ordering::SeqCst) != round.answered {
+        return None;
+    }
+    Some(of_thousand(time, round.tally.looks.load(Ordering::SeqCst)))
+}
+
+// What a thousand of so many take.
+fn of_thousand(time: Duration, steps: u64) -> Duration {
+    let nanos = time.as_nanos().saturating_mul(u128::from(STEPS)) / u128::from(steps.max(1));
+    Duration::from_nanos(u64::try_from(nanos).unwrap_or(u64::MAX))
+}
+
+fn open<N: PoolName + Send + Sync, R: Clock + Threads + Wait + Sync>(
+    rt: &R,
+    memory: Memory,
+    name: NewName,
+    ledger: &Ledger,
+    callers: u32,
+    job: Job<'_>,
+) -> Option<Duration>
+    requires name { name ≡ head_of N.book N.root }
+    requires callers { callers ≡ N.callers }
+    requires accepts { N.accepts ≡ any }
+{
+    match Mempool::<N, _>::open(rt, memory, name, CONFIG, ledger, Spinning::new(), callers) {
+        Ok((mempool, mut passes)) => match job {
+            Job::Steps(round) => time_steps(rt, &mempool, &mut passes, round),
+            Job::Trial(trial) => play_all(rt, memory, &mempool, &mut passes, trial),
+        },
+        Err(_) => None,
+    }
+}
+
+/// What the job takes on a new mempool of so many callers.
+pub fn time_shared<R: Clock + Threads + Wait + Sync>(
+    rt: &R,
+    memory: Memory,
+    ledger: &Ledger,
+    callers: u32,
+    job: Job<'_>,
+) -> Option<Duration> {
+    open::<Brand, _>(rt, memory, NewName::new(), ledger, callers, job)
+}

@@ -1,0 +1,239 @@
+//! A caller that asks for whatever the dice say.
+
+use super::dice::Dice;
+use super::table::Table;
+use crate::shared::ask;
+use crate::verifier::Spinning;
+use mp_history::PoolName;
+use mp_memory::Memory;
+use mp_mempool::{Mempool, Pass, Receipt, Refusal};
+use mp_seqpool::Command;
+use mp_versions::{Shown, Snapshot};
+use std::rt::Clock;
+use std::sync::atomic::{AtomicU64, Ordering};
+use std::sync::{Mutex, Wait};
+use std::thread;
+use std::time::{Duration, Instant};
+
+// How many commands a caller asks for in a turn.
+const BURST: u32 = 20;
+
+/// What came of the commands of all callers.
+#[derive(Drop)]
+pub struct Counts {
+    entered: AtomicU64,
+    refused: AtomicU64,
+    snapshots: AtomicU64,
+    learned: AtomicU64,
+    strange: AtomicU64,
+}
+
+// What came of a command.
+#[derive(Clone, Copy)]
+enum Came {
+    Entered,
+    Refused,
+    Snapshot,
+    Learned,
+    /// What must not come: that memory was wanting, that the pass isn't known, or that a snapshot goes back or isn't sound.
+    Strange,
+    Nothing,
+}
+
+impl Counts {
+    /// Nothing yet.
+    pub fn none() -> Counts {
+        Counts {
+            entered: AtomicU64::new(0),
+            refused: AtomicU64::new(0),
+            snapshots: AtomicU64::new(0),
+            learned: AtomicU64::new(0),
+            strange: AtomicU64::new(0),
+        }
+    }
+
+    fn add(&self, came: Came) {
+        let count = match came {
+            Came::Entered => &self.entered,
+            Came::Refused => &self.refused,
+            Came::Snapshot => &self.snapshots,
+            Came::Learned => &self.learned,
+            Came::Strange => &self.strange,
+            Came::Nothing => return,
+        };
+        count.fetch_add(1, Ordering::SeqCst);
+    }
+
+    /// How many were entered and refused, how many snapshots were taken, how often a caller was told of a version, and how much
+    /// came that must not come.
+    pub fn read(&self) -> [u64; 5] {
+        [
+            self.entered.load(Ordering::SeqCst),
+            self.refused.load(Ordering::SeqCst),
+            self.snapshots.load(Ordering::SeqCst),
+            self.learned.load(Ordering::SeqCst),
+            self.strange.load(Ordering::SeqCst),
+        ]
+    }
+}
+
+/// What callers share, and when they play.
+#[derive(Drop)]
+pub struct Scene<'a, N: PoolName> {
+    pub memory: Memory,
+    pub mempool: &'a Mempool<N, Spinning>,
+    pub table: &'a Table,
+    pub counts: &'a Counts,
+    pub receipts: &'a Mutex<Vec<Receipt, Memory>>,
+    /// Where callers tell one another what they have seen.
+    pub post: &'a Mutex<Shown<N>>,
+    pub seed: u64,
+    /// How long they play, and when each of their turns begins: at the same times for all.
+    pub start: Instant,
+    pub length: Duration,
+    pub period: Duration,
+}
+
+// Keeps the receipt.
+fn note<N: PoolName>(
+    rt: &impl Wait,
+    receipts: &Mutex<Vec<Receipt, Memory>>,
+    answer: Result<Receipt, Refusal<N>>,
+) -> Came {
+    match answer {
+        Ok(receipt) => match receipts.lock(rt).push(receipt) {
+            Ok(()) => Came::Entered,
+            Err(_) => Came::Strange,
+        },
+        Err(Refusal::Foreign(_front)) => Came::Strange,
+        Err(Refusal::Pool(mp_seqpool::Refusal::NoMemory)) => Came::Strange,
+        Err(Refusal::Pool(_refusal)) => Came::Refused,
+    }
+}
+
+fn change<N: PoolName>(
+    rt: &impl Wait,
+    scene: &Scene<'_, N>,
+    pass: &mut Pass<N>,
+    command: Option<&Command>,
+) -> Came {
+    match command {
+        Some(command) => note(rt, scene.receipts, ask(rt, scene.mempool, pass, command)),
+        None => Came::Nothing,
+    }
+}
+
+// Whether it has at least so many entries, its tickets rise, and its numbers are those of its transactions.
+fn is_sound<N: PoolName>(snapshot: &Snapshot<'_, N>, least: u64) -> bool {
+    let mut count: usize = 0;
+    let mut bytes: u64 = 0;
+    let mut ticket: u64 = 0;
+    for item in snapshot.txs() {
+        if item.ticket <= ticket {
+            return false;
+        }
+        ticket = item.ticket;
+        count = count.saturating_add(1);
+        bytes = bytes.saturating_add(item.tx.size());
+    }
+    snapshot.number() >= least && snapshot.last() >= ticket && snapshot.size() == (count, bytes)
+}
+
+fn look<N: PoolName>(mempool: &Mempool<N, Spinning>, pass: &mut Pass<N>) -> Came {
+    let least = pass.front().len();
+    if is_sound(&mempool.reader().snapshot(pass), least) {
+        Came::Snapshot
+    } else {
+        Came::Strange
+    }
+}
+
+// Looks at what would stay upon another ledger state.
+fn look_upon<N: PoolName>(
+    scene: &Scene<'_, N>,
+    pass: &mut Pass<N>,
+    command: Option<&Command>,
+) -> Came {
+    let Some(Command::Sync(ledger)) = command else {
+        return Came::Nothing;
+    };
+    let least = pass.front().len();
+    match scene
+        .mempool
+        .reader()
+        .snapshot_for(scene.memory, pass, ledger)
+    {
+        Ok(kept) if kept.number >= least => Came::Snapshot,
+        _ => Came::Strange,
+    }
+}
+
+fn learn<N: PoolName>(rt: &impl Wait, scene: &Scene<'_, N>, pass: &mut Pass<N>) -> Came {
+    let told = scene.post.lock(rt).share();
+    match told {
+        Ok(shown) => {
+            scene.mempool.reader().learn(pass, shown);
+            Came::Learned
+        }
+        Err(_) => Came::Strange,
+    }
+}
+
+fn tell<N: PoolName>(rt: &impl Wait, post: &Mutex<Shown<N>>, pass: &Pass<N>) -> Came {
+    match pass.shown().share() {
+        Ok(shown) => {
+            *post.lock(rt) = shown;
+            Came::Nothing
+        }
+        Err(_) => Came::Strange,
+    }
+}
+
+// Does what the dice say.
+fn step<N: PoolName>(rt: &impl Wait, scene: &Scene<'_, N>, dice: &mut Dice, pass: &mut Pass<N>) {
+    let came = match dice.roll() % 16 {
+        0 => change(rt, scene, pass, dice.pick(&scene.table.syncs)),
+        1..=8 => change(rt, scene, pass, dice.pick(&scene.table.changes)),
+        9 | 10 => learn(rt, scene, pass),
+        11 => tell(rt, scene.post, pass),
+        12 => look_upon(scene, pass, dice.pick(&scene.table.syncs)),
+        _ => look(scene.mempool, pass),
+    };
+    scene.counts.add(came);
+}
+
+// Waits until the turn begins. False where the time is over, or the clock can't be read.
+fn wait_for<N: PoolName>(rt: &impl Clock, scene: &Scene<'_, N>, turn: u32) -> bool {
+    let due = scene.period.saturating_mul(turn);
+    let Ok(now) = scene.start.elapsed(rt) else {
+        return false;
+    };
+    if due.max(now) >= scene.length {
+        return false;
+    }
+    thread::sleep(rt, due.saturating_sub(now));
+    true
+}
+
+/// What the caller of this number does until the time is over.
+pub fn play<N: PoolName>(
+    rt: &(impl Clock + Wait),
+    scene: &Scene<'_, N>,
+    caller: usize,
+    pass: &mut Pass<N>,
+) {
+    let mut dice = Dice::of(
+        scene
+            .seed
+            .wrapping_add(caller as u64)
+            .wrapping_mul(0x9e37_79b9_7f4a_7c15),
+    );
+    for turn in 0..u32::MAX {
+        if !wait_for(rt, scene, turn) {
+            break;
+        }
+        for _ in 0..BURST {
+            step(rt, scene, &mut dice, pass);
+        }
+    }
+}

@@ -1,0 +1,52 @@
+//! What callers ask for.
+
+use crate::samples::{Commands, MANY, push_remove, push_submit, push_sync, reference};
+use mp_memory::Memory;
+use mp_testing::output_of;
+use mp_tx::TxId;
+
+/// How many outputs the ledger states have at most.
+pub const OUTPUTS: u64 = 128;
+
+// Block bytes for few transactions.
+const FEW: u64 = 2_000;
+
+/// What callers ask for.
+#[derive(Drop)]
+pub struct Table {
+    /// For each output two submits that spend it, and one that spends what the first pays; and a remove of up to three of them.
+    pub changes: Commands,
+    /// Syncs with ledger states with all outputs or some.
+    pub syncs: Commands,
+}
+
+// Gives the id of the first.
+fn push_family(memory: Memory, commands: &mut Commands, number: u64) -> Option<TxId> {
+    let spent = reference(number);
+    let id = push_submit(memory, commands, spent, &[100], false)?;
+    push_submit(memory, commands, output_of(&id, 0), &[100], false)?;
+    push_submit(memory, commands, spent, &[60, 40], false)?;
+    Some(id)
+}
+
+fn push_changes(memory: Memory, commands: &mut Commands) -> Option<()> {
+    let mut ids = [[0; 32]; 3];
+    for number in 0..OUTPUTS {
+        ids = [push_family(memory, commands, number)?, ids[0], ids[1]];
+        push_remove(memory, commands, &ids[(number % 3) as usize..])?;
+    }
+    Some(())
+}
+
+fn push_syncs(memory: Memory, commands: &mut Commands) -> Option<()> {
+    for (step, block_bytes) in [(1, MANY), (1, FEW), (2, MANY), (3, MANY)] {
+        push_sync(memory, commands, step, block_bytes, OUTPUTS)?;
+    }
+    Some(())
+}
+
+/// All that callers ask for is put into the table.
+pub fn fill(memory: Memory, table: &mut Table) -> Option<()> {
+    push_changes(memory, &mut table.changes)?;
+    push_syncs(memory, &mut table.syncs)
+}

@@ -1,7 +1,0 @@
--- What the pool of the tests is opened under.
-use Rattle.std.specs.Prelude.{false}
-use Rattle.mp_rules.specs.Verifier.{Accepts}
-
--- no signature is good
-abbrev pub nobody : Accepts
-nobody key id sig = false
