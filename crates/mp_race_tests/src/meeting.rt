@@ -46,6 +46,15 @@ impl MeetGate {
         false
     }
 
+    // How many have met, where so many transactions were taken in.
+    fn met_of(&self, accepted: u64) -> u64 {
+        if accepted == 2 {
+            self.met.load(Ordering::SeqCst)
+        } else {
+            0
+        }
+    }
+
     fn meet(&self) {
         self.begun.fetch_add(1, Ordering::SeqCst);
         if self.has_both() {
@@ -75,8 +84,8 @@ const SIGNED: &[u8] = b"out g0 100\nout g1 100\ntx a in=g0 out=100 sign=1\n\
 fn met<R: Threads + Wait + Sync>(rt: &R, memory: Memory, waits: Waits) -> u64 {
     let gate = MeetGate::of(waits);
     match race_text(rt, memory, SIGNED, 2, &gate) {
-        Ok([2, ..]) => gate.met.load(Ordering::SeqCst),
-        _ => 0,
+        Ok(numbers) => gate.met_of(numbers[0]),
+        Err(_) => 0,
     }
 }
 
