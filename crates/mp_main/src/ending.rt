@@ -9,8 +9,8 @@ use clap::error::ErrorKind;
 use mp_driver::Stop;
 use mp_history::PoolName;
 use mp_names::Reason;
-use std::{fmt, io};
 use std::process::ExitCode;
+use std::{fmt, io};
 
 const REFUSED: u8 = 2;
 

@@ -132,7 +132,9 @@ fn race_text<R: Threads + Wait + Sync>(
         Err(stop) => return end_bad_line(rt, explains, stop),
     };
     let name = NewName::new();
-    let report = match race::<Brand, R, NoGate>(threads, memory, name, &scenario, workers, &NoGate) {
+    let report = match race::<Brand, R, NoGate>(
+        threads, memory, name, &scenario, workers, &NoGate,
+    ) {
         Ok(report) => report,
         Err(fault) => return end_fault(rt, fault),
     };

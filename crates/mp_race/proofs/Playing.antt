@@ -86,7 +86,7 @@ dealt-append j workers w (t ∷ ts) us =
     let rest : dealt_from (j + 1) workers w (ts ++ us) ≡ dealt_from (j + 1) workers w ts ++ dealt_from (j + length (t ∷ ts)) workers w us =
     dealt-append (j + 1) workers w ts us ∙ ap (λ n. dealt_from (j + 1) workers w ts ++ dealt_from n workers w us) e in
     elim (j % workers == w) as (λ b. cond b (t ∷ dealt_from (j + 1) workers w (ts ++ us)) (dealt_from (j + 1) workers w (ts ++ us))
-        ≡ cond b (t ∷ dealt_from (j + 1) workers w ts) (dealt_from (j + 1) workers w ts) ++ dealt_from (j + length (t ∷ ts)) workers w us) [
+    ≡ cond b (t ∷ dealt_from (j + 1) workers w ts) (dealt_from (j + 1) workers w ts) ++ dealt_from (j + length (t ∷ ts)) workers w us) [
       | true ↦ ap (λ l. t ∷ l) rest
       | false ↦ rest
     ]

@@ -72,10 +72,10 @@ impl<N: PoolName> Gathered<N> {
         ensures worker { IfOk result (λ g. g.is_sure ≡ true → worker.is_sure ≡ true) }
         ensures gathered { (opening : Pool) (ts : List Task) → IfOk result (λ g.
             AreGathered N.accepts N.callers opening ts
-                self.front self.passes.items self.receipts.items
+            self.front self.passes.items self.receipts.items
             → HasReceipts N.accepts N.callers opening ts worker.pass worker.receipts.items
             → AreGathered N.accepts N.callers opening ts
-                g.front g.passes.items g.receipts.items) }
+            g.front g.passes.items g.receipts.items) }
     {
         let Gathered {
             front,
@@ -113,7 +113,7 @@ pub fn gather<N: PoolName>(
     ensures { (opening : Pool) (ts : List Task) → front.opening ≡ opening
         → All (IsBack N.accepts N.callers opening ts) workers.items
         → IfOk result (λ g. g.is_sure ≡ true → AreGathered N.accepts N.callers opening ts
-            g.front g.passes.items g.receipts.items) }
+        g.front g.passes.items g.receipts.items) }
 {
     let mut gathered = Gathered::new(memory, front);
     for worker in workers {

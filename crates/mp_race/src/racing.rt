@@ -44,13 +44,15 @@ fn work_all<N: PoolName + Send + Sync, R: Threads + Wait + Sync, G: Gate>(
     ensures { (opening : Pool) → All (IsUnused opening) passes.items → IfOk result (λ done.
         All (IsBack N.accepts workers opening (tasks_of tasks.now)) done.items) }
 {
-    Ok(map_vec(rt, passes, &|pass: Pass<N>| -> Result<Worker<N>, NoMemory>
-        requires { 1 ≤ workers }
-        ensures { (opening : Pool) → IsUnused opening pass
-            → IsBack N.accepts workers opening (tasks_of tasks.entry.now) result }
-    {
-        work(rt, memory, mempool, gate, tasks, workers, pass)
-    })?)
+    Ok(map_vec(
+        rt,
+        passes,
+        &|pass: Pass<N>| -> Result<Worker<N>, NoMemory>
+            requires { 1 ≤ workers }
+            ensures { (opening : Pool) → IsUnused opening pass
+                → IsBack N.accepts workers opening (tasks_of tasks.entry.now) result }
+        { work(rt, memory, mempool, gate, tasks, workers, pass) },
+    )?)
 }
 
 // Opens the pool of a race.
@@ -134,7 +136,7 @@ fn explain<N: PoolName>(
     requires { workers ≡ N.callers }
     ensures { (opening : Pool) (ts : List told.Task) → (gathered.is_sure ≡ true
         → AreGathered N.accepts N.callers opening ts
-            gathered.front gathered.passes.items gathered.receipts.items)
+        gathered.front gathered.passes.items gathered.receipts.items)
         → IfOk result (λ es. IsExplained N.accepts opening workers ts es.items) }
 {
     let Gathered {

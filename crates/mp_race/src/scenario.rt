@@ -40,9 +40,9 @@ impl Model for Scenario {
     ghost coded = { Prim.hlevel (codes, finite.code) };
 
     ghost view = { λ s. record {
-        config = s.config;
-        ledger = s.ledger;
-        tasks = tasks_of s.tasks.items;
+      config = s.config;
+      ledger = s.ledger;
+      tasks = tasks_of s.tasks.items;
     } };
 
     ghost invariant = { λ s. IsLimit s.config.limit };

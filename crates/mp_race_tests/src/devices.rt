@@ -30,7 +30,11 @@ const TEXTS: [(Fault, u64, &str); 8] = [
     (Fault::WriteFault, 4, "fault: write"),
     (Fault::Audit(AuditFault::NoMemory), 5, "fault: no memory"),
     (Fault::Audit(AuditFault::WrongReply(3)), 5, "fault: audit 3"),
-    (Fault::Audit(AuditFault::StrangeCaller(4)), 5, "fault: audit 4"),
+    (
+        Fault::Audit(AuditFault::StrangeCaller(4)),
+        5,
+        "fault: audit 4",
+    ),
     (Fault::MissingEntry(9), 6, "fault: missing entry 9"),
 ];
 

@@ -14,7 +14,11 @@ use std::io;
 use std::sync::Wait;
 use std::thread::Threads;
 
-fn check_all<R: Print + Threads + Wait + Sync>(rt: &R, memory: Memory, alloc: Global) -> io::Result<()> {
+fn check_all<R: Print + Threads + Wait + Sync>(
+    rt: &R,
+    memory: Memory,
+    alloc: Global,
+) -> io::Result<()> {
     println!(rt; "reports {}", reports::held(rt, memory)?)?;
     println!(rt; "meetings {}", meeting::held(rt, memory)?)?;
     println!(rt; "devices {}", devices::held(rt, memory, alloc)?)?;

@@ -32,7 +32,11 @@ const CASES: [Case; 9] = [
         64,
         Ok([2, 1, 0, 0, 1, 2, 42]),
     ),
-    (b"snapshot\n# a comment\nsnapshot\nafter 0\nafter 0\n", 2, Err((2, 4))),
+    (
+        b"snapshot\n# a comment\nsnapshot\nafter 0\nafter 0\n",
+        2,
+        Err((2, 4)),
+    ),
     (b"snapshot\nlimit 9\n", 2, Err((2, 2))),
     (b"snapshot\nout g0 1\n", 2, Err((2, 2))),
     (b"for 0\nnothing\n", 2, Err((2, 1))),
@@ -56,7 +60,12 @@ fn held_cases<R: Print + Threads + Wait + Sync>(rt: &R, memory: Memory) -> io::R
 }
 
 // Puts a line of the form with the number in place of each `#`.
-fn put_line(memory: Memory, text: &mut Vec<u8, Memory>, form: &[u8], number: u32) -> Result<(), NoMemory> {
+fn put_line(
+    memory: Memory,
+    text: &mut Vec<u8, Memory>,
+    form: &[u8],
+    number: u32,
+) -> Result<(), NoMemory> {
     for byte in form {
         if *byte == b'#' {
             text.extend_from_slice(number.to_string(memory)?.as_bytes())?;
@@ -71,7 +80,11 @@ fn put_line(memory: Memory, text: &mut Vec<u8, Memory>, form: &[u8], number: u32
 fn independent(memory: Memory, number: u32) -> Result<Vec<u8, Memory>, NoMemory> {
     let mut text = Vec::new(memory);
     text.extend_from_slice(b"block 1000000\n")?;
-    for form in [b"out g# 100\n".as_slice(), b"tx t# in=g# out=100\n".as_slice(), b"submit t#\n".as_slice()] {
+    for form in [
+        b"out g# 100\n".as_slice(),
+        b"tx t# in=g# out=100\n".as_slice(),
+        b"submit t#\n".as_slice(),
+    ] {
         for place in 0..number {
             put_line(memory, &mut text, form, place)?;
         }

@@ -29,29 +29,27 @@ loop-place-preserved g c = λ opening unused.
     let len : length before ≡ k = length-map (take k ts) task_of ∙ length-take-le k ts (omega (arith, c.loop-place-test.true)) in
     elim c.if-place-workers.branch [
       | then-place-workers+in_ok-is_sure+else-not-is_sure w ↦
-        let its : (length before % workers == p.caller) ≡ true =
-        subst (λ n. (n % workers == p.caller) ≡ true) (sym len) (subst (λ n. (k % workers == n) ≡ true) (w.if-place-workers.true ∙ sym h.1) (eqb-refl (k % workers))) in
-        let did = w.in_ok-is_sure.ensures w.if-not-is_sure.false in
-        let after : HasReceipts accepts workers opening (before ++ task_of d ∷ []) w.do_task.new.pass w.do_task.new.receipts.items =
-        does accepts callers workers opening before p rs h.0 (task_of d) w.do_task.new.pass w.do_task.new.receipts.items its did in
-        (
-          subst (λ l. HasReceipts accepts workers opening l c.if-place-workers.pass c.if-place-workers.receipts.items) (sym tasks_more) (
-          subst (λ q. HasReceipts accepts workers opening (before ++ task_of d ∷ []) q c.if-place-workers.receipts.items) (sym w.pass-is)
-          (subst (λ ss. HasReceipts accepts workers opening (before ++ task_of d ∷ []) w.do_task.new.pass ss.items) (sym w.receipts-is) after)
-          ),
-          ap (λ (q : Pass). q.caller) w.pass-is ∙ same_caller accepts callers workers opening p rs (task_of d) w.do_task.new.pass w.do_task.new.receipts.items did ∙ h.1,
-        )
+          let its : (length before % workers == p.caller) ≡ true =
+          subst (λ n. (n % workers == p.caller) ≡ true) (sym len) (subst (λ n. (k % workers == n) ≡ true) (w.if-place-workers.true ∙ sym h.1) (eqb-refl (k % workers))) in
+          let did = w.in_ok-is_sure.ensures w.if-not-is_sure.false in
+          let after : HasReceipts accepts workers opening (before ++ task_of d ∷ []) w.do_task.new.pass w.do_task.new.receipts.items =
+          does accepts callers workers opening before p rs h.0 (task_of d) w.do_task.new.pass w.do_task.new.receipts.items its did in (
+            subst (λ l. HasReceipts accepts workers opening l c.if-place-workers.pass c.if-place-workers.receipts.items) (sym tasks_more) (
+                subst (λ q. HasReceipts accepts workers opening (before ++ task_of d ∷ []) q c.if-place-workers.receipts.items) (sym w.pass-is)
+                (subst (λ ss. HasReceipts accepts workers opening (before ++ task_of d ∷ []) w.do_task.new.pass ss.items) (sym w.receipts-is) after)
+                ),
+            ap (λ (q : Pass). q.caller) w.pass-is ∙ same_caller accepts callers workers opening p rs (task_of d) w.do_task.new.pass w.do_task.new.receipts.items did ∙ h.1,
+          )
       | else-place-workers w ↦
-        let others : (length before % workers == p.caller) ≡ false =
-        subst (λ n. (n % workers == p.caller) ≡ false) (sym len) (apart (k % workers) p.caller (λ same. w.if-place-workers.false (sym same ∙ h.1))) in
-        let after : HasReceipts accepts workers opening (before ++ task_of d ∷ []) p rs = skips accepts callers workers opening before (task_of d) p rs others h.0 in
-        (
-          subst (λ l. HasReceipts accepts workers opening l c.if-place-workers.pass c.if-place-workers.receipts.items) (sym tasks_more) (
-          subst (λ q. HasReceipts accepts workers opening (before ++ task_of d ∷ []) q c.if-place-workers.receipts.items) (sym w.pass-is)
-          (subst (λ ss. HasReceipts accepts workers opening (before ++ task_of d ∷ []) p ss.items) (sym w.receipts-is) after)
-          ),
-          ap (λ (q : Pass). q.caller) w.pass-is ∙ h.1,
-        )
+          let others : (length before % workers == p.caller) ≡ false =
+          subst (λ n. (n % workers == p.caller) ≡ false) (sym len) (apart (k % workers) p.caller (λ same. w.if-place-workers.false (sym same ∙ h.1))) in
+          let after : HasReceipts accepts workers opening (before ++ task_of d ∷ []) p rs = skips accepts callers workers opening before (task_of d) p rs others h.0 in (
+            subst (λ l. HasReceipts accepts workers opening l c.if-place-workers.pass c.if-place-workers.receipts.items) (sym tasks_more) (
+                subst (λ q. HasReceipts accepts workers opening (before ++ task_of d ∷ []) q c.if-place-workers.receipts.items) (sym w.pass-is)
+                (subst (λ ss. HasReceipts accepts workers opening (before ++ task_of d ∷ []) p ss.items) (sym w.receipts-is) after)
+                ),
+            ap (λ (q : Pass). q.caller) w.pass-is ∙ h.1,
+          )
     ]
 
 pub returns : goal.returns
