@@ -1,6 +1,6 @@
 -- The receipts of all workers explain what each was answered.
-use Rattle.std.proofs.Common.{◌≡◌, ℕ, zero, suc, ◌+◌, ◌<◌, ◌≤◌, List, [], ◌∷◌, ◌++◌, length, take, get_or, refl, sym, ap, subst, ◌∙◌, arith}
-use Rattle.std.specs.Prelude.{Option, IfSome, All}
+use Rattle.std.proofs.Common.{◌≡◌, ℕ, zero, suc, ◌+◌, ◌<◌, ◌≤◌, List, [], ◌∷◌, ◌++◌, length, take, get_or, sym, ap, subst, ◌∙◌, arith}
+use Rattle.std.specs.Prelude.{All}
 use Rattle.std.proofs.lemmas.List.{take_all}
 use Rattle.std.proofs.lemmas.List.Elements.{All-head, All-tail, All-push, All-append, All-nil}
 use Rattle.mp_rules.specs.Verifier.{Accepts}
@@ -10,7 +10,7 @@ use Rattle.mp_history.specs.Log.{Log, Begins, IsLegalLog, last_of}
 use Rattle.mp_mempool.specs.declared.receipt.Receipt.{Receipt}
 use Rattle.mp_mempool.specs.Pass.{Pass}
 use Rattle.mp_race.specs.Task.{Task}
-use Rattle.mp_race.specs.Race.{own, dealt, Plays, IsRace}
+use Rattle.mp_race.specs.Race.{own, dealt, Plays}
 use Rattle.mp_race.specs.Inside.Work.{upto, made, Stands, HasDone, HasReceipts, AreNumbered}
 use Rattle.mp_race.specs.Inside.Gathered.{AreGathered, IsExplained}
 use Rattle.mp_race.proofs.Playing.{own-last, upto-append, begins-trans, plays_on}

@@ -1,9 +1,8 @@
 -- What a worker made, and what it is answered.
-use Rattle.std.proofs.Common.{◌≡◌, ◌≢◌, ℕ, zero, suc, ◌+◌, ◌<◌, ◌≤◌, true, false, Bool, cond, List, [], ◌∷◌, ◌++◌, length, take, get_or, refl, sym, ap, subst, ◌∙◌, arith, append_assoc, append-nil, length-append, eqb-true}
-use Rattle.std.specs.Prelude.{◌==◌, ◌%◌, ◌⊎◌, Option, None, Some, option_map, IfSome, slice_get, All, Err}
+use Rattle.std.proofs.Common.{◌≡◌, ℕ, suc, ◌+◌, ◌<◌, true, false, cond, List, [], ◌∷◌, ◌++◌, length, take, refl, sym, ap, subst, ◌∙◌, arith, append-nil}
+use Rattle.std.specs.Prelude.{◌==◌, ◌%◌, Option, None, Some, option_map, IfSome}
 use Rattle.std.specs.Option.{option_or}
 use mathlib.Core.Logic.{inl, inr}
-use mathlib.Core.List.{IsPrefix}
 use Rattle.std.proofs.lemmas.List.{take-append-le}
 use Rattle.mp_rules.specs.Verifier.{Accepts}
 use Rattle.mp_seqpool.specs.Command.{Command}
@@ -12,7 +11,7 @@ use Rattle.mp_history.specs.Log.{Log, Begins, last_of}
 use Rattle.mp_history.proofs.Law.{eqb-refl}
 use Rattle.mp_history.proofs.Prefixes.{prefix_trans}
 use Rattle.mp_race.specs.Task.{Task, Change, Look}
-use Rattle.mp_race.specs.Race.{own, dealt_from, IsEntry, IsRefused, Plays}
+use Rattle.mp_race.specs.Race.{own, dealt_from, IsRefused, Plays}
 use Rattle.mp_race.specs.Inside.Work.{upto}
 
 -- The entries of one worker.

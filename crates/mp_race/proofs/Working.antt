@@ -10,13 +10,13 @@ use Rattle.mp_seqpool.specs.Command.{Command}
 use Rattle.mp_seqpool.specs.Pool.{Pool}
 use Rattle.mp_seqpool.specs.SlowPool.{answer}
 use Rattle.mp_history.specs.Entry.{Entry}
-use Rattle.mp_history.specs.Log.{Log, Begins, last_of, state_after}
+use Rattle.mp_history.specs.Log.{Log, Begins, state_after}
 use Rattle.mp_mempool.specs.declared.receipt.Receipt.{Receipt}
 use Rattle.mp_mempool.specs.Pass.{Pass}
 use Rattle.mp_mempool.specs.Answers.{IsEntered, IsRefusedAt, IsSeen, AreOthers, seen, with_entry, continued}
 use Rattle.mp_race.specs.Task.{Task, Change, Look}
-use Rattle.mp_race.specs.Race.{own, dealt, dealt_from, IsEntry, IsRefused, Plays}
-use Rattle.mp_race.specs.Inside.Work.{upto, made, Stands, IsUnused, Does, HasDone, HasReceipts}
+use Rattle.mp_race.specs.Race.{own, dealt, Plays}
+use Rattle.mp_race.specs.Inside.Work.{upto, made, Stands, IsUnused, Does, HasReceipts}
 use Rattle.mp_race.proofs.Playing.{own-append, own-one, own-last, upto-append, begins-refl, begins-more, dealt-append, plays_on, plays_then}
 
 -- what stands at a place stays there where more comes behind

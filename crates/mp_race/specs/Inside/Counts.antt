@@ -1,5 +1,5 @@
 -- Counting replies.
-use Rattle.std.specs.Prelude.{ℕ, ◌+◌, List}
+use Rattle.std.specs.Prelude.{◌+◌, List}
 use Rattle.mp_seqpool.specs.declared.command.Reply.{Reply}
 use Rattle.mp_seqpool.specs.declared.command.Reply.TheVariants.{Accepted, Removed, Synced}
 use Rattle.mp_history.specs.Entry.{Entry}

@@ -1,10 +1,10 @@
 -- How far a worker is.
-use Rattle.std.specs.Prelude.{◌≡◌, ◌⊎◌, ℕ, ◌+◌, ◌<◌, true, List, [], ◌∷◌, ◌++◌, length, take, Option, None, Some, IfSome, All, Result, Ok, Err, slice_get}
+use Rattle.std.specs.Prelude.{◌≡◌, ◌⊎◌, ℕ, ◌+◌, ◌<◌, List, [], ◌∷◌, ◌++◌, length, take, Option, None, Some, IfSome, All, slice_get}
 use Rattle.mp_rules.specs.Verifier.{Accepts}
 use Rattle.mp_seqpool.specs.declared.refusal.Refusal.{Refusal}
 use Rattle.mp_seqpool.specs.Pool.{Pool}
 use Rattle.mp_history.specs.Entry.{Entry}
-use Rattle.mp_history.specs.Log.{Log, Begins, IsLegalLog, last_of}
+use Rattle.mp_history.specs.Log.{Log, last_of}
 use Rattle.mp_mempool.specs.declared.receipt.Receipt.{Receipt}
 use Rattle.mp_mempool.specs.Pass.{Pass}
 use Rattle.mp_mempool.specs.Answers.{IsEntered, IsRefusedAt, IsSeen}

@@ -1,4 +1,4 @@
-use Rattle.std.proofs.Common.{rules, ◌≡◌, ◌≤◌, List, length, sym, subst, ◌∙◌}
+use Rattle.std.proofs.Common.{rules, ◌≡◌, ◌≤◌, List, length, sym, subst}
 use Rattle.mp_history.specs.Entry.{Entry}
 use Rattle.mp_race.specs.Inside.Work.{AreNumbered}
 use Rattle.mp_race.specs.Inside.Gathered.{IsExplained}

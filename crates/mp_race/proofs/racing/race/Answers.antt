@@ -1,9 +1,8 @@
-use Rattle.std.proofs.Common.{◌≡◌, sym, subst, ◌∙◌}
+use Rattle.std.proofs.Common.{sym, subst, ◌∙◌}
 use Rattle.std.specs.Prelude.{Result, Ok, Err, IfOk}
 use Rattle.mp_seqpool.specs.Pool.{Pool}
 use Rattle.mp_mempool.specs.Opening.{fresh_log}
 use Rattle.mp_race.specs.Race.{IsRace}
-use Rattle.mp_race.specs.Report.{IsReportOf}
 use Rattle.mp_race.proofs.racing.race.Goals as goal
 
 if_ok : {X E : Type 0} (P Q : X → Type 0) (r : Result X E) → ((x : X) → P x → Q x) → IfOk r P → IfOk r Q

@@ -1,12 +1,11 @@
 use Rattle.std.proofs.Common.{◌≡◌, ℕ, ◌+◌, ◌%◌, List, [], ◌∷◌, ◌++◌, take, length, true, false, sym, ap, subst, ◌∙◌, arith}
 use Rattle.std.specs.Prelude.{◌==◌}
 use Rattle.std.proofs.lemmas.List.{take_all, take_more, length-take-le, length-map, map-append}
-use Rattle.mp_seqpool.specs.Pool.{Pool}
 use Rattle.mp_history.proofs.Law.{eqb-refl}
 use Rattle.mp_mempool.specs.Pass.{Pass}
 use Rattle.mp_race.specs.declared.task.Task.{Task}
 use Rattle.mp_race.specs.Inside.Task.{task_of, tasks_of}
-use Rattle.mp_race.specs.Inside.Work.{IsUnused, HasReceipts}
+use Rattle.mp_race.specs.Inside.Work.{HasReceipts}
 use Rattle.mp_race.proofs.Ordered.{apart}
 use Rattle.mp_race.proofs.Working.{does, skips, same_caller}
 use Rattle.mp_race.proofs.worker.work.Goals as goal
