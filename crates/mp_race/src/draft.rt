@@ -113,7 +113,8 @@ impl Draft {
     /// `Bad` where a setting comes twice or below a task, where an output comes below a task or is the 65,537th, and where the
     /// line asks what only reads and is no snapshot.
     pub fn take<'a>(&mut self, memory: Memory, line: Line) -> Result<(), LineFault<'a>>
-        ensures ok { OnOk result (take (draft_of self.old) (to_line line) ≡ Some (draft_of self.new)) }
+        ensures ok { OnOk result
+            (take (draft_of self.old) (to_line line) ≡ Some (draft_of self.new)) }
         ensures bad { IsBad result → take (draft_of self.old) (to_line line) ≡ None }
     {
         match line {
