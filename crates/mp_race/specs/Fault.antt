@@ -1,4 +1,4 @@
--- The numbers of faults.
+-- The numbers of faults, and which a race may end with.
 use Rattle.std.specs.Prelude.{ℕ}
 use Rattle.mp_race.specs.declared.fault.Fault.{Fault}
 use Rattle.mp_race.specs.declared.fault.Fault.TheVariants.{NoMemory, BadLine, ReadFault, WriteFault, Audit, MissingEntry}
@@ -10,3 +10,12 @@ number ReadFault = 3
 number WriteFault = 4
 number (Audit fault) = 5
 number (MissingEntry place) = 6
+
+-- Of what was read before, a race tells nothing.
+abbrev pub IsOfRace : Fault → Type 0
+IsOfRace NoMemory = Unit {0}
+IsOfRace (BadLine line) = ⊥
+IsOfRace ReadFault = ⊥
+IsOfRace WriteFault = ⊥
+IsOfRace (Audit fault) = Unit {0}
+IsOfRace (MissingEntry place) = Unit {0}

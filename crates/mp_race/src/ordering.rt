@@ -1,7 +1,8 @@
 //! The history that receipts tell of.
 
-ghost use Rattle.std.specs.Prelude.{◌≡◌, true, length, take, All, IfOk};
+ghost use Rattle.std.specs.Prelude.{◌≡◌, true, length, take, All, IfOk, IfErr};
 ghost use Rattle.mp_history.specs.Log.{Log, last_of};
+ghost use Rattle.mp_race.specs.Fault.{IsOfRace};
 ghost use Rattle.mp_race.specs.Inside.Work.{Stands, AreNumbered};
 
 use crate::fault::Fault;
@@ -17,8 +18,9 @@ pub fn history_of(
     memory: Memory,
     mut receipts: Vec<Receipt, Memory>,
 ) -> Result<Vec<Entry, Memory>, Fault>
-    ensures { (log : Log) → All (Stands log) receipts.items
+    ensures history { (log : Log) → All (Stands log) receipts.items
         → IfOk result (λ es. es.items ≡ take (length es.items) log.entries) }
+    ensures fault { IfErr result IsOfRace }
 {
     receipts.sort_by_key(|receipt| receipt.place)?;
     let mut entries = Vec::with_capacity(memory, receipts.len())?;

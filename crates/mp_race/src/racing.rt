@@ -1,12 +1,13 @@
 //! A race of workers.
 
-ghost use Rattle.std.specs.Prelude.{◌≡◌, ◌<◌, ◌≤◌, true, List, length, All, IfOk};
+ghost use Rattle.std.specs.Prelude.{◌≡◌, ◌<◌, ◌≤◌, true, List, length, All, IfOk, IfErr};
 ghost use Rattle.mp_seqpool.specs.Pool.{Pool};
 ghost use Rattle.mp_history.specs.Log.{Log, IsLegalLog, state_after};
 ghost use Rattle.mp_history.specs.PoolName.{head_of};
 ghost use Rattle.mp_mempool.specs.Opening.{fresh_log, fresh_passes};
 ghost use Rattle.mp_driver.specs.Verifier.{is_key_and_id};
 ghost use Rattle.mp_race.specs.Task as told;
+ghost use Rattle.mp_race.specs.Fault.{IsOfRace};
 ghost use Rattle.mp_race.specs.Report.{report_of, IsReportOf};
 ghost use Rattle.mp_race.specs.Inside.Task.{tasks_of};
 ghost use Rattle.mp_race.specs.Inside.Work.{IsUnused};
@@ -134,10 +135,11 @@ fn explain<N: PoolName>(
     gathered: Gathered<N>,
 ) -> Result<Vec<Entry, Memory>, Fault>
     requires { workers ≡ N.callers }
-    ensures { (opening : Pool) (ts : List told.Task) → (gathered.is_sure ≡ true
+    ensures history { (opening : Pool) (ts : List told.Task) → (gathered.is_sure ≡ true
         → AreGathered N.accepts N.callers opening ts
         gathered.front gathered.passes.items gathered.receipts.items)
         → IfOk result (λ es. IsExplained N.accepts opening workers ts es.items) }
+    ensures fault { IfErr result IsOfRace }
 {
     let Gathered {
         front,
@@ -164,9 +166,10 @@ fn audit_last(
     workers: u32,
     entries: &[Entry],
 ) -> Result<u64, Fault>
-    ensures { (log : Log) → log.entries ≡ entries.now
+    ensures last { (log : Log) → log.entries ≡ entries.now
         → log.opening ≡ (fresh_log scenario.now.config scenario.now.ledger).opening
         → IfOk result (λ last. last ≡ (state_after is_key_and_id log).last) }
+    ensures fault { IfErr result IsOfRace }
 {
     let config = mp_seqpool::Config {
         limit: scenario.config.limit,
@@ -193,9 +196,10 @@ fn report_on(
     workers: u32,
     entries: &[Entry],
 ) -> Result<Report, Fault>
-    ensures { (log : Log) → log.entries ≡ entries.now
+    ensures report { (log : Log) → log.entries ≡ entries.now
         → log.opening ≡ (fresh_log scenario.now.config scenario.now.ledger).opening
         → IfOk result (λ r. r ≡ report_of is_key_and_id workers scenario.now.tasks log) }
+    ensures fault { IfErr result IsOfRace }
 {
     let last = audit_last(memory, scenario, workers, entries)?;
     let counts = count_replies(entries);
@@ -236,7 +240,8 @@ pub fn race<N: PoolName + Send + Sync, R: Threads + Wait + Sync, G: Gate>(
     requires accepts { N.accepts ≡ is_key_and_id }
     requires some { 1 ≤ workers }
     requires most { workers ≤ 64 }
-    ensures { IfOk result (IsReportOf is_key_and_id workers scenario.now) }
+    ensures report { IfOk result (IsReportOf is_key_and_id workers scenario.now) }
+    ensures fault { IfErr result IsOfRace }
 {
     let gathered = run_workers::<N, R, G>(rt, memory, name, scenario, workers, gate)?;
     let entries = explain(memory, workers, gathered)?;

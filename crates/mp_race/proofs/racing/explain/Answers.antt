@@ -5,8 +5,8 @@ use Rattle.mp_race.specs.Inside.Gathered.{IsExplained}
 use Rattle.mp_race.proofs.Explaining.{explained}
 use Rattle.mp_race.proofs.racing.explain.Goals as goal
 
-pub returns : goal.returns
-returns g c = λ opening ts given.
+pub returns-clause-history : goal.returns-clause-history
+returns-clause-history g c = λ opening ts given.
     let accepts = g.N.PoolName.accepts in
     let callers = g.N.PoolName.callers in
     let log = c.args.gathered.front in
@@ -18,4 +18,4 @@ returns g c = λ opening ts given.
     let numbered : AreNumbered es 0 ps =
     subst (λ l. AreNumbered l 0 ps) c.deref-else-len-workers.ensures.value (subst (AreNumbered c.deref-else-len-workers.result.now 0) c.deref.ensures.value (c.all_know.ensures c.if-not-all_know.false)) in
     subst (λ n. IsExplained accepts opening n ts es) (sym c.requires)
-    (explained accepts callers opening ts log ps c.args.gathered.receipts.items es is (c.in_ok-entries.ensures log is.stand) few number numbered)
+    (explained accepts callers opening ts log ps c.args.gathered.receipts.items es is (c.in_ok-entries.ensures.history log is.stand) few number numbered)

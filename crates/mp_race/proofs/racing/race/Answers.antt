@@ -9,13 +9,13 @@ if_ok : {X E : Type 0} (P Q : X → Type 0) (r : Result X E) → ((x : X) → P 
 if_ok P Q (Ok x) more is = more x is
 if_ok P Q (Err e) more is = tt
 
-pub returns : goal.returns
-returns g c =
+pub returns-clause-report : goal.returns-clause-report
+returns-clause-report g c =
     let s = c.args.scenario.now in
     let opening : Pool = (fresh_log s.config s.ledger).opening in
-    let x = c.in_ok-entries.ensures opening s.tasks c.in_ok-gathered.ensures in
+    let x = c.in_ok-entries.ensures.history opening s.tasks c.in_ok-gathered.ensures in
     if_ok _ _ c.report_on.result (λ r is. record {
       log = x.log;
       race = subst (λ a. IsRace a opening c.args.workers s.tasks x.log) c.requires.accepts x.race;
       report = is;
-    }) (c.report_on.ensures x.log (x.entries ∙ sym c.deref.ensures.value) x.race.opens)
+    }) (c.report_on.ensures.report x.log (x.entries ∙ sym c.deref.ensures.value) x.race.opens)
