@@ -11,11 +11,11 @@ number WriteFault = 4
 number (Audit fault) = 5
 number (MissingEntry place) = 6
 
--- Of what was read before, a race tells nothing.
+-- Of what was read before a race tells nothing, and its history is legal.
 abbrev pub IsOfRace : Fault → Type 0
 IsOfRace NoMemory = Unit {0}
 IsOfRace (BadLine line) = ⊥
 IsOfRace ReadFault = ⊥
 IsOfRace WriteFault = ⊥
-IsOfRace (Audit fault) = Unit {0}
+IsOfRace (Audit fault) = ⊥
 IsOfRace (MissingEntry place) = Unit {0}

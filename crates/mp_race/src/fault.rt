@@ -17,7 +17,7 @@ pub enum Fault {
     BadLine(u64),
     ReadFault,
     WriteFault,
-    /// The history that the receipts tell of isn't legal.
+    /// A history isn't legal. No race ends so.
     Audit(AuditFault),
     /// The least place of the history of which no receipt tells, or two do, or their number where the pool has more entries.
     MissingEntry(u64),

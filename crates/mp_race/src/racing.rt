@@ -2,7 +2,7 @@
 
 ghost use Rattle.std.specs.Prelude.{◌≡◌, ◌<◌, ◌≤◌, true, List, length, All, IfOk, IfErr};
 ghost use Rattle.mp_seqpool.specs.Pool.{Pool};
-ghost use Rattle.mp_history.specs.Log.{Log, IsLegalLog, state_after};
+ghost use Rattle.mp_history.specs.Log.{Log, IsLegal, IsLegalLog, state_after};
 ghost use Rattle.mp_history.specs.PoolName.{head_of};
 ghost use Rattle.mp_mempool.specs.Opening.{fresh_log, fresh_passes};
 ghost use Rattle.mp_driver.specs.Verifier.{is_key_and_id};
@@ -166,6 +166,8 @@ fn audit_last(
     workers: u32,
     entries: &[Entry],
 ) -> Result<u64, Fault>
+    requires { IsLegal is_key_and_id workers
+        (fresh_log scenario.now.config scenario.now.ledger).opening entries.now }
     ensures last { (log : Log) → log.entries ≡ entries.now
         → log.opening ≡ (fresh_log scenario.now.config scenario.now.ledger).opening
         → IfOk result (λ last. last ≡ (state_after is_key_and_id log).last) }
@@ -185,7 +187,8 @@ fn audit_last(
     ) {
         Ok(pool) => Ok(pool.last_ticket()),
         Err(AuditFault::NoMemory) => Err(Fault::NoMemory),
-        Err(fault) => Err(Fault::Audit(fault)),
+        Err(AuditFault::WrongReply(_)) => unreachable!(),
+        Err(AuditFault::StrangeCaller(_)) => unreachable!(),
     }
 }
 
@@ -196,6 +199,8 @@ fn report_on(
     workers: u32,
     entries: &[Entry],
 ) -> Result<Report, Fault>
+    requires { IsLegal is_key_and_id workers
+        (fresh_log scenario.now.config scenario.now.ledger).opening entries.now }
     ensures report { (log : Log) → log.entries ≡ entries.now
         → log.opening ≡ (fresh_log scenario.now.config scenario.now.ledger).opening
         → IfOk result (λ r. r ≡ report_of is_key_and_id workers scenario.now.tasks log) }
@@ -226,7 +231,7 @@ fn report_on(
 /// # Errors
 /// `NoMemory`, where it was wanting for any worker, after all have ended. `MissingEntry` with the least place of the history below
 /// the number of the receipts of which no receipt tells, or two do, and with their number where the pool has another entry. None is
-/// to be met, as little as `Audit`.
+/// to be met.
 pub fn race<N: PoolName + Send + Sync, R: Threads + Wait + Sync, G: Gate>(
     rt: &R,
     memory: Memory,
