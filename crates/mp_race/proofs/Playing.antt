@@ -10,7 +10,7 @@ use Rattle.mp_history.specs.Entry.{Entry}
 use Rattle.mp_history.specs.Log.{Log, Begins, last_of}
 use Rattle.mp_history.proofs.Law.{eqb-refl}
 use Rattle.mp_history.proofs.Prefixes.{prefix_trans}
-use Rattle.mp_race.specs.Task.{Task, Change, Look}
+use Rattle.mp_race.specs.Task.{Task, Change, Read}
 use Rattle.mp_race.specs.Race.{own, dealt_from, IsRefused, Plays}
 use Rattle.mp_race.specs.Inside.Work.{upto}
 
@@ -103,13 +103,13 @@ module _ (accepts : Accepts) where
 
   pub plays_on : (a b : Log) (w : ℕ) (made : List Entry) (ts : List Task) (end : List Entry) → Begins a b → Plays accepts a w made ts end → Plays accepts b w made ts end
   plays_on a b w made [] end begins is = is
-  plays_on a b w made (Look ∷ ts) end begins is = plays_on a b w made ts end begins is
+  plays_on a b w made (Read ∷ ts) end begins is = plays_on a b w made ts end begins is
   plays_on a b w made (Change c ∷ ts) end begins (inl is) = inl (is.0, is.1, plays_on a b w (made ++ is.0 ∷ []) ts end begins is.2)
   plays_on a b w made (Change c ∷ ts) end begins (inr is) = inr (refused_on a b w made c begins is.0, plays_on a b w made ts end begins is.1)
 
   -- one list of tasks after another
   pub plays_then : (log : Log) (w : ℕ) (made : List Entry) (ts us : List Task) (middle end : List Entry) → Plays accepts log w made ts middle → Plays accepts log w middle us end → Plays accepts log w made (ts ++ us) end
   plays_then log w made [] us middle end first then = subst (λ l. Plays accepts log w l us end) (sym first) then
-  plays_then log w made (Look ∷ ts) us middle end first then = plays_then log w made ts us middle end first then
+  plays_then log w made (Read ∷ ts) us middle end first then = plays_then log w made ts us middle end first then
   plays_then log w made (Change c ∷ ts) us middle end (inl is) then = inl (is.0, is.1, plays_then log w (made ++ is.0 ∷ []) ts us middle end is.2 then)
   plays_then log w made (Change c ∷ ts) us middle end (inr is) then = inr (is.0, plays_then log w made ts us middle end is.1 then)

@@ -14,7 +14,7 @@ use Rattle.mp_history.specs.Log.{Log, Begins, state_after}
 use Rattle.mp_mempool.specs.declared.receipt.Receipt.{Receipt}
 use Rattle.mp_mempool.specs.Pass.{Pass}
 use Rattle.mp_mempool.specs.Answers.{IsEntered, IsRefusedAt, IsSeen, AreOthers, seen, with_entry, continued}
-use Rattle.mp_race.specs.Task.{Task, Change, Look}
+use Rattle.mp_race.specs.Task.{Task, Change, Read}
 use Rattle.mp_race.specs.Race.{own, dealt, Plays}
 use Rattle.mp_race.specs.Inside.Work.{upto, made, Stands, IsUnused, Does, HasReceipts}
 use Rattle.mp_race.proofs.Playing.{own-append, own-one, own-last, upto-append, begins-refl, begins-more, dealt-append, plays_on, plays_then}
@@ -101,8 +101,8 @@ module _ (accepts : Accepts) (callers workers : ℕ) (opening : Pool) where
           stand = stand_on p.front log rs (begins-more p.front more) h.stand;
         }
 
-    looks : (q : Pass) → (length ts % workers == p.caller) ≡ true → IsSeen accepts callers p q → HasReceipts accepts workers opening (ts ++ Look ∷ []) q rs
-    looks q its is = subst (λ x. HasReceipts accepts workers opening (ts ++ Look ∷ []) x rs) (sym is.pass) (goes_on Look is.more its refl)
+    reads : (q : Pass) → (length ts % workers == p.caller) ≡ true → IsSeen accepts callers p q → HasReceipts accepts workers opening (ts ++ Read ∷ []) q rs
+    reads q its is = subst (λ x. HasReceipts accepts workers opening (ts ++ Read ∷ []) x rs) (sym is.pass) (goes_on Read is.more its refl)
 
     refused : (c : Command) (q : Pass) (refusal : Refusal) → (length ts % workers == p.caller) ≡ true → IsRefusedAt accepts callers p c refusal q
         → HasReceipts accepts workers opening (ts ++ Change c ∷ []) q rs
@@ -149,12 +149,12 @@ module _ (accepts : Accepts) (callers workers : ℕ) (opening : Pool) where
 
     -- a task of the worker's own
     pub does : (t : Task) (q : Pass) (ss : List Receipt) → (length ts % workers == p.caller) ≡ true → Does accepts callers p rs t q ss → HasReceipts accepts workers opening (ts ++ t ∷ []) q ss
-    does Look q ss its is = subst (HasReceipts accepts workers opening (ts ++ Look ∷ []) q) (sym is.1) (looks q its is.0)
+    does Read q ss its is = subst (HasReceipts accepts workers opening (ts ++ Read ∷ []) q) (sym is.1) (reads q its is.0)
     does (Change c) q ss its (inl is) = subst (HasReceipts accepts workers opening (ts ++ Change c ∷ []) q) (sym is.2) (entered c q is.0 its is.1)
     does (Change c) q ss its (inr is) = subst (HasReceipts accepts workers opening (ts ++ Change c ∷ []) q) (sym is.2) (refused c q is.0 its is.1)
 
   -- a caller stays the same
   pub same_caller : (p : Pass) (rs : List Receipt) (t : Task) (q : Pass) (ss : List Receipt) → Does accepts callers p rs t q ss → q.caller ≡ p.caller
-  same_caller p rs Look q ss is = ap (λ (x : Pass). x.caller) is.0.pass
+  same_caller p rs Read q ss is = ap (λ (x : Pass). x.caller) is.0.pass
   same_caller p rs (Change c) q ss (inl is) = ap (λ (x : Pass). x.caller) is.1.pass
   same_caller p rs (Change c) q ss (inr is) = ap (λ (x : Pass). x.caller) is.1.pass

@@ -7,7 +7,7 @@ use Rattle.mp_seqpool.specs.Pool.{Pool}
 use Rattle.mp_seqpool.specs.SlowPool.{answer}
 use Rattle.mp_history.specs.Entry.{Entry}
 use Rattle.mp_history.specs.Log.{Log, Begins, IsLegalLog, state_after}
-use Rattle.mp_race.specs.Task.{Task, Change, Look}
+use Rattle.mp_race.specs.Task.{Task, Change, Read}
 
 -- the worker's entries
 abbrev pub own : ℕ → List Entry → List Entry
@@ -42,7 +42,7 @@ module _ (accepts : Accepts) where
   -- worker has made it comes to those that it has made then.
   abbrev pub Plays : Log → ℕ → List Entry → List Task → List Entry → Type 0
   Plays log w made [] end = made ≡ end
-  Plays log w made (Look ∷ ts) end = Plays log w made ts end
+  Plays log w made (Read ∷ ts) end = Plays log w made ts end
   Plays log w made (Change c ∷ ts) end =
       ((e : Entry) × IsEntry w c e × Plays log w (made ++ e ∷ []) ts end) ⊎ (IsRefused log w made c × Plays log w made ts end)
 

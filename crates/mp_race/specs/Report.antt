@@ -7,7 +7,7 @@ use Rattle.mp_history.specs.Entry.{Entry}
 use Rattle.mp_history.specs.Log.{Log, state_after}
 use Rattle.mp_mempool.specs.Opening.{fresh_log}
 use Rattle.mp_race.specs.declared.report.Report.{Report}
-use Rattle.mp_race.specs.Task.{Task, Change, Look}
+use Rattle.mp_race.specs.Task.{Task, Change, Read}
 use Rattle.mp_race.specs.Scenario.{Scenario}
 use Rattle.mp_race.specs.Race.{IsRace}
 
@@ -23,9 +23,9 @@ abbrev pub is_synced : Reply → Bool
 is_synced (Synced kept dropped) = true
 is_synced other = false
 
-abbrev pub is_look : Task → Bool
-is_look Look = true
-is_look (Change c) = false
+abbrev pub is_read : Task → Bool
+is_read Read = true
+is_read (Change c) = false
 
 -- how many entries were replied to so
 abbrev pub count_replies : (Reply → Bool) → List Entry → ℕ
@@ -36,10 +36,10 @@ abbrev pub report_of : Accepts → ℕ → List Task → Log → Report
 report_of accepts workers ts log = record {
   workers = workers;
   accepted = count_replies is_accepted log.entries;
-  refused = (length ts - count_by is_look ts) - length log.entries;
+  refused = (length ts - count_by is_read ts) - length log.entries;
   removes = count_replies is_removed log.entries;
   syncs = count_replies is_synced log.entries;
-  reads = count_by is_look ts;
+  reads = count_by is_read ts;
   entries = length log.entries;
   last = (state_after accepts log).last;
 }

@@ -18,7 +18,7 @@ use Rattle.mp_mempool.specs.declared.config.Config.{Config}
 use Rattle.mp_driver.specs.declared.settings.Settings.{Settings}
 use Rattle.mp_driver.specs.Settings.{no_settings, with_setting, limit_of, last_of}
 use Rattle.mp_driver.specs.Scene.{opening_ledger, ledger_at}
-use Rattle.mp_race.specs.Task.{Task, Change, Look}
+use Rattle.mp_race.specs.Task.{Task, Change, Read}
 
 pub record Scenario : Type 0 where
   pub config : Config
@@ -61,9 +61,9 @@ abbrev pub with_change : Draft → Command → Draft
 with_change d c = with_task d (Change c)
 
 -- of what only reads, a race has snapshots alone
-abbrev pub look_at : Draft → Query → Option Draft
-look_at d Snapshot = Some (with_task d Look)
-look_at d other = None
+abbrev pub read_at : Draft → Query → Option Draft
+read_at d Snapshot = Some (with_task d Read)
+read_at d other = None
 
 abbrev pub take : Draft → Line → Option Draft
 take d Blank = Some d
@@ -76,7 +76,7 @@ take d (Submit t) = Some (with_change d (commands.Submit t))
 take d (Remove ids) = Some (with_change d (commands.Remove ids))
 take d (Sync l) = Some (with_change d (commands.Sync (ledger_at d.settings l)))
 take d (For l) = None
-take d (Asks query) = look_at d query
+take d (Asks query) = read_at d query
 
 unfoldable pub line_step : Draft → List ℕ → Option Draft
 line_step d line = option_and_then (take d) (line_of d.names line)

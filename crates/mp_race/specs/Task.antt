@@ -4,4 +4,4 @@ use Rattle.mp_seqpool.specs.Command.{Command}
 pub data Task : Type 0 where
   Change : Command → Task
   -- to take a snapshot
-  Look : Task
+  Read : Task

@@ -33,7 +33,7 @@ impl Draft {
     ghost use Rattle.mp_names.specs.Fault.{IsBad};
     ghost use Rattle.mp_lines.specs.Lines.{Sync};
     ghost use Rattle.mp_lines.specs.Inside.Line.{to_line};
-    ghost use Rattle.mp_race.specs.Scenario.{empty_draft, set_at, output_at, with_task, look_at, take, line_step};
+    ghost use Rattle.mp_race.specs.Scenario.{empty_draft, set_at, output_at, with_task, read_at, take, line_step};
     ghost use Rattle.mp_race.specs.Inside.Task.{task_of};
     ghost use Rattle.mp_race.specs.Inside.Draft.{draft_of};
 
@@ -97,12 +97,12 @@ impl Draft {
     }
 
     // Of what only reads, a race has snapshots alone.
-    fn put_look<'a>(&mut self, query: Query) -> Result<(), LineFault<'a>>
-        ensures ok { OnOk result (look_at (draft_of self.old) query ≡ Some (draft_of self.new)) }
-        ensures bad { IsBad result → look_at (draft_of self.old) query ≡ None }
+    fn put_read<'a>(&mut self, query: Query) -> Result<(), LineFault<'a>>
+        ensures ok { OnOk result (read_at (draft_of self.old) query ≡ Some (draft_of self.new)) }
+        ensures bad { IsBad result → read_at (draft_of self.old) query ≡ None }
     {
         match query {
-            Query::Snapshot => Ok(self.put_task(Task::Look)?),
+            Query::Snapshot => Ok(self.put_task(Task::Read)?),
             _ => Err(LineFault::Bad(Reason::NotInRace)),
         }
     }
@@ -131,7 +131,7 @@ impl Draft {
             }
             Line::Sync(ledger) => Ok(self.put_sync(memory, ledger)?),
             Line::For(_) => Err(LineFault::Bad(Reason::NotInRace)),
-            Line::Asks(query) => self.put_look(query),
+            Line::Asks(query) => self.put_read(query),
         }
     }
 

@@ -17,7 +17,7 @@ use crate::fault::Fault;
 use crate::gate::{Gate, Watched};
 use crate::gathering::{Gathered, gather};
 use crate::ordering::{all_know, history_of};
-use crate::report::{Report, count_looks, count_replies};
+use crate::report::{Report, count_reads, counts_of};
 use crate::scenario::Scenario;
 use crate::task::Task;
 use crate::worker::{Worker, work};
@@ -31,7 +31,7 @@ use std::thread::{Threads, map_vec};
 // What a race runs on: a pool, and a pass for each worker.
 type Opened<'a, N, G> = (Mempool<N, Watched<'a, G>>, Vec<Pass<N>, Memory>);
 
-// Each worker does what is dealt to it, in a thread of its own.
+// Each worker does what is dealt to it, in a thread of its own where one can be made.
 fn work_all<N: PoolName + Send + Sync, R: Threads + Wait + Sync, G: Gate>(
     rt: &R,
     memory: Memory,
@@ -207,8 +207,8 @@ fn report_on(
     ensures fault { IfErr result IsOfRace }
 {
     let last = audit_last(memory, scenario, workers, entries)?;
-    let counts = count_replies(entries);
-    let reads = count_looks(&scenario.tasks);
+    let counts = counts_of(entries);
+    let reads = count_reads(&scenario.tasks);
     let number = entries.len() as u64;
     let tasks = scenario.tasks.len() as u64;
     Ok(Report {
@@ -223,10 +223,11 @@ fn report_on(
     })
 }
 
-/// Runs the scenario by so many workers, each in a thread of its own, on one pool under the name, and gives the report. Task j,
-/// from 0, goes to worker j mod workers. There is one legal history that explains every answer: each worker's entries in it are the
-/// changes dealt to it, each once and in order, but for those that the sequential pool refuses at a beginning of the history with
-/// just the worker's entries before. The gate is told of each task and of each signature that is looked at.
+/// Runs the scenario by so many workers, each in a thread of its own where one can be made, on one pool under the name, and gives
+/// the report. Task j, from 0, goes to worker j mod workers. There is one legal history that explains what each change was answered:
+/// each worker's entries in it are the changes dealt to it, each once and in order, but for those that the sequential pool refuses at
+/// a beginning of the history with just the worker's entries before. What snapshots show isn't told. The gate is told of each task
+/// and of each signature that is looked at.
 ///
 /// # Errors
 /// `NoMemory`, where it was wanting for any worker, after all have ended. `MissingEntry` with the least place of the history below

@@ -1,7 +1,7 @@
 //! What is told of a race.
 
 ghost use Rattle.std.specs.Prelude.{◌≡◌, ◌+◌, ◌<◌, ◌^◌, count_by};
-ghost use Rattle.mp_race.specs.Report.{is_look};
+ghost use Rattle.mp_race.specs.Report.{is_read};
 ghost use Rattle.mp_race.specs.Inside.Task.{tasks_of};
 ghost use Rattle.mp_race.specs.Inside.Counts.{with_reply, counts_of};
 
@@ -17,12 +17,15 @@ use std::io::Write;
 /// What is told of a race. All its commands are its entries, its refusals and its reads.
 #[derive(Clone, Copy, Debug, PartialEq, Eq)]
 pub struct Report {
+    /// How many workers there were: 1 to 64.
     pub workers: u32,
     /// The transactions that were taken in.
     pub accepted: u64,
     /// The changes that were refused.
     pub refused: u64,
+    /// The removals that were made.
     pub removes: u64,
+    /// The ledger states that were adopted.
     pub syncs: u64,
     /// The snapshots.
     pub reads: u64,
@@ -82,7 +85,7 @@ fn add_reply(counts: Counts, reply: &Reply) -> Counts
 }
 
 /// How many of the entries were replied to in each way.
-pub fn count_replies(entries: &[Entry]) -> Counts
+pub fn counts_of(entries: &[Entry]) -> Counts
     ensures { result ≡ counts_of entries.now }
 {
     let mut counts = Counts {
@@ -97,12 +100,12 @@ pub fn count_replies(entries: &[Entry]) -> Counts
 }
 
 /// How many of the tasks are snapshots.
-pub fn count_looks(tasks: &[Task]) -> u64
-    ensures { result ≡ count_by is_look (tasks_of tasks.now) }
+pub fn count_reads(tasks: &[Task]) -> u64
+    ensures { result ≡ count_by is_read (tasks_of tasks.now) }
 {
     let mut count = 0;
     for task in tasks {
-        if matches!(task, Task::Look) {
+        if matches!(task, Task::Read) {
             count += 1;
         }
     }

@@ -8,5 +8,5 @@ pub enum Task {
     /// To ask the pool for this.
     Change(Command),
     /// To take a snapshot.
-    Look,
+    Read,
 }

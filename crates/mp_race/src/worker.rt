@@ -36,7 +36,7 @@ fn do_task<N: PoolName, V: Verifier>(
         pass.old receipts.old.items (task_of task.now) pass.new receipts.new.items) }
 {
     match task {
-        Task::Look => {
+        Task::Read => {
             mempool.reader().refresh(pass);
             Ok(true)
         }

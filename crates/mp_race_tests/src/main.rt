@@ -1,5 +1,5 @@
-//! Tests races for what no contract says: that they come to their end, on as many threads as there are workers, growths that are
-//! refused, devices that fail, and reports that were worked out by hand. It prints each case that is found otherwise, and for each
+//! Tests races for what no contract says: that they come to their end, that two workers run at once, growths that are refused,
+//! devices that fail, and reports that were worked out by hand. It prints each case that is found otherwise, and for each
 //! part how many held.
 #![tactic(auto)]
 

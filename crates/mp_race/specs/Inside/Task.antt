@@ -7,7 +7,7 @@ use Rattle.mp_race.specs.Task as told
 
 abbrev pub task_of : Task → told.Task
 task_of (tasks.Change c) = told.Change (command_of c)
-task_of tasks.Look = told.Look
+task_of tasks.Read = told.Read
 
 abbrev pub tasks_of : List Task → List told.Task
 tasks_of ts = map task_of ts

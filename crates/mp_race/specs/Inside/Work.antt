@@ -8,7 +8,7 @@ use Rattle.mp_history.specs.Log.{Log, last_of}
 use Rattle.mp_mempool.specs.declared.receipt.Receipt.{Receipt}
 use Rattle.mp_mempool.specs.Pass.{Pass}
 use Rattle.mp_mempool.specs.Answers.{IsEntered, IsRefusedAt, IsSeen}
-use Rattle.mp_race.specs.Task.{Task, Change, Look}
+use Rattle.mp_race.specs.Task.{Task, Change, Read}
 use Rattle.mp_race.specs.Race.{own, dealt, Plays}
 
 -- up to the last place, and with it
@@ -32,7 +32,7 @@ pub record IsUnused (opening : Pool) (p : Pass) : Type 0 where
 module _ (accepts : Accepts) (callers : ℕ) where
   -- A worker does a task: from its pass and its receipts to those after it.
   abbrev pub Does : Pass → List Receipt → Task → Pass → List Receipt → Type 0
-  Does p rs Look q ss = IsSeen accepts callers p q × (ss ≡ rs)
+  Does p rs Read q ss = IsSeen accepts callers p q × (ss ≡ rs)
   Does p rs (Change c) q ss =
       ((r : Receipt) × IsEntered accepts callers p c r.place r.entry q × (ss ≡ rs ++ r ∷ []))
       ⊎ ((refusal : Refusal) × IsRefusedAt accepts callers p c refusal q × (ss ≡ rs))

@@ -1,6 +1,6 @@
 use Rattle.std.proofs.Common.{◌≡◌, ◌≤◌, take}
 use Rattle.mp_race.specs.Inside.Counts.{counts_of}
-use Rattle.mp_race.proofs.report.count_replies.Given as goal
+use Rattle.mp_race.proofs.report.counts_of.Given as goal
 
 -- the replies so far
 abbrev pub invariant-loop-entry : goal.invariant-loop-entry
