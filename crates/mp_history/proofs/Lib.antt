@@ -1,6 +1,7 @@
 pub mod Logs
 pub mod Core
 pub mod Law
+pub mod Rising
 pub mod FirstFaults
 pub mod Prefixes
 pub mod Notes

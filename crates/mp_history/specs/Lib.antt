@@ -4,6 +4,7 @@ pub mod Log
 pub mod AuditFault
 pub mod World
 pub mod CoreLaw
+pub mod Successors
 pub mod Inside
 pub mod Front
 pub mod PoolName

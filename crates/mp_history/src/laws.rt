@@ -6,7 +6,8 @@ ghost use Rattle.mp_seqpool.specs.Pool.{Pool};
 ghost use Rattle.mp_seqpool.specs.PoolLaws.{IsLawful};
 ghost use Rattle.mp_history.specs.declared.fault.AuditFault.{AuditFault};
 ghost use Rattle.mp_history.specs.Entry.{Entry};
-ghost use Rattle.mp_history.specs.Log.{IsLegal};
+ghost use Rattle.mp_history.specs.Log.{Log, IsLegal, IsLegalLog};
+ghost use Rattle.mp_history.specs.Successors.{AreSuccessors, SuccessorLaw};
 ghost use Rattle.mp_history.specs.AuditFault.{first_fault, IsFirstFault};
 ghost use Rattle.mp_history.specs.World.{Event, opens, run};
 ghost use Rattle.mp_history.specs.CoreLaw.{CoreLaw};
@@ -16,6 +17,14 @@ ghost use Rattle.mp_history.specs.CoreLaw.{CoreLaw};
 pub fn interleavings()
     ensures { (accepts : Accepts) (callers : ℕ) (p : Pool) (es : List Event) → IsLawful accepts p
         → CoreLaw accepts callers p es (run accepts callers (opens p) es) }
+{}
+
+/// However often a pool hands over to another, tickets rise through all of their histories, so that none is given twice. What a later
+/// pool has under a ticket that was given before is what stood there under that ticket.
+pub fn successors()
+    ensures { (accepts : Accepts) (callers : ℕ) (log : Log) (logs : List Log)
+        → IsLegalLog accepts callers log → AreSuccessors accepts log logs
+        → SuccessorLaw accepts log logs }
 {}
 
 /// The first fault of a history tells of its first bad entry, and a history without one is legal.

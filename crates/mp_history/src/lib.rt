@@ -10,5 +10,5 @@ mod word;
 pub use entry::Entry;
 pub use fault::AuditFault;
 pub use history::audit;
-pub use laws::{audit_faults, interleavings};
+pub use laws::{audit_faults, interleavings, successors};
 pub use word::{Caller, CommitRight, Front, History, NewName, PoolName, look};

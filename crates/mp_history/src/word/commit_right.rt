@@ -1,5 +1,6 @@
 //! The right to lengthen a history.
 ghost use Rattle.std.specs.Prelude.{◌≡◌, ◌<◌, ◌^◌, [], length};
+ghost use Rattle.mp_seqpool.specs.Config.{renewed};
 ghost use Rattle.mp_history.specs.Log.{Begins, entered};
 ghost use Rattle.mp_history.specs.PoolName.{head_of};
 
@@ -46,12 +47,17 @@ impl<N: PoolName> Model for CommitRight<N> {
 }
 
 impl<N: PoolName> CommitRight<N> {
-    /// Opens the history of this name with the pool: its word, and the right that stands after no
-    /// entry.
-    pub(crate) fn first(name: NewName, pool: &SeqPool) -> (Word<Noted, u64, Law>, CommitRight<N>)
+    /// Opens the history of this name with what the pool holds, for so many changes: its word, and the
+    /// right that stands after no entry.
+    pub(crate) fn first(
+        name: NewName,
+        pool: &SeqPool,
+        limit: u64,
+    ) -> (Word<Noted, u64, Law>, CommitRight<N>)
         requires { name ≡ head_of N.book N.root }
         ensures head { result.0 ≡ head_of N.book N.root }
-        ensures opening { result.1 ≡ record { opening = pool.now.pool; entries = [] } }
+        ensures opening { result.1
+            ≡ record { opening = renewed limit pool.now.pool; entries = [] } }
     {
         let NewName {
             own,
@@ -66,6 +72,7 @@ impl<N: PoolName> CommitRight<N> {
                 head: &pen,
                 next: &next,
                 pool,
+                limit,
             },
         );
         own.compare_exchange::<Opens, Nothing>(0, 0, &mut seen, &mut offer, &mut pen);

@@ -1,5 +1,6 @@
 //! The word that the callers of a pool share.
 ghost use Rattle.std.specs.Prelude.{◌≡◌, ◌<◌, ◌≤◌, ◌^◌, [], length, IfOk, Some};
+ghost use Rattle.mp_seqpool.specs.Config.{renewed};
 ghost use Rattle.mp_history.specs.Caller.{new_callers};
 ghost use Rattle.mp_history.specs.Log.{entered};
 ghost use Rattle.mp_history.specs.PoolName.{head_of};
@@ -26,25 +27,26 @@ pub struct History<N: PoolName> {
 }
 
 impl<N: PoolName> History<N> {
-    /// Opens a pool's history under its name, for 1 to 1,024 callers, with what the pool is now: a
-    /// history without entries, the right to lengthen it, and the tokens of the callers 0, 1, .. in
-    /// order. Without memory for the tokens the name is lost.
+    /// Opens a pool's history under its name, for 1 to 1,024 callers, with what the pool is once it is
+    /// renewed for so many changes: a history without entries, the right to lengthen it, and the tokens
+    /// of the callers 0, 1, .. in order. Without memory for the tokens the name is lost.
     pub fn open(
         name: NewName,
         memory: Memory,
         callers: u32,
         pool: &SeqPool,
+        limit: u64,
     ) -> Result<(History<N>, CommitRight<N>, Vec<Caller<N>, Memory>), NoMemory>
         requires name { name ≡ head_of N.book N.root }
         requires number { callers ≡ N.callers }
         requires some { 1 ≤ callers }
         requires most { callers ≤ 1024 }
         ensures opening { IfOk result (λ opened. opened.1
-            ≡ record { opening = pool.now.pool; entries = [] }) }
+            ≡ record { opening = renewed limit pool.now.pool; entries = [] }) }
         ensures callers { IfOk result (λ opened. opened.2.items ≡ new_callers callers) }
     {
         let tokens = Caller::all(memory, callers)?;
-        let (head, right) = CommitRight::first(name, pool);
+        let (head, right) = CommitRight::first(name, pool, limit);
         Ok((
             History {
                 head,

@@ -82,12 +82,13 @@ impl Play<Noted, u64> for Adds {
     ghost then = { told.Adds };
 }
 
-/// What a history opens with: the pen of its word, that of the first right, and the pool.
+/// What a history opens with: the pen of its word, that of the first right, what the pool holds, and how many changes there may be.
 #[derive(Clone, Copy)]
 pub struct Opening<'a> {
     pub head: &'a Pen,
     pub next: &'a Pen,
     pub pool: &'a SeqPool,
+    pub limit: u64,
 }
 
 /// A step that opens a history.
@@ -101,12 +102,13 @@ impl Play<Noted, u64> for Opens {
 
 impl<'a> Plain<Opening<'a>, Noted, u64> for Opens {
     ghost use Rattle.std.specs.Prelude.{None, []};
+    ghost use Rattle.mp_seqpool.specs.Config.{renewed};
 
     ghost ask = { λ p. record {
       root = p.head.now.nib.key;
       used = p.head.now.nib.key;
       next = p.next.now.nib.key;
-      opening = p.pool.now.pool;
+      opening = renewed p.limit p.pool.now.pool;
       entries = [];
     } };
 

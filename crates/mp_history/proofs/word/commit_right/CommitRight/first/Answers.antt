@@ -1,5 +1,6 @@
 use Rattle.std.proofs.Common.{◌≡◌, ap, sym, ◌∙◌}
 use Rattle.logbook.specs.Pages.{nib, may_write}
+use Rattle.mp_seqpool.specs.Config.{renewed}
 use Rattle.mp_history.proofs.Steps.{opens_moves}
 use Rattle.mp_history.proofs.Turns.{made}
 use Rattle.mp_history.proofs.word.commit_right.CommitRight.first.Goals as goal
@@ -16,5 +17,5 @@ compare_exchange-requires g c =
       book,
       head.1 ∙ (c.name.invariant.1.0 ∙ book),
       offer.0,
-      rw (ap (λ w. w.key) own, offer.1, turn, offer.3) (opens_moves c.name.inside.seen.log p c.tracked-word.new.pen.nib.key c.args.pool.now.pool),
+      rw (ap (λ w. w.key) own, offer.1, turn, offer.3) (opens_moves c.name.inside.seen.log p c.tracked-word.new.pen.nib.key (renewed c.args.limit c.args.pool.now.pool)),
     )
