@@ -4,3 +4,5 @@ pub mod Places
 pub mod Preparing
 pub mod Points
 pub mod KeptItems
+pub mod Numbered
+pub mod Succeeding

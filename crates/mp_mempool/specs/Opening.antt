@@ -22,14 +22,14 @@ number NoMemory = 1
 number BadCallers = 2
 number BadLimit = 4
 
--- why a pool can't be opened, whatever memory there is
-abbrev pub open_fault : Config → ℕ → Option OpenRefusal
-open_fault config callers =
+-- why a pool can't be opened for so many changes and callers, whatever memory there is
+abbrev pub open_fault : ℕ → ℕ → Option OpenRefusal
+open_fault limit callers =
     if nat_le 1 callers && nat_le callers 1024
-    then (if nat_le 1 config.limit && nat_le config.limit (2 ^ 32) then None else Some BadLimit)
+    then (if nat_le 1 limit && nat_le limit (2 ^ 32) then None else Some BadLimit)
     else Some BadCallers
 
 -- Memory is told to be wanting only where nothing else is wrong.
-abbrev pub IsOpenFault : Config → ℕ → OpenRefusal → Type 0
-IsOpenFault config callers NoMemory = open_fault config callers ≡ None
-IsOpenFault config callers refusal = open_fault config callers ≡ Some refusal
+abbrev pub IsOpenFault : ℕ → ℕ → OpenRefusal → Type 0
+IsOpenFault limit callers NoMemory = open_fault limit callers ≡ None
+IsOpenFault limit callers refusal = open_fault limit callers ≡ Some refusal

@@ -13,13 +13,14 @@ mod ready;
 mod receipt;
 mod refusal;
 mod snapshot_for;
+mod successor;
 pub mod under_lock;
 
 pub use config::Config;
 pub use locked::Locked;
-pub use mempool::Mempool;
+pub use mempool::{Handover, Mempool};
 pub use pass::Pass;
 pub use reader::Reader;
 pub use receipt::Receipt;
-pub use refusal::{OpenRefusal, Refusal};
+pub use refusal::{OpenRefusal, Refusal, SuccessorRefusal};
 pub use snapshot_for::SnapshotFor;

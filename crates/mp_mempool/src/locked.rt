@@ -1,5 +1,5 @@
 //! What the pool's lock guards.
-ghost use Rattle.std.specs.Prelude.{◌≡◌, ◌<◌, ◌≢◌, ◌^◌, true, false, length, Some, IfSome, IfOk, IfErr};
+ghost use Rattle.std.specs.Prelude.{◌≡◌, ◌<◌, ◌≤◌, ◌≢◌, ◌^◌, true, false, length, replicate, Some, None, IfSome, IfOk, IfErr};
 ghost use Rattle.std.specs.Arc.{arc_value};
 ghost use Rattle.mp_rules.specs.Checked.{IsChecked};
 ghost use Rattle.mp_seqpool.specs.Command.{Submit, Remove, Sync};
@@ -7,12 +7,14 @@ ghost use Rattle.mp_seqpool.specs.Prepared.{IsPrepared, Prepares, leads_to};
 ghost use Rattle.mp_seqpool.specs.SlowPool as slow;
 ghost use Rattle.mp_seqpool.specs.declared.refusal.Refusal.TheVariants as refusals;
 ghost use Rattle.mp_history.specs.Log.{Begins, IsLegalLog, entered, last_of, state_after};
+ghost use Rattle.mp_history.specs.Successors.{successor};
 ghost use Rattle.mp_versions.specs.Shown.{IsVersionOf};
 ghost use Rattle.mp_mempool.specs.Locked.{holding};
 ghost use Rattle.mp_mempool.specs.Pass.{IsOwn};
 ghost use Rattle.mp_mempool.specs.Inside.Locked.{IsAt};
 ghost use Rattle.mp_mempool.specs.Inside.Ready.{IsReady, Own, Tells};
 
+use crate::opening::lock_up;
 use crate::pass::Pass;
 use crate::ready::{Outcome, Owners, Ready};
 use crate::receipt::Receipt;
@@ -110,6 +112,27 @@ impl<N: PoolName> Locked<N> {
         }
     }
 
+    /// What the lock of a successor guards, whose right this is: the sequential pool is renewed, and no item is copied.
+    pub(crate) fn renew<M: PoolName>(
+        self,
+        limit: u64,
+        right: CommitRight<M>,
+        newest: Shown<M>,
+        places: Vec<Option<u64>, Memory>,
+    ) -> Locked<M>
+        requires least { 1 ≤ limit }
+        requires greatest { limit ≤ 2 ^ 32 }
+        requires right { right ≡ successor N.accepts limit self.log }
+        requires legal { IsLegalLog M.accepts M.callers right }
+        requires newest { newest ≡ right }
+        requires places { places.items ≡ replicate M.callers None }
+        ensures { result.log ≡ right }
+    {
+        let Locked { mut pool, .. } = self;
+        pool.renew(limit);
+        lock_up(pool, right, newest, places)
+    }
+
     // The readers, which say what ties the parts together.
 
     /// The front of all entries.
@@ -132,6 +155,13 @@ impl<N: PoolName> Locked<N> {
         ensures { result.now ≡ self.now.log }
     {
         &self.newest
+    }
+
+    /// How many callers there are.
+    pub(crate) fn callers(&self) -> usize
+        ensures callers { result ≡ N.callers }
+    {
+        self.places.len()
     }
 
     /// The place of the caller's last entry.

@@ -1,10 +1,13 @@
 //! The pool that many callers share.
-ghost use Rattle.std.specs.Prelude.{◌≡◌, None, IfOk, IfErr, OnOk};
+ghost use Rattle.std.specs.Prelude.{◌≡◌, ◌≤◌, ◌^◌, None, IfOk, IfErr, OnOk};
 ghost use Rattle.std.specs.Arc.{arc_value};
 ghost use Rattle.mp_seqpool.specs.Command.{Submit, Remove, Sync};
 ghost use Rattle.mp_history.specs.PoolName.{head_of};
+ghost use Rattle.mp_history.specs.Successors.{successor};
 ghost use Rattle.mp_mempool.specs.Answers.{IsEntered, IsRefused};
 ghost use Rattle.mp_mempool.specs.Opening.{fresh_log, fresh_passes, open_fault, IsOpenFault};
+ghost use Rattle.mp_mempool.specs.Successor.{AreSuccessors, IsRefusedSuccessor};
+ghost use Rattle.mp_mempool.specs.Inside.Heir.{IsHeir};
 
 use crate::config::Config;
 use crate::locked::Locked;
@@ -12,7 +15,8 @@ use crate::opening::{Parts, open_fault, open_parts};
 use crate::pass::Pass;
 use crate::reader::Reader;
 use crate::receipt::Receipt;
-use crate::refusal::{OpenRefusal, Refusal};
+use crate::refusal::{OpenRefusal, Refusal, SuccessorRefusal};
+use crate::successor::{Heir, prepare};
 use crate::under_lock::{remove_in, submit_in, sync_in};
 use mp_history::{History, NewName, PoolName};
 use mp_memory::{Memory, NoMemory};
@@ -41,6 +45,12 @@ pub struct Mempool<N: PoolName, V: Verifier> {
     locked: Mutex<Locked<N>>,
 }
 
+/// A successor with its passes; or why the pool doesn't hand over, and the pool with the passes as they were.
+pub type Handover<N, M, V> = Result<
+    (Mempool<M, V>, Vec<Pass<M>, Memory>),
+    (SuccessorRefusal<N>, Mempool<N, V>, Vec<Pass<N>, Memory>),
+>;
+
 impl<N: PoolName, V: Verifier> Mempool<N, V> {
     /// Opens a pool under the name, for 1 to 1,024 callers, upon the ledger state: a pool without transactions, and a pass for
     /// each of the callers 0, 1, .. in order. The version that it opens with is shown.
@@ -61,11 +71,11 @@ impl<N: PoolName, V: Verifier> Mempool<N, V> {
         requires accepts { V.accepts verifier ≡ N.accepts }
         ensures passes { IfOk result (λ opened. opened.1.items
             ≡ fresh_passes callers (fresh_log config ledger.now)) }
-        ensures open { OnOk result (open_fault config callers ≡ None) }
-        ensures refused { IfErr result (λ e. IsOpenFault config callers e.0) }
+        ensures open { OnOk result (open_fault config.limit callers ≡ None) }
+        ensures refused { IfErr result (λ e. IsOpenFault config.limit callers e.0) }
         ensures verifier { IfErr result (λ e. e.1 ≡ verifier) }
     {
-        if let Some(refusal) = open_fault(config, callers) {
+        if let Some(refusal) = open_fault(config.limit, callers) {
             return Err((refusal, verifier));
         }
         match open_parts(rt, memory, name, config, ledger, callers) {
@@ -162,6 +172,84 @@ impl<N: PoolName, V: Verifier> Mempool<N, V> {
     {
         let mut locked = self.locked.lock(rt);
         sync_in(self, rt, &mut locked, pass, ledger)
+    }
+
+    /// Hands over to a successor under the name, for so many changes and 1 to 1,024 callers. It opens with the transactions that
+    /// this pool has, their tickets, the ledger state and the last ticket, with no change made: nothing is checked again, and no
+    /// transaction is copied. The passes are those of all callers of this pool; each caller of the successor gets a new one. What
+    /// the old pool showed goes with the last that holds it.
+    ///
+    /// # Errors
+    /// The first of `SuccessorRefusal`'s reasons that holds, with the pool and the passes as they were. The name is used up.
+    pub fn into_successor<M: PoolName>(
+        self,
+        rt: &impl Wait,
+        memory: Memory,
+        name: NewName,
+        passes: Vec<Pass<N>, Memory>,
+        limit: u64,
+        callers: u32,
+    ) -> Handover<N, M, V>
+        requires name { name ≡ head_of M.book M.root }
+        requires callers { callers ≡ M.callers }
+        requires accepts { M.accepts ≡ N.accepts }
+        ensures successor { IfOk result (λ s. AreSuccessors N.accepts N.callers
+            passes.items limit callers s.1.items) }
+        ensures refused { IfErr result (λ e. IsRefusedSuccessor N.accepts N.callers
+            passes.items limit callers e.0) }
+        ensures passes { IfErr result (λ e. e.2.items ≡ passes.items) }
+    {
+        let Mempool {
+            history,
+            reader,
+            locked,
+        } = self;
+        let mut locked = locked.into_inner();
+        match prepare::<N, M>(rt, memory, name, &mut locked, &passes, limit, callers) {
+            Ok(heir) => Ok(Mempool::inherit(memory, reader, locked, limit, heir)),
+            Err(refusal) => {
+                let locked = Mutex::new(locked);
+                let pool = Mempool {
+                    history,
+                    reader,
+                    locked,
+                };
+                Err((refusal, pool, passes))
+            }
+        }
+    }
+
+    // The successor with its passes.
+    fn inherit<M: PoolName>(
+        memory: Memory,
+        reader: Reader<N, V>,
+        locked: Locked<N>,
+        limit: u64,
+        heir: Heir<M>,
+    ) -> (Mempool<M, V>, Vec<Pass<M>, Memory>)
+        requires least { 1 ≤ limit }
+        requires greatest { limit ≤ 2 ^ 32 }
+        requires accepts { M.accepts ≡ N.accepts }
+        requires heir { IsHeir M.accepts M.callers (successor N.accepts limit locked.log)
+            heir.right heir.desk.shown heir.desk.places.items }
+        ensures { result.1.items ≡ heir.desk.passes.items }
+    {
+        let Heir {
+            history,
+            right,
+            desk,
+        } = heir;
+        let locked = locked.renew(limit, right, desk.shown, desk.places);
+        Mempool::of_parts(
+            memory,
+            reader.into_verifier(),
+            Parts {
+                history,
+                board: desk.board,
+                locked,
+                passes: desk.passes,
+            },
+        )
     }
 
     /// What reads the pool, for any number of callers at once. It has no lock.

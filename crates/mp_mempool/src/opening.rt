@@ -22,18 +22,18 @@ const MAX_CALLERS: u32 = 1024;
 // No pool has more changes.
 const MAX_LIMIT: u64 = 1 << 32;
 
-/// Why a pool can't be opened so, whatever memory there is.
-pub(crate) fn open_fault(config: Config, callers: u32) -> Option<OpenRefusal>
-    ensures fault { result ≡ open_fault config callers }
+/// Why a pool can't be opened for so many changes and callers, whatever memory there is.
+pub(crate) fn open_fault(limit: u64, callers: u32) -> Option<OpenRefusal>
+    ensures fault { result ≡ open_fault limit callers }
     ensures some { IfNone result (1 ≤ callers) }
     ensures most { IfNone result (callers ≤ 1024) }
-    ensures least { IfNone result (1 ≤ config.limit) }
-    ensures greatest { IfNone result (config.limit ≤ 2 ^ 32) }
+    ensures least { IfNone result (1 ≤ limit) }
+    ensures greatest { IfNone result (limit ≤ 2 ^ 32) }
 {
     if callers < 1 || callers > MAX_CALLERS {
         return Some(OpenRefusal::BadCallers);
     }
-    if config.limit < 1 || config.limit > MAX_LIMIT {
+    if limit < 1 || limit > MAX_LIMIT {
         return Some(OpenRefusal::BadLimit);
     }
     None
@@ -139,17 +139,17 @@ fn first_version<N: PoolName>(
     Ok(Shown::of(version, right.front()))
 }
 
-// What callers have of a pool, and the version that they have seen.
+/// What callers have of a pool, and the version that they have seen.
 #[derive(Drop)]
-struct Desk<N: PoolName> {
-    shown: Shown<N>,
-    passes: Vec<Pass<N>, Memory>,
-    board: Board<N>,
-    places: Vec<Option<u64>, Memory>,
+pub(crate) struct Desk<N: PoolName> {
+    pub(crate) shown: Shown<N>,
+    pub(crate) passes: Vec<Pass<N>, Memory>,
+    pub(crate) board: Board<N>,
+    pub(crate) places: Vec<Option<u64>, Memory>,
 }
 
-// The desk with this version on its board: a pass for each caller that has seen it, and no entry of any of them.
-fn set_desk<N: PoolName>(
+/// The desk with this version on its board: a pass for each caller that has seen it, and no entry of any of them.
+pub(crate) fn set_desk<N: PoolName>(
     rt: &impl Wait,
     memory: Memory,
     tokens: Vec<Caller<N>, Memory>,
@@ -193,8 +193,8 @@ fn open_desk<N: PoolName>(
     set_desk(rt, memory, tokens, shown, callers)
 }
 
-// What the lock guards at first.
-fn lock_up<N: PoolName>(
+/// What the lock guards at first.
+pub(crate) fn lock_up<N: PoolName>(
     pool: SeqPool,
     right: CommitRight<N>,
     newest: Shown<N>,
@@ -257,6 +257,6 @@ pub(crate) fn open_parts<N: PoolName>(
         last: config.last,
     };
     let pool = SeqPool::start(memory, config, ledger)?;
-    let opened = History::open(name, memory, callers, &pool)?;
+    let opened = History::open(name, memory, callers, &pool, config.limit)?;
     open_upon(rt, memory, pool, opened, callers)
 }

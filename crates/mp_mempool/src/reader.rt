@@ -63,6 +63,13 @@ impl<N: PoolName, V: Verifier> Reader<N, V> {
         &self.verifier
     }
 
+    /// What decides which signatures are good, when the pool has handed over.
+    pub(crate) fn into_verifier(self) -> V
+        ensures { V.accepts result ≡ N.accepts }
+    {
+        self.verifier
+    }
+
     /// The board on which versions are shown.
     pub(crate) fn board(&self) -> &Board<N> {
         &self.board

@@ -2,6 +2,7 @@
 ghost use Rattle.std.specs.Prelude.{◌≡◌};
 ghost use Rattle.mp_mempool.specs.Opening as opening;
 ghost use Rattle.mp_mempool.specs.Answers as told;
+ghost use Rattle.mp_mempool.specs.Successor as successor;
 ghost use Rattle.mp_mempool.specs.declared.refusal.OpenRefusal.TheVariants as faults;
 
 use mp_history::{Front, PoolName};
@@ -81,6 +82,54 @@ impl<N: PoolName> fmt::Display for Refusal<N> {
         match self {
             Refusal::Pool(refusal) => write!(f, "{refusal}"),
             Refusal::Foreign(_) => write!(f, "the pass doesn't know an entry of its caller"),
+        }
+    }
+}
+
+/// Why a pool doesn't hand over to a successor. Where several hold, the one with the least number is told, but `NoMemory` only
+/// where none of the others holds. Pool and passes are as they were.
+#[derive(Drop)]
+pub enum SuccessorRefusal<N: PoolName> {
+    /// Memory was wanting.
+    NoMemory,
+    /// The passes aren't those of the callers 0, 1, .. of the pool, in order: at this place first a wrong one stands, or one too
+    /// many, or none.
+    BadPasses(usize),
+    /// The number of callers isn't 1 to 1,024.
+    BadCallers,
+    /// The limit of changes isn't 1 to 2^32.
+    BadLimit,
+    /// The pool's history, which is this one, has an entry of a caller that its pass doesn't know.
+    Foreign(Front<N>),
+}
+
+impl<N: PoolName> SuccessorRefusal<N> {
+    /// The number of the refusal: 1 to 5.
+    pub fn number(&self) -> u64
+        ensures { result ≡ successor.number self.now }
+    {
+        match self {
+            SuccessorRefusal::NoMemory => 1,
+            SuccessorRefusal::BadPasses(_) => 2,
+            SuccessorRefusal::BadCallers => 3,
+            SuccessorRefusal::BadLimit => 4,
+            SuccessorRefusal::Foreign(_) => 5,
+        }
+    }
+}
+
+impl<N: PoolName> fmt::Display for SuccessorRefusal<N> {
+    fn fmt<W: fmt::Write>(&self, f: &mut fmt::Formatter<W>) -> fmt::Result {
+        match self {
+            SuccessorRefusal::NoMemory => write!(f, "no memory"),
+            SuccessorRefusal::BadPasses(place) => {
+                write!(f, "at place {place} isn't the pass of that caller")
+            }
+            SuccessorRefusal::BadCallers => write!(f, "the number of callers is out of range"),
+            SuccessorRefusal::BadLimit => write!(f, "the limit of changes is out of range"),
+            SuccessorRefusal::Foreign(_) => {
+                write!(f, "a pass doesn't know an entry of its caller")
+            }
         }
     }
 }
