@@ -1,8 +1,9 @@
 //! Measures what the product's parts cost. Without an argument it prints the names of its measurements. With `run` it takes
 //! each, or the one that is named after it, at several sizes, and prints a line for it: its name, the size, and the nanoseconds
-//! that one step took. With `mempool-hour` it tries a mempool for an hour.
+//! that one step took. With `mempool-hour` it tries a mempool for an hour, and with `mempool-successors` mempools that hand over.
 #![tactic(auto)]
 
+mod handing;
 mod measurement;
 mod round;
 mod samples;
@@ -132,8 +133,8 @@ fn print_names(rt: &impl Print) -> Result<()> {
 }
 
 // The numbers from the third word on, or the usual ones where there are none.
-fn numbers(words: &[String]) -> Result<[u64; 3]> {
-    let mut numbers = [1, 3_600, 64];
+fn numbers(words: &[String], usual: [u64; 3]) -> Result<[u64; 3]> {
+    let mut numbers = usual;
     for (number, word) in numbers.iter_mut().zip(words.iter().skip(2)) {
         *number = word.as_str().parse::<u64>().context("a word is no number")?;
     }
@@ -162,10 +163,15 @@ fn obey<R: Clock + Threads + Wait + Print + Sync>(
             ensure!(taken > 0, "no measurement has this name");
         }
         "mempool-hour" => {
-            let is_well = trial::run(rt, memory, numbers(words)?)?;
+            let is_well = trial::run(rt, memory, numbers(words, [1, 3_600, 64])?)?;
             ensure!(is_well, "what must not come has come");
         }
-        _ => bail!("expected nothing, 'run' or 'mempool-hour'"),
+        "mempool-successors" => {
+            let [limit, times, _] = numbers(words, [100_000, 20, 0])?;
+            let last = handing::run(rt, memory, limit, times).context("a handover went wrong")?;
+            println!(rt; "last ticket {last}")?;
+        }
+        _ => bail!("expected nothing, 'run', 'mempool-hour' or 'mempool-successors'"),
     }
     Ok(())
 }

@@ -68,10 +68,10 @@ pub fn submit_all<N: PoolName + Send + Sync, R: Threads + Wait + Sync>(
 // All receipts, in the order of their places.
 fn receipts_of<N: PoolName>(
     memory: Memory,
-    callers: Vec<Caller<N>, Memory>,
+    callers: &mut [Caller<N>],
 ) -> Result<Vec<Receipt, Memory>> {
     let mut receipts = Vec::new(memory);
-    for mut caller in callers {
+    for caller in callers {
         receipts.append(&mut caller.receipts)?;
     }
     receipts.sort_by_key(|receipt| receipt.place)?;
@@ -81,11 +81,23 @@ fn receipts_of<N: PoolName>(
 /// The history: what the receipts of all callers tell of, in the order of their places.
 pub fn history_of<N: PoolName>(
     memory: Memory,
-    callers: Vec<Caller<N>, Memory>,
+    callers: &mut [Caller<N>],
 ) -> Result<Vec<Entry, Memory>> {
     let mut entries = Vec::new(memory);
     for receipt in receipts_of(memory, callers)? {
         entries.push(receipt.entry)?;
     }
     Ok(entries)
+}
+
+/// The passes of the callers, in the same order.
+pub fn passes_of<N: PoolName>(
+    memory: Memory,
+    callers: Vec<Caller<N>, Memory>,
+) -> Result<Vec<Pass<N>, Memory>> {
+    let mut passes = Vec::new(memory);
+    for caller in callers {
+        passes.push(caller.pass)?;
+    }
+    Ok(passes)
 }

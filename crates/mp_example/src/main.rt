@@ -1,6 +1,6 @@
 //! Four threads share one pool: each submits two transactions, a block is filled from what then stands, the pool
-//! adopts the ledger state after that block, and an audit goes through the pool's history. What is printed is the
-//! same in whatever order the threads run.
+//! adopts the ledger state after that block, an audit goes through the pool's history, and the pool hands over to a
+//! successor. What is printed is the same in whatever order the threads run.
 #![tactic(auto)]
 
 ghost use Rattle.std.specs.Prelude.{◌≡◌};
@@ -14,7 +14,7 @@ mod payment;
 
 use anyhow::{Result, bail};
 use block::fill;
-use callers::{RefusesAll, history_of, submit_all};
+use callers::{RefusesAll, history_of, passes_of, submit_all};
 use ledger::{BLOCK_BYTES, ledger_after, opening_ledger};
 use mp_history::{Entry, NewName, PoolName, audit};
 use mp_memory::Memory;
@@ -81,25 +81,63 @@ fn print_audit(rt: &impl Print, memory: Memory, ledger: &Ledger, entries: &[Entr
     Ok(())
 }
 
+// What the callers do. It gives their passes back.
 fn share<N: PoolName + Send + Sync, R: Threads + Wait + Print + Sync>(
     rt: &R,
     memory: Memory,
     mempool: &Mempool<N, RefusesAll>,
     passes: Vec<Pass<N>, Memory>,
     ledger: &Ledger,
-) -> Result<()> {
+) -> Result<Vec<Pass<N>, Memory>> {
     let mut callers = submit_all(rt, memory, mempool, passes)?;
     let Some(first) = callers.first_mut() else {
         bail!("no caller");
     };
     let receipt = make_block(rt, memory, mempool, &mut first.pass)?;
     first.receipts.push(receipt)?;
-    print_audit(rt, memory, ledger, &history_of(memory, callers)?)
+    let history = history_of(memory, &mut callers)?;
+    print_audit(rt, memory, ledger, &history)?;
+    passes_of(memory, callers)
+}
+
+// A host does this before its pool's history is full, or when the versions that were shown take too much memory. The
+// successor has a name of its own, and its callers get new passes.
+fn hand_over<N: PoolName, M: PoolName>(
+    rt: &(impl Wait + Print),
+    memory: Memory,
+    name: NewName,
+    mempool: Mempool<N, RefusesAll>,
+    passes: Vec<Pass<N>, Memory>,
+) -> Result<()>
+    requires name { name ≡ head_of M.book M.root }
+    requires callers { M.callers ≡ 4 }
+    requires accepts { M.accepts ≡ N.accepts }
+{
+    let limit = CONFIG.limit;
+    match mempool.into_successor::<M>(rt, memory, name, passes, limit, CALLERS) {
+        Ok((successor, mut passes)) => print_opening(rt, &successor, &mut passes),
+        Err((refusal, _, _)) => bail!("{refusal}"),
+    }
+}
+
+// What the first caller of a successor sees.
+fn print_opening<M: PoolName>(
+    rt: &impl Print,
+    successor: &Mempool<M, RefusesAll>,
+    passes: &mut [Pass<M>],
+) -> Result<()> {
+    let Some(first) = passes.first_mut() else {
+        bail!("no caller");
+    };
+    let snapshot = successor.reader().snapshot(first);
+    let (count, entries, last) = (snapshot.size().0, snapshot.number(), snapshot.last());
+    println!(rt; "successor {count} transactions {entries} entries last ticket {last}")?;
+    Ok(())
 }
 
 // `N` is the pool's name, a type that keeps the parts of one pool apart from those of another. Whoever opens a pool says
 // what it stands for: a new name, the number of callers, and which signatures the verifier accepts. `main` passes `Brand`,
-// and `proofs/main/Invariants.antt` says these three of it.
+// and `proofs/main/Invariants.antt` says these three of it; `open` passes it for the successor.
 fn open<N: PoolName + Send + Sync, R: Threads + Wait + Print + Sync>(
     rt: &R,
     memory: Memory,
@@ -111,7 +149,10 @@ fn open<N: PoolName + Send + Sync, R: Threads + Wait + Print + Sync>(
     requires accepts { N.accepts ≡ nobody }
 {
     match Mempool::<N, _>::open(rt, memory, name, CONFIG, ledger, RefusesAll, CALLERS) {
-        Ok((mempool, passes)) => share(rt, memory, &mempool, passes, ledger),
+        Ok((mempool, passes)) => {
+            let passes = share(rt, memory, &mempool, passes, ledger)?;
+            hand_over::<N, Brand>(rt, memory, NewName::new(), mempool, passes)
+        }
         Err((refusal, _)) => bail!("{refusal}"),
     }
 }

@@ -157,7 +157,7 @@ fn of_name<N: PoolName + Send + Sync, R: Threads + Wait + Sync>(
     requires name { name ≡ head_of N.book N.root }
     requires callers { N.callers ≡ 2 }
 {
-    match History::<N>::open(name, samples.memory, 2, pool) {
+    match History::<N>::open(name, samples.memory, 2, pool, pool.config().limit) {
         Ok((history, right, tokens)) => {
             let entries = Vec::new(samples.memory);
             let shared = Mutex::new(Shared {

@@ -34,7 +34,7 @@ fn numbered<N: PoolName>(
     requires some { 1 ≤ callers }
     requires most { callers ≤ 1024 }
 {
-    match History::<N>::open(name, memory, callers, pool) {
+    match History::<N>::open(name, memory, callers, pool, pool.config().limit) {
         Ok((_history, _right, tokens)) => Ok(count_numbered(&tokens)),
         Err(NoMemory) => Err(NoMemory),
     }

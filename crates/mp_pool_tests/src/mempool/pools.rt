@@ -56,7 +56,8 @@ impl Played {
     }
 }
 
-fn play_on<N: PoolName>(
+/// What comes of the table on the pool.
+pub fn play_on<N: PoolName>(
     rt: &impl Wait,
     mempool: &Mempool<N, AcceptsAll>,
     passes: &mut Passes<N>,

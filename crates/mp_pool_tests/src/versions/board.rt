@@ -31,7 +31,13 @@ fn open<N: PoolName>(memory: Memory, name: NewName, pool: &SeqPool) -> Result<Sh
     requires unchanged { pool.now.pool.changes ≡ 0 }
 {
     let version = Arc::new(memory, Version::of(memory, pool)?)?;
-    let (_history, right, _callers) = History::<N>::open(name, memory, 1, pool)?;
+    let (_history, right, _callers) = History::<N>::open(
+        name,
+        memory,
+        1,
+        pool,
+        pool.config().limit,
+    )?;
     Ok(Shown::of(version, right.front()))
 }
 
