@@ -21,7 +21,6 @@ abbrev pub IsBalanced : Transaction → Resolved → Type 0
 IsBalanced t r =
     (token : Token) → total_over (t.forge ∷ values r.spent) token ≡ total_over (values t.outputs) token
 
--- The rules, in the order in which they are looked at.
 pub data Rule : Type 0 where
   HasInput : Rule
   InInterval : Rule
@@ -36,6 +35,24 @@ pub data Rule : Type 0 where
   SignaturesAccepted : Rule
   ValidatorsAccept : Rule
   PoliciesAccept : Rule
+
+-- All rules, in the order in which they are looked at, each over all its places before the next.
+abbrev pub rules : List Rule
+rules =
+    HasInput
+    ∷ InInterval
+    ∷ PaysNoDebt
+    ∷ InputsThere
+    ∷ ReferencesThere
+    ∷ AddressesMatch
+    ∷ DataMatch
+    ∷ OutputsFresh
+    ∷ PoliciesCarried
+    ∷ Balanced
+    ∷ SignaturesAccepted
+    ∷ ValidatorsAccept
+    ∷ PoliciesAccept
+    ∷ []
 
 -- A rule holds of a transaction, for a verifier, at a tick, upon the outputs that may be spent.
 abbrev pub Holds : Accepts → Unspent → ℕ → Transaction → Rule → Type 0

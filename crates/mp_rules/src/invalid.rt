@@ -9,8 +9,8 @@ use mp_tx::{Key, PolicyId, TokenName};
 use std::alloc::{AllocError, AllocFailed};
 use thiserror::Error;
 
-/// The first rule that a transaction breaks, at its least place. The rules are looked at in the order in which they stand
-/// here, each over all its places before the next. `NoMemory` may stand in place of any answer. Places count from 0.
+/// The first rule that a transaction breaks, at its least place. `rules` in `specs/Validity.antt` is the order in which they
+/// are looked at. `NoMemory` may stand in place of any answer. Places count from 0.
 #[derive(Clone, Copy, Debug, PartialEq, Eq, Error)]
 pub enum Invalid {
     #[error("no memory")]
@@ -56,7 +56,7 @@ pub enum Invalid {
 }
 
 impl Invalid {
-    /// The number of the rule: 1 to 14.
+    /// The number of the rule: 1 to 14. The numbers don't give the order: 14 is told sixth, right after 5.
     pub const fn number(&self) -> u64
         ensures { result ≡ invalid.number self.now }
     {
