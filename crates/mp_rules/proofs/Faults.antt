@@ -21,7 +21,7 @@ use Rattle.mp_rules.specs.Verifier.{Accepts}
 use Rattle.mp_rules.specs.Resolved.{resolve, spendings, values}
 use Rattle.mp_rules.specs.Scripts.{validator_accepts, policy_accepts}
 use Rattle.mp_rules.specs.Validity.{Rule, HasInput, InInterval, PaysNoDebt, InputsThere, ReferencesThere, AddressesMatch, DataMatch, OutputsFresh, PoliciesCarried, Balanced, SignaturesAccepted, ValidatorsAccept, PoliciesAccept, IsNonnegative, Holds}
-use Rattle.mp_rules.specs.FirstFault.{same_bytes, has_debt, first_unbalanced, no_inputs, outside_interval, negative_output, input_missing, reference_missing, address_mismatch, datum_mismatch, output_taken, forge_without_policy, unbalanced, bad_signature, validator_refused, policy_refused, fault_of}
+use Rattle.mp_rules.specs.FirstFault.{same_bytes, has_debt, first_unbalanced, token_unbalanced, no_inputs, outside_interval, negative_output, input_missing, reference_missing, address_mismatch, datum_mismatch, output_taken, forge_without_policy, unbalanced, bad_signature, validator_refused, policy_refused, fault_of}
 use Rattle.mp_rules.specs.Invalid.{rule_of}
 use Rattle.mp_rules.specs.Laws.{IsFirstBad, IsBroken}
 use Rattle.mp_rules.proofs.Searching.{unmapped, mapped, Refutes, refutes, all_good, none_bad, first_bad, all_good_found, none_found, first_found, each_below, all_below, first_number, any_refutes}
@@ -204,13 +204,13 @@ module _ (accepts : Accepts) (u : Unspent) (tick : ℕ) (t : Transaction) where
   is_balanced =
       let taken = t.forge ∷ values (resolve u t).spent in
       let paid = values t.outputs in
-      let name : Token → Invalid = λ token. rule.Unbalanced token.policy token.name in
+      let name : Token → Invalid = token_unbalanced taken paid in
       record {
         holds = λ e. none_unbalanced taken paid (unmapped name (first_unbalanced taken paid) e);
         none = λ h. ap (option_map name) (balanced taken paid h);
         broken = λ fault e is.
             let at = mapped name (first_unbalanced taken paid) fault e in
-            subst (IsBrokenAt Balanced) at.same (record { broken = is_unbalanced taken paid at.from at.found; is_of = refl });
+            subst (IsBrokenAt Balanced) at.same (record { broken = (is_unbalanced taken paid at.from at.found, refl, refl); is_of = refl });
       }
 
   signatures_accepted : IsTold SignaturesAccepted

@@ -79,9 +79,17 @@ abbrev pub first_unbalanced : List (List Entry) → List (List Entry) → Option
 first_unbalanced taken paid =
     least (filter (λ token. not (int_eq (total_over taken token) (total_over paid token))) (tokens (taken ++ paid)))
 
+-- a token as a fault, with its totals
+abbrev pub token_unbalanced : List (List Entry) → List (List Entry) → Token → Invalid
+token_unbalanced taken paid token =
+    rule.Unbalanced token.policy token.name (total_over taken token) (total_over paid token)
+
+-- what is forged and spent is taken
 unfoldable pub unbalanced : Transaction → Resolved → Option Invalid
 unbalanced t r =
-    option_map (λ token. rule.Unbalanced token.policy token.name) (first_unbalanced (t.forge ∷ values r.spent) (values t.outputs))
+    let taken = t.forge ∷ values r.spent in
+    let paid = values t.outputs in
+    option_map (token_unbalanced taken paid) (first_unbalanced taken paid)
 
 unfoldable pub bad_signature : Accepts → Transaction → Option Invalid
 bad_signature accepts t =

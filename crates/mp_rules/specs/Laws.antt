@@ -54,8 +54,10 @@ IsBroken accepts u tick t (rule.DatumMismatch i) =
 IsBroken accepts u tick t (rule.OutputTaken k) =
     (k < length t.outputs) × IsSome (u (own_ref t k)) × ((j : ℕ) → j < k → u (own_ref t j) ≡ None)
 IsBroken accepts u tick t (rule.ForgeWithoutPolicy policy) = IsLeastUncarried t.scripts t.forge policy
-IsBroken accepts u tick t (rule.Unbalanced policy name) =
+IsBroken accepts u tick t (rule.Unbalanced policy name taken paid) =
     IsLeastUnbalanced (t.forge ∷ values (resolve u t).spent) (values t.outputs) (token policy name)
+    × (taken ≡ total_over (t.forge ∷ values (resolve u t).spent) (token policy name))
+    × (paid ≡ total_over (values t.outputs) (token policy name))
 IsBroken accepts u tick t (rule.BadSignature key) =
     (i : ℕ) × IsFirstBad (λ s. IsTrue (accepts s.key (id_of t) s.sig)) t.signatures i × HoldsAt (λ s. s.key ≡ key) t.signatures i
 IsBroken accepts u tick t (rule.ValidatorRefused i) =
