@@ -1,7 +1,7 @@
 -- Each rule's fault, and what it says of the rule.
 use Rattle.std.proofs.Common.{◌≡◌, ◌≢◌, ◌⊎◌, inl, inr, ℕ, ◌<◌, ◌≤◌, pos, ◌≤ℤ◌, ℤ, Bool, true, false, cond, not, ◌||◌, List, [], ◌∷◌, length, refl, ap, subst, arith}
 use Rattle.std.specs.Prelude.{◌==◌, Option, None, Some, All, IsSome, IsTrue, Decides, is_some, nat_lt, int_lt, option_map}
-use Rattle.std.specs.List.{find, position, range_with_len}
+use Rattle.std.specs.List.{find, position, range_with_len, AllByRecursion}
 use Rattle.std.specs.Cmp.Lexicographic.{bytes_decides}
 use Rattle.std.proofs.lemmas.Int.{ints}
 use Rattle.std.proofs.lemmas.Bool.Decides.{nat_tests}
@@ -20,9 +20,8 @@ use Rattle.mp_rules.specs.declared.invalid.Invalid.TheVariants as rule
 use Rattle.mp_rules.specs.Verifier.{Accepts}
 use Rattle.mp_rules.specs.Resolved.{resolve, spendings, values}
 use Rattle.mp_rules.specs.Scripts.{validator_accepts, policy_accepts}
-use Rattle.mp_rules.specs.Validity.{Rule, HasInput, InInterval, PaysNoDebt, InputsThere, ReferencesThere, AddressesMatch, DataMatch, OutputsFresh, PoliciesCarried, Balanced, SignaturesAccepted, ValidatorsAccept, PoliciesAccept, IsNonnegative, Holds}
-use Rattle.mp_rules.specs.FirstFault.{same_bytes, has_debt, first_unbalanced, token_unbalanced, no_inputs, outside_interval, negative_output, input_missing, reference_missing, address_mismatch, datum_mismatch, output_taken, forge_without_policy, unbalanced, bad_signature, validator_refused, policy_refused, fault_of}
-use Rattle.mp_rules.specs.Invalid.{rule_of}
+use Rattle.mp_rules.specs.Validity.{Rule, HasInput, InInterval, PaysNoDebt, InputsThere, ReferencesThere, AddressesMatch, DataMatch, OutputsFresh, PoliciesCarried, Balanced, SignaturesAccepted, ValidatorsAccept, PoliciesAccept, rules, IsNonnegative, Holds}
+use Rattle.mp_rules.specs.FirstFault.{same_bytes, has_debt, first_unbalanced, token_unbalanced, no_inputs, outside_interval, negative_output, input_missing, reference_missing, address_mismatch, datum_mismatch, output_taken, forge_without_policy, unbalanced, bad_signature, validator_refused, policy_refused, fault_of, rule_of}
 use Rattle.mp_rules.specs.Laws.{IsFirstBad, IsBroken}
 use Rattle.mp_rules.proofs.Searching.{unmapped, mapped, Refutes, refutes, all_good, none_bad, first_bad, all_good_found, none_found, first_found, each_below, all_below, first_number, any_refutes}
 use Rattle.mp_rules.proofs.Carried.{IsCarried, uncarried, uncarried_refutes, is_least}
@@ -251,3 +250,19 @@ module _ (accepts : Accepts) (u : Unspent) (tick : ℕ) (t : Transaction) where
   each_rule SignaturesAccepted = signatures_accepted
   each_rule ValidatorsAccept = validators_accept
   each_rule PoliciesAccept = policies_accept
+
+-- what is so of all that are listed is so of each rule
+pub of_each : (P : Rule → Type 0) → AllByRecursion P rules → (r : Rule) → P r
+of_each P all HasInput = all.0
+of_each P all InInterval = all.1.0
+of_each P all PaysNoDebt = all.1.1.0
+of_each P all InputsThere = all.1.1.1.0
+of_each P all ReferencesThere = all.1.1.1.1.0
+of_each P all AddressesMatch = all.1.1.1.1.1.0
+of_each P all DataMatch = all.1.1.1.1.1.1.0
+of_each P all OutputsFresh = all.1.1.1.1.1.1.1.0
+of_each P all PoliciesCarried = all.1.1.1.1.1.1.1.1.0
+of_each P all Balanced = all.1.1.1.1.1.1.1.1.1.0
+of_each P all SignaturesAccepted = all.1.1.1.1.1.1.1.1.1.1.0
+of_each P all ValidatorsAccept = all.1.1.1.1.1.1.1.1.1.1.1.0
+of_each P all PoliciesAccept = all.1.1.1.1.1.1.1.1.1.1.1.1.0

@@ -8,26 +8,10 @@ use Rattle.mp_tx.specs.Transaction.{Transaction}
 use Rattle.mp_utxo.specs.Apply.{Unspent}
 use Rattle.mp_rules.specs.declared.invalid.Invalid.{Invalid}
 use Rattle.mp_rules.specs.Verifier.{Accepts}
-use Rattle.mp_rules.specs.Validity.{Rule, HasInput, InInterval, PaysNoDebt, InputsThere, ReferencesThere, AddressesMatch, DataMatch, OutputsFresh, PoliciesCarried, Balanced, SignaturesAccepted, ValidatorsAccept, PoliciesAccept, rules, IsValid}
+use Rattle.mp_rules.specs.Validity.{Rule, rules, IsValid}
 use Rattle.mp_rules.specs.FirstFault.{first_of, fault_of, first_fault}
 use Rattle.mp_rules.specs.Laws.{IsFirstFault, ValidIsFaultless, FirstFaultIsBroken}
-use Rattle.mp_rules.proofs.Faults.{each_rule}
-
--- what is so of all that are listed is so of each rule
-of_each : (P : Rule → Type 0) → AllByRecursion P rules → (r : Rule) → P r
-of_each P all HasInput = all.0
-of_each P all InInterval = all.1.0
-of_each P all PaysNoDebt = all.1.1.0
-of_each P all InputsThere = all.1.1.1.0
-of_each P all ReferencesThere = all.1.1.1.1.0
-of_each P all AddressesMatch = all.1.1.1.1.1.0
-of_each P all DataMatch = all.1.1.1.1.1.1.0
-of_each P all OutputsFresh = all.1.1.1.1.1.1.1.0
-of_each P all PoliciesCarried = all.1.1.1.1.1.1.1.1.0
-of_each P all Balanced = all.1.1.1.1.1.1.1.1.1.0
-of_each P all SignaturesAccepted = all.1.1.1.1.1.1.1.1.1.1.0
-of_each P all ValidatorsAccept = all.1.1.1.1.1.1.1.1.1.1.1.0
-of_each P all PoliciesAccept = all.1.1.1.1.1.1.1.1.1.1.1.1.0
+use Rattle.mp_rules.proofs.Faults.{of_each, each_rule}
 
 module _ (fault_of : Rule → Option Invalid) where
   no_faults : (rs : List Rule) → first_of (map fault_of rs) ≡ None → AllByRecursion (λ r. fault_of r ≡ None) rs

@@ -124,6 +124,23 @@ fault_of accepts u tick t SignaturesAccepted = bad_signature accepts t
 fault_of accepts u tick t ValidatorsAccept = validator_refused t (resolve u t)
 fault_of accepts u tick t PoliciesAccept = policy_refused t (resolve u t)
 
+-- the rule that a fault is of; want of memory is of none
+abbrev pub rule_of : Invalid → Option Rule
+rule_of rule.NoMemory = None
+rule_of rule.NoInputs = Some HasInput
+rule_of rule.OutsideInterval = Some InInterval
+rule_of (rule.NegativeOutput place) = Some PaysNoDebt
+rule_of (rule.InputMissing place) = Some InputsThere
+rule_of (rule.ReferenceMissing place) = Some ReferencesThere
+rule_of (rule.AddressMismatch place) = Some AddressesMatch
+rule_of (rule.DatumMismatch place) = Some DataMatch
+rule_of (rule.OutputTaken place) = Some OutputsFresh
+rule_of (rule.ForgeWithoutPolicy policy) = Some PoliciesCarried
+rule_of (rule.Unbalanced policy name taken paid) = Some Balanced
+rule_of (rule.BadSignature key) = Some SignaturesAccepted
+rule_of (rule.ValidatorRefused place) = Some ValidatorsAccept
+rule_of (rule.PolicyRefused place) = Some PoliciesAccept
+
 -- the fault of the first rule that has one
 unfoldable pub first_fault : Accepts → Unspent → ℕ → Transaction → Option Invalid
 first_fault accepts u tick t = first_of (map (fault_of accepts u tick t) rules)

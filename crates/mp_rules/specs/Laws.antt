@@ -17,8 +17,7 @@ use Rattle.mp_rules.specs.Verifier.{Accepts}
 use Rattle.mp_rules.specs.Resolved.{resolve, spendings, values}
 use Rattle.mp_rules.specs.Scripts.{validator_accepts, policy_accepts}
 use Rattle.mp_rules.specs.Validity.{Rule, rules, IsNonnegative, Holds, IsValid}
-use Rattle.mp_rules.specs.Invalid.{rule_of}
-use Rattle.mp_rules.specs.FirstFault.{first_fault}
+use Rattle.mp_rules.specs.FirstFault.{rule_of, first_fault}
 
 -- the first item that isn't good stands at the place
 pub record IsFirstBad {X : Type 0} (Good : X → Type 0) (xs : List X) (place : ℕ) : Type 0 where

@@ -54,6 +54,22 @@ rules =
     ∷ PoliciesAccept
     ∷ []
 
+-- The numbers of the rules. They don't give the order: 14 is told sixth, right after 5.
+abbrev pub rule_number : Rule → ℕ
+rule_number HasInput = 2
+rule_number InInterval = 3
+rule_number PaysNoDebt = 4
+rule_number InputsThere = 5
+rule_number ReferencesThere = 14
+rule_number AddressesMatch = 6
+rule_number DataMatch = 7
+rule_number OutputsFresh = 8
+rule_number PoliciesCarried = 9
+rule_number Balanced = 10
+rule_number SignaturesAccepted = 11
+rule_number ValidatorsAccept = 12
+rule_number PoliciesAccept = 13
+
 -- A rule holds of a transaction, for a verifier, at a tick, upon the outputs that may be spent.
 abbrev pub Holds : Accepts → Unspent → ℕ → Transaction → Rule → Type 0
 -- there is an input
