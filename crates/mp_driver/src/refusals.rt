@@ -104,7 +104,7 @@ fn put_invalid(
         Invalid::DatumMismatch(place) => put_place(memory, text, b"datum", *place),
         Invalid::OutputTaken(place) => put_place(memory, text, b"taken", *place),
         Invalid::ForgeWithoutPolicy(policy) => put_no_policy(text, names, policy),
-        Invalid::Unbalanced(policy, name) => put_unbalanced(text, names, policy, name),
+        Invalid::Unbalanced { policy, name, .. } => put_unbalanced(text, names, policy, name),
         Invalid::BadSignature(key) => put_place(memory, text, b"signature", key[0] as usize),
         Invalid::ValidatorRefused(place) => put_place(memory, text, b"validator", *place),
         Invalid::PolicyRefused(place) => put_place(memory, text, b"policy-script", *place),

@@ -1,7 +1,7 @@
 -- Each rule's fault, and what it says of the rule.
 use Rattle.std.proofs.Common.{◌≡◌, ◌≢◌, ◌⊎◌, inl, inr, ℕ, ◌<◌, ◌≤◌, pos, ◌≤ℤ◌, ℤ, Bool, true, false, cond, not, ◌||◌, List, [], ◌∷◌, length, refl, ap, subst, arith}
 use Rattle.std.specs.Prelude.{◌==◌, Option, None, Some, All, IsSome, IsTrue, Decides, is_some, nat_lt, int_lt, option_map}
-use Rattle.std.specs.List.{find, position, range_with_len}
+use Rattle.std.specs.List.{find, position, range_with_len, AllByRecursion}
 use Rattle.std.specs.Cmp.Lexicographic.{bytes_decides}
 use Rattle.std.proofs.lemmas.Int.{ints}
 use Rattle.std.proofs.lemmas.Bool.Decides.{nat_tests}
@@ -20,9 +20,9 @@ use Rattle.mp_rules.specs.declared.invalid.Invalid.TheVariants as rule
 use Rattle.mp_rules.specs.Verifier.{Accepts}
 use Rattle.mp_rules.specs.Resolved.{resolve, spendings, values}
 use Rattle.mp_rules.specs.Scripts.{validator_accepts, policy_accepts}
-use Rattle.mp_rules.specs.Validity.{Rule, HasInput, InInterval, PaysNoDebt, InputsThere, ReferencesThere, AddressesMatch, DataMatch, OutputsFresh, PoliciesCarried, Balanced, SignaturesAccepted, ValidatorsAccept, PoliciesAccept, IsNonnegative, Holds}
-use Rattle.mp_rules.specs.FirstFault.{same_bytes, has_debt, first_unbalanced, no_inputs, outside_interval, negative_output, input_missing, reference_missing, address_mismatch, datum_mismatch, output_taken, forge_without_policy, unbalanced, bad_signature, validator_refused, policy_refused}
-use Rattle.mp_rules.specs.Laws.{IsFirstBad, IsBroken, turn, turn_of}
+use Rattle.mp_rules.specs.Validity.{Rule, HasInput, InInterval, PaysNoDebt, InputsThere, ReferencesThere, AddressesMatch, DataMatch, OutputsFresh, PoliciesCarried, Balanced, SignaturesAccepted, ValidatorsAccept, PoliciesAccept, rules, IsNonnegative, Holds}
+use Rattle.mp_rules.specs.FirstFault.{same_bytes, has_debt, first_unbalanced, token_unbalanced, no_inputs, outside_interval, negative_output, input_missing, reference_missing, address_mismatch, datum_mismatch, output_taken, forge_without_policy, unbalanced, bad_signature, validator_refused, policy_refused, fault_of, rule_of}
+use Rattle.mp_rules.specs.Laws.{IsFirstBad, IsBroken}
 use Rattle.mp_rules.proofs.Searching.{unmapped, mapped, Refutes, refutes, all_good, none_bad, first_bad, all_good_found, none_found, first_found, each_below, all_below, first_number, any_refutes}
 use Rattle.mp_rules.proofs.Carried.{IsCarried, uncarried, uncarried_refutes, is_least}
 use Rattle.mp_rules.proofs.Totals.{balanced, none_unbalanced, is_unbalanced}
@@ -129,70 +129,54 @@ module _ {X : Type 0} (p : X → Bool) (Good : X → Type 0) (tells : Refutes p 
 -- ---- the rules
 
 module _ (accepts : Accepts) (u : Unspent) (tick : ℕ) (t : Transaction) where
-  -- the fault of a rule by itself
-  abbrev pub fault_at : Rule → Option Invalid
-  fault_at HasInput = no_inputs t
-  fault_at InInterval = outside_interval tick t
-  fault_at PaysNoDebt = negative_output t
-  fault_at InputsThere = input_missing u t
-  fault_at ReferencesThere = reference_missing u t
-  fault_at AddressesMatch = address_mismatch t (resolve u t)
-  fault_at DataMatch = datum_mismatch t (resolve u t)
-  fault_at OutputsFresh = output_taken u t
-  fault_at PoliciesCarried = forge_without_policy t
-  fault_at Balanced = unbalanced t (resolve u t)
-  fault_at SignaturesAccepted = bad_signature accepts t
-  fault_at ValidatorsAccept = validator_refused t (resolve u t)
-  fault_at PoliciesAccept = policy_refused t (resolve u t)
-
   -- the fault is of the rule, which is broken as it says
   pub record IsBrokenAt (r : Rule) (fault : Invalid) : Type 0 where
     pub broken : IsBroken accepts u tick t fault
-    pub turn_is : turn_of fault ≡ turn r
+    pub is_of : rule_of fault ≡ Some r
 
   -- what the fault of a rule says
   abbrev pub IsTold : Rule → Type 0
-  IsTold r = Tells (fault_at r) (Holds accepts u tick t r) (λ fault. IsBundle t.forge → IsBrokenAt r fault)
+  IsTold r = Tells (fault_of accepts u tick t r) (Holds accepts u tick t r) (λ fault. IsBundle t.forge → IsBrokenAt r fault)
 
   has_input : IsTold HasInput
   unfolding no_inputs
-  has_input = by_test (length t.inputs == 0) rule.NoInputs _ _ (some_input t.inputs) (not_empty t.inputs) (λ e is. record { broken = empty t.inputs e; turn_is = refl })
+  has_input = by_test (length t.inputs == 0) rule.NoInputs _ _ (some_input t.inputs) (not_empty t.inputs) (λ e is. record { broken = empty t.inputs e; is_of = refl })
 
   in_interval : IsTold InInterval
   unfolding outside_interval
   in_interval =
       by_test (nat_lt tick t.from || nat_lt t.to tick) rule.OutsideInterval _ _ (inside t.from t.to tick) (not_outside t.from t.to tick)
-      (λ e is. record { broken = outside t.from t.to tick e; turn_is = refl })
+      (λ e is. record { broken = outside t.from t.to tick e; is_of = refl })
 
   pays_no_debt : IsTold PaysNoDebt
   unfolding negative_output
-  pays_no_debt = by_place _ IsNonnegative debt_refutes t.outputs _ rule.NegativeOutput (λ k first is. record { broken = first; turn_is = refl })
+  pays_no_debt = by_place _ IsNonnegative debt_refutes t.outputs _ rule.NegativeOutput (λ k first is. record { broken = first; is_of = refl })
 
   inputs_there : IsTold InputsThere
   unfolding input_missing
   inputs_there =
       by_place _ (λ i. IsSome (u i.from)) (refutes (λ (i : Input). is_some (u i.from)) _ (λ i. is_true_Decides (is_some (u i.from)))) t.inputs _ rule.InputMissing
-      (λ k first is. record { broken = first; turn_is = refl })
+      (λ k first is. record { broken = first; is_of = refl })
 
   references_there : IsTold ReferencesThere
   unfolding reference_missing
   references_there =
       by_place _ (λ r. IsSome (u r)) (refutes (λ (r : OutRef). is_some (u r)) _ (λ r. is_true_Decides (is_some (u r)))) t.references _ rule.ReferenceMissing
-      (λ k first is. record { broken = first; turn_is = refl })
+      (λ k first is. record { broken = first; is_of = refl })
 
   addresses_match : IsTold AddressesMatch
   unfolding address_mismatch
   addresses_match =
       by_place _ (λ (p : Input × Output). sha256 p.0.validator ≡ p.1.address)
       (refutes (λ (p : Input × Output). same_bytes (sha256 p.0.validator) p.1.address) _ (λ p. bytes_decides (sha256 p.0.validator) p.1.address))
-      (spendings t (resolve u t)) _ rule.AddressMismatch (λ k first is. record { broken = first; turn_is = refl })
+      (spendings t (resolve u t)) _ rule.AddressMismatch (λ k first is. record { broken = first; is_of = refl })
 
   data_match : IsTold DataMatch
   unfolding datum_mismatch
   data_match =
       by_place _ (λ (p : Input × Output). sha256 p.0.datum ≡ p.1.datum_hash)
       (refutes (λ (p : Input × Output). same_bytes (sha256 p.0.datum) p.1.datum_hash) _ (λ p. bytes_decides (sha256 p.0.datum) p.1.datum_hash))
-      (spendings t (resolve u t)) _ rule.DatumMismatch (λ k first is. record { broken = first; turn_is = refl })
+      (spendings t (resolve u t)) _ rule.DatumMismatch (λ k first is. record { broken = first; is_of = refl })
 
   outputs_fresh : IsTold OutputsFresh
   unfolding output_taken
@@ -201,7 +185,7 @@ module _ (accepts : Accepts) (u : Unspent) (tick : ℕ) (t : Transaction) where
       by_place _ (λ k. u (own_ref t k) ≡ None) (taken_refutes u t) (range_with_len 0 (length t.outputs)) (λ fault. IsBundle t.forge → IsBrokenAt OutputsFresh fault) rule.OutputTaken
       (λ k first is.
       let at = first_number (λ k. u (own_ref t k) ≡ None) (length t.outputs) k first in
-      record { broken = (at.within, there (u (own_ref t k)) at.bad, at.before); turn_is = refl }) in
+      record { broken = (at.within, there (u (own_ref t k)) at.bad, at.before); is_of = refl }) in
       record {
         holds = λ e. each_below (λ k. u (own_ref t k) ≡ None) (length t.outputs) (own.holds e);
         none = λ h. own.none (all_below (λ k. u (own_ref t k) ≡ None) (length t.outputs) h);
@@ -212,20 +196,20 @@ module _ (accepts : Accepts) (u : Unspent) (tick : ℕ) (t : Transaction) where
   unfolding forge_without_policy
   policies_carried =
       by_item (uncarried t.scripts) (IsCarried t.scripts) (uncarried_refutes t.scripts) t.forge _ (λ e. rule.ForgeWithoutPolicy e.0.policy)
-      (λ e found is. record { broken = is_least t.scripts t.forge e is found; turn_is = refl })
+      (λ e found is. record { broken = is_least t.scripts t.forge e is found; is_of = refl })
 
   is_balanced : IsTold Balanced
   unfolding unbalanced
   is_balanced =
       let taken = t.forge ∷ values (resolve u t).spent in
       let paid = values t.outputs in
-      let name : Token → Invalid = λ token. rule.Unbalanced token.policy token.name in
+      let name : Token → Invalid = token_unbalanced taken paid in
       record {
         holds = λ e. none_unbalanced taken paid (unmapped name (first_unbalanced taken paid) e);
         none = λ h. ap (option_map name) (balanced taken paid h);
         broken = λ fault e is.
             let at = mapped name (first_unbalanced taken paid) fault e in
-            subst (IsBrokenAt Balanced) at.same (record { broken = is_unbalanced taken paid at.from at.found; turn_is = refl });
+            subst (IsBrokenAt Balanced) at.same (record { broken = (is_unbalanced taken paid at.from at.found, refl, refl); is_of = refl });
       }
 
   signatures_accepted : IsTold SignaturesAccepted
@@ -236,21 +220,21 @@ module _ (accepts : Accepts) (u : Unspent) (tick : ℕ) (t : Transaction) where
       by_item (λ s. not (test s)) (λ s. IsTrue (test s)) refuses t.signatures _ (λ s. rule.BadSignature s.key)
       (λ s found is.
       let at = first_found (λ s. not (test s)) (λ s. IsTrue (test s)) refuses t.signatures s found in
-      record { broken = (at.place, at.first, λ d. ap (λ (s : Signature). s.key) (at.stands d)); turn_is = refl })
+      record { broken = (at.place, at.first, λ d. ap (λ (s : Signature). s.key) (at.stands d)); is_of = refl })
 
   validators_accept : IsTold ValidatorsAccept
   unfolding validator_refused
   validators_accept =
       let test : Input × Output → Bool = λ p. validator_accepts t (resolve u t) p in
       by_place _ (λ p. IsTrue (test p)) (refutes test _ (λ p. is_true_Decides (test p))) (spendings t (resolve u t)) _ rule.ValidatorRefused
-      (λ k first is. record { broken = first; turn_is = refl })
+      (λ k first is. record { broken = first; is_of = refl })
 
   policies_accept : IsTold PoliciesAccept
   unfolding policy_refused
   policies_accept =
       let test : List ℕ → Bool = λ s. policy_accepts t (resolve u t) s in
       by_place _ (λ s. IsTrue (test s)) (refutes test _ (λ s. is_true_Decides (test s))) t.scripts _ rule.PolicyRefused
-      (λ k first is. record { broken = first; turn_is = refl })
+      (λ k first is. record { broken = first; is_of = refl })
 
   pub each_rule : (r : Rule) → IsTold r
   each_rule HasInput = has_input
@@ -266,3 +250,19 @@ module _ (accepts : Accepts) (u : Unspent) (tick : ℕ) (t : Transaction) where
   each_rule SignaturesAccepted = signatures_accepted
   each_rule ValidatorsAccept = validators_accept
   each_rule PoliciesAccept = policies_accept
+
+-- what is so of all that are listed is so of each rule
+pub of_each : (P : Rule → Type 0) → AllByRecursion P rules → (r : Rule) → P r
+of_each P all HasInput = all.0
+of_each P all InInterval = all.1.0
+of_each P all PaysNoDebt = all.1.1.0
+of_each P all InputsThere = all.1.1.1.0
+of_each P all ReferencesThere = all.1.1.1.1.0
+of_each P all AddressesMatch = all.1.1.1.1.1.0
+of_each P all DataMatch = all.1.1.1.1.1.1.0
+of_each P all OutputsFresh = all.1.1.1.1.1.1.1.0
+of_each P all PoliciesCarried = all.1.1.1.1.1.1.1.1.0
+of_each P all Balanced = all.1.1.1.1.1.1.1.1.1.0
+of_each P all SignaturesAccepted = all.1.1.1.1.1.1.1.1.1.1.0
+of_each P all ValidatorsAccept = all.1.1.1.1.1.1.1.1.1.1.1.0
+of_each P all PoliciesAccept = all.1.1.1.1.1.1.1.1.1.1.1.1.0

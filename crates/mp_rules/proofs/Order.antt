@@ -7,9 +7,9 @@ use Rattle.mp_rules.specs.declared.invalid.Invalid.{Invalid}
 use Rattle.mp_rules.specs.declared.invalid.Invalid.TheVariants as rule
 use Rattle.mp_rules.specs.Verifier.{Accepts}
 use Rattle.mp_rules.specs.Resolved.{Resolved, resolve}
-use Rattle.mp_rules.specs.FirstFault.{no_inputs, outside_interval, negative_output, input_missing, reference_missing, address_mismatch, datum_mismatch, output_taken, forge_without_policy, unbalanced, bad_signature, validator_refused, policy_refused, first_of, first_fault, IsFaultOf}
+use Rattle.mp_rules.specs.FirstFault.{bad_signature, validator_refused, policy_refused, first_of, first_fault, IsFaultOf}
 use Rattle.mp_rules.specs.Checked.{script_refused}
-use Rattle.mp_rules.specs.Inside.Groups.{own_fault, missing, mismatch, payment_fault, fault_on_map}
+use Rattle.mp_rules.specs.Inside.Groups.{own_faults, missing_faults, mismatch_faults, payment_faults, own_fault, missing, mismatch, payment_fault, fault_on_map}
 
 -- a group stands for what is in it
 opened : (xs ys : List (Option Invalid)) → first_of (first_of xs ∷ ys) ≡ first_of (xs ++ ys)
@@ -22,25 +22,26 @@ behind [] ys zs same = same
 behind (None ∷ xs) ys zs same = behind xs ys zs same
 behind (Some fault ∷ xs) ys zs same = refl
 
+-- groups within a group, one after the other
+regrouped : (ns ms fs ps : List (Option Invalid)) (one : Option Invalid) (ss : List (Option Invalid)) → first_of (first_of (first_of ns ∷ first_of ms ∷ first_of fs ∷ first_of ps ∷ []) ∷ one ∷ first_of ss ∷ []) ≡ first_of (ns ++ (ms ++ (fs ++ (ps ++ (one ∷ (ss ++ []))))))
+regrouped ns ms fs ps one ss =
+    let last : List (Option Invalid) = one ∷ first_of ss ∷ [] in
+    let paid : List (Option Invalid) = ps ++ (one ∷ (ss ++ [])) in
+    opened (first_of ns ∷ first_of ms ∷ first_of fs ∷ first_of ps ∷ []) last
+    ∙ opened ns (first_of ms ∷ first_of fs ∷ first_of ps ∷ last)
+    ∙ behind ns (first_of ms ∷ first_of fs ∷ first_of ps ∷ last) (ms ++ (fs ++ paid)) (
+    opened ms (first_of fs ∷ first_of ps ∷ last)
+    ∙ behind ms (first_of fs ∷ first_of ps ∷ last) (fs ++ paid) (
+    opened fs (first_of ps ∷ last)
+    ∙ behind fs (first_of ps ∷ last) paid (opened ps last ∙ behind ps last (one ∷ (ss ++ [])) (behind (one ∷ []) (first_of ss ∷ []) (ss ++ []) (opened ss [])))
+    )
+    )
+
 pub grouped : (accepts : Accepts) (u : Unspent) (tick : ℕ) (t : Transaction) → first_of (fault_on_map u tick t ∷ bad_signature accepts t ∷ script_refused t (resolve u t) ∷ []) ≡ first_fault accepts u tick t
 unfolding fault_on_map own_fault missing mismatch payment_fault script_refused first_fault
 grouped accepts u tick t =
     let r = resolve u t in
-    let signature = bad_signature accepts t in
-    let own : List (Option Invalid) = no_inputs t ∷ outside_interval tick t ∷ negative_output t ∷ [] in
-    let there : List (Option Invalid) = input_missing u t ∷ reference_missing u t ∷ [] in
-    let fit : List (Option Invalid) = address_mismatch t r ∷ datum_mismatch t r ∷ [] in
-    let paid : List (Option Invalid) = output_taken u t ∷ forge_without_policy t ∷ unbalanced t r ∷ [] in
-    let scripts : List (Option Invalid) = validator_refused t r ∷ policy_refused t r ∷ [] in
-    opened (first_of own ∷ first_of there ∷ first_of fit ∷ first_of paid ∷ []) (signature ∷ first_of scripts ∷ [])
-    ∙ opened own (first_of there ∷ first_of fit ∷ first_of paid ∷ signature ∷ first_of scripts ∷ [])
-    ∙ behind own _ _ (
-    opened there (first_of fit ∷ first_of paid ∷ signature ∷ first_of scripts ∷ [])
-    ∙ behind there _ _ (
-    opened fit (first_of paid ∷ signature ∷ first_of scripts ∷ [])
-    ∙ behind fit _ _ (opened paid (signature ∷ first_of scripts ∷ []) ∙ behind (paid ++ signature ∷ []) (first_of scripts ∷ []) scripts (opened scripts []))
-    )
-    )
+    regrouped (own_faults tick t) (missing_faults u t) (mismatch_faults t r) (payment_faults u t r) (bad_signature accepts t) (validator_refused t r ∷ policy_refused t r ∷ [])
 
 -- a fault other than want of memory is told where it is the first
 is_fault : (accepts : Accepts) (u : Unspent) (tick : ℕ) (t : Transaction) (fault : Invalid) → (fault ≢ rule.NoMemory → first_fault accepts u tick t ≡ Some fault) → IsFaultOf accepts u tick t fault

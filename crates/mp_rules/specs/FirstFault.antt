@@ -1,4 +1,4 @@
--- Which rule fails first, at its least place.
+-- The first fault of each rule, at its least place, and of all rules.
 use Rattle.std.specs.Prelude.{◌≡◌, ℕ, nat_eq, nat_lt, ◌==◌, pos, int_lt, Bool, not, ◌||◌, List, [], ◌∷◌, ◌++◌, length, map, filter, Option, None, Some, is_none, is_some, option_map, if◌then◌else◌}
 use Rattle.std.specs.List.{find, list_any, position, range_with_len, flat_map}
 use Rattle.std.specs.Ordering.{int_eq, is_lt}
@@ -16,6 +16,7 @@ use Rattle.mp_rules.specs.declared.invalid.Invalid.TheVariants as rule
 use Rattle.mp_rules.specs.Verifier.{Accepts}
 use Rattle.mp_rules.specs.Resolved.{Resolved, resolve, spendings, values}
 use Rattle.mp_rules.specs.Scripts.{validator_accepts, policy_accepts}
+use Rattle.mp_rules.specs.Validity.{Rule, HasInput, InInterval, PaysNoDebt, InputsThere, ReferencesThere, AddressesMatch, DataMatch, OutputsFresh, PoliciesCarried, Balanced, SignaturesAccepted, ValidatorsAccept, PoliciesAccept, rules}
 
 abbrev pub same_bytes : List ℕ → List ℕ → Bool
 same_bytes a b = pointwise nat_eq a b
@@ -78,9 +79,17 @@ abbrev pub first_unbalanced : List (List Entry) → List (List Entry) → Option
 first_unbalanced taken paid =
     least (filter (λ token. not (int_eq (total_over taken token) (total_over paid token))) (tokens (taken ++ paid)))
 
+-- a token as a fault, with its totals
+abbrev pub token_unbalanced : List (List Entry) → List (List Entry) → Token → Invalid
+token_unbalanced taken paid token =
+    rule.Unbalanced token.policy token.name (total_over taken token) (total_over paid token)
+
+-- what is forged and spent is taken
 unfoldable pub unbalanced : Transaction → Resolved → Option Invalid
 unbalanced t r =
-    option_map (λ token. rule.Unbalanced token.policy token.name) (first_unbalanced (t.forge ∷ values r.spent) (values t.outputs))
+    let taken = t.forge ∷ values r.spent in
+    let paid = values t.outputs in
+    option_map (token_unbalanced taken paid) (first_unbalanced taken paid)
 
 unfoldable pub bad_signature : Accepts → Transaction → Option Invalid
 bad_signature accepts t =
@@ -99,24 +108,42 @@ first_of [] = None
 first_of (None ∷ others) = first_of others
 first_of (Some fault ∷ others) = Some fault
 
--- Rules are looked at in this order, each over all its places before the next.
+-- the first fault of a rule by itself
+abbrev pub fault_of : Accepts → Unspent → ℕ → Transaction → Rule → Option Invalid
+fault_of accepts u tick t HasInput = no_inputs t
+fault_of accepts u tick t InInterval = outside_interval tick t
+fault_of accepts u tick t PaysNoDebt = negative_output t
+fault_of accepts u tick t InputsThere = input_missing u t
+fault_of accepts u tick t ReferencesThere = reference_missing u t
+fault_of accepts u tick t AddressesMatch = address_mismatch t (resolve u t)
+fault_of accepts u tick t DataMatch = datum_mismatch t (resolve u t)
+fault_of accepts u tick t OutputsFresh = output_taken u t
+fault_of accepts u tick t PoliciesCarried = forge_without_policy t
+fault_of accepts u tick t Balanced = unbalanced t (resolve u t)
+fault_of accepts u tick t SignaturesAccepted = bad_signature accepts t
+fault_of accepts u tick t ValidatorsAccept = validator_refused t (resolve u t)
+fault_of accepts u tick t PoliciesAccept = policy_refused t (resolve u t)
+
+-- the rule that a fault is of; want of memory is of none
+abbrev pub rule_of : Invalid → Option Rule
+rule_of rule.NoMemory = None
+rule_of rule.NoInputs = Some HasInput
+rule_of rule.OutsideInterval = Some InInterval
+rule_of (rule.NegativeOutput place) = Some PaysNoDebt
+rule_of (rule.InputMissing place) = Some InputsThere
+rule_of (rule.ReferenceMissing place) = Some ReferencesThere
+rule_of (rule.AddressMismatch place) = Some AddressesMatch
+rule_of (rule.DatumMismatch place) = Some DataMatch
+rule_of (rule.OutputTaken place) = Some OutputsFresh
+rule_of (rule.ForgeWithoutPolicy policy) = Some PoliciesCarried
+rule_of (rule.Unbalanced policy name taken paid) = Some Balanced
+rule_of (rule.BadSignature key) = Some SignaturesAccepted
+rule_of (rule.ValidatorRefused place) = Some ValidatorsAccept
+rule_of (rule.PolicyRefused place) = Some PoliciesAccept
+
+-- the fault of the first rule that has one
 unfoldable pub first_fault : Accepts → Unspent → ℕ → Transaction → Option Invalid
-first_fault accepts u tick t = first_of (
-    no_inputs t
-    ∷ outside_interval tick t
-    ∷ negative_output t
-    ∷ input_missing u t
-    ∷ reference_missing u t
-    ∷ address_mismatch t (resolve u t)
-    ∷ datum_mismatch t (resolve u t)
-    ∷ output_taken u t
-    ∷ forge_without_policy t
-    ∷ unbalanced t (resolve u t)
-    ∷ bad_signature accepts t
-    ∷ validator_refused t (resolve u t)
-    ∷ policy_refused t (resolve u t)
-    ∷ []
-    )
+first_fault accepts u tick t = first_of (map (fault_of accepts u tick t) rules)
 
 -- a fault that a check tells; memory may be wanting for any transaction
 abbrev pub IsFaultOf : Accepts → Unspent → ℕ → Transaction → Invalid → Type 0

@@ -1,20 +1,13 @@
--- The numbers of the rules that a transaction may break.
-use Rattle.std.specs.Prelude.{ℕ}
+-- The numbers of faults.
+use Rattle.std.specs.Prelude.{ℕ, Option, None, Some}
 use Rattle.mp_rules.specs.declared.invalid.Invalid.{Invalid}
-use Rattle.mp_rules.specs.declared.invalid.Invalid.TheVariants as rule
+use Rattle.mp_rules.specs.Validity.{Rule, rule_number}
+use Rattle.mp_rules.specs.FirstFault.{rule_of}
 
+abbrev number_of : Option Rule → ℕ
+number_of None = 1
+number_of (Some rule) = rule_number rule
+
+-- that of its rule, and 1 where memory is wanting
 abbrev pub number : Invalid → ℕ
-number rule.NoMemory = 1
-number rule.NoInputs = 2
-number rule.OutsideInterval = 3
-number (rule.NegativeOutput place) = 4
-number (rule.InputMissing place) = 5
-number (rule.AddressMismatch place) = 6
-number (rule.DatumMismatch place) = 7
-number (rule.OutputTaken place) = 8
-number (rule.ForgeWithoutPolicy policy) = 9
-number (rule.Unbalanced policy name) = 10
-number (rule.BadSignature key) = 11
-number (rule.ValidatorRefused place) = 12
-number (rule.PolicyRefused place) = 13
-number (rule.ReferenceMissing place) = 14
+number fault = number_of (rule_of fault)

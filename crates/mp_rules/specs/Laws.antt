@@ -1,5 +1,5 @@
 -- What ties validity to the first fault.
-use Rattle.std.specs.Prelude.{◌≡◌, ◌≢◌, ◌↔◌, ◌⊎◌, ℕ, ◌<◌, List, [], ◌∷◌, length, map, take, All, Contains, HoldsAt, None, Some, IsSome, IsTrue}
+use Rattle.std.specs.Prelude.{◌≡◌, ◌≢◌, ◌↔◌, ◌⊎◌, ℕ, ◌<◌, List, [], ◌∷◌, ◌++◌, length, map, take, All, Contains, HoldsAt, None, Some, IsSome, IsTrue}
 use Rattle.std.specs.Cmp.Lexicographic.{slice_cmp}
 use Rattle.std.specs.Ordering.{nat_cmp}
 use Rattle.std.specs.declared.cmp.Ordering.TheVariants.{Less}
@@ -16,8 +16,8 @@ use Rattle.mp_rules.specs.declared.invalid.Invalid.TheVariants as rule
 use Rattle.mp_rules.specs.Verifier.{Accepts}
 use Rattle.mp_rules.specs.Resolved.{resolve, spendings, values}
 use Rattle.mp_rules.specs.Scripts.{validator_accepts, policy_accepts}
-use Rattle.mp_rules.specs.Validity.{Rule, HasInput, InInterval, PaysNoDebt, InputsThere, ReferencesThere, AddressesMatch, DataMatch, OutputsFresh, PoliciesCarried, Balanced, SignaturesAccepted, ValidatorsAccept, PoliciesAccept, IsNonnegative, Holds, IsValid}
-use Rattle.mp_rules.specs.FirstFault.{first_fault}
+use Rattle.mp_rules.specs.Validity.{Rule, rules, IsNonnegative, Holds, IsValid}
+use Rattle.mp_rules.specs.FirstFault.{rule_of, first_fault}
 
 -- the first item that isn't good stands at the place
 pub record IsFirstBad {X : Type 0} (Good : X → Type 0) (xs : List X) (place : ℕ) : Type 0 where
@@ -38,39 +38,6 @@ pub record IsLeastUnbalanced (taken paid : List (List Entry)) (token : Token) : 
   pub differs : total_over taken token ≢ total_over paid token
   pub least : (other : Token) → token_cmp other token ≡ Less → total_over taken other ≡ total_over paid other
 
--- the place of a rule in the order
-abbrev pub turn : Rule → ℕ
-turn HasInput = 0
-turn InInterval = 1
-turn PaysNoDebt = 2
-turn InputsThere = 3
-turn ReferencesThere = 4
-turn AddressesMatch = 5
-turn DataMatch = 6
-turn OutputsFresh = 7
-turn PoliciesCarried = 8
-turn Balanced = 9
-turn SignaturesAccepted = 10
-turn ValidatorsAccept = 11
-turn PoliciesAccept = 12
-
--- of the rule that a fault is of
-abbrev pub turn_of : Invalid → ℕ
-turn_of rule.NoMemory = 0
-turn_of rule.NoInputs = turn HasInput
-turn_of rule.OutsideInterval = turn InInterval
-turn_of (rule.NegativeOutput place) = turn PaysNoDebt
-turn_of (rule.InputMissing place) = turn InputsThere
-turn_of (rule.ReferenceMissing place) = turn ReferencesThere
-turn_of (rule.AddressMismatch place) = turn AddressesMatch
-turn_of (rule.DatumMismatch place) = turn DataMatch
-turn_of (rule.OutputTaken place) = turn OutputsFresh
-turn_of (rule.ForgeWithoutPolicy policy) = turn PoliciesCarried
-turn_of (rule.Unbalanced policy name) = turn Balanced
-turn_of (rule.BadSignature key) = turn SignaturesAccepted
-turn_of (rule.ValidatorRefused place) = turn ValidatorsAccept
-turn_of (rule.PolicyRefused place) = turn PoliciesAccept
-
 -- The rule that a fault is of is broken as the fault says, and nowhere before.
 abbrev pub IsBroken : Accepts → Unspent → ℕ → Transaction → Invalid → Type 0
 IsBroken accepts u tick t rule.NoMemory = ⊥
@@ -86,8 +53,10 @@ IsBroken accepts u tick t (rule.DatumMismatch i) =
 IsBroken accepts u tick t (rule.OutputTaken k) =
     (k < length t.outputs) × IsSome (u (own_ref t k)) × ((j : ℕ) → j < k → u (own_ref t j) ≡ None)
 IsBroken accepts u tick t (rule.ForgeWithoutPolicy policy) = IsLeastUncarried t.scripts t.forge policy
-IsBroken accepts u tick t (rule.Unbalanced policy name) =
+IsBroken accepts u tick t (rule.Unbalanced policy name taken paid) =
     IsLeastUnbalanced (t.forge ∷ values (resolve u t).spent) (values t.outputs) (token policy name)
+    × (taken ≡ total_over (t.forge ∷ values (resolve u t).spent) (token policy name))
+    × (paid ≡ total_over (values t.outputs) (token policy name))
 IsBroken accepts u tick t (rule.BadSignature key) =
     (i : ℕ) × IsFirstBad (λ s. IsTrue (accepts s.key (id_of t) s.sig)) t.signatures i × HoldsAt (λ s. s.key ≡ key) t.signatures i
 IsBroken accepts u tick t (rule.ValidatorRefused i) =
@@ -98,8 +67,14 @@ IsBroken accepts u tick t (rule.PolicyRefused j) =
 -- what a first fault says
 pub record IsFirstFault (accepts : Accepts) (u : Unspent) (tick : ℕ) (t : Transaction) (fault : Invalid) : Type 0 where
   pub broken : IsBroken accepts u tick t fault
+  -- the rule that it is of, and the rules before it and after it
+  pub own : Rule
+  pub is_own : rule_of fault ≡ Some own
+  pub earlier : List Rule
+  pub later : List Rule
+  pub order : rules ≡ earlier ++ own ∷ later
   -- every rule before it holds
-  pub before : (r : Rule) → turn r < turn_of fault → Holds accepts u tick t r
+  pub hold : All (Holds accepts u tick t) earlier
 
 -- a transaction is valid exactly where it has no first fault
 abbrev pub ValidIsFaultless : Type 0

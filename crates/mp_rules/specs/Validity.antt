@@ -21,7 +21,6 @@ abbrev pub IsBalanced : Transaction → Resolved → Type 0
 IsBalanced t r =
     (token : Token) → total_over (t.forge ∷ values r.spent) token ≡ total_over (values t.outputs) token
 
--- The rules, in the order in which they are looked at.
 pub data Rule : Type 0 where
   HasInput : Rule
   InInterval : Rule
@@ -36,6 +35,40 @@ pub data Rule : Type 0 where
   SignaturesAccepted : Rule
   ValidatorsAccept : Rule
   PoliciesAccept : Rule
+
+-- All rules, in the order in which they are looked at, each over all its places before the next.
+abbrev pub rules : List Rule
+rules =
+    HasInput
+    ∷ InInterval
+    ∷ PaysNoDebt
+    ∷ InputsThere
+    ∷ ReferencesThere
+    ∷ AddressesMatch
+    ∷ DataMatch
+    ∷ OutputsFresh
+    ∷ PoliciesCarried
+    ∷ Balanced
+    ∷ SignaturesAccepted
+    ∷ ValidatorsAccept
+    ∷ PoliciesAccept
+    ∷ []
+
+-- The numbers of the rules. They don't give the order: 14 is told sixth, right after 5.
+abbrev pub rule_number : Rule → ℕ
+rule_number HasInput = 2
+rule_number InInterval = 3
+rule_number PaysNoDebt = 4
+rule_number InputsThere = 5
+rule_number ReferencesThere = 14
+rule_number AddressesMatch = 6
+rule_number DataMatch = 7
+rule_number OutputsFresh = 8
+rule_number PoliciesCarried = 9
+rule_number Balanced = 10
+rule_number SignaturesAccepted = 11
+rule_number ValidatorsAccept = 12
+rule_number PoliciesAccept = 13
 
 -- A rule holds of a transaction, for a verifier, at a tick, upon the outputs that may be spent.
 abbrev pub Holds : Accepts → Unspent → ℕ → Transaction → Rule → Type 0

@@ -1,9 +1,10 @@
 //! The rule of balance.
 
 ghost use Rattle.std.specs.Prelude.{◌≡◌, ◌+◌, ◌≤◌, ◌^◌, ◌∷◌, length, IfOk, OnOk, IfNone, IfSome};
-ghost use Rattle.mp_bundle.specs.Sum.{AddsAll, IsSumOf, AreAlike, IsFirstDifference};
+ghost use Rattle.mp_bundle.specs.Sum.{total_of, AddsAll, IsSumOf, AreAlike, IsFirstDifference};
+ghost use Rattle.mp_rules.specs.declared.invalid.Invalid.TheVariants as rules;
 ghost use Rattle.mp_rules.specs.Resolved.{values};
-ghost use Rattle.mp_rules.specs.FirstFault.{first_unbalanced, unbalanced};
+ghost use Rattle.mp_rules.specs.FirstFault.{unbalanced};
 
 use crate::invalid::Invalid;
 use crate::resolved::Resolved;
@@ -58,14 +59,18 @@ fn difference<'a>(taken: &'a Sum, paid: &'a Sum) -> Option<Token>
     }
 }
 
-// The least token of which what is forged and spent isn't what is paid.
-fn first_unbalanced(memory: Memory, tx: &Tx, resolved: &Resolved) -> Result<Option<Token>, NoMemory>
-    ensures { IfOk result (λ token. token ≡
-        first_unbalanced (tx.now.forge ∷ values resolved.now.spent) (values tx.now.outputs)) }
+// The token as a fault, with its totals.
+fn token_fault(taken: &Sum, paid: &Sum, token: &Token) -> Invalid
+    ensures { result ≡ rules.Unbalanced token.now.policy token.now.name
+        (total_of taken.now token.now) (total_of paid.now token.now) }
 {
-    let taken = sum_with(memory, tx.forge(), resolved.spent())?;
-    let paid = sum_of(memory, tx.outputs())?;
-    Ok(difference(&taken, &paid))
+    let name = token.name;
+    Invalid::Unbalanced {
+        policy: token.policy,
+        name,
+        taken: taken.total(&token.policy, name.as_slice()),
+        paid: paid.total(&token.policy, name.as_slice()),
+    }
 }
 
 /// The least token of which what is forged and spent isn't what is paid, as a fault.
@@ -73,12 +78,10 @@ fn first_unbalanced(memory: Memory, tx: &Tx, resolved: &Resolved) -> Result<Opti
 pub fn unbalanced(memory: Memory, tx: &Tx, resolved: &Resolved) -> Result<Option<Invalid>, NoMemory>
     ensures { IfOk result (λ fault. fault ≡ unbalanced tx.now resolved.now) }
 {
-    match first_unbalanced(memory, tx, resolved)? {
-        Some(token) => {
-            let policy = token.policy;
-            let name = token.name;
-            Ok(Some(Invalid::Unbalanced(policy, name)))
-        }
+    let taken = sum_with(memory, tx.forge(), resolved.spent())?;
+    let paid = sum_of(memory, tx.outputs())?;
+    match difference(&taken, &paid) {
+        Some(token) => Ok(Some(token_fault(&taken, &paid, &token))),
         None => Ok(None),
     }
 }

@@ -62,7 +62,8 @@ fn check_on_map<U: Utxo>(memory: Memory, tx: &Tx, utxo: &U, tick: u64) -> Result
 /// transaction names.
 ///
 /// # Errors
-/// The first rule that fails, in the order of `Invalid`, at its least place. `NoMemory` may stand in place of any answer.
+/// The first rule that fails, in the order of `rules` in `specs/Validity.antt`, at its least place. `NoMemory` may stand in place
+/// of any answer.
 pub fn check<U: Utxo, V: Verifier>(
     memory: Memory,
     tx: &Tx,

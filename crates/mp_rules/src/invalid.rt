@@ -4,13 +4,14 @@ ghost use Rattle.std.specs.Prelude.{◌≡◌};
 ghost use Rattle.mp_rules.specs.declared.invalid.Invalid.TheVariants as rules;
 ghost use Rattle.mp_rules.specs.Invalid as invalid;
 
+use crate::hex::Hex;
 use mp_memory::NoMemory;
 use mp_tx::{Key, PolicyId, TokenName};
 use std::alloc::{AllocError, AllocFailed};
 use thiserror::Error;
 
-/// The first rule that a transaction breaks, at its least place. The rules are looked at in the order in which they stand
-/// here, each over all its places before the next. `NoMemory` may stand in place of any answer. Places count from 0.
+/// The first rule that a transaction breaks, at its least place. `rules` in `specs/Validity.antt` is the order in which they
+/// are looked at. `NoMemory` may stand in place of any answer. Places count from 0.
 #[derive(Clone, Copy, Debug, PartialEq, Eq, Error)]
 pub enum Invalid {
     #[error("no memory")]
@@ -39,13 +40,19 @@ pub enum Invalid {
     #[error("the reference of output {0} is taken")]
     OutputTaken(usize),
     /// The least policy of which tokens are forged and whose script isn't carried.
-    #[error("the script of a forged policy isn't carried: {0:?}")]
+    #[error("the script of a forged policy isn't carried: {}", Hex(.0))]
     ForgeWithoutPolicy(PolicyId),
     /// The least token of which what is forged and spent isn't what is paid.
-    #[error("what is forged, spent and paid of a token differs: policy {0:?}, name {1:?}")]
-    Unbalanced(PolicyId, TokenName),
+    #[error("of a token {taken} are forged and spent and {paid} paid: policy {}, name '{}'", Hex(.policy), Hex(.name.as_slice()))]
+    Unbalanced {
+        policy: PolicyId,
+        name: TokenName,
+        /// How much of it is forged and spent.
+        taken: i128,
+        paid: i128,
+    },
     /// The key of the first signature that the verifier doesn't accept.
-    #[error("a signature isn't accepted: key {0:?}")]
+    #[error("a signature isn't accepted: key {}", Hex(.0))]
     BadSignature(Key),
     /// The place of an input whose validator refuses.
     #[error("the validator of input {0} refuses")]
@@ -56,7 +63,7 @@ pub enum Invalid {
 }
 
 impl Invalid {
-    /// The number of the rule: 1 to 14.
+    /// The number of the rule: 1 to 14. The numbers don't give the order: 14 is told sixth, right after 5.
     pub const fn number(&self) -> u64
         ensures { result ≡ invalid.number self.now }
     {
@@ -70,7 +77,7 @@ impl Invalid {
             Invalid::DatumMismatch(_) => 7,
             Invalid::OutputTaken(_) => 8,
             Invalid::ForgeWithoutPolicy(_) => 9,
-            Invalid::Unbalanced(_, _) => 10,
+            Invalid::Unbalanced { .. } => 10,
             Invalid::BadSignature(_) => 11,
             Invalid::ValidatorRefused(_) => 12,
             Invalid::PolicyRefused(_) => 13,

@@ -5,6 +5,7 @@
 mod balance;
 mod checked;
 mod checking;
+mod hex;
 mod invalid;
 pub mod laws;
 mod map;

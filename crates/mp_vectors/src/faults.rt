@@ -89,7 +89,12 @@ fn invalids() -> [Invalid; 14] {
         Invalid::DatumMismatch(9),
         Invalid::OutputTaken(2),
         Invalid::ForgeWithoutPolicy([1; 32]),
-        Invalid::Unbalanced([0; 32], TokenName::of(b"")),
+        Invalid::Unbalanced {
+            policy: [3; 32],
+            name: TokenName::of(b"gold"),
+            taken: 18446744073709551616,
+            paid: -4,
+        },
         Invalid::BadSignature([2; 32]),
         Invalid::ValidatorRefused(10),
         Invalid::PolicyRefused(11),

@@ -2,65 +2,52 @@
 
 use crate::vectors::names::Names;
 use crate::vectors::plain;
-use anyhow::{Result, bail};
+use anyhow::{Context, Result, bail};
 use mp_rules::{Invalid, Resolved};
 use mp_tx::{Ledger, OutRef, Output, TokenName, Tx};
 
-// The fault that is at a place.
-fn fault_at(name: &str, place: usize) -> Result<Invalid> {
+// Whether a fault is of this token, with these totals, as in `p.x 5 4`.
+fn is_unbalanced(names: &Names, found: &Invalid, words: &str) -> Result<bool> {
+    let (token, totals) = words.split_once(' ').context("no totals")?;
+    let (policy, name) = plain::token(names, token)?;
+    let (taken, paid) = totals.split_once(' ').context("no second total")?;
+    let wanted = Invalid::Unbalanced {
+        policy,
+        name: TokenName::of(name.as_bytes()),
+        taken: taken.parse::<i128>()?,
+        paid: paid.parse::<i128>()?,
+    };
+    Ok(*found == wanted)
+}
+
+// Whether this is how a fault is printed for programmers.
+fn is_printed(names: &Names, found: &Invalid, wanted: &str) -> Result<bool> {
+    Ok(format!(in names.memory(); "{found:?}")?.as_str() == wanted)
+}
+
+// Whether a fault has this name, and what is told with it.
+fn is_fault_of(names: &Names, found: &Invalid, name: &str, words: &str) -> Result<bool> {
     match name {
-        "NegativeOutput" => Ok(Invalid::NegativeOutput(place)),
-        "InputMissing" => Ok(Invalid::InputMissing(place)),
-        "ReferenceMissing" => Ok(Invalid::ReferenceMissing(place)),
-        "AddressMismatch" => Ok(Invalid::AddressMismatch(place)),
-        "DatumMismatch" => Ok(Invalid::DatumMismatch(place)),
-        "OutputTaken" => Ok(Invalid::OutputTaken(place)),
-        "ValidatorRefused" => Ok(Invalid::ValidatorRefused(place)),
-        "PolicyRefused" => Ok(Invalid::PolicyRefused(place)),
-        _ => bail!("no such word"),
+        "Unbalanced" => is_unbalanced(names, found, words),
+        "ForgeWithoutPolicy" => {
+            Ok(*found == Invalid::ForgeWithoutPolicy(plain::token(names, words)?.0))
+        }
+        "BadSignature" => Ok(*found == Invalid::BadSignature([words.parse::<u8>()?; 32])),
+        _ => is_printed(
+            names,
+            found,
+            format!(in names.memory(); "{name}({words})")?.as_str(),
+        ),
     }
 }
 
-fn unbalanced(names: &Names, word: &str) -> Result<Invalid> {
-    let (policy, name) = plain::token(names, word)?;
-    let bytes = name.as_bytes();
-    if bytes.len() > 32 {
-        bail!("too long a name")
-    }
-    Ok(Invalid::Unbalanced(policy, TokenName::of(bytes)))
-}
-
-fn forge_without_policy(names: &Names, word: &str) -> Result<Invalid> {
-    let (policy, _) = plain::token(names, word)?;
-    Ok(Invalid::ForgeWithoutPolicy(policy))
-}
-
-fn bad_signature(word: &str) -> Result<Invalid> {
-    Ok(Invalid::BadSignature([word.parse::<u8>()?; 32]))
-}
-
-fn fault_of_words(names: &Names, name: &str, word: &str) -> Result<Invalid> {
-    match name {
-        "ForgeWithoutPolicy" => forge_without_policy(names, word),
-        "Unbalanced" => unbalanced(names, word),
-        "BadSignature" => bad_signature(word),
-        _ => fault_at(name, word.parse::<usize>()?),
-    }
-}
-
-/// The fault of words such as `NoInputs`, `InputMissing 1`, `ForgeWithoutPolicy p`, `Unbalanced p.x` or `BadSignature 7`.
-pub fn fault(names: &Names, words: &str) -> Result<Invalid> {
-    match words.split_once(' ') {
-        Some((name, word)) => fault_of_words(names, name, word),
-        None if words == "NoInputs" => Ok(Invalid::NoInputs),
-        None if words == "OutsideInterval" => Ok(Invalid::OutsideInterval),
-        None => bail!("no such word"),
-    }
-}
-
-/// Whether a fault is the one that is wanted.
+/// Whether a fault is the one of words such as `NoInputs`, `InputMissing 1`, `ForgeWithoutPolicy p`, `Unbalanced p.x 5 4` or
+/// `BadSignature 7`.
 pub fn is_fault(names: &Names, found: &Invalid, wanted: &str) -> Result<bool> {
-    Ok(*found == fault(names, wanted)?)
+    match wanted.split_once(' ') {
+        Some((name, words)) => is_fault_of(names, found, name, words),
+        None => is_printed(names, found, wanted),
+    }
 }
 
 fn is_found(ledger: &Ledger, reference: &OutRef, output: &Output) -> bool {
