@@ -53,7 +53,8 @@ fn put_lists(
     put_list(memory, text, b" dropped", dropped)
 }
 
-fn put_reply(memory: Memory, text: &mut Text, reply: &Reply) -> Result<(), NoMemory>
+/// Puts the words of a reply: its kind and its tickets.
+pub fn put_reply(memory: Memory, text: &mut Text, reply: &Reply) -> Result<(), NoMemory>
     ensures { OnOk result (text.new.items ≡ text.old.items ++ reply_text reply.now) }
 {
     match reply {

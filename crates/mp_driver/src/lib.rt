@@ -17,6 +17,7 @@ mod stop;
 mod unopened;
 mod verifier;
 
+pub use answers::put_reply;
 pub use fault::Fault;
 pub use ledgers::{ledger_at, make_ledger};
 pub use missing_entry::MissingEntry;

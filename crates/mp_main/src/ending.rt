@@ -7,8 +7,9 @@ ghost use Rattle.clap.specs.Words.{kind_of};
 use clap::Error;
 use clap::error::ErrorKind;
 use mp_driver::Stop;
-use mp_history::PoolName;
+use mp_history::{AuditFault, PoolName};
 use mp_names::Reason;
+use mp_race::Fault;
 use std::process::ExitCode;
 use std::{fmt, io};
 
@@ -74,6 +75,56 @@ pub fn end_unread(rt: &HostRuntime, name: &str, error: io::Error) -> ExitCode
     ensures { exit_status result ≡ 1 }
 {
     let _ = rt.eprintln(format_args!("keltuvar: {name} can't be read: {error}"));
+    ExitCode::FAILURE
+}
+
+/// Where `name` can't be written: 1.
+pub fn end_unwritten(rt: &HostRuntime, name: &str, error: io::Error) -> ExitCode
+    ensures { exit_status result ≡ 1 }
+{
+    let _ = rt.eprintln(format_args!("keltuvar: {name} can't be written: {error}"));
+    ExitCode::FAILURE
+}
+
+/// Where a history isn't read: 1, and the fault's line. Behind it stands what a history's lines are, where one of them is bad.
+pub fn end_bad_history(rt: &HostRuntime, fault: Fault) -> ExitCode
+    ensures { exit_status result ≡ 1 }
+{
+    let is_bad = matches!(fault, Fault::BadLine(_));
+    let _ = rt.eprintln(fault);
+    if is_bad {
+        let _ = rt.eprintln("of the history: its lines are workers N, and then entry PLACE WORKER COMMAND REPLY");
+    }
+    ExitCode::FAILURE
+}
+
+// What is wrong at the place that the fault tells.
+fn wrong_there(fault: &Fault) -> Option<&'static str> {
+    match fault {
+        Fault::MissingEntry(_) => Some("the entry has another place"),
+        Fault::Audit(AuditFault::StrangeCaller(_)) => {
+            Some("the command isn't a change that is dealt to this worker")
+        }
+        Fault::Audit(AuditFault::WrongReply(_)) => Some("the pool replies otherwise there"),
+        _ => None,
+    }
+}
+
+/// After an audit: 0, and that the history is legal, or 1 and the fault's line, with what is wrong at its place.
+pub fn end_audit(rt: &HostRuntime, found: Result<(), Fault>) -> ExitCode
+    ensures { IfErr found (λ _. exit_status result ≡ 1) }
+{
+    let Err(fault) = found else {
+        return match rt.println("audit legal") {
+            Ok(()) => ExitCode::SUCCESS,
+            Err(_) => end_fault(rt, Fault::WriteFault),
+        };
+    };
+    let wrong = wrong_there(&fault);
+    let _ = rt.eprintln(fault);
+    if let Some(wrong) = wrong {
+        let _ = rt.eprintln(wrong);
+    }
     ExitCode::FAILURE
 }
 

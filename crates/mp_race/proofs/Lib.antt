@@ -4,3 +4,4 @@ pub mod Explaining
 pub mod Ordered
 pub mod Lines
 pub mod Fresh
+pub mod Fitting

@@ -4,3 +4,4 @@ pub mod Draft
 pub mod Work
 pub mod Gathered
 pub mod Counts
+pub mod Auditing

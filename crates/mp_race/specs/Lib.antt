@@ -4,5 +4,7 @@ pub mod Reading
 pub mod Fault
 pub mod Race
 pub mod Report
+pub mod History
+pub mod HistoryText
 pub mod ReportText
 pub mod Inside

@@ -6,6 +6,7 @@ ghost use Rattle.mp_history.specs.Log.{Begins, IsLegalLog};
 ghost use Rattle.mp_race.specs.Task.{Task};
 ghost use Rattle.mp_race.specs.Inside.Gathered.{IsBack, AreGathered};
 
+use crate::told::Notes;
 use crate::worker::Worker;
 use mp_history::{Front, PoolName};
 use mp_memory::{Memory, NoMemory};
@@ -19,6 +20,7 @@ pub struct Gathered<N: PoolName> {
     /// By their numbers.
     pub passes: Vec<Pass<N>, Memory>,
     pub receipts: Vec<Receipt, Memory>,
+    pub notes: Notes,
     /// Whether the pass of each knew each entry of its own that the pool had.
     pub is_sure: bool,
 }
@@ -62,6 +64,7 @@ impl<N: PoolName> Gathered<N> {
             front,
             passes: Vec::new(memory),
             receipts: Vec::new(memory),
+            notes: Notes::new(memory),
             is_sure: true,
         }
     }
@@ -81,20 +84,24 @@ impl<N: PoolName> Gathered<N> {
             front,
             mut passes,
             mut receipts,
+            mut notes,
             is_sure,
         } = self;
         let Worker {
             pass,
             receipts: mut more,
+            notes: others,
             is_sure: knows,
         } = worker;
         let front = longer(front, &pass);
         receipts.append(&mut more)?;
+        notes.append(others)?;
         passes.push(pass)?;
         Ok(Gathered {
             front,
             passes,
             receipts,
+            notes,
             is_sure: is_sure && knows,
         })
     }

@@ -1,22 +1,29 @@
 //! Races: many workers over one scenario, and the one legal history that explains what each change was answered.
 #![tactic(auto)]
 
+mod auditing;
 mod draft;
 mod fault;
 mod gate;
 mod gathering;
+mod history;
 mod ordering;
 mod racing;
+mod reading;
 mod report;
 mod report_text;
 mod scenario;
 mod stop;
 mod task;
+mod told;
 mod worker;
 
+pub use auditing::audit_history;
 pub use fault::Fault;
 pub use gate::{Gate, NoGate};
-pub use racing::race;
+pub use history::History;
+pub use racing::{Raced, race};
 pub use report::Report;
 pub use scenario::Scenario;
 pub use stop::Stop;
+pub use told::{Refused, Told};

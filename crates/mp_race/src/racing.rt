@@ -16,10 +16,12 @@ ghost use Rattle.mp_race.specs.Inside.Gathered.{IsBack, AreGathered, IsExplained
 use crate::fault::Fault;
 use crate::gate::{Gate, Watched};
 use crate::gathering::{Gathered, gather};
+use crate::history::History;
 use crate::ordering::{all_know, history_of};
 use crate::report::{Report, count_reads, counts_of};
 use crate::scenario::Scenario;
 use crate::task::Task;
+use crate::told::{Notes, Refused};
 use crate::worker::{Worker, work};
 use mp_driver::KeyAndId;
 use mp_history::{AuditFault, Entry, Front, NewName, PoolName, audit};
@@ -128,23 +130,24 @@ fn run_workers<N: PoolName + Send + Sync, R: Threads + Wait + Sync, G: Gate>(
     gather(memory, front, done)
 }
 
-// The history that explains what the workers came back with.
+// The history that explains what the workers came back with, and what they told.
 fn explain<N: PoolName>(
     memory: Memory,
     workers: u32,
     gathered: Gathered<N>,
-) -> Result<Vec<Entry, Memory>, Fault>
+) -> Result<(Vec<Entry, Memory>, Notes), Fault>
     requires { workers ≡ N.callers }
     ensures history { (opening : Pool) (ts : List told.Task) → (gathered.is_sure ≡ true
         → AreGathered N.accepts N.callers opening ts
         gathered.front gathered.passes.items gathered.receipts.items)
-        → IfOk result (λ es. IsExplained N.accepts opening workers ts es.items) }
+        → IfOk result (λ told. IsExplained N.accepts opening workers ts told.0.items) }
     ensures fault { IfErr result IsOfRace }
 {
     let Gathered {
         front,
         passes,
         receipts,
+        notes,
         is_sure,
     } = gathered;
     let entries = history_of(memory, receipts)?;
@@ -156,7 +159,7 @@ fn explain<N: PoolName>(
     {
         return Err(Fault::MissingEntry(number));
     }
-    Ok(entries)
+    Ok((entries, notes))
 }
 
 // Audits the history, and gives the last ticket after it.
@@ -223,8 +226,32 @@ fn report_on(
     })
 }
 
+/// What a race came to.
+#[derive(Drop)]
+pub struct Raced {
+    pub report: Report,
+    /// What is told of each entry, in the order of their places. No clause says that it is so: `audit_history` looks.
+    pub history: History,
+    /// What is told of each refusal, in no order.
+    pub refused: Vec<Refused, Memory>,
+}
+
+// What was told, in the order of the places.
+fn in_order(workers: u32, report: Report, notes: Notes) -> Result<Raced, NoMemory>
+    ensures report { IfOk result (λ r. r.report ≡ report) }
+    ensures workers { IfOk result (λ r. r.history.workers ≡ workers) }
+{
+    let Notes { mut told, refused } = notes;
+    told.sort_by_key(|entry| entry.place)?;
+    Ok(Raced {
+        report,
+        history: History { workers, told },
+        refused,
+    })
+}
+
 /// Runs the scenario by so many workers, each in a thread of its own where one can be made, on one pool under the name, and gives
-/// the report. Task j, from 0, goes to worker j mod workers. There is one legal history that explains what each change was answered:
+/// the report, the history and the refusals. Task j, from 0, goes to worker j mod workers. There is one legal history that explains what each change was answered:
 /// each worker's entries in it are the changes dealt to it, each once and in order, but for those that the sequential pool refuses at
 /// a beginning of the history with just the worker's entries before. What snapshots show isn't told. The gate is told of each task
 /// and of each signature that is looked at.
@@ -240,16 +267,19 @@ pub fn race<N: PoolName + Send + Sync, R: Threads + Wait + Sync, G: Gate>(
     scenario: &Scenario,
     workers: u32,
     gate: &G,
-) -> Result<Report, Fault>
+) -> Result<Raced, Fault>
     requires name { name ≡ head_of N.book N.root }
     requires number { workers ≡ N.callers }
     requires accepts { N.accepts ≡ is_key_and_id }
     requires some { 1 ≤ workers }
     requires most { workers ≤ 64 }
-    ensures report { IfOk result (IsReportOf is_key_and_id workers scenario.now) }
+    ensures report { IfOk result
+        (λ raced. IsReportOf is_key_and_id workers scenario.now raced.report) }
+    ensures workers { IfOk result (λ raced. raced.history.workers ≡ workers) }
     ensures fault { IfErr result IsOfRace }
 {
     let gathered = run_workers::<N, R, G>(rt, memory, name, scenario, workers, gate)?;
-    let entries = explain(memory, workers, gathered)?;
-    report_on(memory, scenario, workers, &entries)
+    let (entries, notes) = explain(memory, workers, gathered)?;
+    let report = report_on(memory, scenario, workers, &entries)?;
+    Ok(in_order(workers, report, notes)?)
 }

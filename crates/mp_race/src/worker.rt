@@ -8,6 +8,7 @@ ghost use Rattle.mp_race.specs.Inside.Gathered.{IsBack};
 
 use crate::gate::Gate;
 use crate::task::Task;
+use crate::told::{Notes, Refused};
 use mp_history::PoolName;
 use mp_memory::{Memory, NoMemory};
 use mp_mempool::{Mempool, Pass, Receipt, Refusal};
@@ -20,16 +21,20 @@ pub struct Worker<N: PoolName> {
     pub pass: Pass<N>,
     /// Of its entries, in order.
     pub receipts: Vec<Receipt, Memory>,
+    /// What is told of its commands.
+    pub notes: Notes,
     /// Whether its pass knew each entry of its own that the pool had.
     pub is_sure: bool,
 }
 
-// Does the task. Whether the pool had no entry of the caller that its pass doesn't know.
+// Does the task with this number. Whether the pool had no entry of the caller that its pass doesn't know.
 fn do_task<N: PoolName, V: Verifier>(
     rt: &impl Wait,
     mempool: &Mempool<N, V>,
     pass: &mut Pass<N>,
     receipts: &mut Vec<Receipt, Memory>,
+    notes: &mut Notes,
+    place: u32,
     task: &Task,
 ) -> Result<bool, NoMemory>
     ensures { IfOk result (λ sure. sure ≡ true → Does N.accepts N.callers
@@ -42,11 +47,19 @@ fn do_task<N: PoolName, V: Verifier>(
         }
         Task::Change(command) => match mempool.ask(rt, pass, command) {
             Ok(receipt) => {
+                notes.tell(pass.caller(), place, &receipt)?;
                 receipts.push(receipt)?;
                 Ok(true)
             }
             Err(Refusal::Pool(mp_seqpool::Refusal::NoMemory)) => Err(NoMemory),
-            Err(Refusal::Pool(_)) => Ok(true),
+            Err(Refusal::Pool(_)) => {
+                notes.refuse(Refused {
+                    worker: pass.caller(),
+                    task: place,
+                    entries: pass.front().len(),
+                })?;
+                Ok(true)
+            }
             Err(Refusal::Foreign(_)) => Ok(false),
         },
     }
@@ -68,15 +81,26 @@ pub fn work<N: PoolName, V: Verifier, G: Gate>(
         → IsBack N.accepts workers opening (tasks_of tasks.now) result }
 {
     let mut receipts = Vec::new(memory);
+    let mut notes = Notes::new(memory);
     let number = pass.caller();
     for (place, task) in tasks.iter().enumerate() {
         if place % workers as usize == number as usize {
-            gate.start(number, u32::try_from(place).unwrap_or(u32::MAX));
-            let is_sure = do_task(rt, mempool, &mut pass, &mut receipts, task)?;
+            let place = u32::try_from(place).unwrap_or(u32::MAX);
+            gate.start(number, place);
+            let is_sure = do_task(
+                rt,
+                mempool,
+                &mut pass,
+                &mut receipts,
+                &mut notes,
+                place,
+                task,
+            )?;
             if !is_sure {
                 return Ok(Worker {
                     pass,
                     receipts,
+                    notes,
                     is_sure,
                 });
             }
@@ -85,6 +109,7 @@ pub fn work<N: PoolName, V: Verifier, G: Gate>(
     Ok(Worker {
         pass,
         receipts,
+        notes,
         is_sure: true,
     })
 }

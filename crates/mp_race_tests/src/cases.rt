@@ -53,7 +53,7 @@ fn race_named<N: PoolName + Send + Sync, R: Threads + Wait + Sync, G: Gate>(
     requires most { workers ≤ 64 }
 {
     match race::<N, R, G>(rt, memory, name, scenario, workers, gate) {
-        Ok(report) => Ok(numbers_of(&report)),
+        Ok(raced) => Ok(numbers_of(&raced.report)),
         Err(fault) => Err(number_of(&fault)),
     }
 }

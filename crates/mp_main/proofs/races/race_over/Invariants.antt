@@ -1,5 +1,5 @@
 use Rattle.mp_driver.specs.Verifier.{is_key_and_id}
-use Rattle.mp_main.proofs.race_text.Given as goal
+use Rattle.mp_main.proofs.races.race_over.Given as goal
 
 -- the name that was just made, for as many callers as there are workers
 abbrev pub ghosts-race : goal.ghosts-race

@@ -1,0 +1,67 @@
+-- What an audit of a history finds.
+use Rattle.std.specs.Prelude.{◌≡◌, ◌≢◌, ℕ, ◌<◌, ◌%◌, List, [], ◌∷◌, length, map, take, HoldsAt, Some, slice_get}
+use Rattle.std.specs.List.{range_with_len}
+use Rattle.mp_rules.specs.Verifier.{Accepts}
+use Rattle.mp_seqpool.specs.Pool.{Pool}
+use Rattle.mp_history.specs.declared.fault.AuditFault.TheVariants.{WrongReply, StrangeCaller}
+use Rattle.mp_history.specs.declared.fault.AuditFault.TheVariants as audit
+use Rattle.mp_history.specs.Entry.{Entry}
+use Rattle.mp_history.specs.Log.{IsLegal}
+use Rattle.mp_history.specs.AuditFault.{first_fault}
+use Rattle.mp_race.specs.declared.fault.Fault.{Fault}
+use Rattle.mp_race.specs.declared.fault.Fault.TheVariants.{NoMemory, BadLine, ReadFault, WriteFault, Audit, MissingEntry}
+use Rattle.mp_race.specs.declared.told.Told.{Told}
+use Rattle.mp_race.specs.Task.{Task, Change}
+
+-- What is told is this entry: a change of the scenario, by the worker to whom it is dealt, with the reply.
+pub record IsEntryOf (workers : ℕ) (ts : List Task) (t : Told) (e : Entry) : Type 0 where
+  pub asked : slice_get ts t.task ≡ Some (Change e.command)
+  pub dealt : t.task % workers ≡ t.worker
+  pub caller : e.caller ≡ t.worker
+  pub reply : e.reply ≡ t.reply
+
+-- it isn't a change that is dealt to the worker
+abbrev pub IsUndealt : ℕ → List Task → Told → Type 0
+IsUndealt workers ts t = (e : Entry) → IsEntryOf workers ts t e → ⊥
+
+-- all that is told is these entries, one by one
+abbrev pub AreTold : ℕ → List Task → List Told → List Entry → Type 0
+AreTold workers ts [] [] = Unit {0}
+AreTold workers ts (t ∷ told) (e ∷ es) = IsEntryOf workers ts t e × AreTold workers ts told es
+AreTold workers ts _ _ = ⊥
+
+-- and each place is the next one
+pub record AreEntriesOf (workers : ℕ) (ts : List Task) (told : List Told) (es : List Entry) : Type 0 where
+  pub entries : AreTold workers ts told es
+  pub places : map (λ t. t.place) told ≡ range_with_len 0 (length told)
+
+-- The verifier decides which signatures are good.
+module _ (accepts : Accepts) (opening : Pool) (workers : ℕ) (ts : List Task) where
+  -- what is told is a legal history of a pool that opened so
+  pub record IsHistory (told : List Told) : Type 0 where
+    pub entries : List Entry
+    pub are : AreEntriesOf workers ts told entries
+    pub legal : IsLegal accepts workers opening entries
+
+  -- What is told is one up to this place, where it is bad.
+  pub record IsBadAt (Bad : Told → Type 0) (told : List Told) (place : ℕ) : Type 0 where
+    pub there : place < length told
+    pub before : IsHistory (take place told)
+    pub bad : HoldsAt Bad told place
+
+  -- Up to some place what is told is entries, and the first of them whose reply is wrong stands at this place.
+  pub record IsWrongAt (told : List Told) (place : ℕ) : Type 0 where
+    pub entries : List Entry
+    pub are : AreEntriesOf workers ts (take (length entries) told) entries
+    pub wrong : first_fault accepts workers opening entries ≡ Some (WrongReply place)
+
+  -- why what is told isn't a history
+  abbrev pub IsFaultOfHistory : List Told → Fault → Type 0
+  IsFaultOfHistory told NoMemory = Unit {0}
+  IsFaultOfHistory told (BadLine line) = ⊥
+  IsFaultOfHistory told ReadFault = ⊥
+  IsFaultOfHistory told WriteFault = ⊥
+  IsFaultOfHistory told (Audit audit.NoMemory) = ⊥
+  IsFaultOfHistory told (Audit (WrongReply place)) = IsWrongAt told place
+  IsFaultOfHistory told (Audit (StrangeCaller place)) = IsBadAt (IsUndealt workers ts) told place
+  IsFaultOfHistory told (MissingEntry place) = IsBadAt (λ t. t.place ≢ place) told place

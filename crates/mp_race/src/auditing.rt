@@ -1,0 +1,148 @@
+//! The audit of a history that is told.
+
+ghost use Rattle.std.specs.Prelude.{◌≡◌, ◌≤◌, ◌<◌, length, take, All, IfOk, IfErr, IfSome, IfNone, OnOk};
+ghost use Rattle.mp_history.specs.Log.{IsLegal};
+ghost use Rattle.mp_mempool.specs.Opening.{fresh_log};
+ghost use Rattle.mp_driver.specs.Verifier.{is_key_and_id};
+ghost use Rattle.mp_race.specs.History.{IsEntryOf, AreEntriesOf, IsHistory, IsUndealt, IsFaultOfHistory};
+ghost use Rattle.mp_race.specs.Inside.Task.{tasks_of};
+ghost use Rattle.mp_race.specs.Inside.Auditing.{IsUnfit, EndsAt, IsOfReplay};
+
+use crate::fault::Fault;
+use crate::history::History;
+use crate::scenario::Scenario;
+use crate::task::Task;
+use crate::told::Told;
+use mp_driver::KeyAndId;
+use mp_history::{AuditFault, Entry, audit};
+use mp_memory::{Memory, NoMemory};
+
+// The entry that is told, where the command is a change that is dealt to the worker.
+fn entry_of(tasks: &[Task], workers: u32, told: &Told) -> Result<Option<Entry>, NoMemory>
+    requires { 1 ≤ workers }
+    ensures entry { IfOk result (λ found.
+        IfSome found (IsEntryOf workers (tasks_of tasks.now) told.now)) }
+    ensures none { IfOk result (λ found. IfNone found
+        (IsUndealt workers (tasks_of tasks.now) told.now)) }
+{
+    if told.task % workers != told.worker {
+        return Ok(None);
+    }
+    match tasks.get(told.task as usize) {
+        Some(Task::Change(command)) => {
+            let command = command.share()?;
+            let reply = told.reply.copy()?;
+            Ok(Some(Entry {
+                caller: told.worker,
+                command,
+                reply,
+            }))
+        }
+        _ => Ok(None),
+    }
+}
+
+// The entry that is told at this place, where it is one there.
+fn entry_at(tasks: &[Task], workers: u32, place: u64, told: &Told) -> Result<Entry, Fault>
+    requires { 1 ≤ workers }
+    ensures entry { IfOk result (IsEntryOf workers (tasks_of tasks.now) told.now) }
+    ensures place { OnOk result (told.now.place ≡ place) }
+    ensures unfit { IfErr result (IsUnfit workers (tasks_of tasks.now) place told.now) }
+{
+    if told.place != place {
+        return Err(Fault::MissingEntry(place));
+    }
+    match entry_of(tasks, workers, told) {
+        Ok(Some(entry)) => Ok(entry),
+        Ok(None) => Err(Fault::Audit(AuditFault::StrangeCaller(place as usize))),
+        Err(NoMemory) => Err(Fault::NoMemory),
+    }
+}
+
+// What is told, as far as it is entries.
+#[derive(Drop)]
+struct Fitting {
+    entries: Vec<Entry, Memory>,
+    // Why what is told next is none.
+    fault: Option<Fault>,
+}
+
+// The entries that are told, up to the first place where none is.
+fn entries_of(memory: Memory, tasks: &[Task], history: &History) -> Result<Fitting, NoMemory>
+    requires { 1 ≤ history.now.workers }
+    ensures entries { IfOk result (λ f. AreEntriesOf history.now.workers (tasks_of tasks.now)
+        (take (length f.entries.items) history.now.told.items) f.entries.items) }
+    ensures all { IfOk result (λ f. IfNone f.fault
+        (length f.entries.items ≡ length history.now.told.items)) }
+    ensures ends { IfOk result (λ f. IfSome f.fault (EndsAt history.now.workers
+        (tasks_of tasks.now) history.now.told.items (length f.entries.items))) }
+{
+    let mut entries = Vec::with_capacity(memory, history.told.len())?;
+    for (place, told) in history.told.as_slice().iter().enumerate() {
+        match entry_at(tasks, history.workers, place as u64, told) {
+            Ok(entry) => entries.push(entry)?,
+            Err(Fault::NoMemory) => return Err(NoMemory),
+            Err(fault) => {
+                return Ok(Fitting {
+                    entries,
+                    fault: Some(fault),
+                });
+            }
+        }
+    }
+    Ok(Fitting {
+        entries,
+        fault: None,
+    })
+}
+
+// Replays the entries, each of which is one of a worker's.
+fn replay(memory: Memory, scenario: &Scenario, workers: u32, entries: &[Entry]) -> Result<(), Fault>
+    requires { All (λ e. e.caller < workers) entries.now }
+    ensures legal { OnOk result (IsLegal is_key_and_id workers
+        (fresh_log scenario.now.config scenario.now.ledger).opening entries.now) }
+    ensures fault { IfErr result (IsOfReplay is_key_and_id workers
+        (fresh_log scenario.now.config scenario.now.ledger).opening entries.now) }
+{
+    let config = mp_seqpool::Config {
+        limit: scenario.config.limit,
+        last: scenario.config.last,
+    };
+    match audit(
+        memory,
+        config,
+        &scenario.ledger,
+        workers,
+        entries,
+        &KeyAndId,
+    ) {
+        Ok(_) => Ok(()),
+        Err(AuditFault::NoMemory) => Err(Fault::NoMemory),
+        Err(AuditFault::WrongReply(place)) => Err(Fault::Audit(AuditFault::WrongReply(place))),
+        Err(AuditFault::StrangeCaller(_)) => unreachable!(),
+    }
+}
+
+/// Whether the history is one of a race over the scenario: at each place stands an entry of a change of the scenario, asked by the
+/// worker to whom it is dealt, and its reply is the sequential pool's after the entries before it. Not that each change stands
+/// there once, nor that a worker's come in order.
+///
+/// # Errors
+/// At the first place where that isn't so: `MissingEntry` where another place is told, `Audit(StrangeCaller)` where the command
+/// isn't a change that is dealt to the worker, `Audit(WrongReply)`. `NoMemory` may stand in place of any answer.
+pub fn audit_history(memory: Memory, scenario: &Scenario, history: &History) -> Result<(), Fault>
+    requires { 1 ≤ history.now.workers }
+    ensures history { OnOk result (IsHistory is_key_and_id
+        (fresh_log scenario.now.config scenario.now.ledger).opening history.now.workers
+        scenario.now.tasks history.now.told.items) }
+    ensures fault { IfErr result (IsFaultOfHistory is_key_and_id
+        (fresh_log scenario.now.config scenario.now.ledger).opening history.now.workers
+        scenario.now.tasks history.now.told.items) }
+{
+    let Fitting { entries, fault } = entries_of(memory, &scenario.tasks, history)?;
+    replay(memory, scenario, history.workers, &entries)?;
+    match fault {
+        Some(fault) => Err(fault),
+        None => Ok(()),
+    }
+}
