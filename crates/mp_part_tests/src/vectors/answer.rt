@@ -25,6 +25,12 @@ fn is_printed(names: &Names, found: &Invalid, wanted: &str) -> Result<bool> {
     Ok(format!(in names.memory(); "{found:?}")?.as_str() == wanted)
 }
 
+// Whether a fault has this number and this text.
+fn is_told(names: &Names, found: &Invalid, wanted: &str) -> Result<bool> {
+    let number = found.number();
+    Ok(format!(in names.memory(); "{number} {found}")?.as_str() == wanted)
+}
+
 // Whether a fault has this name, and what is told with it.
 fn is_fault_of(names: &Names, found: &Invalid, name: &str, words: &str) -> Result<bool> {
     match name {
@@ -41,10 +47,11 @@ fn is_fault_of(names: &Names, found: &Invalid, name: &str, words: &str) -> Resul
     }
 }
 
-/// Whether a fault is the one of words such as `NoInputs`, `InputMissing 1`, `ForgeWithoutPolicy p`, `Unbalanced p.x 5 4` or
-/// `BadSignature 7`.
+/// Whether a fault is the one of words such as `NoInputs`, `InputMissing 1`, `ForgeWithoutPolicy p`, `Unbalanced p.x 5 4`,
+/// `BadSignature 7` or `2 the transaction has no input`.
 pub fn is_fault(names: &Names, found: &Invalid, wanted: &str) -> Result<bool> {
     match wanted.split_once(' ') {
+        Some((digits, _)) if digits.parse::<u64>().is_ok() => is_told(names, found, wanted),
         Some((name, words)) => is_fault_of(names, found, name, words),
         None => is_printed(names, found, wanted),
     }
