@@ -3,17 +3,19 @@
 use crate::vectors::names::Names;
 use crate::vectors::plain;
 use anyhow::{Context, Result, bail};
+use mp_bundle::Token;
 use mp_rules::{Invalid, Resolved};
-use mp_tx::{Ledger, OutRef, Output, TokenName, Tx};
+use mp_tx::{Ledger, OutRef, Output, Tx};
 
 // Whether a fault is of this token, with these totals, as in `p.x 5 4`.
 fn is_unbalanced(names: &Names, found: &Invalid, words: &str) -> Result<bool> {
-    let (token, totals) = words.split_once(' ').context("no totals")?;
-    let (policy, name) = plain::token(names, token)?;
+    let (word, totals) = words.split_once(' ').context("no totals")?;
+    let (policy, name) = plain::token(names, word)?;
+    let token = Token::of(&policy, name.as_bytes()).context("too long a name")?;
     let (taken, paid) = totals.split_once(' ').context("no second total")?;
     let wanted = Invalid::Unbalanced {
-        policy,
-        name: TokenName::of(name.as_bytes()),
+        policy: token.policy,
+        name: token.name,
         taken: taken.parse::<i128>()?,
         paid: paid.parse::<i128>()?,
     };
