@@ -1,4 +1,4 @@
-//! The forms of lines.
+//! The forms of lines. Those of lines that only read the pool stand where these are read.
 
 /// The form of a line.
 #[derive(Clone, Copy)]
@@ -71,45 +71,8 @@ pub const SYNC: Form = Form {
     text: b"sync TICK REF ..' or 'sync TICK block=N REF ..",
 };
 
-pub const SNAPSHOT: Form = Form {
-    word: b"snapshot",
-    text: b"snapshot",
-};
-
 /// A ledger state upon which the pool's transactions are tried.
 pub const FOR: Form = Form {
     word: b"for",
     text: b"for TICK REF ..' or 'for TICK block=N REF ..",
-};
-
-pub const AFTER: Form = Form {
-    word: b"after",
-    text: b"after TICKET",
-};
-
-pub const LOOKUP: Form = Form {
-    word: b"lookup",
-    text: b"lookup TICKET",
-};
-
-pub const HAS: Form = Form {
-    word: b"has",
-    text: b"has TX",
-};
-
-pub const TAKE: Form = Form {
-    word: b"take",
-    text: b"take BYTES",
-};
-
-/// A block for whoever forges one.
-pub const FORGE: Form = Form {
-    word: b"forge",
-    text: b"forge BYTES",
-};
-
-/// What a peer is offered next.
-pub const OFFER: Form = Form {
-    word: b"offer",
-    text: b"offer COUNT BYTES",
 };

@@ -6,10 +6,47 @@ ghost use Rattle.mp_text.specs.Words.{words_of};
 ghost use Rattle.mp_lines.specs.declared.query.Query.TheVariants as queries;
 ghost use Rattle.mp_lines.specs.Queries.{one_number, snapshot_query, has_query, offer_by, offer_query, first_query, query_of};
 
-use crate::forms::{AFTER, FORGE, HAS, LOOKUP, OFFER, SNAPSHOT, TAKE};
+use crate::forms::Form;
 use crate::query::Query;
 use crate::words::{no_word, one_word, two_words};
 use mp_names::{Names, Reason, any_number};
+
+const SNAPSHOT: Form = Form {
+    word: b"snapshot",
+    text: b"snapshot",
+};
+
+const AFTER: Form = Form {
+    word: b"after",
+    text: b"after TICKET",
+};
+
+const LOOKUP: Form = Form {
+    word: b"lookup",
+    text: b"lookup TICKET",
+};
+
+const HAS: Form = Form {
+    word: b"has",
+    text: b"has TX",
+};
+
+const TAKE: Form = Form {
+    word: b"take",
+    text: b"take BYTES",
+};
+
+// A block for whoever forges one.
+const FORGE: Form = Form {
+    word: b"forge",
+    text: b"forge BYTES",
+};
+
+// What a peer is offered next.
+const OFFER: Form = Form {
+    word: b"offer",
+    text: b"offer COUNT BYTES",
+};
 
 // The one number of a line of this form.
 fn one_number<'a>(form: &'static [u8], words: &'a [u8]) -> Result<u64, Reason<'a>>

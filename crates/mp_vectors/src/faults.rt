@@ -3,7 +3,7 @@
 use crate::answer::name_of;
 use crate::numbered::Numbered;
 use anyhow::{Result, bail};
-use mp_bundle::{BundleFault, TokenName};
+use mp_bundle::BundleFault;
 use mp_history::AuditFault;
 use mp_memory::{Memory, NoMemory};
 use mp_script::{DataFault, ScriptFault};
@@ -77,30 +77,6 @@ const AUDIT_FAULTS: [AuditFault; 3] = [
 
 const INPUT_FAULTS: [InputFault; 2] = [InputFault::NoMemory, InputFault::Read];
 
-fn invalids() -> [Invalid; 14] {
-    [
-        Invalid::NoMemory,
-        Invalid::NoInputs,
-        Invalid::OutsideInterval,
-        Invalid::NegativeOutput(5),
-        Invalid::InputMissing(3),
-        Invalid::ReferenceMissing(6),
-        Invalid::AddressMismatch(8),
-        Invalid::DatumMismatch(9),
-        Invalid::OutputTaken(2),
-        Invalid::ForgeWithoutPolicy([1; 32]),
-        Invalid::Unbalanced {
-            policy: [3; 32],
-            name: TokenName::of(b"gold"),
-            taken: 18446744073709551616,
-            paid: -4,
-        },
-        Invalid::BadSignature([2; 32]),
-        Invalid::ValidatorRefused(10),
-        Invalid::PolicyRefused(11),
-    ]
-}
-
 // Whether a fault has a name, which stands before the values that come with it.
 fn is_named<F: Debug>(memory: Memory, fault: &F, name: &str) -> Result<bool> {
     let told = name_of(memory, fault)?;
@@ -150,7 +126,7 @@ pub fn holds(memory: Memory, given: &str, wanted: &str) -> Result<bool> {
         "TxFault" => holds_among(memory, &TX_FAULTS, name, wanted),
         "LedgerFault" => holds_among(memory, &LEDGER_FAULTS, name, wanted),
         "Refusal" => holds_among(memory, &REFUSALS, name, wanted),
-        "Invalid" => holds_among(memory, &invalids(), name, wanted),
+        "Invalid" => holds_among(memory, &[Invalid::NoMemory], name, wanted),
         "AuditFault" => holds_among(memory, &AUDIT_FAULTS, name, wanted),
         "InputFault" => holds_among(memory, &INPUT_FAULTS, name, wanted),
         "WriteFault" => holds_among(memory, &[WriteFault], name, wanted),

@@ -3,17 +3,19 @@
 use crate::vectors::names::Names;
 use crate::vectors::plain;
 use anyhow::{Context, Result, bail};
+use mp_bundle::Token;
 use mp_rules::{Invalid, Resolved};
-use mp_tx::{Ledger, OutRef, Output, TokenName, Tx};
+use mp_tx::{Ledger, OutRef, Output, Tx};
 
 // Whether a fault is of this token, with these totals, as in `p.x 5 4`.
 fn is_unbalanced(names: &Names, found: &Invalid, words: &str) -> Result<bool> {
-    let (token, totals) = words.split_once(' ').context("no totals")?;
-    let (policy, name) = plain::token(names, token)?;
+    let (word, totals) = words.split_once(' ').context("no totals")?;
+    let (policy, name) = plain::token(names, word)?;
+    let token = Token::of(&policy, name.as_bytes()).context("too long a name")?;
     let (taken, paid) = totals.split_once(' ').context("no second total")?;
     let wanted = Invalid::Unbalanced {
-        policy,
-        name: TokenName::of(name.as_bytes()),
+        policy: token.policy,
+        name: token.name,
         taken: taken.parse::<i128>()?,
         paid: paid.parse::<i128>()?,
     };
@@ -23,6 +25,12 @@ fn is_unbalanced(names: &Names, found: &Invalid, words: &str) -> Result<bool> {
 // Whether this is how a fault is printed for programmers.
 fn is_printed(names: &Names, found: &Invalid, wanted: &str) -> Result<bool> {
     Ok(format!(in names.memory(); "{found:?}")?.as_str() == wanted)
+}
+
+// Whether a fault has this number and this text.
+fn is_told(names: &Names, found: &Invalid, wanted: &str) -> Result<bool> {
+    let number = found.number();
+    Ok(format!(in names.memory(); "{number} {found}")?.as_str() == wanted)
 }
 
 // Whether a fault has this name, and what is told with it.
@@ -41,10 +49,11 @@ fn is_fault_of(names: &Names, found: &Invalid, name: &str, words: &str) -> Resul
     }
 }
 
-/// Whether a fault is the one of words such as `NoInputs`, `InputMissing 1`, `ForgeWithoutPolicy p`, `Unbalanced p.x 5 4` or
-/// `BadSignature 7`.
+/// Whether a fault is the one of words such as `NoInputs`, `InputMissing 1`, `ForgeWithoutPolicy p`, `Unbalanced p.x 5 4`,
+/// `BadSignature 7` or `2 the transaction has no input`.
 pub fn is_fault(names: &Names, found: &Invalid, wanted: &str) -> Result<bool> {
     match wanted.split_once(' ') {
+        Some((digits, _)) if digits.parse::<u64>().is_ok() => is_told(names, found, wanted),
         Some((name, words)) => is_fault_of(names, found, name, words),
         None => is_printed(names, found, wanted),
     }
