@@ -1,0 +1,12 @@
+//! The picture of a race: a lane for each worker, and in it what came of each of its commands.
+#![tactic(auto)]
+
+mod frame;
+mod layout;
+mod mark;
+mod picture;
+mod refusals;
+mod shapes;
+
+pub use mark::{Kind, Mark};
+pub use picture::put_picture;
