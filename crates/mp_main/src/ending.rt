@@ -87,13 +87,15 @@ pub fn end_unwritten(rt: &HostRuntime, name: &str, error: io::Error) -> ExitCode
 }
 
 /// Where a history isn't read: 1, and the fault's line. Behind it stands what a history's lines are, where one of them is bad.
-pub fn end_bad_history(rt: &HostRuntime, fault: Fault) -> ExitCode
+pub fn end_bad_history(rt: &HostRuntime, found: Fault) -> ExitCode
     ensures { exit_status result ≡ 1 }
 {
-    let is_bad = matches!(fault, Fault::BadLine(_));
-    let _ = rt.eprintln(fault);
+    let is_bad = matches!(found, Fault::BadLine(_));
+    let _ = rt.eprintln(found);
     if is_bad {
-        let _ = rt.eprintln("of the history: its lines are workers N, and then entry PLACE WORKER COMMAND REPLY");
+        let _ = rt.eprintln(
+            "of the history: its lines are workers N, and then entry PLACE WORKER COMMAND REPLY",
+        );
     }
     ExitCode::FAILURE
 }
@@ -111,17 +113,17 @@ fn wrong_there(fault: &Fault) -> Option<&'static str> {
 }
 
 /// After an audit: 0, and that the history is legal, or 1 and the fault's line, with what is wrong at its place.
-pub fn end_audit(rt: &HostRuntime, found: Result<(), Fault>) -> ExitCode
-    ensures { IfErr found (λ _. exit_status result ≡ 1) }
+pub fn end_audit(rt: &HostRuntime, ended: Result<(), Fault>) -> ExitCode
+    ensures { IfErr ended (λ _. exit_status result ≡ 1) }
 {
-    let Err(fault) = found else {
+    let Err(found) = ended else {
         return match rt.println("audit legal") {
             Ok(()) => ExitCode::SUCCESS,
             Err(_) => end_fault(rt, Fault::WriteFault),
         };
     };
-    let wrong = wrong_there(&fault);
-    let _ = rt.eprintln(fault);
+    let wrong = wrong_there(&found);
+    let _ = rt.eprintln(found);
     if let Some(wrong) = wrong {
         let _ = rt.eprintln(wrong);
     }

@@ -32,16 +32,20 @@ fn main(rt: HostRuntime) -> ExitCode {
     match read_words(&rt) {
         Ok(words) => match parse_words(rt.alloc(), &words) {
             Ok(Asked::Run { input }) => run_scenario(&rt, &rt, input),
-            Ok(Asked::Race {
-                input,
-                workers,
-                wishes,
-            }) => race_scenario(&rt, &rt, input, workers, wishes),
-            Ok(Asked::Audit {
-                scenario,
-                history,
-                explains,
-            }) => audit_files(&rt, scenario, history, explains),
+            Ok(
+                Asked::Race {
+                    input,
+                    workers,
+                    wishes,
+                },
+            ) => race_scenario(&rt, &rt, input, workers, wishes),
+            Ok(
+                Asked::Audit {
+                    scenario,
+                    history,
+                    explains,
+                },
+            ) => audit_files(&rt, scenario, history, explains),
             Err(error) => end_unparsed(&rt, error),
         },
         Err(error) => end_unworded(&rt, error),
