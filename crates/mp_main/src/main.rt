@@ -30,7 +30,8 @@ fn main(rt: HostRuntime) -> ExitCode {
     match read_words(&rt) {
         Ok(words) => match parse_words(rt.alloc(), &words) {
             Ok(Asked::Run { input }) => run_scenario(&rt, &rt, input),
-            Ok(Asked::Race { input, workers }) => race_scenario(&rt, &rt, input, workers),
+            Ok(Asked::Race { input, workers, .. }) => race_scenario(&rt, &rt, input, workers),
+            Ok(Asked::Audit { .. }) => ExitCode::FAILURE,
             Err(error) => end_unparsed(&rt, error),
         },
         Err(error) => end_unworded(&rt, error),
