@@ -1,2 +1,4 @@
+pub mod Given
 pub mod Kept
+pub mod Numbers
 pub mod Taken

@@ -1,15 +1,17 @@
 -- The command lines that the program takes: `keltuvar run [--explain] [FILE]`,
--- `keltuvar race --workers N [--explain] [FILE]`, `--help` and `--version`.
+-- `keltuvar race --workers N [--history FILE] [--svg FILE] [--verify-us MICROSECONDS] [--explain] [FILE]`,
+-- `keltuvar audit [--explain] SCENARIO HISTORY`, `--help` and `--version`.
 use Rattle.std.specs.Prelude.{◌≡◌, ◌≤◌, ⊤, ℕ, Bool, true, false, List, Option, None, Some, codes, option_and_then, option_map}
+use Rattle.std.specs.Prelude.{unwrap_or}
+use Rattle.std.specs.Borrow.{Bor}
 use Rattle.std.specs.Str.Parse.{digits_value, without_leading_plus}
 use Rattle.clap.specs.Simple.{on_top}
 use Rattle.clap.specs.declared.builder.action.ArgAction.TheVariants.{SetTrue}
 use Rattle.clap.specs.declared.builder.value_parser.ValueParser.TheVariants.{Unsigned}
 use Rattle.clap.specs.Words.{App, Row, Rule, Text, first_of, one_of, new_app, new_rule, subcommand_of, with_rule}
 use Rattle.clap.specs.Words.{with_subcommand}
-use Rattle.mp_command_line.specs.declared.asked.Input.{Input}
 use Rattle.mp_command_line.specs.declared.asked.Asked.{Asked}
-use Rattle.mp_command_line.specs.declared.asked.Asked.TheVariants.{Run, Race}
+use Rattle.mp_command_line.specs.declared.asked.Asked.TheVariants.{Run, Race, Audit}
 
 abbrev pub explain_rule : Rule
 explain_rule = record (new_rule (codes "explain")) { long = Some (codes "explain"); action = Some SetTrue }
@@ -26,21 +28,49 @@ workers_rule = record (new_rule (codes "workers")) {
   required = true;
 }
 
+-- a number from 0 to 1,000,000
+abbrev pub verify_us_rule : Rule
+verify_us_rule = record (new_rule (codes "verify-us")) {
+  long = Some (codes "verify-us");
+  value_names = 1;
+  parser = Some (Unsigned 0 1000000);
+}
+
+-- an option with a file
+abbrev pub output_rule : Text → Rule
+output_rule name = record (new_rule name) { long = Some name; value_names = 1 }
+
+-- a file that has to be given
+abbrev pub input_rule : Text → Rule
+input_rule id = record (new_rule id) { value_names = 1; required = true }
+
 -- `run`, with the flag or without, with a file or none
 abbrev pub run_command : App
 run_command = with_rule (with_rule (new_app (codes "run")) explain_rule) file_rule
 
--- `race`, the same with a number of workers
-abbrev pub race_command : App
-race_command = with_rule (with_rule (with_rule (new_app (codes "race")) workers_rule) explain_rule) file_rule
+-- a command with two files to write and a number of microseconds
+abbrev pub with_wishes : App → App
+with_wishes command = with_rule (with_rule (with_rule command
+    (output_rule (codes "history"))) (output_rule (codes "svg"))) verify_us_rule
 
--- a command has to be named, and there is none but `run` and `race`
+-- `race`, as `run` with a number of workers and those
+abbrev pub race_command : App
+race_command =
+    with_rule (with_rule (with_wishes (with_rule (new_app (codes "race")) workers_rule)) explain_rule) file_rule
+
+-- `audit`, with the flag or without, of a scenario and a history
+abbrev pub audit_command : App
+audit_command = with_rule (with_rule (with_rule (new_app (codes "audit"))
+    explain_rule) (input_rule (codes "FILE"))) (input_rule (codes "history"))
+
+-- a command has to be named, and there is none but `run`, `race` and `audit`
 abbrev pub program : App
-program = with_subcommand (with_subcommand
+program = with_subcommand (with_subcommand (with_subcommand
     (on_top (λ s. record s { has_version = true; disable_help_subcommand = true; subcommand_required = true })
     (new_app (codes "keltuvar")))
     run_command.top)
-    race_command.top
+    race_command.top)
+    audit_command.top
 
 -- the command that these words name, the program's name first, with what they give to it
 abbrev pub met_in : List Text → Option (Text × List Row)
@@ -50,21 +80,41 @@ met_in words = subcommand_of program words
 abbrev pub command_in : List Text → Option Text
 command_in words = option_map (λ c. c.0) (met_in words)
 
--- the file among what was given to the command that was met
+-- ---- what was given to the command that was met
+
+-- the first value of an argument
+abbrev pub value_of : Text → Option (Text × List Row) → Option Text
+value_of id command = option_and_then (first_of id) (option_map (λ c. c.1) command)
+
+-- the scenario's file, which is called FILE at each command
 abbrev pub file_of : Option (Text × List Row) → Option Text
-file_of command = option_and_then (first_of (codes "FILE")) (option_map (λ c. c.1) command)
+file_of = value_of (codes "FILE")
 
--- the file that these words name
-abbrev pub file_in : List Text → Option Text
-file_in words = file_of (met_in words)
+-- the history's file, which is called so at a race and at an audit
+abbrev pub history_of : Option (Text × List Row) → Option Text
+history_of = value_of (codes "history")
 
--- the text of the flag there
+-- the file for a picture of a race
+abbrev pub picture_of : Option (Text × List Row) → Option Text
+picture_of = value_of (codes "svg")
+
+-- the text of an option or a flag
+abbrev pub text_of : Text → Option (Text × List Row) → Option Text
+text_of id command = option_and_then (one_of id) (option_map (λ c. c.1) command)
+
 abbrev pub explain_of : Option (Text × List Row) → Option Text
-explain_of command = option_and_then (one_of (codes "explain")) (option_map (λ c. c.1) command)
+explain_of = text_of (codes "explain")
 
--- and what these words say of it
-abbrev pub explain_in : List Text → Option Text
-explain_in words = explain_of (met_in words)
+-- the number that decimal digits stand for, behind a plus or none
+abbrev pub number_of : Text → ℕ
+number_of text = digits_value 10 (without_leading_plus text)
+
+abbrev pub workers_of : Option (Text × List Row) → Option ℕ
+workers_of command = option_map number_of (text_of (codes "workers") command)
+
+-- the microseconds that a look at a signature takes
+abbrev pub verify_us_of : Option (Text × List Row) → Option ℕ
+verify_us_of command = option_map number_of (text_of (codes "verify-us") command)
 
 -- what the text of a flag says
 pub record IsFlag (text : Option Text) (set : Bool) : Type 0 where
@@ -72,29 +122,44 @@ pub record IsFlag (text : Option Text) (set : Bool) : Type 0 where
   pub true_text : text ≡ Some (codes "true") → set ≡ true
   pub false_text : text ≡ Some (codes "false") → set ≡ false
 
--- the number that decimal digits stand for, behind a plus or none
-abbrev pub number_of : Text → ℕ
-number_of text = digits_value 10 (without_leading_plus text)
-
--- the number of workers there
-abbrev pub workers_of : Option (Text × List Row) → Option ℕ
-workers_of command = option_map number_of (option_and_then (one_of (codes "workers")) (option_map (λ c. c.1) command))
-
--- and the number that these words give
-abbrev pub workers_in : List Text → Option ℕ
-workers_in words = workers_of (met_in words)
-
 -- ---- what is asked for
 
 abbrev pub name_of : Asked → Text
 name_of (Run input) = codes "run"
-name_of (Race input workers) = codes "race"
+name_of (Race input workers wishes) = codes "race"
+name_of (Audit scenario history explains) = codes "audit"
 
-abbrev pub input_of : Asked → Input
-input_of (Run input) = input
-input_of (Race input workers) = input
+abbrev pub file_text : Option (Bor Text) → Option Text
+file_text = option_map (λ s. s.now)
 
--- a race is of as many workers as the words give, from 1 to 64
+-- the scenario's file
+abbrev pub scenario_of : Asked → Option Text
+scenario_of (Run input) = file_text input.file
+scenario_of (Race input workers wishes) = file_text input.file
+scenario_of (Audit scenario history explains) = Some scenario.now
+
+abbrev pub explains_of : Asked → Bool
+explains_of (Run input) = input.explains
+explains_of (Race input workers wishes) = input.explains
+explains_of (Audit scenario history explains) = explains
+
+-- a race is of as many workers as are given, from 1 to 64
 abbrev pub HasWorkers : Option ℕ → Asked → Type 0
-HasWorkers given (Run input) = ⊤
-HasWorkers given (Race input workers) = (given ≡ Some workers) × (1 ≤ workers) × (workers ≤ 64)
+HasWorkers given (Race input workers wishes) = (given ≡ Some workers) × (1 ≤ workers) × (workers ≤ 64)
+HasWorkers given asked = ⊤
+
+-- the file for a race's history is the one that is given, or none, and an audit is of the one that is given
+abbrev pub HasHistory : Option Text → Asked → Type 0
+HasHistory given (Run input) = ⊤
+HasHistory given (Race input workers wishes) = file_text wishes.history ≡ given
+HasHistory given (Audit scenario history explains) = Some history.now ≡ given
+
+-- the file for a race's picture is the one that is given, or none
+abbrev pub HasPicture : Option Text → Asked → Type 0
+HasPicture given (Race input workers wishes) = file_text wishes.picture ≡ given
+HasPicture given asked = ⊤
+
+-- a race's look at a signature takes as many microseconds as are given, up to 1,000,000, or else 0
+abbrev pub HasDelay : Option ℕ → Asked → Type 0
+HasDelay given (Race input workers wishes) = (wishes.verify_us ≡ unwrap_or given 0) × (wishes.verify_us ≤ 1000000)
+HasDelay given asked = ⊤

@@ -1,12 +1,14 @@
 //! What the words of a command line ask for.
 
-ghost use Rattle.std.specs.Prelude.{◌≡◌, ◌≤◌, IfErr, IfOk, Some, codes, map, option_map, true};
+ghost use Rattle.std.specs.Prelude.{◌≡◌, IfErr, IfOk, IsSomeAnd, Some, codes, is_some};
+ghost use Rattle.std.specs.Prelude.{map, option_map, true, unwrap_or};
+ghost use Rattle.clap.specs.Values.{IsUnsignedIn};
 ghost use Rattle.clap.specs.Faults.{fault_of};
 ghost use Rattle.clap.specs.Kinds.{FailsBy};
 ghost use Rattle.clap.specs.Words.{first_of, found_of, kind_of, one_of, rows_of};
 ghost use Rattle.clap.specs.Words.{subcommand_rows_of, takes};
 ghost use Rattle.mp_command_line.specs.CommandLine as spec;
-ghost use Rattle.mp_command_line.specs.Inside.Taken.{IsTaken, IsWorkers};
+ghost use Rattle.mp_command_line.specs.Inside.Taken.{IsSmall, IsTaken};
 
 use crate::program::program;
 use clap::error::ErrorKind;
@@ -18,9 +20,22 @@ use std::convert::AsStr;
 #[derive(Clone, Copy)]
 pub enum Asked<'a> {
     /// A run of a scenario.
-    Run { input: Input<'a> },
+    Run {
+        input: Input<'a>,
+    },
     /// A race of 1 to 64 workers, to whom a scenario's commands are dealt.
-    Race { input: Input<'a>, workers: u32 },
+    Race {
+        input: Input<'a>,
+        workers: u32,
+        wishes: Wishes<'a>,
+    },
+    /// An audit of a pool's history over a scenario, by the names of their files.
+    Audit {
+        scenario: &'a str,
+        history: &'a str,
+        /// Whether is to be said what is wrong with a bad line.
+        explains: bool,
+    },
 }
 
 /// The scenario, and how its faults are told.
@@ -32,20 +47,38 @@ pub struct Input<'a> {
     pub explains: bool,
 }
 
+/// What a race writes besides its report, and how long a look at a signature takes in it.
+#[derive(Clone, Copy)]
+pub struct Wishes<'a> {
+    /// The file for the race's history.
+    pub history: Option<&'a str>,
+    /// The file for a picture of the race, as an SVG.
+    pub picture: Option<&'a str>,
+    /// The microseconds that each look at a signature takes: up to 1,000,000, and 0 where none are given.
+    pub verify_us: u32,
+}
+
 /// What the command line asks for.
 ///
 /// # Errors
-/// What the words ask for in place of a run or a race (the help or the version), why they are
-/// refused, or `OutOfMemory`. An answer comes only where the program takes the words.
+/// What the words ask for in place of a command (the help or the version), why they are refused, or
+/// `OutOfMemory`. An answer comes only where the program takes the words.
 pub fn parse_words<'a, S: AsStr>(alloc: Global, words: &'a [S]) -> Result<Asked<'a>, Error>
     ensures taken { FailsBy (fault_of spec.program (map S.text words.now)) result }
     ensures command { IfOk result (λ asked. spec.command_in (map S.text words.now)
         ≡ Some (spec.name_of asked)) }
-    ensures file { IfOk result (λ asked. option_map (λ s. s.now) (spec.input_of asked).file
-        ≡ spec.file_in (map S.text words.now)) }
-    ensures explains { IfOk result (λ asked.
-        spec.IsFlag (spec.explain_in (map S.text words.now)) (spec.input_of asked).explains) }
-    ensures workers { IfOk result (spec.HasWorkers (spec.workers_in (map S.text words.now))) }
+    ensures file { IfOk result (λ asked. spec.scenario_of asked
+        ≡ spec.file_of (spec.met_in (map S.text words.now))) }
+    ensures explains { IfOk result (λ asked. spec.IsFlag
+        (spec.explain_of (spec.met_in (map S.text words.now))) (spec.explains_of asked)) }
+    ensures workers { IfOk result
+        (spec.HasWorkers (spec.workers_of (spec.met_in (map S.text words.now)))) }
+    ensures history { IfOk result
+        (spec.HasHistory (spec.history_of (spec.met_in (map S.text words.now)))) }
+    ensures picture { IfOk result
+        (spec.HasPicture (spec.picture_of (spec.met_in (map S.text words.now)))) }
+    ensures verify_us { IfOk result
+        (spec.HasDelay (spec.verify_us_of (spec.met_in (map S.text words.now)))) }
     ensures passes { IfErr result (λ e. takes spec.program (map S.text words.now) ≡ true
         → kind_of e ≡ ErrorKind.OutOfMemory) }
 {
@@ -59,11 +92,13 @@ fn read_matches<'a>(matches: &ArgMatches<'a>) -> Asked<'a>
     requires taken { IsTaken (subcommand_rows_of matches.now) }
     ensures command { option_map (λ c. c.0) (subcommand_rows_of matches.now)
         ≡ Some (spec.name_of result) }
-    ensures file { option_map (λ s. s.now) (spec.input_of result).file
-        ≡ spec.file_of (subcommand_rows_of matches.now) }
+    ensures file { spec.scenario_of result ≡ spec.file_of (subcommand_rows_of matches.now) }
     ensures explains { spec.IsFlag (spec.explain_of (subcommand_rows_of matches.now))
-        (spec.input_of result).explains }
+        (spec.explains_of result) }
     ensures workers { spec.HasWorkers (spec.workers_of (subcommand_rows_of matches.now)) result }
+    ensures history { spec.HasHistory (spec.history_of (subcommand_rows_of matches.now)) result }
+    ensures picture { spec.HasPicture (spec.picture_of (subcommand_rows_of matches.now)) result }
+    ensures verify_us { spec.HasDelay (spec.verify_us_of (subcommand_rows_of matches.now)) result }
 {
     match matches.subcommand() {
         Some((name, given)) => {
@@ -71,6 +106,13 @@ fn read_matches<'a>(matches: &ArgMatches<'a>) -> Asked<'a>
                 Asked::Race {
                     input: input_of(given),
                     workers: workers_of(given),
+                    wishes: wishes_of(given),
+                }
+            } else if name == "audit" {
+                Asked::Audit {
+                    scenario: value_of(given, "FILE"),
+                    history: value_of(given, "history"),
+                    explains: explains_of(given),
                 }
             } else {
                 Asked::Run {
@@ -83,25 +125,70 @@ fn read_matches<'a>(matches: &ArgMatches<'a>) -> Asked<'a>
 }
 
 fn input_of<'a>(given: &ArgMatches<'a>) -> Input<'a>
-    ensures file { option_map (λ s. s.now) result.file
+    ensures file { spec.file_text result.file
         ≡ first_of (codes "FILE") (rows_of (found_of given.now)) }
     ensures explains { spec.IsFlag (one_of (codes "explain") (rows_of (found_of given.now)))
         result.explains }
 {
     Input {
-        file: given.get_str("FILE"),
-        explains: given.get_flag("explain"),
+        file: file_of(given, "FILE"),
+        explains: explains_of(given),
+    }
+}
+
+fn wishes_of<'a>(given: &ArgMatches<'a>) -> Wishes<'a>
+    requires taken { IsSmall (one_of (codes "verify-us") (rows_of (found_of given.now))) }
+    ensures history { spec.file_text result.history
+        ≡ first_of (codes "history") (rows_of (found_of given.now)) }
+    ensures picture { spec.file_text result.picture
+        ≡ first_of (codes "svg") (rows_of (found_of given.now)) }
+    ensures verify_us { result.verify_us ≡ unwrap_or
+        (option_map spec.number_of (one_of (codes "verify-us") (rows_of (found_of given.now)))) 0 }
+{
+    Wishes {
+        history: file_of(given, "history"),
+        picture: file_of(given, "svg"),
+        verify_us: number_of(given, "verify-us").unwrap_or(0),
     }
 }
 
 fn workers_of(given: &ArgMatches<'_>) -> u32
-    requires taken { IsWorkers (one_of (codes "workers") (rows_of (found_of given.now))) }
-    ensures number { Some result
+    requires taken { IsSomeAnd (one_of (codes "workers") (rows_of (found_of given.now)))
+        (IsUnsignedIn 1 64) }
+    ensures { Some result
         ≡ option_map spec.number_of (one_of (codes "workers") (rows_of (found_of given.now))) }
-    ensures range { (1 ≤ result) × (result ≤ 64) }
 {
-    match given.get_one::<u32>("workers") {
+    match number_of(given, "workers") {
         Some(workers) => workers,
         None => unreachable!(),
     }
+}
+
+fn value_of<'a>(given: &ArgMatches<'a>, id: &str) -> &'a str
+    requires taken { is_some (first_of id.now (rows_of (found_of given.now))) ≡ true }
+    ensures { Some result.now ≡ first_of id.now (rows_of (found_of given.now)) }
+{
+    match file_of(given, id) {
+        Some(file) => file,
+        None => unreachable!(),
+    }
+}
+
+fn file_of<'a>(given: &ArgMatches<'a>, id: &str) -> Option<&'a str>
+    ensures { spec.file_text result ≡ first_of id.now (rows_of (found_of given.now)) }
+{
+    given.get_str(id)
+}
+
+fn explains_of(given: &ArgMatches<'_>) -> bool
+    ensures { spec.IsFlag (one_of (codes "explain") (rows_of (found_of given.now))) result }
+{
+    given.get_flag("explain")
+}
+
+fn number_of(given: &ArgMatches<'_>, id: &str) -> Option<u32>
+    requires taken { IsSmall (one_of id.now (rows_of (found_of given.now))) }
+    ensures { result ≡ option_map spec.number_of (one_of id.now (rows_of (found_of given.now))) }
+{
+    given.get_one::<u32>(id)
 }

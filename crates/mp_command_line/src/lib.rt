@@ -1,7 +1,7 @@
-//! The command line of the program: the words that it takes, and the run or race that they ask for.
+//! The command line of the program: the words that it takes, and what they ask for.
 #![tactic(auto)]
 
 mod asked;
 mod program;
 
-pub use asked::{Asked, Input, parse_words};
+pub use asked::{Asked, Input, Wishes, parse_words};

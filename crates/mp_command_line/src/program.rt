@@ -19,10 +19,15 @@ Examples:
                                     also says what is wrong with a bad line
   keltuvar race --workers 4 scenario.scn
                                     the scenario's commands dealt to 4 workers
+  keltuvar race --workers 4 --history race.log --svg race.svg scenario.scn
+                                    also writes the race's history, and a picture of it
+  keltuvar audit scenario.scn race.log
+                                    whether that history is legal over the scenario
 
-The status is 0, or 1 at a fault, as a bad line, or 2 where the command line is refused.";
+The status is 0, or 1 at a fault, as a bad line or a history that isn't legal, or 2 where the
+command line is refused.";
 
-/// The program, with the two commands that it has.
+/// The program, with the three commands that it has.
 pub(crate) fn program<'a>(alloc: Global) -> Result<Command<'a>, AllocError>
     ensures { IfOk result (λ c. app_of c ≡ spec.program) }
 {
@@ -35,7 +40,8 @@ pub(crate) fn program<'a>(alloc: Global) -> Result<Command<'a>, AllocError>
     command
         .bin_name("keltuvar")?
         .subcommand(run_command(alloc)?)?
-        .subcommand(race_command(alloc)?)
+        .subcommand(race_command(alloc)?)?
+        .subcommand(audit_command(alloc)?)
 }
 
 fn run_command<'a>(alloc: Global) -> Result<Command<'a>, AllocError>
@@ -52,11 +58,39 @@ fn race_command<'a>(alloc: Global) -> Result<Command<'a>, AllocError>
     ensures shape { IfOk result (λ c. app_of c ≡ spec.race_command) }
     ensures local { IfOk result (λ c. (fields_of c).has_globals ≡ false) }
 {
-    Command::new(alloc, "race")
+    let command = Command::new(alloc, "race")
         .about("Deals a scenario's commands to workers that race for one pool, and audits its log")
-        .arg(workers_option(alloc))?
+        .arg(workers_option(alloc))?;
+    with_wishes(alloc, command)?
         .arg(explain_flag(alloc))?
         .arg(scenario_file(alloc))
+}
+
+fn with_wishes<'a>(alloc: Global, command: Command<'a>) -> Result<Command<'a>, AllocError>
+    requires local { (fields_of command).has_globals ≡ false }
+    ensures shape { IfOk result (λ c. app_of c ≡ spec.with_wishes (app_of command.entry)) }
+    ensures local { IfOk result (λ c. (fields_of c).has_globals ≡ false) }
+{
+    command
+        .arg(output_option(alloc, "history", "Also writes the race's history there"))?
+        .arg(output_option(alloc, "svg", "Also draws a picture of the race there"))?
+        .arg(verify_us_option(alloc))
+}
+
+fn audit_command<'a>(alloc: Global) -> Result<Command<'a>, AllocError>
+    ensures shape { IfOk result (λ c. app_of c ≡ spec.audit_command) }
+    ensures local { IfOk result (λ c. (fields_of c).has_globals ≡ false) }
+{
+    Command::new(alloc, "audit")
+        .about("Replays a history that a pool wrote over a scenario, and says whether it is legal")
+        .arg(explain_flag(alloc))?
+        .arg(input_file(alloc, "FILE", "SCENARIO", "The scenario"))?
+        .arg(input_file(
+            alloc,
+            "history",
+            "HISTORY",
+            "The history, as race --history writes it",
+        ))
 }
 
 fn workers_option<'a>(alloc: Global) -> Arg<'a>
@@ -69,6 +103,27 @@ fn workers_option<'a>(alloc: Global) -> Arg<'a>
         .value_parser(value_parser!(u64).range(1..=64))
         .required(true)
         .help("How many workers race, from 1 to 64")
+}
+
+fn verify_us_option<'a>(alloc: Global) -> Arg<'a>
+    ensures rule { rule_of result ≡ spec.verify_us_rule }
+    ensures local { result.global ≡ false }
+{
+    Arg::new(alloc, "verify-us")
+        .long("verify-us")
+        .value_name("MICROSECONDS")
+        .value_parser(value_parser!(u64).range(0..=1_000_000))
+        .help("For measuring: how long each look at a signature takes, from 0 to 1000000")
+}
+
+fn output_option<'a>(alloc: Global, name: &'a str, help: &'a str) -> Arg<'a>
+    ensures rule { rule_of result ≡ spec.output_rule name.now }
+    ensures local { result.global ≡ false }
+{
+    Arg::new(alloc, name)
+        .long(name)
+        .value_name("FILE")
+        .help(help)
 }
 
 fn explain_flag<'a>(alloc: Global) -> Arg<'a>
@@ -86,4 +141,14 @@ fn scenario_file<'a>(alloc: Global) -> Arg<'a>
     ensures local { result.global ≡ false }
 {
     Arg::new(alloc, "FILE").help("The scenario; standard input where it's left out")
+}
+
+fn input_file<'a>(alloc: Global, id: &'a str, name: &'a str, help: &'a str) -> Arg<'a>
+    ensures rule { rule_of result ≡ spec.input_rule id.now }
+    ensures local { result.global ≡ false }
+{
+    Arg::new(alloc, id)
+        .value_name(name)
+        .required(true)
+        .help(help)
 }

@@ -1,15 +1,25 @@
 -- What was given to a command of which the program took the words.
-use Rattle.std.specs.Prelude.{◌≡◌, ◌⊎◌, List, Option, None, Some, codes}
+use Rattle.std.specs.Prelude.{◌≡◌, ◌⊎◌, IfSome, IsSomeAnd, List, Option, None, Some, codes, is_some, true}
 use Rattle.clap.specs.Values.{IsUnsignedIn}
-use Rattle.clap.specs.Words.{Row, Text, one_of}
+use Rattle.clap.specs.Words.{Row, Text, first_of, one_of}
 
--- the text is a number from 1 to 64
-abbrev pub IsWorkers : Option Text → Type 0
-IsWorkers None = ⊥
-IsWorkers (Some text) = IsUnsignedIn 1 64 text
+-- the text of an option, where it is given, is a number that a `u32` holds
+abbrev pub IsSmall : Option Text → Type 0
+IsSmall text = IfSome text (IsUnsignedIn 0 4294967295)
 
--- a run, or a race with a number of workers
+-- a number of workers from 1 to 64, and a number of microseconds up to 1,000,000 or none
+pub record IsRace (rows : List Row) : Type 0 where
+  pub workers : IsSomeAnd (one_of (codes "workers") rows) (IsUnsignedIn 1 64)
+  pub verify_us : IfSome (one_of (codes "verify-us") rows) (IsUnsignedIn 0 1000000)
+
+-- a scenario and a history
+pub record IsAudit (rows : List Row) : Type 0 where
+  pub scenario : is_some (first_of (codes "FILE") rows) ≡ true
+  pub history : is_some (first_of (codes "history") rows) ≡ true
+
+-- a run, a race or an audit
 abbrev pub IsTaken : Option (Text × List Row) → Type 0
 IsTaken None = ⊥
 IsTaken (Some command) = (command.0 ≡ codes "run")
-    ⊎ ((command.0 ≡ codes "race") × IsWorkers (one_of (codes "workers") command.1))
+    ⊎ ((command.0 ≡ codes "race") × IsRace command.1)
+    ⊎ ((command.0 ≡ codes "audit") × IsAudit command.1)
