@@ -1,14 +1,9 @@
 use Rattle.std.proofs.Common.{sym, subst, ◌∙◌}
-use Rattle.std.specs.Prelude.{Result, Ok, Err, IfOk}
 use Rattle.mp_seqpool.specs.Pool.{Pool}
 use Rattle.mp_history.specs.Log.{IsLegal}
 use Rattle.mp_mempool.specs.Opening.{fresh_log}
 use Rattle.mp_race.specs.Race.{IsRace}
 use Rattle.mp_race.proofs.racing.race.Goals as goal
-
-if_ok : {X E : Type 0} (P Q : X → Type 0) (r : Result X E) → ((x : X) → P x → Q x) → IfOk r P → IfOk r Q
-if_ok P Q (Ok x) more is = more x is
-if_ok P Q (Err e) more is = tt
 
 pub report_on-requires : goal.report_on-requires
 report_on-requires g c =
@@ -26,8 +21,8 @@ returns-clause-report g c =
     let s = c.args.scenario.now in
     let opening : Pool = (fresh_log s.config s.ledger).opening in
     let x = c.in_ok-entries.ensures.history opening s.tasks c.in_ok-gathered.ensures in
-    if_ok _ _ c.report_on.result (λ r is. record {
+    record {
       log = x.log;
       race = subst (λ a. IsRace a opening c.args.workers s.tasks x.log) c.requires.accepts x.race;
-      report = is;
-    }) (c.report_on.ensures.report x.log (x.entries ∙ sym c.deref.ensures.value) x.race.opens)
+      report = c.in_ok-in_order.ensures.report ∙ c.in_ok-report.ensures.report x.log (x.entries ∙ sym c.deref.ensures.value) x.race.opens;
+    }
