@@ -105,7 +105,9 @@ fn wrong_there(fault: &Fault) -> Option<&'static str> {
     match fault {
         Fault::MissingEntry(_) => Some("the entry has another place"),
         Fault::Audit(AuditFault::StrangeCaller(_)) => {
-            Some("the command isn't a change that is dealt to this worker")
+            Some(
+                "the command isn't a change that is dealt to this worker and comes behind its last",
+            )
         }
         Fault::Audit(AuditFault::WrongReply(_)) => Some("the pool replies otherwise there"),
         _ => None,

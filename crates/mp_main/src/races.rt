@@ -9,7 +9,7 @@ use mp_command_line::{Input, Wishes};
 use mp_history::NewName;
 use mp_memory::{Memory, NoMemory};
 use mp_picture::{Kind, Mark, put_picture};
-use mp_race::{Fault, History, Raced, Scenario, audit_history, race};
+use mp_race::{Fault, History, Raced, Scenario, race, text_if_legal};
 use mp_seqpool::Reply;
 use mp_text::MAX_BYTES;
 use std::marker::Brand;
@@ -70,7 +70,8 @@ fn tell(
     wishes: Wishes<'_>,
     raced: &Raced,
 ) -> ExitCode
-    requires { 1 ≤ raced.now.history.workers }
+    requires some { 1 ≤ raced.now.history.workers }
+    requires most { raced.now.history.workers ≤ 64 }
 {
     if let Err(code) = write_wishes(rt, memory, scenario, wishes, raced) {
         return code;
@@ -88,7 +89,8 @@ fn write_wishes(
     wishes: Wishes<'_>,
     raced: &Raced,
 ) -> Result<(), ExitCode>
-    requires { 1 ≤ raced.now.history.workers }
+    requires some { 1 ≤ raced.now.history.workers }
+    requires most { raced.now.history.workers ≤ 64 }
 {
     if let Some(path) = wishes.history {
         write_history(rt, memory, scenario, &raced.history, path)?;
@@ -99,7 +101,7 @@ fn write_wishes(
     Ok(())
 }
 
-// Writes the history, once its audit finds it legal.
+// Writes the history, where its audit finds it legal.
 fn write_history(
     rt: &HostRuntime,
     memory: Memory,
@@ -107,14 +109,12 @@ fn write_history(
     history: &History,
     path: &str,
 ) -> Result<(), ExitCode>
-    requires { 1 ≤ history.now.workers }
+    requires some { 1 ≤ history.now.workers }
+    requires most { history.now.workers ≤ 64 }
 {
-    if let Err(fault) = audit_history(memory, scenario, history) {
-        return Err(end_fault(rt, fault));
-    }
-    match history.to_text(memory) {
+    match text_if_legal(memory, scenario, history) {
         Ok(text) => write_file(rt, path, &text),
-        Err(NoMemory) => Err(end_fault(rt, Fault::NoMemory)),
+        Err(fault) => Err(end_fault(rt, fault)),
     }
 }
 

@@ -1,8 +1,8 @@
 -- What is told of a history, as far as it is entries.
-use Rattle.std.proofs.Common.{◌≡◌, ◌≢◌, ℕ, zero, suc, ◌+◌, ◌<◌, ◌≤◌, true, false, cond, List, [], ◌∷◌, ◌++◌, length, map, take, refl, sym, ap, ap₂, subst, ◌∙◌, arith, add-one}
-use Rattle.std.specs.Prelude.{◌%◌, All, HoldsAt, Option, None, Some, nat_le, slice_index_or}
+use Rattle.std.proofs.Common.{◌≡◌, ◌≢◌, ℕ, zero, suc, ◌+◌, ◌<◌, ◌≤◌, true, false, cond, List, [], ◌∷◌, ◌++◌, length, map, take, get_or, refl, sym, ap, ap₂, subst, ◌∙◌, arith, add-one}
+use Rattle.std.specs.Prelude.{◌⊎◌, ◌%◌, All, HoldsAt, Option, None, Some, nat_le, slice_index_or}
 use Rattle.std.specs.Option.{option_or}
-use Rattle.std.specs.List.{AllByRecursion, range_with_len}
+use Rattle.std.specs.List.{AllByRecursion, range_with_len, fold}
 use Rattle.std.proofs.lemmas.List.{map-append, length-append, take_all}
 use Rattle.std.proofs.lemmas.List.Elements.{All-from_recursion, recursion_from_All}
 use Rattle.std.proofs.lemmas.Option.{none-some}
@@ -18,7 +18,7 @@ use Rattle.mp_race.specs.declared.fault.Fault.{Fault}
 use Rattle.mp_race.specs.declared.fault.Fault.TheVariants.{NoMemory, BadLine, ReadFault, WriteFault, Audit, MissingEntry}
 use Rattle.mp_race.specs.declared.told.Told.{Told}
 use Rattle.mp_race.specs.Task.{Task}
-use Rattle.mp_race.specs.History.{IsEntryOf, AreTold, AreEntriesOf, IsHistory, IsBadAt, IsFaultOfHistory}
+use Rattle.mp_race.specs.History.{IsEntryOf, AreTold, AreInTurn, AreEntriesOf, next_after, first_next, next_of, IsUndealt, IsLate, IsHistory, IsBadAt, IsFaultOfHistory}
 use Rattle.mp_race.specs.Inside.Auditing.{IsUnfit, EndsAt}
 
 range-push : (a k j : ℕ) → a + k ≡ j → range_with_len a (suc k) ≡ range_with_len a k ++ j ∷ []
@@ -55,16 +55,22 @@ module _ (workers : ℕ) (ts : List Task) where
   same_length (u ∷ told) [] are = absurd are
   same_length (u ∷ told) (d ∷ es) are = ap suc (same_length told es are.1)
 
+  turn_push : (least : List ℕ) (told : List Told) (t : Told) → AreInTurn least told → get_or (fold next_after least told) t.worker 0 ≤ t.task → AreInTurn least (told ++ t ∷ [])
+  turn_push least [] t are turn = (turn, tt)
+  turn_push least (u ∷ told) t are turn = (are.0, turn_push (next_after least u) told t are.1 turn)
+
   -- one entry more
-  pub one_more : (told : List Told) (es : List Entry) (t : Told) (e : Entry) → AreEntriesOf workers ts told es → IsEntryOf workers ts t e → t.place ≡ length told → AreEntriesOf workers ts (told ++ t ∷ []) (es ++ e ∷ [])
-  one_more told es t e are is at = record {
+  pub one_more : (told : List Told) (es : List Entry) (t : Told) (e : Entry) → AreEntriesOf workers ts told es → IsEntryOf workers ts t e → t.place ≡ length told → get_or (next_of told) t.worker 0 ≤ t.task
+      → AreEntriesOf workers ts (told ++ t ∷ []) (es ++ e ∷ [])
+  one_more told es t e are is at turn = record {
     entries = told_push told es t e are.entries is;
+    turns = turn_push first_next told t are.turns turn;
     places =
         map-append (λ u. u.place) told (t ∷ []) ∙ ap₂ (λ l n. l ++ n ∷ []) are.places at ∙ sym (ap (range_with_len 0) (length-push told t) ∙ range-push 0 (length told) (length told) (omega arith));
   }
 
   pub none : AreEntriesOf workers ts [] []
-  none = record { entries = tt; places = refl }
+  none = record { entries = tt; turns = tt; places = refl }
 
   known_by_recursion : (some : 1 ≤ workers) (told : List Told) (es : List Entry) → AreTold workers ts told es → AllByRecursion (λ e. e.caller < workers) es
   known_by_recursion some [] [] are = tt
@@ -106,7 +112,9 @@ module _ (workers : ℕ) (ts : List Task) where
     ended (Audit audit.NoMemory) are legal ends = ends.unfit (first_told told (length es) ends.there)
     ended (Audit (audit.WrongReply p)) are legal ends = absurd (ends.unfit (first_told told (length es) ends.there))
     ended (Audit (audit.StrangeCaller p)) are legal ends =
-        bad_at _ p (ends.unfit (first_told told (length es) ends.there)).0 are legal ends.there (λ d. (ends.unfit d).1)
+        let at = (ends.unfit (first_told told (length es) ends.there)).0 in
+        bad_at _ p at are legal ends.there
+        (λ d. subst (λ n. IsUndealt workers ts (slice_index_or told (length es) d) ⊎ IsLate (next_of (take n told)) (slice_index_or told (length es) d)) (sym at) (ends.unfit d).1)
     ended (MissingEntry p) are legal ends =
         let at = (ends.unfit (first_told told (length es) ends.there)).0 in
         bad_at (λ t. t.place ≢ p) p at are legal ends.there (λ d. subst (λ n. (slice_index_or told (length es) d).place ≢ n) (sym at) (ends.unfit d).1)

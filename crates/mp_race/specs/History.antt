@@ -1,6 +1,6 @@
 -- What an audit of a history finds.
-use Rattle.std.specs.Prelude.{◌≡◌, ◌≢◌, ℕ, ◌<◌, ◌%◌, List, [], ◌∷◌, length, map, take, HoldsAt, Some, slice_get}
-use Rattle.std.specs.List.{range_with_len}
+use Rattle.std.specs.Prelude.{◌≡◌, ◌≢◌, ◌⊎◌, ℕ, ◌+◌, ◌<◌, ◌≤◌, ◌%◌, List, [], ◌∷◌, length, map, take, get_or, set, replicate, HoldsAt, Some, slice_get}
+use Rattle.std.specs.List.{range_with_len, fold}
 use Rattle.mp_rules.specs.Verifier.{Accepts}
 use Rattle.mp_seqpool.specs.Pool.{Pool}
 use Rattle.mp_history.specs.declared.fault.AuditFault.TheVariants.{WrongReply, StrangeCaller}
@@ -30,9 +30,30 @@ AreTold workers ts [] [] = Unit {0}
 AreTold workers ts (t ∷ told) (e ∷ es) = IsEntryOf workers ts t e × AreTold workers ts told es
 AreTold workers ts _ _ = ⊥
 
--- and each place is the next one
+-- of each worker, the least command that may come next: the one behind its last
+abbrev pub next_after : List ℕ → Told → List ℕ
+next_after next t = set next t.worker (t.task + 1)
+
+-- of no entry, and of what is told
+abbrev pub first_next : List ℕ
+first_next = replicate 64 0
+
+abbrev pub next_of : List Told → List ℕ
+next_of told = fold next_after first_next told
+
+-- each worker's commands come in order, and each once
+abbrev pub AreInTurn : List ℕ → List Told → Type 0
+AreInTurn next [] = Unit {0}
+AreInTurn next (t ∷ told) = (get_or next t.worker 0 ≤ t.task) × AreInTurn (next_after next t) told
+
+-- the command doesn't come behind its worker's last
+abbrev pub IsLate : List ℕ → Told → Type 0
+IsLate next t = t.task < get_or next t.worker 0
+
+-- all that is told is these entries, in turn, and each place is the next one
 pub record AreEntriesOf (workers : ℕ) (ts : List Task) (told : List Told) (es : List Entry) : Type 0 where
   pub entries : AreTold workers ts told es
+  pub turns : AreInTurn first_next told
   pub places : map (λ t. t.place) told ≡ range_with_len 0 (length told)
 
 -- The verifier decides which signatures are good.
@@ -63,5 +84,6 @@ module _ (accepts : Accepts) (opening : Pool) (workers : ℕ) (ts : List Task) w
   IsFaultOfHistory told WriteFault = ⊥
   IsFaultOfHistory told (Audit audit.NoMemory) = ⊥
   IsFaultOfHistory told (Audit (WrongReply place)) = IsWrongAt told place
-  IsFaultOfHistory told (Audit (StrangeCaller place)) = IsBadAt (IsUndealt workers ts) told place
+  IsFaultOfHistory told (Audit (StrangeCaller place)) =
+      IsBadAt (λ t. IsUndealt workers ts t ⊎ IsLate (next_of (take place told)) t) told place
   IsFaultOfHistory told (MissingEntry place) = IsBadAt (λ t. t.place ≢ place) told place

@@ -1,10 +1,11 @@
 //! The audit of a history that is told.
 
-ghost use Rattle.std.specs.Prelude.{◌≡◌, ◌≤◌, ◌<◌, length, take, All, IfOk, IfErr, IfSome, IfNone, OnOk};
+ghost use Rattle.std.specs.Prelude.{◌≡◌, ◌≤◌, ◌<◌, true, false, length, take, get_or, All, IfOk, IfErr, IfSome, IfNone, OnOk};
 ghost use Rattle.mp_history.specs.Log.{IsLegal};
 ghost use Rattle.mp_mempool.specs.Opening.{fresh_log};
 ghost use Rattle.mp_driver.specs.Verifier.{is_key_and_id};
-ghost use Rattle.mp_race.specs.History.{IsEntryOf, AreEntriesOf, IsHistory, IsUndealt, IsFaultOfHistory};
+ghost use Rattle.mp_race.specs.History.{IsEntryOf, AreEntriesOf, IsHistory, IsUndealt, IsLate, IsFaultOfHistory};
+ghost use Rattle.mp_race.specs.HistoryText.{history_text};
 ghost use Rattle.mp_race.specs.Inside.Task.{tasks_of};
 ghost use Rattle.mp_race.specs.Inside.Auditing.{IsUnfit, EndsAt, IsOfReplay};
 
@@ -16,6 +17,11 @@ use crate::told::Told;
 use mp_driver::KeyAndId;
 use mp_history::{AuditFault, Entry, audit};
 use mp_memory::{Memory, NoMemory};
+
+const MAX_WORKERS: usize = 64;
+
+// Of each worker, the least command that may come next.
+type Next = [u64; MAX_WORKERS];
 
 // The entry that is told, where the command is a change that is dealt to the worker.
 fn entry_of(tasks: &[Task], workers: u32, told: &Told) -> Result<Option<Entry>, NoMemory>
@@ -42,18 +48,41 @@ fn entry_of(tasks: &[Task], workers: u32, told: &Told) -> Result<Option<Entry>, 
     }
 }
 
+// Whether the command comes behind its worker's last.
+fn is_in_turn(next: &Next, told: &Told) -> bool
+    requires { told.now.worker < 64 }
+    ensures turn { result ≡ true → get_or next.now told.now.worker 0 ≤ told.now.task }
+    ensures late { result ≡ false → IsLate next.now told.now }
+{
+    next[told.worker as usize] <= u64::from(told.task)
+}
+
 // The entry that is told at this place, where it is one there.
-fn entry_at(tasks: &[Task], workers: u32, place: u64, told: &Told) -> Result<Entry, Fault>
-    requires { 1 ≤ workers }
+fn entry_at(
+    tasks: &[Task],
+    workers: u32,
+    next: &Next,
+    place: u64,
+    told: &Told,
+) -> Result<Entry, Fault>
+    requires some { 1 ≤ workers }
+    requires most { workers ≤ 64 }
     ensures entry { IfOk result (IsEntryOf workers (tasks_of tasks.now) told.now) }
     ensures place { OnOk result (told.now.place ≡ place) }
-    ensures unfit { IfErr result (IsUnfit workers (tasks_of tasks.now) place told.now) }
+    ensures worker { OnOk result (told.now.worker < 64) }
+    ensures turn { OnOk result (get_or next.now told.now.worker 0 ≤ told.now.task) }
+    ensures unfit { IfErr result (IsUnfit workers (tasks_of tasks.now) next.now place told.now) }
 {
     if told.place != place {
         return Err(Fault::MissingEntry(place));
     }
     match entry_of(tasks, workers, told) {
-        Ok(Some(entry)) => Ok(entry),
+        Ok(Some(entry)) => {
+            if !is_in_turn(next, told) {
+                return Err(Fault::Audit(AuditFault::StrangeCaller(place as usize)));
+            }
+            Ok(entry)
+        }
         Ok(None) => Err(Fault::Audit(AuditFault::StrangeCaller(place as usize))),
         Err(NoMemory) => Err(Fault::NoMemory),
     }
@@ -69,7 +98,8 @@ struct Fitting {
 
 // The entries that are told, up to the first place where none is.
 fn entries_of(memory: Memory, tasks: &[Task], history: &History) -> Result<Fitting, NoMemory>
-    requires { 1 ≤ history.now.workers }
+    requires some { 1 ≤ history.now.workers }
+    requires most { history.now.workers ≤ 64 }
     ensures entries { IfOk result (λ f. AreEntriesOf history.now.workers (tasks_of tasks.now)
         (take (length f.entries.items) history.now.told.items) f.entries.items) }
     ensures all { IfOk result (λ f. IfNone f.fault
@@ -78,9 +108,13 @@ fn entries_of(memory: Memory, tasks: &[Task], history: &History) -> Result<Fitti
         (tasks_of tasks.now) history.now.told.items (length f.entries.items))) }
 {
     let mut entries = Vec::with_capacity(memory, history.told.len())?;
+    let mut next = [0; MAX_WORKERS];
     for (place, told) in history.told.as_slice().iter().enumerate() {
-        match entry_at(tasks, history.workers, place as u64, told) {
-            Ok(entry) => entries.push(entry)?,
+        match entry_at(tasks, history.workers, &next, place as u64, told) {
+            Ok(entry) => {
+                next[told.worker as usize] = u64::from(told.task) + 1;
+                entries.push(entry)?;
+            }
             Err(Fault::NoMemory) => return Err(NoMemory),
             Err(fault) => {
                 return Ok(Fitting {
@@ -124,14 +158,16 @@ fn replay(memory: Memory, scenario: &Scenario, workers: u32, entries: &[Entry]) 
 }
 
 /// Whether the history is one of a race over the scenario: at each place stands an entry of a change of the scenario, asked by the
-/// worker to whom it is dealt, and its reply is the sequential pool's after the entries before it. Not that each change stands
-/// there once, nor that a worker's come in order.
+/// worker to whom it is dealt, behind its worker's command before, and its reply is the sequential pool's after the entries before
+/// it.
 ///
 /// # Errors
 /// At the first place where that isn't so: `MissingEntry` where another place is told, `Audit(StrangeCaller)` where the command
-/// isn't a change that is dealt to the worker, `Audit(WrongReply)`. `NoMemory` may stand in place of any answer.
+/// isn't a change that is dealt to the worker and comes behind its last, `Audit(WrongReply)`. `NoMemory` may stand in place of any
+/// answer.
 pub fn audit_history(memory: Memory, scenario: &Scenario, history: &History) -> Result<(), Fault>
-    requires { 1 ≤ history.now.workers }
+    requires some { 1 ≤ history.now.workers }
+    requires most { history.now.workers ≤ 64 }
     ensures history { OnOk result (IsHistory is_key_and_id
         (fresh_log scenario.now.config scenario.now.ledger).opening history.now.workers
         scenario.now.tasks history.now.told.items) }
@@ -145,4 +181,28 @@ pub fn audit_history(memory: Memory, scenario: &Scenario, history: &History) -> 
         Some(fault) => Err(fault),
         None => Ok(()),
     }
+}
+
+/// The history's text, where its audit finds that it is one of a race over the scenario.
+///
+/// # Errors
+/// As `audit_history`.
+pub fn text_if_legal(
+    memory: Memory,
+    scenario: &Scenario,
+    history: &History,
+) -> Result<Vec<u8, Memory>, Fault>
+    requires some { 1 ≤ history.now.workers }
+    requires most { history.now.workers ≤ 64 }
+    ensures text { IfOk result (λ text. text.items
+        ≡ history_text history.now.workers history.now.told.items) }
+    ensures history { OnOk result (IsHistory is_key_and_id
+        (fresh_log scenario.now.config scenario.now.ledger).opening history.now.workers
+        scenario.now.tasks history.now.told.items) }
+    ensures fault { IfErr result (IsFaultOfHistory is_key_and_id
+        (fresh_log scenario.now.config scenario.now.ledger).opening history.now.workers
+        scenario.now.tasks history.now.told.items) }
+{
+    audit_history(memory, scenario, history)?;
+    Ok(history.to_text(memory)?)
 }

@@ -18,7 +18,7 @@ mod task;
 mod told;
 mod worker;
 
-pub use auditing::audit_history;
+pub use auditing::{audit_history, text_if_legal};
 pub use fault::Fault;
 pub use gate::{Gate, NoGate};
 pub use history::History;

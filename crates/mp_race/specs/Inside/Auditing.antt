@@ -1,5 +1,5 @@
 -- What is told at one place of a history.
-use Rattle.std.specs.Prelude.{◌≡◌, ◌≢◌, ℕ, ◌<◌, List, length, HoldsAt, Some}
+use Rattle.std.specs.Prelude.{◌≡◌, ◌≢◌, ◌⊎◌, ℕ, ◌<◌, List, length, take, HoldsAt, Some}
 use Rattle.mp_rules.specs.Verifier.{Accepts}
 use Rattle.mp_seqpool.specs.Pool.{Pool}
 use Rattle.mp_history.specs.Entry.{Entry}
@@ -9,23 +9,23 @@ use Rattle.mp_race.specs.declared.fault.Fault.{Fault}
 use Rattle.mp_race.specs.declared.fault.Fault.TheVariants.{NoMemory, BadLine, ReadFault, WriteFault, Audit, MissingEntry}
 use Rattle.mp_race.specs.declared.told.Told.{Told}
 use Rattle.mp_race.specs.Task.{Task}
-use Rattle.mp_race.specs.History.{IsUndealt}
+use Rattle.mp_race.specs.History.{IsUndealt, IsLate, next_of}
 
 -- why what is told at this place is no entry there
-abbrev pub IsUnfit : ℕ → List Task → ℕ → Told → Fault → Type 0
-IsUnfit workers ts place t NoMemory = Unit {0}
-IsUnfit workers ts place t (BadLine line) = ⊥
-IsUnfit workers ts place t ReadFault = ⊥
-IsUnfit workers ts place t WriteFault = ⊥
-IsUnfit workers ts place t (Audit audit.NoMemory) = ⊥
-IsUnfit workers ts place t (Audit (audit.WrongReply p)) = ⊥
-IsUnfit workers ts place t (Audit (audit.StrangeCaller p)) = (p ≡ place) × IsUndealt workers ts t
-IsUnfit workers ts place t (MissingEntry p) = (p ≡ place) × (t.place ≢ place)
+abbrev pub IsUnfit : ℕ → List Task → List ℕ → ℕ → Told → Fault → Type 0
+IsUnfit workers ts next place t NoMemory = Unit {0}
+IsUnfit workers ts next place t (BadLine line) = ⊥
+IsUnfit workers ts next place t ReadFault = ⊥
+IsUnfit workers ts next place t WriteFault = ⊥
+IsUnfit workers ts next place t (Audit audit.NoMemory) = ⊥
+IsUnfit workers ts next place t (Audit (audit.WrongReply p)) = ⊥
+IsUnfit workers ts next place t (Audit (audit.StrangeCaller p)) = (p ≡ place) × (IsUndealt workers ts t ⊎ IsLate next t)
+IsUnfit workers ts next place t (MissingEntry p) = (p ≡ place) × (t.place ≢ place)
 
 -- What is told at this place is no entry there, and why.
 pub record EndsAt (workers : ℕ) (ts : List Task) (told : List Told) (place : ℕ) (fault : Fault) : Type 0 where
   pub there : place < length told
-  pub unfit : HoldsAt (λ t. IsUnfit workers ts place t fault) told place
+  pub unfit : HoldsAt (λ t. IsUnfit workers ts (next_of (take place told)) place t fault) told place
 
 -- why entries aren't legal: a reply is wrong. Memory may be wanting for any
 abbrev pub IsOfReplay : Accepts → ℕ → Pool → List Entry → Fault → Type 0

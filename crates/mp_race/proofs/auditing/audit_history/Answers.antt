@@ -18,7 +18,7 @@ replay-requires c =
     let lines = c.args.history.now.told.items in
     let es = c.in_ok-entries.field-0.entries.items in
     subst (λ (l : List Entry). All (λ e. e.caller < workers) l) (sym c.deref-2.ensures.value)
-    (all_known workers (tasks_of c.deref.result.now) c.requires (take (length es) lines) es c.in_ok-entries.ensures.entries)
+    (all_known workers (tasks_of c.deref.result.now) c.requires.some (take (length es) lines) es c.in_ok-entries.ensures.entries)
 
 pub returns-in-Some-clause-fault : goal.returns-in-Some-clause-fault
 returns-in-Some-clause-fault c =
