@@ -5,7 +5,7 @@ ghost use Rattle.mp_driver.specs.Verifier.{is_key_and_id};
 
 use mp_history::{NewName, PoolName};
 use mp_memory::Memory;
-use mp_race::{Fault, Gate, Report, Scenario, race};
+use mp_race::{Fault, Gate, History, Raced, Report, Scenario, audit_history, race};
 use std::marker::Brand;
 use std::sync::Wait;
 use std::thread::Threads;
@@ -13,7 +13,8 @@ use std::thread::Threads;
 /// The numbers of a report behind that of its workers.
 pub type Numbers = [u64; 7];
 
-/// How a race ends: with the numbers of its report, or with the number of a fault, and its line, its place or 0.
+/// How a race ends: with the numbers of its report, or with the number of a fault, and its line, its place or 0. Where what is told of
+/// it isn't what is counted, these are 0 and 1.
 pub type Ended = Result<Numbers, (u64, u64)>;
 
 /// The fault's number, and its line, its place or 0.
@@ -37,6 +38,26 @@ fn numbers_of(report: &Report) -> Numbers {
     ]
 }
 
+// What is told of the race, written and read again, is as many entries and refusals as are counted, and its audit finds no fault.
+fn retell(memory: Memory, scenario: &Scenario, raced: &Raced) -> Result<bool, Fault> {
+    let text = raced.history.to_text(memory)?;
+    let history = History::parse(memory, &text)?;
+    audit_history(memory, scenario, &history)?;
+    Ok(
+        history.told.len() as u64 == raced.report.entries
+            && raced.refused.len() as u64 == raced.report.refused,
+    )
+}
+
+// The numbers of the report, where what is told of the race fits it.
+fn numbers_told(memory: Memory, scenario: &Scenario, raced: &Raced) -> Ended {
+    match retell(memory, scenario, raced) {
+        Ok(true) => Ok(numbers_of(&raced.report)),
+        Ok(false) => Err((0, 1)),
+        Err(fault) => Err(number_of(&fault)),
+    }
+}
+
 // A race on a pool under the name.
 fn race_named<N: PoolName + Send + Sync, R: Threads + Wait + Sync, G: Gate>(
     rt: &R,
@@ -53,7 +74,7 @@ fn race_named<N: PoolName + Send + Sync, R: Threads + Wait + Sync, G: Gate>(
     requires most { workers ≤ 64 }
 {
     match race::<N, R, G>(rt, memory, name, scenario, workers, gate) {
-        Ok(raced) => Ok(numbers_of(&raced.report)),
+        Ok(raced) => numbers_told(memory, scenario, &raced),
         Err(fault) => Err(number_of(&fault)),
     }
 }
