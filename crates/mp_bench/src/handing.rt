@@ -1,4 +1,4 @@
-//! A mempool that hands over to a successor again and again.
+//! Mempools that hand over to a successor.
 ghost use Rattle.std.specs.Prelude.{◌≡◌};
 ghost use Rattle.mp_history.specs.PoolName.{head_of};
 ghost use Rattle.mp_bench.specs.Signatures.{any};
@@ -10,6 +10,7 @@ use mp_history::{NewName, PoolName};
 use mp_memory::Memory;
 use mp_mempool::{Config, Mempool, Pass};
 use mp_seqpool::Command;
+use mp_tx::Ledger;
 use std::marker::Brand;
 use std::sync::Wait;
 
@@ -41,82 +42,73 @@ fn make_changes<N: PoolName>(
     made
 }
 
-// Makes as many changes as there may be, hands over, and goes on with the successor, as often as it is said. Gives the last ticket.
-fn go_on<N: PoolName>(
+// Makes as many changes as there may be, on the mempool and then on a successor of this name. Gives the last ticket.
+fn go_on<N: PoolName, M: PoolName>(
     rt: &impl Wait,
     memory: Memory,
     mempool: Mempool<N, Spinning>,
     mut passes: Vec<Pass<N>, Memory>,
-    commands: &[Command],
-    limit: u64,
-    times: u64,
-) -> Option<u64>
-    requires { N.accepts ≡ any }
-{
-    let pass = passes.first_mut()?;
-    if times == 0 {
-        return Some(mempool.reader().snapshot(pass).last());
-    }
-    if make_changes(rt, &mempool, pass, commands, limit) != limit {
-        return None;
-    }
-    let name = NewName::new();
-    hand_over::<N, Brand>(
-        rt,
-        memory,
-        name,
-        mempool,
-        passes,
-        commands,
-        limit,
-        times - 1,
-    )
-}
-
-fn hand_over<N: PoolName, M: PoolName>(
-    rt: &impl Wait,
-    memory: Memory,
     name: NewName,
-    mempool: Mempool<N, Spinning>,
-    passes: Vec<Pass<N>, Memory>,
     commands: &[Command],
     limit: u64,
-    times: u64,
 ) -> Option<u64>
     requires name { name ≡ head_of M.book M.root }
     requires callers { M.callers ≡ 1 }
     requires accepts { M.accepts ≡ N.accepts }
-    requires any { N.accepts ≡ any }
 {
+    if make_changes(rt, &mempool, passes.first_mut()?, commands, limit) != limit {
+        return None;
+    }
     match mempool.into_successor::<M>(rt, memory, name, passes, limit, 1) {
-        Ok((heir, passes)) => go_on(rt, memory, heir, passes, commands, limit, times),
+        Ok((heir, mut passes)) => finish(rt, &heir, passes.first_mut()?, commands, limit),
         Err(_) => None,
     }
+}
+
+// What the successor does.
+fn finish<M: PoolName>(
+    rt: &impl Wait,
+    heir: &Mempool<M, Spinning>,
+    pass: &mut Pass<M>,
+    commands: &[Command],
+    limit: u64,
+) -> Option<u64> {
+    if make_changes(rt, heir, pass, commands, limit) != limit {
+        return None;
+    }
+    Some(heir.reader().snapshot(pass).last())
 }
 
 fn open<N: PoolName>(
     rt: &impl Wait,
     memory: Memory,
     name: NewName,
+    ledger: &Ledger,
     commands: &[Command],
     limit: u64,
-    times: u64,
 ) -> Option<u64>
     requires name { name ≡ head_of N.book N.root }
     requires callers { N.callers ≡ 1 }
     requires accepts { N.accepts ≡ any }
 {
-    let ledger = ledger_by(memory, 1, MANY, 1)?;
     let config = Config { limit, last: 0 };
-    match Mempool::<N, _>::open(rt, memory, name, config, &ledger, Spinning::new(), 1) {
-        Ok((mempool, passes)) => go_on(rt, memory, mempool, passes, commands, limit, times),
+    match Mempool::<N, _>::open(rt, memory, name, config, ledger, Spinning::new(), 1) {
+        Ok((mempool, passes)) => {
+            let heir = NewName::new();
+            go_on::<N, Brand>(rt, memory, mempool, passes, heir, commands, limit)
+        }
         Err(_) => None,
     }
 }
 
-/// Makes so many changes on a mempool, hands over to a successor, and so on, so many times. Gives the last ticket: every other
-/// change gives one.
+/// So many times a mempool makes as many changes as there may be, hands over to a successor, and that makes as many. Gives the last
+/// ticket of the last one: every other change gives one.
 pub fn run(rt: &impl Wait, memory: Memory, limit: u64, times: u64) -> Option<u64> {
     let commands = commands_of(memory)?;
-    open::<Brand>(rt, memory, NewName::new(), &commands, limit, times)
+    let ledger = ledger_by(memory, 1, MANY, 1)?;
+    let mut last = 0;
+    for _ in 0..times {
+        last = open::<Brand>(rt, memory, NewName::new(), &ledger, &commands, limit)?;
+    }
+    Some(last)
 }

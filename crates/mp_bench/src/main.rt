@@ -167,7 +167,7 @@ fn obey<R: Clock + Threads + Wait + Print + Sync>(
             ensure!(is_well, "what must not come has come");
         }
         "mempool-successors" => {
-            let [limit, times, _] = numbers(words, [100_000, 20, 0])?;
+            let [limit, times, _] = numbers(words, [100_000, 10, 0])?;
             let last = handing::run(rt, memory, limit, times).context("a handover went wrong")?;
             println!(rt; "last ticket {last}")?;
         }
