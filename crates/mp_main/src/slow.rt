@@ -13,25 +13,23 @@ pub struct Slow<'a, C: Clock + Sync> {
     pub micros: u32,
 }
 
-impl<C: Clock + Sync> Slow<'_, C> {
-    fn is_over(&self, start: &Instant) -> bool {
-        match start.elapsed(self.clock) {
-            Ok(passed) => passed.as_micros() >= u128::from(self.micros),
-            Err(_) => true,
-        }
+fn is_over(clock: &impl Clock, start: &Instant, micros: u32) -> bool {
+    match start.elapsed(clock) {
+        Ok(passed) => passed.as_micros() >= u128::from(micros),
+        Err(_) => true,
     }
+}
 
-    // Waits until the time is over. Where there is no clock it doesn't wait.
-    fn wait(&self) {
-        let Ok(start) = Instant::now(self.clock) else {
+// Waits so long. Where there is no clock it doesn't wait.
+fn wait(clock: &impl Clock, micros: u32) {
+    let Ok(start) = Instant::now(clock) else {
+        return;
+    };
+    for _ in 0..u64::MAX {
+        if is_over(clock, &start, micros) {
             return;
-        };
-        for _ in 0..u64::MAX {
-            if self.is_over(&start) {
-                return;
-            }
-            spin_loop();
         }
+        spin_loop();
     }
 }
 
@@ -40,7 +38,7 @@ impl<C: Clock + Sync> Gate for Slow<'_, C> {
 
     fn check(&self, _id: &TxId) {
         if self.micros > 0 {
-            self.wait();
+            wait(self.clock, self.micros);
         }
     }
 }
