@@ -13,7 +13,7 @@ use crate::told::Told;
 use crate::verifier::{ACCEPTS_ALL, AcceptsAll};
 use mp_history::{NewName, PoolName};
 use mp_memory::Memory;
-use mp_mempool::{Config, Handover, Mempool, Pass, SuccessorRefusal};
+use mp_mempool::{Config, Mempool, Pass, SuccessorRefusal};
 use mp_testing::Seen;
 use mp_versions::Shown;
 use std::io;
@@ -106,45 +106,36 @@ fn place_of<N: PoolName>(refusal: &SuccessorRefusal<N>) -> u64 {
     }
 }
 
-fn hand_over<N: PoolName, M: PoolName>(
-    rt: &impl Wait,
-    name: NewName,
-    samples: &Samples,
-    mempool: Mempool<N, AcceptsAll>,
-    passes: Passes<N>,
-    case: Case,
-) -> Handover<N, M, AcceptsAll>
-    requires name { name ≡ head_of M.book M.root }
-    requires callers { M.callers ≡ case.heirs }
-    requires accepts { M.accepts ≡ N.accepts }
-{
-    let memory = samples.memory;
-    memory.refuse(case.refused);
-    let handed = mempool.into_successor(rt, memory, name, passes, case.limit, case.heirs);
-    memory.refuse(0);
-    handed
-}
-
 // What comes of a table, with what came of the handover: the number of the refusal, or 0, and its place.
 fn with_played(number: u64, place: u64, played: Played) -> Seen {
     let [kind, line, heard, ..] = played.seen();
     [number, place, kind, line, heard, 0]
 }
 
-// What is seen of the handover, and of the pool that is there after it.
+// What is seen of a handover to a successor of this name, and of the pool that is there after it.
 fn see<N: PoolName, M: PoolName>(
     rt: &impl Wait,
+    name: NewName,
     samples: &Samples,
-    handed: Handover<N, M, AcceptsAll>,
+    opened: Opened<N>,
     mut kept: Passes<N>,
-    order: Order,
-) -> Seen {
+    case: Case,
+) -> Seen
+    requires name { name ≡ head_of M.book M.root }
+    requires callers { M.callers ≡ case.heirs }
+    requires accepts { M.accepts ≡ N.accepts }
+{
+    let memory = samples.memory;
+    let (mempool, passes) = opened;
+    memory.refuse(case.refused);
+    let handed = mempool.into_successor::<M>(rt, memory, name, passes, case.limit, case.heirs);
+    memory.refuse(0);
     match handed {
-        Ok((mempool, mut passes)) => {
-            with_played(0, 0, play_on(rt, &mempool, &mut passes, samples, &AFTER))
+        Ok((heir, mut passes)) => {
+            with_played(0, 0, play_on(rt, &heir, &mut passes, samples, &AFTER))
         }
         Err((refusal, mempool, mut passes)) => {
-            arrange_back(&mut passes, &mut kept, order);
+            arrange_back(&mut passes, &mut kept, case.order);
             let played = play_on(rt, &mempool, &mut passes, samples, &AS_BEFORE);
             with_played(refusal.number(), place_of(&refusal), played)
         }
@@ -194,8 +185,8 @@ fn try_case<N: PoolName>(
     let (mempool, mut passes) = open::<N>(rt, name, samples, 2, &BEFORE)?;
     let kept = arrange(samples.memory, &mut passes, case.order);
     let heir = NewName::new();
-    let handed = hand_over::<N, Brand>(rt, heir, samples, mempool, passes, case);
-    Some(see(rt, samples, handed, kept, case.order))
+    let opened = (mempool, passes);
+    Some(see::<N, Brand>(rt, heir, samples, opened, kept, case))
 }
 
 fn see_case(rt: &impl Wait, samples: &Samples, case: Case) -> Option<Seen> {
@@ -242,29 +233,41 @@ fn share_first<N: PoolName>(passes: &[Pass<N>]) -> Option<Shown<N>> {
 }
 
 // How many owners more the transactions have while a version of the pool that handed over is held, and once it is dropped.
+fn count_held<N: PoolName, M: PoolName>(
+    rt: &impl Wait,
+    name: NewName,
+    samples: &Samples,
+    opened: Opened<N>,
+    shown: Shown<N>,
+    before: u64,
+) -> Seen
+    requires name { name ≡ head_of M.book M.root }
+    requires callers { M.callers ≡ 1 }
+    requires accepts { M.accepts ≡ N.accepts }
+{
+    let commands = samples.commands(0, SUBMITS);
+    let (mempool, passes) = opened;
+    let handed = mempool.into_successor::<M>(rt, samples.memory, name, passes, 2, 1);
+    let held = count_owners(commands).wrapping_sub(before);
+    drop(shown);
+    let freed = count_owners(commands).wrapping_sub(before);
+    [u64::from(handed.is_ok()), held, freed, 0, 0, 0]
+}
+
 fn see_held<N: PoolName>(rt: &impl Wait, name: NewName, samples: &Samples) -> Option<Seen>
     requires name { name ≡ head_of N.book N.root }
     requires callers { N.callers ≡ 2 }
     requires accepts { N.accepts ≡ any }
 {
-    let commands = samples.commands(0, SUBMITS);
-    let before = count_owners(commands);
+    let before = count_owners(samples.commands(0, SUBMITS));
     let (mempool, mut passes) = open::<N>(rt, name, samples, LONG, &COME)?;
     let shown = share_first(&passes)?;
-    let gone = play_on(rt, &mempool, &mut passes, samples, &GO);
-    let handed = hand_over::<N, Brand>(rt, NewName::new(), samples, mempool, passes, GOOD);
-    let held = count_owners(commands);
-    drop(shown);
-    let freed = count_owners(commands);
-    let is_handed = handed.is_ok() && gone.is_as_told();
-    Some([
-        u64::from(is_handed),
-        held.wrapping_sub(before),
-        freed.wrapping_sub(before),
-        0,
-        0,
-        0,
-    ])
+    if !play_on(rt, &mempool, &mut passes, samples, &GO).is_as_told() {
+        return None;
+    }
+    let opened = (mempool, passes);
+    let heir = NewName::new();
+    Some(count_held::<N, Brand>(rt, heir, samples, opened, shown, before))
 }
 
 fn see_freed(rt: &impl Wait, samples: &Samples) -> Option<Seen> {

@@ -1,6 +1,7 @@
 //! The board: threads that read while versions are shown, and each refused growth.
 ghost use Rattle.std.specs.Prelude.{◌≡◌, IfSome};
 ghost use Rattle.mp_seqpool.specs.PoolLaws.{IsLawful};
+ghost use Rattle.mp_seqpool.specs.Config.{renewed};
 ghost use Rattle.mp_history.specs.PoolName.{head_of};
 ghost use Rattle.mp_pool_tests.specs.Names.{any};
 
@@ -28,7 +29,7 @@ fn open<N: PoolName>(memory: Memory, name: NewName, pool: &SeqPool) -> Result<Sh
     requires name { name ≡ head_of N.book N.root }
     requires callers { N.callers ≡ 1 }
     requires lawful { IsLawful N.accepts pool.now.pool }
-    requires unchanged { pool.now.pool.changes ≡ 0 }
+    requires anew { renewed pool.now.pool.limit pool.now.pool ≡ pool.now.pool }
 {
     let version = Arc::new(memory, Version::of(memory, pool)?)?;
     let (_history, right, _callers) = History::<N>::open(
@@ -201,7 +202,7 @@ fn of_name<N: PoolName + Send + Sync, R: Print + Threads + Wait + Sync>(
     requires name { name ≡ head_of N.book N.root }
     requires callers { N.callers ≡ 1 }
     requires lawful { IsLawful N.accepts pool.now.pool }
-    requires unchanged { pool.now.pool.changes ≡ 0 }
+    requires anew { renewed pool.now.pool.limit pool.now.pool ≡ pool.now.pool }
 {
     match open::<N>(memory, name, pool) {
         Ok(shown) => count_shown(rt, memory, &shown),
@@ -211,7 +212,7 @@ fn of_name<N: PoolName + Send + Sync, R: Print + Threads + Wait + Sync>(
 
 fn new_pool(samples: &Samples) -> Option<SeqPool>
     ensures lawful { IfSome result (λ pool. IsLawful any pool.pool) }
-    ensures unchanged { IfSome result (λ pool. pool.pool.changes ≡ 0) }
+    ensures anew { IfSome result (λ pool. renewed pool.pool.limit pool.pool ≡ pool.pool) }
 {
     SeqPool::start(samples.memory, CONFIG, samples.ledger(PART)?).ok()
 }
