@@ -1,6 +1,6 @@
 -- What is told of a history, as far as it is entries.
-use Rattle.std.proofs.Common.{◌≡◌, ◌≢◌, ℕ, zero, suc, ◌+◌, ◌<◌, ◌≤◌, true, false, cond, List, [], ◌∷◌, ◌++◌, length, map, take, get_or, refl, sym, ap, ap₂, subst, ◌∙◌, arith, add-one}
-use Rattle.std.specs.Prelude.{◌⊎◌, ◌%◌, All, HoldsAt, Option, None, Some, nat_le, slice_index_or}
+use Rattle.std.proofs.Common.{◌≡◌, ◌≢◌, ℕ, zero, suc, ◌+◌, ◌<◌, ◌≤◌, true, false, cond, List, [], ◌∷◌, ◌++◌, length, take, get_or, refl, sym, ap, ap₂, subst, ◌∙◌, arith, add-one}
+use Rattle.std.specs.Prelude.{◌⊎◌, ◌%◌, All, HoldsAt, None, Some, nat_le, slice_index_or}
 use Rattle.std.specs.Option.{option_or}
 use Rattle.std.specs.List.{AllByRecursion, range_with_len, fold}
 use Rattle.std.proofs.lemmas.List.{map-append, length-append, take_all}
@@ -19,7 +19,7 @@ use Rattle.mp_race.specs.declared.fault.Fault.TheVariants.{NoMemory, BadLine, Re
 use Rattle.mp_race.specs.declared.told.Told.{Told}
 use Rattle.mp_race.specs.Task.{Task}
 use Rattle.mp_race.specs.History.{IsEntryOf, AreTold, AreInTurn, AreEntriesOf, next_after, first_next, next_of, IsUndealt, IsLate, IsHistory, IsBadAt, IsFaultOfHistory}
-use Rattle.mp_race.specs.Inside.Auditing.{IsUnfit, EndsAt}
+use Rattle.mp_race.specs.Inside.Auditing.{EndsAt}
 
 range-push : (a k j : ℕ) → a + k ≡ j → range_with_len a (suc k) ≡ range_with_len a k ++ j ∷ []
 range-push a zero j is = ap (λ n. n ∷ []) (omega arith)

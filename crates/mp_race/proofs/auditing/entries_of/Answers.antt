@@ -5,7 +5,7 @@ use Rattle.std.proofs.lemmas.List.Elements.{at_read}
 use Rattle.std.proofs.lemmas.List.Sums.{fold-append}
 use Rattle.mp_history.specs.Entry.{Entry}
 use Rattle.mp_race.specs.declared.told.Told.{Told}
-use Rattle.mp_race.specs.History.{AreEntriesOf, AreInTurn, next_after, first_next, next_of}
+use Rattle.mp_race.specs.History.{AreEntriesOf, next_after, first_next, next_of}
 use Rattle.mp_race.specs.Inside.Task.{tasks_of}
 use Rattle.mp_race.specs.Inside.Auditing.{IsUnfit, EndsAt}
 use Rattle.mp_race.proofs.Fitting.{one_more}

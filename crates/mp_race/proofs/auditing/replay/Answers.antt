@@ -1,5 +1,4 @@
-use Rattle.std.proofs.Common.{◌≡◌, subst}
-use Rattle.mp_history.specs.declared.fault.AuditFault.TheVariants as audit
+use Rattle.std.proofs.Common.{subst}
 use Rattle.mp_history.specs.AuditFault.{IsFaultOf}
 use Rattle.mp_driver.specs.Verifier.{is_key_and_id}
 use Rattle.mp_race.proofs.Fitting.{not_strange}
