@@ -195,6 +195,7 @@ impl<N: PoolName, V: Verifier> Mempool<N, V> {
         requires accepts { M.accepts ≡ N.accepts }
         ensures successor { IfOk result (λ s. AreSuccessors N.accepts N.callers
             passes.items limit callers s.1.items) }
+        ensures open { OnOk result (open_fault limit callers ≡ None) }
         ensures refused { IfErr result (λ e. IsRefusedSuccessor N.accepts N.callers
             passes.items limit callers e.0) }
         ensures passes { IfErr result (λ e. e.2.items ≡ passes.items) }

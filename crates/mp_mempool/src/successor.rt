@@ -1,5 +1,5 @@
 //! How a pool hands over.
-ghost use Rattle.std.specs.Prelude.{◌≡◌, ◌≤◌, ◌^◌, All, IfNone, IfSome, IfOk, IfErr, None, length, map, take};
+ghost use Rattle.std.specs.Prelude.{◌≡◌, ◌≤◌, ◌^◌, All, IfNone, IfSome, IfOk, IfErr, OnOk, None, length, map, take};
 ghost use Rattle.std.specs.List.{range_with_len};
 ghost use Rattle.mp_history.specs.Log.{IsLegalLog};
 ghost use Rattle.mp_history.specs.PoolName.{head_of};
@@ -161,6 +161,7 @@ pub(crate) fn prepare<N: PoolName, M: PoolName>(
         h.right h.desk.shown h.desk.places.items) }
     ensures passes { IfOk result (λ h. h.desk.passes.items
         ≡ fresh_passes callers (successor N.accepts limit locked.old.log)) }
+    ensures open { OnOk result (open_fault limit callers ≡ None) }
     ensures least { IfOk result (λ _. 1 ≤ limit) }
     ensures greatest { IfOk result (λ _. limit ≤ 2 ^ 32) }
     ensures refused { IfErr result (IsRefusedSuccessor N.accepts N.callers
