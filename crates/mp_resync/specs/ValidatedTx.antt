@@ -3,17 +3,17 @@ use Rattle.std.specs.Prelude.{ℕ, List, map}
 use Rattle.mp_tx.specs.Transaction.{Transaction}
 use Rattle.mp_rules.specs.Resolved.{Resolved}
 use Rattle.mp_rules.specs.Verifier.{Accepts}
-use Rattle.mp_rules.specs.Checked.{IsSigned, ScriptsAccept}
+use Rattle.mp_rules.specs.Checked.{IsSigned, WasValid}
 
 pub record ValidatedTx : Type 0 where
   pub tx : Transaction
-  -- outputs that its scripts were run upon
+  -- outputs that it named when it was found valid
   pub resolved : Resolved
 
--- what needn't be looked at again: its signatures, and its scripts as long as it names these outputs
+-- what needn't be looked at again: its signatures, and nearly all rules as long as it names these outputs
 pub record IsVouched (accepts : Accepts) (v : ValidatedTx) : Type 0 where
   pub signed : IsSigned accepts v.tx
-  pub accepted : ScriptsAccept v.tx v.resolved
+  pub valid : WasValid v.tx v.resolved
 
 -- each ticket with its transaction
 abbrev pub ticketed : List (ℕ × ValidatedTx) → List (ℕ × Transaction)

@@ -9,5 +9,5 @@ mod validated_tx;
 
 pub use by_id::{ById, key_of};
 pub use kept::Kept;
-pub use revalidation::{revalidate, stays_valid};
+pub use revalidation::revalidate;
 pub use validated_tx::ValidatedTx;

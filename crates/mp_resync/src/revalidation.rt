@@ -1,15 +1,12 @@
 //! Looking at all items anew.
 
-ghost use Rattle.std.specs.Prelude.{◌≡◌, ◌<◌, ℕ, List, [], All, IfSome, IfOk, OnOk, is_some};
+ghost use Rattle.std.specs.Prelude.{◌<◌, ℕ, List, [], All, IfOk, OnOk, is_some};
 ghost use Rattle.std.specs.Map.{lookup};
 ghost use Rattle.mp_tx.specs.Reference.{same_ref};
 ghost use Rattle.mp_tx.specs.Spelling.{id_of};
-ghost use Rattle.mp_utxo.specs.Overlay.{unspent};
 ghost use Rattle.mp_rules.specs.Verifier.{Accepts};
-ghost use Rattle.mp_rules.specs.Checked.{IsSigned, ScriptsAccept};
 ghost use Rattle.mp_resync.specs.ById.{key_of};
 ghost use Rattle.mp_resync.specs.ValidatedTx.{IsVouched, ticketed};
-ghost use Rattle.mp_resync.specs.Keep.{is_valid};
 ghost use Rattle.mp_resync.specs.Kept.{IsKeptOf};
 ghost use Rattle.mp_resync.specs.Inside.Judged.{AreBelow, Keeps, Judges, Handles};
 
@@ -17,9 +14,9 @@ use crate::id_set::{IdSet, id_set_of, is_named};
 use crate::kept::Kept;
 use crate::validated_tx::ValidatedTx;
 use mp_memory::{Memory, NoMemory};
-use mp_rules::{Invalid, Resolved, Verifier, recheck};
+use mp_rules::{Verifier, stays_valid};
 use mp_tickets::{TicketList, Tickets};
-use mp_tx::{Ledger, Tx, TxId};
+use mp_tx::{Ledger, TxId};
 use mp_utxo::Overlay;
 use std::sync::Arc;
 
@@ -34,31 +31,6 @@ fn nothing_kept(memory: Memory, ledger: &Ledger) -> Result<Kept, NoMemory>
         named: Tickets::new(memory),
         dropped: Tickets::new(memory),
     })
-}
-
-/// Whether a transaction with good signatures is valid after what was applied. No signature is looked at again, and scripts are
-/// not run again where it names the outputs of `before`, upon which they accepted.
-///
-/// # Errors
-/// `NoMemory`.
-pub fn stays_valid<V: Verifier>(
-    memory: Memory,
-    overlay: &Overlay,
-    tx: &Tx,
-    before: Option<&Resolved>,
-    verifier: &V,
-) -> Result<bool, NoMemory>
-    requires signed { IsSigned (V.accepts verifier.now) tx.now }
-    requires accepted { IfSome before (λ b. ScriptsAccept tx.now b.now) }
-    ensures { IfOk result (λ stays. stays ≡ is_valid (V.accepts verifier.now)
-        (unspent overlay.now) overlay.now.ledger.tick tx.now) }
-{
-    let tick = overlay.ledger().tick();
-    match recheck(memory, tx, overlay, tick, before, verifier) {
-        Ok(_) => Ok(true),
-        Err(Invalid::NoMemory) => Err(NoMemory),
-        Err(_) => Ok(false),
-    }
 }
 
 // Applies the item.
@@ -85,8 +57,9 @@ fn judge<V: Verifier>(
     ensures { OnOk result (Judges (V.accepts verifier.now)
         kept.old (ticket, item.now.tx) kept.new) }
 {
+    let tick = kept.overlay.ledger().tick();
     let before = Some(&item.resolved);
-    if stays_valid(memory, &kept.overlay, &item.tx, before, verifier)? {
+    if stays_valid(memory, &item.tx, &kept.overlay, tick, before, verifier)? {
         keep(kept, ticket, item)
     } else {
         kept.dropped.push(ticket)
@@ -118,7 +91,8 @@ fn handle<V: Verifier>(
 /// Passes over the items whose id is one of `without`, and keeps of the others, in order, exactly each that is valid on the
 /// ledger state after those kept before it. The items stay as they are.
 ///
-/// No signature is looked at again, and scripts are run again only where an item names other outputs than they accepted upon.
+/// No signature is looked at again. Of an item that names the outputs that it named when it was last found valid only the tick
+/// and its own outputs are looked at.
 ///
 /// # Errors
 /// `NoMemory`.

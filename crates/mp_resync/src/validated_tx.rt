@@ -6,7 +6,7 @@ use mp_tx::Tx;
 use std::marker::Model;
 use std::sync::Arc;
 
-/// A transaction that was found valid, and the outputs that it named then: upon them its scripts accepted.
+/// A transaction that was found valid, and the outputs that it named then.
 #[derive(Debug, Drop)]
 pub struct ValidatedTx {
     pub tx: Arc<Tx, Memory>,

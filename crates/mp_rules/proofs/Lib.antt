@@ -9,3 +9,4 @@ pub mod Valid
 pub mod Differences
 pub mod SameOutputs
 pub mod Order
+pub mod Meeting

@@ -11,7 +11,7 @@ use Rattle.mp_tx.specs.declared.output.Output.{Output}
 abbrev pub same_output : Output → Output → Bool
 same_output a b = pointwise nat_eq a.address b.address && (pointwise nat_eq a.datum_hash b.datum_hash && same_entries a.value b.value)
 
-same_output-Decides : (a b : Output) → Decides (same_output a b) (a ≡ b)
+pub same_output-Decides : (a b : Output) → Decides (same_output a b) (a ≡ b)
 same_output-Decides a b =
     Decides-like (same_output a b) (λ h i. record { address = h.0 i; datum_hash = h.1.0 i; value = h.1.1 i })
     (λ e. (ap (λ (o : Output). o.address) e, (ap (λ (o : Output). o.datum_hash) e, ap (λ (o : Output). o.value) e)))

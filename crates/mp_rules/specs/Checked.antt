@@ -1,11 +1,12 @@
 -- What was found of a transaction's signatures and scripts before its other rules.
-use Rattle.std.specs.Prelude.{◌≡◌, List, [], ◌∷◌, length, take, drop, Option, None}
+use Rattle.std.specs.Prelude.{◌≡◌, ℕ, List, [], ◌∷◌, length, take, drop, Option, None}
 use Rattle.mp_tx.specs.declared.output.Output.{Output}
 use Rattle.mp_tx.specs.Transaction.{Transaction}
+use Rattle.mp_utxo.specs.Apply.{Unspent}
 use Rattle.mp_rules.specs.declared.invalid.Invalid.{Invalid}
 use Rattle.mp_rules.specs.Verifier.{Accepts}
-use Rattle.mp_rules.specs.Resolved.{Resolved}
-use Rattle.mp_rules.specs.FirstFault.{bad_signature, validator_refused, policy_refused, first_of}
+use Rattle.mp_rules.specs.Resolved.{Resolved, resolve}
+use Rattle.mp_rules.specs.FirstFault.{bad_signature, validator_refused, policy_refused, first_of, first_fault}
 
 pub record Checked : Type 0 where
   -- the outputs that the scripts were run upon
@@ -26,6 +27,14 @@ IsSigned accepts t = bad_signature accepts t ≡ None
 -- all scripts accept upon these outputs
 abbrev pub ScriptsAccept : Transaction → Resolved → Type 0
 ScriptsAccept t r = script_refused t r ≡ None
+
+-- some verifier's signatures were good, and somewhere it was valid, and named these outputs there
+pub record WasValid (t : Transaction) (r : Resolved) : Type 0 where
+  pub accepts : Accepts
+  pub there : Unspent
+  pub tick : ℕ
+  pub named : r ≡ resolve there t
+  pub clear : first_fault accepts there tick t ≡ None
 
 -- it is of this transaction, signatures included, and of this verifier
 pub record IsChecked (accepts : Accepts) (t : Transaction) (c : Checked) : Type 0 where

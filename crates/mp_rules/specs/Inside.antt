@@ -3,3 +3,4 @@ pub mod Checked
 pub mod Resolved
 pub mod Groups
 pub mod ScriptContext
+pub mod Unmoved

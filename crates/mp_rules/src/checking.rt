@@ -1,10 +1,10 @@
 //! Whether a transaction may follow.
 
-ghost use Rattle.std.specs.Prelude.{◌≡◌, None, IfSome, IfOk, OnOk, IfErr, IsTrue};
+ghost use Rattle.std.specs.Prelude.{◌≡◌, None, IfSome, IfOk, OnOk, IfErr, IsTrue, is_none};
 ghost use Rattle.mp_rules.specs.Resolved.{resolve};
 ghost use Rattle.mp_rules.specs.Validity.{IsValid};
 ghost use Rattle.mp_rules.specs.FirstFault.{first_fault, IsFaultOf};
-ghost use Rattle.mp_rules.specs.Checked.{IsChecked, IsSigned, ScriptsAccept, script_refused};
+ghost use Rattle.mp_rules.specs.Checked.{IsChecked, IsSigned, ScriptsAccept, WasValid, script_refused};
 ghost use Rattle.mp_rules.specs.Inside.Groups.{payment_fault, fault_on_map, Passes};
 
 use crate::balance::unbalanced;
@@ -15,6 +15,7 @@ use crate::own::{forge_without_policy, own_fault};
 use crate::resolved::Resolved;
 use crate::scripts::script_refused;
 use crate::signatures::bad_signature;
+use crate::unmoved::is_unmoved;
 use crate::verifier::Verifier;
 use mp_memory::{Memory, NoMemory};
 use mp_tx::{Output, Tx};
@@ -76,6 +77,7 @@ pub fn check<U: Utxo, V: Verifier>(
     ensures clear { OnOk result
         (first_fault (V.accepts verifier.now) (U.map utxo.now) tick tx.now ≡ None) }
     ensures scripts { IfOk result (ScriptsAccept tx.now) }
+    ensures was_valid { IfOk result (WasValid tx.now) }
     ensures fault { IfErr result
         (IsFaultOf (V.accepts verifier.now) (U.map utxo.now) tick tx.now) }
 {
@@ -147,6 +149,7 @@ pub fn check_with<U: Utxo, V: Verifier>(
     ensures clear { OnOk result
         (first_fault (V.accepts _verifier.now) (U.map utxo.now) tick tx.now ≡ None) }
     ensures scripts { IfOk result (ScriptsAccept tx.now) }
+    ensures was_valid { IfOk result (WasValid tx.now) }
     ensures fault { IfErr result
         (IsFaultOf (V.accepts _verifier.now) (U.map utxo.now) tick tx.now) }
 {
@@ -166,27 +169,20 @@ pub fn check_with<U: Utxo, V: Verifier>(
     Ok(resolved)
 }
 
-/// Whether a transaction with good signatures is valid, as `check` says it. No signature is looked at again, and scripts are not
-/// run again where it names the outputs of `before`, upon which they accepted. All other rules are looked at anew. The verifier
-/// isn't asked: it is named for whose signatures these are.
-///
-/// # Errors
-/// As `check`.
-pub fn recheck<U: Utxo, V: Verifier>(
+// Whether a transaction with good signatures is valid, as `check` says it. Scripts are run again only where it names other outputs
+// than those of `before`, upon which they accepted.
+fn recheck<U: Utxo, V: Verifier>(
     memory: Memory,
     tx: &Tx,
     utxo: &U,
     tick: u64,
     before: Option<&Resolved>,
     _verifier: &V,
-) -> Result<Resolved, Invalid>
+) -> Result<(), Invalid>
     requires signed { IsSigned (V.accepts _verifier.now) tx.now }
     requires accepted { IfSome before (λ b. ScriptsAccept tx.now b.now) }
-    ensures resolved { IfOk result (λ r. r ≡ resolve (U.map utxo.now) tx.now) }
-    ensures valid { OnOk result (IsValid (V.accepts _verifier.now) (U.map utxo.now) tick tx.now) }
     ensures clear { OnOk result
         (first_fault (V.accepts _verifier.now) (U.map utxo.now) tick tx.now ≡ None) }
-    ensures scripts { IfOk result (ScriptsAccept tx.now) }
     ensures fault { IfErr result
         (IsFaultOf (V.accepts _verifier.now) (U.map utxo.now) tick tx.now) }
 {
@@ -194,5 +190,37 @@ pub fn recheck<U: Utxo, V: Verifier>(
     if let Some(fault) = refused_again(memory, tx, &resolved, before, None)? {
         return Err(fault);
     }
-    Ok(resolved)
+    Ok(())
+}
+
+/// Whether a transaction with good signatures is valid, as `check` says it. Where it was valid `before`, when it named these
+/// outputs, and names them still, only the tick and its own outputs are looked at: no other rule can have failed since. Else all
+/// rules but that of signatures are looked at anew, and scripts are run again only where it names other outputs. The verifier
+/// isn't asked: it is named for whose signatures these are.
+///
+/// # Errors
+/// `NoMemory`.
+pub fn stays_valid<U: Utxo, V: Verifier>(
+    memory: Memory,
+    tx: &Tx,
+    utxo: &U,
+    tick: u64,
+    before: Option<&Resolved>,
+    verifier: &V,
+) -> Result<bool, NoMemory>
+    requires signed { IsSigned (V.accepts verifier.now) tx.now }
+    requires valid { IfSome before (λ b. WasValid tx.now b.now) }
+    ensures { IfOk result (λ stays. stays ≡ is_none
+        (first_fault (V.accepts verifier.now) (U.map utxo.now) tick tx.now)) }
+{
+    if let Some(before) = before {
+        if is_unmoved(tx, before, utxo, tick) {
+            return Ok(true);
+        }
+    }
+    match recheck(memory, tx, utxo, tick, before, verifier) {
+        Ok(()) => Ok(true),
+        Err(Invalid::NoMemory) => Err(NoMemory),
+        Err(_) => Ok(false),
+    }
 }

@@ -14,10 +14,11 @@ mod resolved;
 mod script_context;
 mod scripts;
 mod signatures;
+mod unmoved;
 mod verifier;
 
 pub use checked::{Checked, precheck};
-pub use checking::{check, check_with, recheck};
+pub use checking::{check, check_with, stays_valid};
 pub use invalid::Invalid;
 pub use resolved::Resolved;
 pub use verifier::Verifier;

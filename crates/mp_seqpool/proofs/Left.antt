@@ -10,7 +10,7 @@ use Rattle.mp_tx.specs.Transaction.{Transaction}
 use Rattle.mp_tx.specs.Ledger.{LedgerState}
 use Rattle.mp_utxo.specs.Apply.{Unspent, apply}
 use Rattle.mp_rules.specs.Verifier.{Accepts}
-use Rattle.mp_rules.specs.Checked.{IsSigned, ScriptsAccept}
+use Rattle.mp_rules.specs.Checked.{IsSigned, WasValid}
 use Rattle.mp_tickets.specs.Tickets.{IsRisingFrom, IsRising, has_ticket, among}
 use Rattle.mp_resync.specs.ValidatedTx.{ValidatedTx, IsVouched, ticketed}
 use Rattle.mp_resync.specs.Keep.{transactions, tickets, is_named, named, unnamed, is_valid, keep_upon, keep, dropped}
@@ -112,15 +112,15 @@ open_limit b reply e = ap (λ b. cond b (Err refusals.HistoryFull) (Ok reply)) e
 
 module _ (accepts : Accepts) where
   -- nothing in the pool needs to be looked at again
-  pub vouched : (items : List (ℕ × ValidatedTx)) → All (IsSigned accepts) (transactions (ticketed items)) → All (λ e. ScriptsAccept e.1.tx e.1.resolved) items → All (λ e. IsVouched accepts e.1) items
+  pub vouched : (items : List (ℕ × ValidatedTx)) → All (IsSigned accepts) (transactions (ticketed items)) → All (λ e. WasValid e.1.tx e.1.resolved) items → All (λ e. IsVouched accepts e.1) items
   vouched [] s a = All-nil (λ (e : ℕ × ValidatedTx). IsVouched accepts e.1)
   vouched (e ∷ es) s a =
       All-cons (λ (e : ℕ × ValidatedTx). IsVouched accepts e.1) e es
       (record {
         signed = All-head (IsSigned accepts) e.1.tx (transactions (ticketed es)) s;
-        accepted = All-head (λ (e : ℕ × ValidatedTx). ScriptsAccept e.1.tx e.1.resolved) e es a;
+        valid = All-head (λ (e : ℕ × ValidatedTx). WasValid e.1.tx e.1.resolved) e es a;
       })
-      (vouched es (All-tail (IsSigned accepts) e.1.tx (transactions (ticketed es)) s) (All-tail (λ (e : ℕ × ValidatedTx). ScriptsAccept e.1.tx e.1.resolved) e es a))
+      (vouched es (All-tail (IsSigned accepts) e.1.tx (transactions (ticketed es)) s) (All-tail (λ (e : ℕ × ValidatedTx). WasValid e.1.tx e.1.resolved) e es a))
 
   -- what has the tickets of what is kept is what is kept
   among_kept : (ledger : LedgerState) (ids : List (List ℕ)) (items : List (ℕ × Transaction)) (kept : List ℕ) → IsRising items → kept ≡ tickets (keep accepts ledger (unnamed ids items)) → among kept items ≡ keep accepts ledger (unnamed ids items)

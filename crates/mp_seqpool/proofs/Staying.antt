@@ -5,7 +5,7 @@ use Rattle.std.proofs.lemmas.List.Elements.{All-filter, All-map}
 use Rattle.std.proofs.lemmas.List.Kept.{AllPairs-filter}
 use Rattle.mp_tx.specs.Transaction.{Transaction}
 use Rattle.mp_tx.specs.Spelling.{id_of, size_of}
-use Rattle.mp_rules.specs.Checked.{ScriptsAccept}
+use Rattle.mp_rules.specs.Checked.{WasValid}
 use Rattle.mp_tickets.specs.Tickets.{IsRising, has_ticket, among}
 use Rattle.mp_tickets.proofs.Rising.{rising_among}
 use Rattle.mp_resync.specs.ValidatedTx.{ValidatedTx, ticketed}
@@ -65,7 +65,7 @@ counted_left was new kept config last changes is applied noted bytes within law 
           (AllPairs-map id_of (λ a b. a ≢ b) (transactions (among kept all)) (AllPairs-map (λ i. i.1) (λ t s. id_of t ≢ id_of s) (among kept all)
           (AllPairs-filter (λ a b. id_of a.1 ≢ id_of b.1) (λ i. has_ticket kept i.0) all
           (AllPairs-unmap (λ i. i.1) (λ t s. id_of t ≢ id_of s) all (AllPairs-unmap id_of (λ a b. a ≢ b) (transactions all) law.distinct)))));
-      accepted = subst (All (λ e. ScriptsAccept e.1.tx e.1.resolved)) (sym is) (All-filter (λ e. has_ticket kept e.0) (λ (e : ℕ × ValidatedTx). ScriptsAccept e.1.tx e.1.resolved) was.items law.accepted);
+      valid = subst (All (λ e. WasValid e.1.tx e.1.resolved)) (sym is) (All-filter (λ e. has_ticket kept e.0) (λ (e : ℕ × ValidatedTx). WasValid e.1.tx e.1.resolved) was.items law.valid);
       bytes = bytes ∙ sym (ap (λ l. sum_by size_of (transactions l)) items);
       most = subst (λ n. n ≤ 2 ^ 40) (sym bytes) (most_held (sum_by size_of (transactions (among kept all))) (sum_by size_of (transactions all)) was.bytes (no_more kept all) law.bytes law.most);
       changes = subst (λ n. n ≤ new.config.limit) (sym changes) (subst (λ c. was.changes + 1 ≤ c) (ap (λ c. c.limit) (sym config)) (one_change was.changes was.config.limit within));

@@ -25,7 +25,7 @@ use Rattle.mp_rules.specs.Resolved.{Resolved}
 use Rattle.mp_seqpool.specs.Pool.{Pool, Holding}
 use Rattle.mp_seqpool.specs.Prepared.{Prepared, Append, changed, HasRoom, Prepares}
 use Rattle.mp_seqpool.specs.SlowPool.{free_bytes, ticket_of, unspent, HasPlace, answer_rules, answer_new, answer, pool_with, next, IsRefused}
-use Rattle.mp_rules.specs.Checked.{ScriptsAccept}
+use Rattle.mp_rules.specs.Checked.{WasValid}
 use Rattle.mp_tickets.specs.Tickets.{IsRising}
 use Rattle.mp_tickets.proofs.Rising.{rising_push}
 use Rattle.mp_seqpool.proofs.Distinct.{absent as no_such_id}
@@ -74,8 +74,8 @@ all_below n (e ∷ es) h =
 -- what the pool keeps beside is right with one more transaction too
 pub counted : (was new : Inside) (item : ValidatedTx) → new.config ≡ was.config → new.overlay.applied ≡ was.overlay.applied ++ item.tx ∷ [] → Notes was.tickets.entries (id_of item.tx) (was.last + 1) new.tickets.entries
     → new.items ≡ was.items ++ (was.last + 1, item) ∷ [] → new.last ≡ was.last + 1 → new.bytes ≡ was.bytes + size_of item.tx → new.changes ≡ was.changes + 1
-    → ticket_of (id_of item.tx) (ticketed was.items) ≡ None → HasPlace (state was) item.tx → ScriptsAccept item.tx item.resolved → IsCounted was → IsCounted new
-counted was new item config applied noted is last bytes changes absent_there room accepted law =
+    → ticket_of (id_of item.tx) (ticketed was.items) ≡ None → HasPlace (state was) item.tx → WasValid item.tx item.resolved → IsCounted was → IsCounted new
+counted was new item config applied noted is last bytes changes absent_there room was_valid law =
     let t : Transaction = item.tx in
     let all : List (ℕ × Transaction) = ticketed was.items ++ (was.last + 1, t) ∷ [] in
     let items : ticketed new.items ≡ all = ap ticketed is ∙ ticketed-push was.items (was.last + 1) item in
@@ -86,8 +86,8 @@ counted was new item config applied noted is last bytes changes absent_there roo
       distinct = subst (λ l. AllPairs (λ a b. a ≢ b) (map id_of (transactions l))) (sym items)
           (subst (AllPairs (λ a b. a ≢ b)) (sym (ids-push (ticketed was.items) (was.last + 1) t))
           (all_pairs_push (λ a b. a ≢ b) (map id_of (transactions (ticketed was.items))) (id_of t) law.distinct (no_such_id (id_of t) (ticketed was.items) absent_there)));
-      accepted = subst (All (λ e. ScriptsAccept e.1.tx e.1.resolved)) (sym is)
-          (All-push (λ (e : ℕ × ValidatedTx). ScriptsAccept e.1.tx e.1.resolved) was.items (was.last + 1, item) law.accepted accepted);
+      valid = subst (All (λ e. WasValid e.1.tx e.1.resolved)) (sym is)
+          (All-push (λ (e : ℕ × ValidatedTx). WasValid e.1.tx e.1.resolved) was.items (was.last + 1, item) law.valid was_valid);
       bytes = bytes ∙ ap (λ n. n + size_of t) law.bytes
           ∙ sym (ap (λ l. sum_by size_of (transactions l)) items ∙ ap (sum_by size_of) (transactions-push (ticketed was.items) (was.last + 1) t) ∙ sum-last (transactions (ticketed was.items)) t);
       most = let held = law.bytes in let within = room.bytes in omega arith;

@@ -5,7 +5,7 @@ use Rattle.mp_tx.specs.Transaction.{Transaction}
 use Rattle.mp_tx.specs.Spelling.{id_of}
 use Rattle.mp_utxo.specs.Overlay.{Overlay, HasRoomFor}
 use Rattle.mp_rules.specs.Verifier.{Accepts}
-use Rattle.mp_rules.specs.Checked.{ScriptsAccept}
+use Rattle.mp_rules.specs.Checked.{WasValid}
 use Rattle.mp_tickets.specs.Tickets.{has_ticket, among}
 use Rattle.mp_resync.specs.ValidatedTx.{ValidatedTx}
 use Rattle.mp_resync.specs.Keep.{transactions}
@@ -56,7 +56,7 @@ pub record CanAppend (h : Holding) (item : ValidatedTx) : Type 0 where
   pub place : HasPlace h.pool item.tx
   pub new : ticket_of (id_of item.tx) h.pool.items ≡ None
   pub room : HasRoomFor h.room item.tx
-  pub accepted : ScriptsAccept item.tx item.resolved
+  pub valid : WasValid item.tx item.resolved
 
 abbrev pub CanChange : Holding → Effect → Type 0
 CanChange h (Append item) = CanAppend h item

@@ -124,7 +124,7 @@ impl SeqPool {
     ghost use Rattle.std.specs.Map.Iter.{ShowsInOrder};
     ghost use Rattle.mp_tx.specs.Spelling.{id_of};
     ghost use Rattle.mp_rules.specs.FirstFault.{first_fault};
-    ghost use Rattle.mp_rules.specs.Checked.{IsChecked, ScriptsAccept};
+    ghost use Rattle.mp_rules.specs.Checked.{IsChecked, WasValid};
     ghost use Rattle.mp_tickets.specs.Tickets.{IsRising, among, shown};
     ghost use Rattle.mp_resync.specs.ValidatedTx as resync;
     ghost use Rattle.mp_resync.specs.ValidatedTx.{ticketed};
@@ -191,7 +191,7 @@ impl SeqPool {
         requires { IfSome checked (λ c. IsChecked (V.accepts verifier.now) tx.now c.now) }
         ensures clear { OnOk result (first_fault (V.accepts verifier.now)
             (unspent self.now.pool) self.now.pool.ledger.tick tx.now ≡ None) }
-        ensures scripts { IfOk result (ScriptsAccept tx.now) }
+        ensures valid { IfOk result (WasValid tx.now) }
         ensures fault { IfErr result
             (IsBrokenRule (V.accepts verifier.now) self.now.pool tx.now) }
     {
@@ -211,7 +211,7 @@ impl SeqPool {
     ) -> Result<Prepared, NoMemory>
         requires place { HasPlace self.old.pool (arc_value tx.now) }
         requires new { ticket_of (id_of (arc_value tx.now)) self.old.pool.items ≡ None }
-        requires accepted { ScriptsAccept (arc_value tx.now) resolved }
+        requires valid { WasValid (arc_value tx.now) resolved }
         ensures same { self.new.pool ≡ self.old.pool }
         ensures command { IfOk result (λ q. q.command ≡ Submit (arc_value tx.now)) }
         ensures reply { IfOk result (λ q. q.reply ≡ Accepted (self.old.pool.last + 1)) }

@@ -2,7 +2,7 @@
 use Rattle.std.specs.Prelude.{◌≡◌, ◌≢◌, ◌≤◌, ◌^◌, min, map, sum_by, All, AllPairs}
 use Rattle.indexmap.specs.IndexMap.{spare}
 use Rattle.mp_tx.specs.Spelling.{id_of, size_of}
-use Rattle.mp_rules.specs.Checked.{ScriptsAccept}
+use Rattle.mp_rules.specs.Checked.{WasValid}
 use Rattle.mp_tickets.specs.Tickets.{IsRising}
 use Rattle.mp_resync.specs.ValidatedTx.{ticketed}
 use Rattle.mp_resync.specs.Keep.{transactions, tickets}
@@ -37,8 +37,8 @@ pub record IsCounted (p : Inside) : Type 0 where
   pub noted : AreNoted (ticketed p.items) p.tickets.entries
   -- no id stands twice
   pub distinct : AllPairs (λ a b. a ≢ b) (map id_of (transactions (ticketed p.items)))
-  -- the scripts of each accept upon the outputs that stand beside it
-  pub accepted : All (λ e. ScriptsAccept e.1.tx e.1.resolved) p.items
+  -- each was valid where it named the outputs that stand beside it
+  pub valid : All (λ e. WasValid e.1.tx e.1.resolved) p.items
   -- the bytes are those of all its transactions together
   pub bytes : p.bytes ≡ sum_by size_of (transactions (ticketed p.items))
   -- no pool can hold more

@@ -27,3 +27,13 @@ returns-clause-valid g c =
     valid (g.V.Verifier.accepts c.args.verifier.now) (g.U.Utxo.map c.args.utxo.now) c.args.tick c.args.tx.now
     (clear (g.V.Verifier.accepts c.args.verifier.now) (g.U.Utxo.map c.args.utxo.now) c.args.tick c.args.tx.now c.in_ok-resolved.resolved c.in_ok-resolved.ensures (sym c.bad_signature.ensures ∙ c.in_default.is)
     (sym c.in_ok-fault.ensures ∙ c.in_default-2.is))
+
+pub returns-clause-was_valid : goal.returns-clause-was_valid
+returns-clause-was_valid g c = record {
+  accepts = g.V.Verifier.accepts c.args.verifier.now;
+  there = g.U.Utxo.map c.args.utxo.now;
+  tick = c.args.tick;
+  named = c.in_ok-resolved.ensures.0;
+  clear = clear (g.V.Verifier.accepts c.args.verifier.now) (g.U.Utxo.map c.args.utxo.now) c.args.tick c.args.tx.now c.in_ok-resolved.resolved c.in_ok-resolved.ensures (sym c.bad_signature.ensures ∙ c.in_default.is)
+      (sym c.in_ok-fault.ensures ∙ c.in_default-2.is);
+}

@@ -1,6 +1,5 @@
 use Rattle.std.proofs.Common.{sym, ◌∙◌}
 use Rattle.mp_rules.proofs.Order.{told_by_map, told_by_script, clear}
-use Rattle.mp_rules.proofs.Valid.{valid}
 use Rattle.mp_rules.proofs.checking.recheck.Goals as goal
 
 pub returns-in_err-resolved-clause-fault : goal.returns-in_err-resolved-clause-fault
@@ -16,9 +15,3 @@ pub returns-clause-clear : goal.returns-clause-clear
 returns-clause-clear g c =
     clear (g.V.Verifier.accepts c.args._verifier.now) (g.U.Utxo.map c.args.utxo.now) c.args.tick c.args.tx.now c.in_ok-resolved.resolved c.in_ok-resolved.ensures c.requires.signed
     (sym c.in_ok-fault.ensures ∙ c.in_default.is)
-
-pub returns-clause-valid : goal.returns-clause-valid
-returns-clause-valid g c =
-    valid (g.V.Verifier.accepts c.args._verifier.now) (g.U.Utxo.map c.args.utxo.now) c.args.tick c.args.tx.now
-    (clear (g.V.Verifier.accepts c.args._verifier.now) (g.U.Utxo.map c.args.utxo.now) c.args.tick c.args.tx.now c.in_ok-resolved.resolved c.in_ok-resolved.ensures c.requires.signed
-    (sym c.in_ok-fault.ensures ∙ c.in_default.is))

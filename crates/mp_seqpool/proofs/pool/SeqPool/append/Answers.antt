@@ -20,5 +20,5 @@ invariant_of-self c =
     (ap (λ n. c.self.inside.bytes + n) (c.size.ensures.size ∙ ap size_of (c.deref-2.ensures ∙ same))) refl
     (ap (λ (h : Holding). ticket_of (id_of c.args.node.tx) h.pool.items) c.self.view_is ∙ c.requires.can.new)
     (subst (λ (h : Holding). HasPlace h.pool c.args.node.tx) (sym c.self.view_is) c.requires.can.place)
-    c.requires.can.accepted
+    c.requires.can.valid
     c.self.invariant

@@ -9,7 +9,7 @@ use Rattle.mp_seqpool.proofs.pool.SeqPool.revalidate.Goals as goal
 pub revalidate-requires : goal.revalidate-requires
 revalidate-requires g c =
     let accepts = g.V.Verifier.accepts c.args.verifier.now in
-    vouched accepts c.self.inside.items (subst (λ (h : Holding). AreSigned accepts h.pool) (sym c.self.view_is) c.requires) c.self.invariant.accepted
+    vouched accepts c.self.inside.items (subst (λ (h : Holding). AreSigned accepts h.pool) (sym c.self.view_is) c.requires) c.self.invariant.valid
 
 pub returns : goal.returns
 returns g c =

@@ -1,0 +1,88 @@
+-- A transaction that meets what it met when it was valid is valid.
+use Rattle.std.proofs.Common.{◌≡◌, ℕ, ◌+◌, ◌<◌, List, [], ◌∷◌, ◌++◌, map, length, get_or, take, refl, sym, ap, subst, ◌∙◌}
+use Rattle.std.specs.Prelude.{Option, None, Some, IsSome, IfSome, All, IsTrue}
+use Rattle.std.specs.Borrow.{Bor}
+use Rattle.std.specs.List.{filter_map, cons_option}
+use Rattle.std.proofs.lemmas.List.Elements.{All-nil, All-cons}
+use Rattle.sha2.specs.Sha256.{sha256}
+use Rattle.mp_tx.specs.declared.reference.OutRef.{OutRef}
+use Rattle.mp_tx.specs.declared.output.Output.{Output}
+use Rattle.mp_tx.specs.Transaction.{Transaction}
+use Rattle.mp_utxo.specs.Apply.{Unspent}
+use Rattle.mp_rules.specs.declared.invalid.Invalid.{Invalid}
+use Rattle.mp_rules.specs.Verifier.{Accepts}
+use Rattle.mp_rules.specs.Resolved.{Resolved, resolve, spendings}
+use Rattle.mp_rules.specs.Scripts.{validator_accepts, policy_accepts}
+use Rattle.mp_rules.specs.Validity.{Rule, HasInput, InInterval, PaysNoDebt, InputsThere, ReferencesThere, AddressesMatch, DataMatch, OutputsFresh, PoliciesCarried, Balanced, SignaturesAccepted, ValidatorsAccept, PoliciesAccept, IsBalanced, Holds, IsValid}
+use Rattle.mp_rules.specs.FirstFault.{validator_refused, policy_refused, first_of, first_fault}
+use Rattle.mp_rules.specs.Checked.{script_refused, IsSigned, ScriptsAccept, WasValid}
+use Rattle.mp_rules.specs.Inside.Unmoved.{LeadTo, IsUnmoved}
+use Rattle.mp_rules.proofs.Faults.{each_rule}
+use Rattle.mp_rules.proofs.Valid.{valid, faultless}
+
+module _ {X : Type 0} (found : X → Option Output) where
+  -- where each leads to an output, each is there
+  all_there : (xs : List X) (ys : List Output) → LeadTo found xs ys → All (λ x. IsSome (found x)) xs
+  all_there [] ys e = All-nil (λ x. IsSome (found x))
+  all_there (x ∷ xs) [] e = absurd (let f = e in Prim.cc)
+  all_there (x ∷ xs) (y ∷ ys) e =
+      let head : found x ≡ Some y = Prim.cc in
+      All-cons (λ x. IsSome (found x)) x xs (subst IsSome (sym head) refl) (all_there xs ys (Prim.cc))
+
+  -- and they are what is found
+  all_found : (xs : List X) (ys : List Output) → LeadTo found xs ys → filter_map found xs ≡ ys
+  all_found [] [] e = refl
+  all_found [] (y ∷ ys) e = absurd (let f = e in Prim.cc)
+  all_found (x ∷ xs) [] e = absurd (let f = e in Prim.cc)
+  all_found (x ∷ xs) (y ∷ ys) e =
+      let head : found x ≡ Some y = Prim.cc in
+      ap (λ o. cons_option o (filter_map found xs)) head ∙ ap (λ l. y ∷ l) (all_found xs ys (Prim.cc))
+
+-- what is found of what comes from things is what is found from the things
+through : {X Y Z : Type 0} (found : Y → Option Z) (from : X → Y) (xs : List X) → filter_map found (map from xs) ≡ filter_map (λ x. found (from x)) xs
+through found from [] = refl
+through found from (x ∷ xs) = ap (cons_option (found (from x))) (through found from xs)
+
+module _ (t : Transaction) (r : Resolved) (was : WasValid t r) where
+  there : IsValid was.accepts was.there was.tick t
+  there = valid was.accepts was.there was.tick t was.clear
+
+  pub scripts_accept : ScriptsAccept t r
+  unfolding script_refused
+  scripts_accept =
+      let validators = (each_rule was.accepts was.there was.tick t ValidatorsAccept).none (there ValidatorsAccept) in
+      let policies = (each_rule was.accepts was.there was.tick t PoliciesAccept).none (there PoliciesAccept) in
+      ap (λ x. first_of (validator_refused t x ∷ policy_refused t x ∷ [])) was.named
+      ∙ ap (λ o. first_of (o ∷ policy_refused t (resolve was.there t) ∷ [])) validators ∙ ap (λ o. first_of (o ∷ [])) policies
+
+  module _ (accepts : Accepts) (u : Unspent) (tick : ℕ) (signed : IsSigned accepts t) (meets : IsUnmoved u tick t r) where
+    same : resolve was.there t ≡ resolve u t
+    same =
+        sym was.named
+        ∙ (λ i. record {
+          spent = sym (through u (λ i. i.from) t.inputs ∙ all_found (λ i. u i.from) t.inputs r.spent meets.inputs) i;
+          referenced = sym (all_found u t.references r.referenced meets.references) i;
+        })
+
+    holds : (rule : Rule) → Holds accepts u tick t rule
+    holds HasInput = there HasInput
+    holds InInterval = (each_rule accepts u tick t InInterval).holds meets.interval
+    holds PaysNoDebt = there PaysNoDebt
+    holds InputsThere = all_there (λ i. u i.from) t.inputs r.spent meets.inputs
+    holds ReferencesThere = all_there u t.references r.referenced meets.references
+    holds AddressesMatch = subst (λ x. All (λ p. sha256 p.0.validator ≡ p.1.address) (spendings t x)) same (there AddressesMatch)
+    holds DataMatch = subst (λ x. All (λ p. sha256 p.0.datum ≡ p.1.datum_hash) (spendings t x)) same (there DataMatch)
+    holds OutputsFresh = (each_rule accepts u tick t OutputsFresh).holds meets.fresh
+    holds PoliciesCarried = there PoliciesCarried
+    holds Balanced = subst (IsBalanced t) same (there Balanced)
+    holds SignaturesAccepted = (each_rule accepts u tick t SignaturesAccepted).holds signed
+    holds ValidatorsAccept = subst (λ x. All (λ p. IsTrue (validator_accepts t x p)) (spendings t x)) same (there ValidatorsAccept)
+    holds PoliciesAccept = subst (λ x. All (λ s. IsTrue (policy_accepts t x s)) t.scripts) same (there PoliciesAccept)
+
+    pub stays_clear : first_fault accepts u tick t ≡ None
+    stays_clear = faultless accepts u tick t holds
+
+-- where it was valid before, its scripts accepted
+pub once_accepted : (t : Transaction) (before : Option (Bor Resolved)) → IfSome before (λ b. WasValid t b.now) → IfSome before (λ b. ScriptsAccept t b.now)
+once_accepted t None was = tt
+once_accepted t (Some b) was = scripts_accept t b.now was
