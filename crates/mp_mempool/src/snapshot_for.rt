@@ -8,8 +8,7 @@ ghost use Rattle.mp_versions.specs.Item.{item_of};
 ghost use Rattle.mp_mempool.specs.Inside.Kept.{HasTried, IsBegun, Keeps, Tries};
 
 use mp_memory::{Memory, NoMemory};
-use mp_resync::stays_valid;
-use mp_rules::Verifier;
+use mp_rules::{Verifier, stays_valid};
 use mp_tx::Ledger;
 use mp_utxo::Overlay;
 use mp_versions::{Item, Items, Version};
@@ -70,7 +69,8 @@ fn try_item<V: Verifier>(
     ensures { OnOk result (Tries (V.accepts verifier.now)
         kept.old (item_of item.now) kept.new) }
 {
-    if stays_valid(memory, &kept.overlay, &item.tx, None, verifier)? {
+    let tick = kept.overlay.ledger().tick();
+    if stays_valid(memory, &item.tx, &kept.overlay, tick, None, verifier)? {
         keep(kept, item)?;
     }
     Ok(())

@@ -3,7 +3,7 @@ use Rattle.std.proofs.Common.{◌≡◌, ℕ, ◌+◌, ◌<◌, List, [], ◌∷
 use Rattle.std.specs.Prelude.{Option, None, Some, IsSome, IfSome, All, IsTrue}
 use Rattle.std.specs.Borrow.{Bor}
 use Rattle.std.specs.List.{filter_map, cons_option}
-use Rattle.std.proofs.lemmas.List.Elements.{All-nil, All-cons}
+use Rattle.std.proofs.lemmas.List.Elements.{All-nil, All-cons, All-head, All-tail}
 use Rattle.sha2.specs.Sha256.{sha256}
 use Rattle.mp_tx.specs.declared.reference.OutRef.{OutRef}
 use Rattle.mp_tx.specs.declared.output.Output.{Output}
@@ -16,6 +16,7 @@ use Rattle.mp_rules.specs.Scripts.{validator_accepts, policy_accepts}
 use Rattle.mp_rules.specs.Validity.{Rule, HasInput, InInterval, PaysNoDebt, InputsThere, ReferencesThere, AddressesMatch, DataMatch, OutputsFresh, PoliciesCarried, Balanced, SignaturesAccepted, ValidatorsAccept, PoliciesAccept, IsBalanced, Holds, IsValid}
 use Rattle.mp_rules.specs.FirstFault.{validator_refused, policy_refused, first_of, first_fault}
 use Rattle.mp_rules.specs.Checked.{script_refused, IsSigned, ScriptsAccept, WasValid}
+use Rattle.mp_rules.specs.Laws.{ValidityIsLocal}
 use Rattle.mp_rules.specs.Inside.Unmoved.{LeadTo, IsUnmoved}
 use Rattle.mp_rules.proofs.Faults.{each_rule}
 use Rattle.mp_rules.proofs.Valid.{valid, faultless}
@@ -43,6 +44,46 @@ through : {X Y Z : Type 0} (found : Y → Option Z) (from : X → Y) (xs : List 
 through found from [] = refl
 through found from (x ∷ xs) = ap (cons_option (found (from x))) (through found from xs)
 
+-- where the same is found the same is named
+found_alike : {X : Type 0} (f g : X → Option Output) (xs : List X) → All (λ x. f x ≡ g x) xs → filter_map f xs ≡ filter_map g xs
+found_alike f g [] a = refl
+found_alike f g (x ∷ xs) a =
+    ap (λ o. cons_option o (filter_map f xs)) (All-head (λ x. f x ≡ g x) x xs a)
+    ∙ ap (cons_option (g x)) (found_alike f g xs (All-tail (λ x. f x ≡ g x) x xs a))
+
+there_alike : {X : Type 0} (f g : X → Option Output) (xs : List X) → All (λ x. f x ≡ g x) xs → All (λ x. IsSome (f x)) xs → All (λ x. IsSome (g x)) xs
+there_alike f g [] a h = All-nil (λ x. IsSome (g x))
+there_alike f g (x ∷ xs) a h =
+    All-cons (λ x. IsSome (g x)) x xs (subst IsSome (All-head (λ x. f x ≡ g x) x xs a) (All-head (λ x. IsSome (f x)) x xs h))
+    (there_alike f g xs (All-tail (λ x. f x ≡ g x) x xs a) (All-tail (λ x. IsSome (f x)) x xs h))
+
+-- A transaction that is valid, and upon another map and at another tick keeps the rules that name neither its outputs nor its parts alone.
+module _ (accepts other : Accepts) (u v : Unspent) (tick later : ℕ) (t : Transaction) (valid : IsValid accepts u tick t) (same : resolve u t ≡ resolve v t) where
+  pub still : Holds other v later t InInterval → Holds other v later t InputsThere → Holds other v later t ReferencesThere → Holds other v later t OutputsFresh → Holds other v later t SignaturesAccepted → IsValid other v later t
+  still interval inputs references fresh signed HasInput = valid HasInput
+  still interval inputs references fresh signed InInterval = interval
+  still interval inputs references fresh signed PaysNoDebt = valid PaysNoDebt
+  still interval inputs references fresh signed InputsThere = inputs
+  still interval inputs references fresh signed ReferencesThere = references
+  still interval inputs references fresh signed AddressesMatch = subst (λ x. All (λ p. sha256 p.0.validator ≡ p.1.address) (spendings t x)) same (valid AddressesMatch)
+  still interval inputs references fresh signed DataMatch = subst (λ x. All (λ p. sha256 p.0.datum ≡ p.1.datum_hash) (spendings t x)) same (valid DataMatch)
+  still interval inputs references fresh signed OutputsFresh = fresh
+  still interval inputs references fresh signed PoliciesCarried = valid PoliciesCarried
+  still interval inputs references fresh signed Balanced = subst (IsBalanced t) same (valid Balanced)
+  still interval inputs references fresh signed SignaturesAccepted = signed
+  still interval inputs references fresh signed ValidatorsAccept = subst (λ x. All (λ p. IsTrue (validator_accepts t x p)) (spendings t x)) same (valid ValidatorsAccept)
+  still interval inputs references fresh signed PoliciesAccept = subst (λ x. All (λ s. IsTrue (policy_accepts t x s)) t.scripts) same (valid PoliciesAccept)
+
+pub validity_is_local : ValidityIsLocal
+validity_is_local accepts u v tick later t finds valid from to =
+    still accepts accepts u v tick later t valid
+    (λ i. record {
+      spent = (through u (λ i. i.from) t.inputs ∙ found_alike (λ i. u i.from) (λ i. v i.from) t.inputs finds.inputs ∙ sym (through v (λ i. i.from) t.inputs)) i;
+      referenced = found_alike u v t.references finds.references i;
+    })
+    (from, to) (there_alike (λ i. u i.from) (λ i. v i.from) t.inputs finds.inputs (valid InputsThere)) (there_alike u v t.references finds.references (valid ReferencesThere))
+    (λ k lt. sym (finds.own k lt) ∙ valid OutputsFresh k lt) (valid SignaturesAccepted)
+
 module _ (t : Transaction) (r : Resolved) (was : WasValid t r) where
   there : IsValid was.accepts was.there was.tick t
   there = valid was.accepts was.there was.tick t was.clear
@@ -64,23 +105,11 @@ module _ (t : Transaction) (r : Resolved) (was : WasValid t r) where
           referenced = sym (all_found u t.references r.referenced meets.references) i;
         })
 
-    holds : (rule : Rule) → Holds accepts u tick t rule
-    holds HasInput = there HasInput
-    holds InInterval = (each_rule accepts u tick t InInterval).holds meets.interval
-    holds PaysNoDebt = there PaysNoDebt
-    holds InputsThere = all_there (λ i. u i.from) t.inputs r.spent meets.inputs
-    holds ReferencesThere = all_there u t.references r.referenced meets.references
-    holds AddressesMatch = subst (λ x. All (λ p. sha256 p.0.validator ≡ p.1.address) (spendings t x)) same (there AddressesMatch)
-    holds DataMatch = subst (λ x. All (λ p. sha256 p.0.datum ≡ p.1.datum_hash) (spendings t x)) same (there DataMatch)
-    holds OutputsFresh = (each_rule accepts u tick t OutputsFresh).holds meets.fresh
-    holds PoliciesCarried = there PoliciesCarried
-    holds Balanced = subst (IsBalanced t) same (there Balanced)
-    holds SignaturesAccepted = (each_rule accepts u tick t SignaturesAccepted).holds signed
-    holds ValidatorsAccept = subst (λ x. All (λ p. IsTrue (validator_accepts t x p)) (spendings t x)) same (there ValidatorsAccept)
-    holds PoliciesAccept = subst (λ x. All (λ s. IsTrue (policy_accepts t x s)) t.scripts) same (there PoliciesAccept)
-
     pub stays_clear : first_fault accepts u tick t ≡ None
-    stays_clear = faultless accepts u tick t holds
+    stays_clear =
+        faultless accepts u tick t (still was.accepts accepts was.there u was.tick tick t there same ((each_rule accepts u tick t InInterval).holds meets.interval)
+        (all_there (λ i. u i.from) t.inputs r.spent meets.inputs) (all_there u t.references r.referenced meets.references)
+        ((each_rule accepts u tick t OutputsFresh).holds meets.fresh) ((each_rule accepts u tick t SignaturesAccepted).holds signed))
 
 -- where it was valid before, its scripts accepted
 pub once_accepted : (t : Transaction) (before : Option (Bor Resolved)) → IfSome before (λ b. WasValid t b.now) → IfSome before (λ b. ScriptsAccept t b.now)

@@ -1,5 +1,5 @@
 -- What ties validity to the first fault.
-use Rattle.std.specs.Prelude.{◌≡◌, ◌≢◌, ◌↔◌, ◌⊎◌, ℕ, ◌<◌, List, [], ◌∷◌, ◌++◌, length, map, take, All, Contains, HoldsAt, None, Some, IsSome, IsTrue}
+use Rattle.std.specs.Prelude.{◌≡◌, ◌≢◌, ◌↔◌, ◌⊎◌, ℕ, ◌<◌, ◌≤◌, List, [], ◌∷◌, ◌++◌, length, map, take, All, Contains, HoldsAt, None, Some, IsSome, IsTrue}
 use Rattle.std.specs.Cmp.Lexicographic.{slice_cmp}
 use Rattle.std.specs.Ordering.{nat_cmp}
 use Rattle.std.specs.declared.cmp.Ordering.TheVariants.{Less}
@@ -87,3 +87,15 @@ abbrev pub FirstFaultIsBroken : Type 0
 FirstFaultIsBroken =
     (accepts : Accepts) (u : Unspent) (tick : ℕ) (t : Transaction) (fault : Invalid) → IsBundle t.forge
     → first_fault accepts u tick t ≡ Some fault → IsFirstFault accepts u tick t fault
+
+-- upon both maps the transaction finds the same, under what it names and under the references of its own outputs
+pub record FindsTheSame (t : Transaction) (u v : Unspent) : Type 0 where
+  pub inputs : All (λ i. u i.from ≡ v i.from) t.inputs
+  pub references : All (λ r. u r ≡ v r) t.references
+  pub own : (k : ℕ) → k < length t.outputs → u (own_ref t k) ≡ v (own_ref t k)
+
+-- Of the outputs that may be spent nothing else matters, and of ticks only whether they are within its interval.
+abbrev pub ValidityIsLocal : Type 0
+ValidityIsLocal =
+    (accepts : Accepts) (u v : Unspent) (tick later : ℕ) (t : Transaction)
+    → FindsTheSame t u v → IsValid accepts u tick t → t.from ≤ later → later ≤ t.to → IsValid accepts v later t

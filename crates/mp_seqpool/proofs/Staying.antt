@@ -1,5 +1,5 @@
 -- The pool where some of its items stay and the others go.
-use Rattle.std.proofs.Common.{◌≡◌, ◌≢◌, ℕ, ◌+◌, ◌<◌, ◌≤◌, ◌^◌, Bool, true, false, cond, List, [], ◌∷◌, refl, sym, ap, subst, ◌∙◌, arith}
+use Rattle.std.proofs.Common.{◌≡◌, ◌≢◌, ℕ, suc, ◌+◌, ◌<◌, ◌≤◌, ◌^◌, Bool, true, false, cond, List, [], ◌∷◌, length, refl, sym, ap, subst, ◌∙◌, arith}
 use Rattle.std.specs.Prelude.{map, sum_by, All, AllPairs}
 use Rattle.std.proofs.lemmas.List.Elements.{All-filter, All-map}
 use Rattle.std.proofs.lemmas.List.Kept.{AllPairs-filter}
@@ -50,6 +50,42 @@ most_held a b c h is k = omega arith
 
 one_change : (n limit : ℕ) → n < limit → n + 1 ≤ limit
 one_change n limit h = omega arith
+
+-- ---- where as many stay as there are
+
+more : (a b : ℕ) → suc a ≡ suc b → a ≡ b
+more a b e = omega arith
+
+too_few : (a b : ℕ) → a ≤ b → a ≡ suc b → ⊥
+too_few a b le e = omega arith
+
+no_longer : (a b : ℕ) → a ≤ b → suc a ≤ suc b
+no_longer a b le = omega arith
+
+not_longer : (a b : ℕ) → a ≤ b → a ≤ suc b
+not_longer a b le = omega arith
+
+short : (kept : List ℕ) (items : List (ℕ × Transaction)) → length (among kept items) ≤ length items
+short kept [] = omega arith
+short kept (i ∷ is) = elim (has_ticket kept i.0) as (λ (b : Bool). length (cond b (i ∷ among kept is) (among kept is)) ≤ suc (length is)) [
+  | true ↦ no_longer (length (among kept is)) (length is) (short kept is)
+  | false ↦ not_longer (length (among kept is)) (length is) (short kept is)
+]
+
+full : (kept : List ℕ) (items : List (ℕ × Transaction)) → length (among kept items) ≡ length items → among kept items ≡ items
+full kept [] e = refl
+full kept (i ∷ is) e = elim (has_ticket kept i.0) as (λ (b : Bool). length (cond b (i ∷ among kept is) (among kept is)) ≡ suc (length is) → cond b (i ∷ among kept is) (among kept is) ≡ i ∷ is) [
+  | true ↦ λ e. ap (λ l. i ∷ l) (full kept is (more (length (among kept is)) (length is) e))
+  | false ↦ λ e. absurd (too_few (length (among kept is)) (length is) (short kept is) e)
+] e
+
+as_many : (items : List (ℕ × Transaction)) → length (transactions items) ≡ length items
+as_many [] = refl
+as_many (i ∷ is) = ap suc (as_many is)
+
+-- where as many transactions were applied as there are, these are all
+pub all_among : (kept : List ℕ) (items : List (ℕ × Transaction)) (applied : List Transaction) → applied ≡ transactions (among kept items) → length applied ≡ length items → among kept items ≡ items
+all_among kept items applied is many = full kept items (sym (as_many (among kept items)) ∙ ap length (sym is) ∙ many)
 
 -- what the pool keeps beside is right of what stays too
 pub counted_left : (was new : Inside) (kept : List ℕ) → new.config ≡ was.config → new.last ≡ was.last → new.changes ≡ was.changes + 1 → new.items ≡ among kept was.items

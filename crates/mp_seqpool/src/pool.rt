@@ -338,6 +338,17 @@ impl SeqPool {
         self.changes += 1;
     }
 
+    // Takes nothing out.
+    fn keep_all(&mut self, overlay: Overlay)
+        requires change { self.old.pool.changes < self.old.pool.limit }
+        requires applied { overlay.applied ≡ transactions self.old.pool.items }
+        ensures { self.new.pool
+            ≡ pool_upon self.old.pool overlay.ledger self.old.pool.items }
+    {
+        self.overlay = overlay;
+        self.changes += 1;
+    }
+
     // Takes out all but those under these tickets.
     fn keep_only(&mut self, overlay: Overlay, kept: &Tickets)
         requires change { self.old.pool.changes < self.old.pool.limit }
@@ -349,6 +360,20 @@ impl SeqPool {
         self.items.keep_only(kept);
         self.overlay = overlay;
         self.changes += 1;
+    }
+
+    // Takes out all but those under these tickets, with no walk over them where all stay.
+    fn keep(&mut self, overlay: Overlay, kept: &Tickets)
+        requires change { self.old.pool.changes < self.old.pool.limit }
+        requires applied { overlay.applied ≡ transactions (among kept.now self.old.pool.items) }
+        ensures { self.new.pool
+            ≡ pool_upon self.old.pool overlay.ledger (among kept.now self.old.pool.items) }
+    {
+        if overlay.len() == self.len() {
+            self.keep_all(overlay);
+        } else {
+            self.keep_only(overlay, kept);
+        }
     }
 
     /// Takes the step, and gives its reply. It takes no memory and can't fail: the step is one that the last `prepare_` call on
@@ -365,7 +390,7 @@ impl SeqPool {
         } = prepared;
         match effect {
             Effect::Append(node, applied) => self.append(node, applied),
-            Effect::Keep(overlay, kept) => self.keep_only(overlay, &kept),
+            Effect::Keep(overlay, kept) => self.keep(overlay, &kept),
         }
         reply
     }
