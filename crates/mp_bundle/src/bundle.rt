@@ -40,7 +40,9 @@ fn to_shared(memory: Memory, entries: Vec<Entry, Memory>) -> Result<Option<Share
     if entries.is_empty() {
         return Ok(None);
     }
-    Ok(Some(Arc::new(memory, entries)?))
+    let mut exact = entries;
+    exact.shrink_to_fit();
+    Ok(Some(Arc::new(memory, exact)?))
 }
 
 impl Bundle {

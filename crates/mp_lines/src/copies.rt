@@ -71,6 +71,7 @@ pub fn copy_inputs(
 ) -> Result<(), NoMemory>
     ensures { OnOk result (copies.new.items ≡ copies.old.items ++ inputs.now) }
 {
+    copies.reserve_exact(inputs.len())?;
     for input in inputs {
         put_input(copies, memory, input)?;
     }
@@ -85,6 +86,7 @@ pub fn copy_scripts(
 ) -> Result<(), NoMemory>
     ensures { OnOk result (copies.new.items ≡ copies.old.items ++ scripts.now) }
 {
+    copies.reserve_exact(scripts.len())?;
     for script in scripts {
         put_script(copies, memory, script)?;
     }
@@ -95,6 +97,7 @@ pub fn copy_scripts(
 pub fn put_outputs(outputs: &mut Vec<Output, Memory>, payments: &[Payment]) -> Result<(), NoMemory>
     ensures { OnOk result (outputs.new.items ≡ outputs.old.items ++ map output_of payments.now) }
 {
+    outputs.reserve_exact(payments.len())?;
     for payment in payments {
         put_output(outputs, payment)?;
     }

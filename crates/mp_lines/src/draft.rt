@@ -248,7 +248,8 @@ fn declared_of<'a>(memory: Memory, draft: &mut Draft) -> Result<DeclaredTx, Line
     ensures { Reads (declared_of draft.old) result }
 {
     let tx = make_shared(memory, draft)?;
-    let payments = mem::replace(&mut draft.payments, Vec::new(memory));
+    let mut payments = mem::replace(&mut draft.payments, Vec::new(memory));
+    payments.shrink_to_fit();
     Ok(DeclaredTx::of(tx, payments))
 }
 
