@@ -10,3 +10,4 @@ pub mod PartsFaults
 pub mod Fitting
 pub mod References
 pub mod Repeats
+pub mod Changed

@@ -1,6 +1,6 @@
 //! Layers of changes, newest first.
 
-ghost use Rattle.std.specs.Prelude.{◌≡◌, ◌≤◌, fold, length, IfOk, OnOk, [], option_copied};
+ghost use Rattle.std.specs.Prelude.{◌≡◌, ◌≤◌, ◌++◌, fold, length, IfOk, OnOk, [], option_copied};
 ghost use Rattle.std.specs.Map.{lookup};
 ghost use Rattle.mp_tx.specs.Reference.{same_ref};
 ghost use Rattle.mp_tx.specs.Inside.Changes.{Noted, with_earlier, all_of};
@@ -67,9 +67,9 @@ impl Model for Layers {
 
     ghost Value = { List Noted };
 
-    ghost use Rattle.mp_tx.specs.Inside.Layers.{layers};
+    ghost use Rattle.mp_tx.specs.Inside.Layers.{layers_of};
 
-    ghost view = { layers };
+    ghost view = { layers_of };
 }
 
 impl Layers {
