@@ -11,3 +11,4 @@ pub mod Fitting
 pub mod References
 pub mod Repeats
 pub mod Changed
+pub mod Layering
