@@ -1,7 +1,7 @@
 -- What changes make of outputs.
-use Rattle.std.proofs.Common.{◌≡◌, ℕ, Bool, true, false, List, [], ◌∷◌, ◌++◌, nat_eq, ◌&&◌, ◌==◌, refl, sym, ap, subst, ◌∙◌, append_assoc, append-nil}
+use Rattle.std.proofs.Common.{◌≡◌, Bor, Bool, true, false, List, [], ◌∷◌, ◌++◌, nat_eq, ◌&&◌, ◌==◌, refl, sym, ap, subst, ◌∙◌, append_assoc, append-nil}
 use Rattle.std.specs.Prelude.{Option, None, Some, cond, fold, is_some}
-use Rattle.std.specs.Option.{option_or}
+use Rattle.std.specs.Option.{option_or, option_copied}
 use Rattle.std.specs.Ordering.{is_eq}
 use Rattle.std.specs.Cmp.{IsEquivalence, eq_by_cmp_equiv}
 use Rattle.std.specs.List.{IsDistinct}
@@ -17,7 +17,7 @@ use Rattle.mp_tx.specs.declared.ledger.change.Change.{Change}
 use Rattle.mp_tx.specs.declared.ledger.change.Change.TheVariants.{Spent, Made}
 use Rattle.mp_tx.specs.Reference.{ref_cmp, same_ref}
 use Rattle.mp_tx.specs.Ledger.{Utxo}
-use Rattle.mp_tx.specs.Inside.Changes.{Noted, changed_at, changed, with_earlier, all_of}
+use Rattle.mp_tx.specs.Inside.Changes.{Noted, output_of, changed_at, changed, with_earlier, all_of}
 use Rattle.mp_tx.specs.Inside.Base.{with_kept, with_change}
 use Rattle.mp_tx.proofs.References.{lookup-get, ref_total, ref_exact, same-ties, equal, tied-Decides}
 
@@ -33,8 +33,7 @@ same_utxo u v alike = same_map ref_total ref_exact u v alike
 -- what stands under a reference after what became of it
 abbrev pub after : Option Change → Option Output → Option Output
 after None o = o
-after (Some Spent) o = None
-after (Some (Made output)) o = Some output
+after (Some c) o = output_of c
 
 pub get-changed_at : (u : Utxo) (r : OutRef) (c : Change) (q : OutRef) → get (changed_at u r c) q ≡ cond (same_ref q r) (after (Some c) (get u q)) (get u q)
 get-changed_at u r Spent q = get-remove ref_total u r q ∙ ap (λ b. cond b None (get u q)) (sym (same-ties q r))
@@ -50,6 +49,17 @@ get-changed u [] q = refl
 get-changed u (c ∷ cs) q =
     get-changed_at (changed u cs) c.0 c.1 q
     ∙ later (same_ref q c.0) c.1 (lookup (same_ref q) cs) (get (changed u cs) q) (get u q) (get-changed u cs q)
+
+pub copied_some : (o : Option (Bor Output)) → is_some o ≡ is_some (option_copied o)
+copied_some None = refl
+copied_some (Some x) = refl
+
+-- what is found in the list of a table and in the changes is what stands in the map
+pub found-changed : (bs : List (OutRef × Output)) (cs : Noted) (q : OutRef) (l : Option Change) → l ≡ lookup (same_ref q) cs → after l (lookup (same_ref q) bs) ≡ get (changed (from_entries {R = ref_cmp} bs) cs) q
+found-changed bs cs q l is =
+    ap (λ m. after m (lookup (same_ref q) bs)) is
+    ∙ ap (after (lookup (same_ref q) cs)) (lookup-get bs q)
+    ∙ sym (get-changed (from_entries bs) cs q)
 
 pub changed_alike : (u : Utxo) (cs ds : Noted) → ((q : OutRef) → lookup (same_ref q) cs ≡ lookup (same_ref q) ds) → changed u cs ≡ changed u ds
 changed_alike u cs ds alike = same_utxo _ _ (λ q. get-changed u cs q ∙ ap (λ l. after l (get u q)) (alike q) ∙ sym (get-changed u ds q))

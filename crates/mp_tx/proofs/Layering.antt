@@ -1,6 +1,6 @@
 -- The changes of layers, one after another.
-use Rattle.std.proofs.Common.{◌≡◌, ℕ, suc, ◌+◌, ◌<◌, List, [], ◌∷◌, ◌++◌, fold, length, get_or, take, drop, refl, sym, ap, ◌∙◌, append_assoc, append-nil, drop-cons}
-use Rattle.std.specs.Prelude.{Option, None, Some}
+use Rattle.std.proofs.Common.{◌≡◌, ℕ, suc, ◌+◌, ◌<◌, List, [], ◌∷◌, ◌++◌, fold, length, get_or, take, drop, refl, sym, ap, ◌∙◌, append_assoc, append-nil, drop-cons, arith}
+use Rattle.std.specs.Prelude.{Option, None, Some, Result, Ok, Err, IfOk}
 use Rattle.std.specs.Option.{option_or}
 use Rattle.std.specs.Map.{lookup}
 use Rattle.std.proofs.lemmas.List.{take_more, take-append-drop}
@@ -8,8 +8,9 @@ use Rattle.std.proofs.lemmas.List.Sums.{fold-append}
 use Rattle.mp_tx.specs.declared.reference.OutRef.{OutRef}
 use Rattle.mp_tx.specs.declared.ledger.change.Change.{Change}
 use Rattle.mp_tx.specs.Reference.{same_ref}
-use Rattle.mp_tx.specs.Inside.Changes.{Noted, with_earlier, all_of}
-use Rattle.mp_tx.proofs.Changed.{lookup-append}
+use Rattle.mp_tx.specs.Ledger.{Utxo}
+use Rattle.mp_tx.specs.Inside.Changes.{Noted, changed, with_earlier, all_of}
+use Rattle.mp_tx.proofs.Changed.{lookup-append, changed-append, changed-joined}
 
 pub all_of-append : (ls ms : List Noted) → all_of (ls ++ ms) ≡ all_of ls ++ all_of ms
 all_of-append [] ms = refl
@@ -50,3 +51,25 @@ found_at ls i l r c lt is before found =
     ∙ ap (λ o. option_or o (lookup (same_ref r) (l ++ rest))) before
     ∙ lookup-append (same_ref r) l rest
     ∙ ap (λ o. option_or o (lookup (same_ref r) rest)) found
+
+-- joined with the newest layers, the changes lie above the others as they did above all
+pub layered : (u : Utxo) (cs new : Noted) (ls : List Noted) (n : ℕ) → new ≡ fold with_earlier cs (all_of (take n ls)) → changed u (new ++ all_of (drop n ls)) ≡ changed (changed u (all_of ls)) cs
+layered u cs new ls n is =
+    let older = all_of (drop n ls) in
+    changed-append u new older
+    ∙ ap (changed (changed u older)) is
+    ∙ changed-joined (changed u older) cs (all_of (take n ls))
+    ∙ ap (λ v. changed v cs) (sym (changed-append u (all_of (take n ls)) older) ∙ ap (changed u) (sym (all_of-append (take n ls) (drop n ls)) ∙ ap all_of (take-append-drop n ls)))
+
+-- and where they are joined with all, they lie above the table
+pub settled_layers : (u : Utxo) (cs new : Noted) (ls : List Noted) (n : ℕ) → new ≡ fold with_earlier cs (all_of (take n ls)) → drop n ls ≡ [] → changed u new ≡ changed (changed u (all_of ls)) cs
+settled_layers u cs new ls n is none =
+    ap (changed u) (sym (append-nil new) ∙ ap (λ ms. new ++ all_of ms) (sym none)) ∙ layered u cs new ls n is
+
+pub nothing_in : {X : Type 0} (xs : List X) → length xs ≡ 0 → xs ≡ []
+nothing_in [] e = refl
+nothing_in (x ∷ xs) e = absurd (omega arith)
+
+pub if_ok : {X E : Type 0} {P Q : X → Type 0} (r : Result X E) → ((x : X) → P x → Q x) → IfOk r P → IfOk r Q
+if_ok (Ok x) then p = then x p
+if_ok (Err e) then p = tt

@@ -1,8 +1,9 @@
 -- What became of references.
-use Rattle.std.specs.Prelude.{List, [], ◌∷◌, ◌++◌, is_some, if◌then◌else◌}
+use Rattle.std.specs.Prelude.{List, [], ◌∷◌, ◌++◌, Option, None, Some, is_some, if◌then◌else◌}
 use Rattle.std.specs.FinMap.{insert, remove}
 use Rattle.std.specs.Map.{lookup}
 use Rattle.mp_tx.specs.declared.reference.OutRef.{OutRef}
+use Rattle.mp_tx.specs.declared.output.Output.{Output}
 use Rattle.mp_tx.specs.declared.ledger.change.Change.{Change}
 use Rattle.mp_tx.specs.declared.ledger.change.Change.TheVariants.{Spent, Made}
 use Rattle.mp_tx.specs.Reference.{same_ref}
@@ -11,6 +12,11 @@ use Rattle.mp_tx.specs.Ledger.{Utxo}
 -- references with what became of each. Of one that stands twice the first entry counts
 abbrev pub Noted : Type 0
 Noted = List (OutRef × Change)
+
+-- the output that stands under the reference after the change
+abbrev pub output_of : Change → Option Output
+output_of Spent = None
+output_of (Made output) = Some output
 
 -- the outputs after one change
 abbrev pub changed_at : Utxo → OutRef → Change → Utxo

@@ -21,7 +21,18 @@ pub enum Change {
 pub type Changes = IndexMap<OutRef, Change, Salt, Memory>;
 
 impl Change {
-    ghost use Rattle.std.specs.Prelude.{◌≡◌, IfOk};
+    ghost use Rattle.std.specs.Prelude.{◌≡◌, IfOk, option_copied};
+    ghost use Rattle.mp_tx.specs.Inside.Changes.{output_of};
+
+    /// The output that stands under the reference after the change.
+    pub fn output(&self) -> Option<&Output>
+        ensures { option_copied result ≡ output_of self.now }
+    {
+        match self {
+            Change::Spent => None,
+            Change::Made(output) => Some(output),
+        }
+    }
 
     /// The same change. The entries of the output's bundle are shared, and not copied.
     pub fn share(&self) -> Result<Change, NoMemory>

@@ -64,8 +64,7 @@ impl Outputs {
         ensures { option_copied result ≡ get self.now reference.now }
     {
         match last_change(self.layers.as_slice(), reference) {
-            Some(Change::Spent) => None,
-            Some(Change::Made(output)) => Some(output),
+            Some(change) => change.output(),
             None => self.base.get(reference),
         }
     }
@@ -85,8 +84,7 @@ impl Outputs {
         ensures { result ≡ is_some (get (changed self.now changes.now.entries) reference.now) }
     {
         match changes.get(reference) {
-            Some(Change::Spent) => false,
-            Some(Change::Made(_)) => true,
+            Some(change) => change.output().is_some(),
             None => self.get(reference).is_some(),
         }
     }
