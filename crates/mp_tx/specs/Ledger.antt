@@ -1,5 +1,5 @@
 -- Ledger states.
-use Rattle.std.specs.Prelude.{◌≡◌, ℕ, ◌<◌, ◌≤◌, ◌^◌, List, [], ◌∷◌, map, fold, length, take, Contains, HoldsAt, AllPairs, IsSome, None, ◌≢◌}
+use Rattle.std.specs.Prelude.{ℕ, ◌<◌, ◌≤◌, ◌^◌, List, [], ◌∷◌, map, fold, length, take, Contains, HoldsAt, AllPairs, IsSome, IsNone, ◌≢◌}
 use Rattle.std.specs.FinMap.{FinMap, get, insert, remove}
 use Rattle.std.specs.FinMap as finite
 use Rattle.mp_tx.specs.declared.reference.OutRef.{OutRef}
@@ -66,14 +66,14 @@ AreThere utxo (r ∷ rs) = IsSome (get utxo r) × AreThere (remove utxo r) rs
 -- each reference leads to no output, also when those before it are made
 abbrev pub AreFree : Utxo → List (OutRef × Output) → Type 0
 AreFree utxo [] = Unit {0}
-AreFree utxo (e ∷ es) = (get utxo e.0 ≡ None) × AreFree (insert utxo e.0 e.1) es
+AreFree utxo (e ∷ es) = IsNone (get utxo e.0) × AreFree (insert utxo e.0 e.1) es
 
 -- the first place whose reference leads to no output, or was spent before
 pub record IsFirstMissing (utxo : Utxo) (spent : List OutRef) (place : ℕ) : Type 0 where
   -- a reference stands at the place
   pub within : place < length spent
   -- it leads to nothing once those before it are spent
-  pub missing : HoldsAt (λ r. get (without utxo (take place spent)) r ≡ None) spent place
+  pub missing : HoldsAt (λ r. IsNone (get (without utxo (take place spent)) r)) spent place
   -- no earlier one did
   pub before : AreThere utxo (take place spent)
 
