@@ -1,6 +1,6 @@
 -- What a block spends and makes, one after another.
-use Rattle.std.proofs.Common.{◌≡◌, ℕ, suc, ◌+◌, ◌<◌, ◌≤◌, Bool, true, false, List, [], ◌∷◌, ◌++◌, fold, length, get_or, take, drop, refl, sym, ap, subst, ◌∙◌, drop-cons, length-drop, add-one, arith}
-use Rattle.std.specs.Prelude.{Option, is_some, IsSome, IsNone}
+use Rattle.std.proofs.Common.{◌≡◌, ℕ, ◌+◌, ◌<◌, ◌≤◌, true, false, List, [], ◌∷◌, ◌++◌, length, get_or, take, drop, refl, sym, ap, subst, ◌∙◌, drop-cons, length-drop, add-one, arith}
+use Rattle.std.specs.Prelude.{is_some, IsSome, IsNone}
 use Rattle.std.specs.FinMap.{get, insert, remove}
 use Rattle.std.proofs.lemmas.List.{take_more, take_all, get_or_default}
 use Rattle.std.proofs.lemmas.List.Sums.{fold_more}

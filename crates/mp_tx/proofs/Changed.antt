@@ -1,8 +1,7 @@
 -- What changes make of outputs.
-use Rattle.std.proofs.Common.{◌≡◌, Bor, Bool, true, false, List, [], ◌∷◌, ◌++◌, nat_eq, ◌&&◌, ◌==◌, refl, sym, ap, subst, ◌∙◌, append_assoc, append-nil}
+use Rattle.std.proofs.Common.{◌≡◌, Bor, Bool, true, false, List, [], ◌∷◌, ◌++◌, refl, sym, ap, subst, ◌∙◌}
 use Rattle.std.specs.Prelude.{Option, None, Some, cond, fold, is_some}
 use Rattle.std.specs.Option.{option_or, option_copied}
-use Rattle.std.specs.Ordering.{is_eq}
 use Rattle.std.specs.Cmp.{IsEquivalence, eq_by_cmp_equiv}
 use Rattle.std.specs.List.{IsDistinct}
 use Rattle.std.specs.FinMap.{get, from_entries, same_map, get-insert, get-remove}
@@ -17,7 +16,7 @@ use Rattle.mp_tx.specs.declared.ledger.change.Change.{Change}
 use Rattle.mp_tx.specs.declared.ledger.change.Change.TheVariants.{Spent, Made}
 use Rattle.mp_tx.specs.Reference.{ref_cmp, same_ref}
 use Rattle.mp_tx.specs.Ledger.{Utxo}
-use Rattle.mp_tx.specs.Inside.Changes.{Noted, output_of, changed_at, changed, with_earlier, all_of}
+use Rattle.mp_tx.specs.Inside.Changes.{Noted, output_of, changed_at, changed, with_earlier}
 use Rattle.mp_tx.specs.Inside.Base.{with_kept, with_change}
 use Rattle.mp_tx.proofs.References.{lookup-get, ref_total, ref_exact, same-ties, equal, tied-Decides}
 
