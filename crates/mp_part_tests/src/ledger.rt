@@ -2,7 +2,7 @@
 use crate::rows::{Row, without_growth};
 use mp_bundle::Bundle;
 use mp_memory::{Memory, NoMemory};
-use mp_testing::Seen;
+use mp_testing::{Call, Seen, TrialFault, Trialled, under_each_refusal};
 use mp_tx::{Ledger, LedgerFault, OutRef, Output, Salt};
 
 const SALT: u64 = 0x5eed;
@@ -77,6 +77,55 @@ fn shared(memory: Memory) -> Option<[u64; 4]> {
     let ledger = ledger_of(memory, outputs_to(memory, 9).ok()?).ok()?;
     memory.refuse(1);
     without_growth(memory, look(&ledger.share().ok()?))
+}
+
+// A block that spends the output of transaction 3 and makes none, upon a ledger state.
+#[derive(Drop)]
+struct Block {
+    memory: Memory,
+    base: Ledger,
+}
+
+impl Call for Block {
+    type Value = Ledger;
+
+    fn make(&self) -> Option<Ledger> {
+        self.base.share().ok()
+    }
+
+    fn call(&self, ledger: &mut Ledger) -> Option<Seen> {
+        let made = Vec::new(self.memory);
+        *ledger = ledger
+            .after(self.memory, 7, 2, &[reference(3, 0)], made)
+            .ok()?;
+        Some(self.look(ledger))
+    }
+
+    fn look(&self, ledger: &Ledger) -> Seen {
+        let spent = address_at(ledger, reference(3, 0));
+        let kept = address_at(ledger, reference(4, 0));
+        [ledger.tick(), ledger.block_bytes(), spent, kept, 0, 0]
+    }
+}
+
+fn make_block(memory: Memory, outputs: u8) -> Option<Block> {
+    let base = ledger_of(memory, outputs_to(memory, outputs).ok()?).ok()?;
+    Some(Block { memory, base })
+}
+
+fn tried_block(memory: Memory, outputs: u8) -> Result<Trialled, TrialFault> {
+    match make_block(memory, outputs) {
+        Some(block) => under_each_refusal(&memory, &block),
+        None => Err(TrialFault::NotMade),
+    }
+}
+
+/// Blocks under refusals: one whose changes become a layer, and one whose changes go into a table that is made anew.
+pub fn blocks(memory: Memory) -> [Row; 2] {
+    [
+        Row::tried("a layer", tried_block(memory, 9), [7, 2, 0, 4], 7),
+        Row::tried("a table", tried_block(memory, 7), [7, 2, 0, 4], 9),
+    ]
 }
 
 /// Ledger states under refusals.

@@ -10,3 +10,6 @@ pub mod PartsFaults
 pub mod Fitting
 pub mod References
 pub mod Repeats
+pub mod Blocks
+pub mod Changed
+pub mod Layering

@@ -45,15 +45,15 @@ pub lookup-get : (outputs : List (OutRef × Output)) (r : OutRef) → lookup (sa
 lookup-get outputs r = found-ties (same_ref r) r (same_is_tie r) outputs ∙ sym (get-from_entries ref_total outputs r)
 
 -- references that the order ties are one
-ref_exact : (a b : OutRef) → ref_cmp a b ≡ Equal → a ≡ b
+pub ref_exact : (a b : OutRef) → ref_cmp a b ≡ Equal → a ≡ b
 ref_exact a b e = ap (λ (p : List ℕ × ℕ). record { id = p.0; index = p.1 }) (exact_pairs (slice_cmp nat_cmp) nat_cmp exact_bytes exact_unsigned (a.id, a.index) (b.id, b.index) e)
 
-equal : (o : Ordering) → is_eq o ≡ true → o ≡ Equal
+pub equal : (o : Ordering) → is_eq o ≡ true → o ≡ Equal
 equal Less e = Prim.cc
 equal Equal e = refl
 equal Greater e = Prim.cc
 
-tied-Decides : (r q : OutRef) → Decides (eq_by_cmp ref_cmp r q) (q ≡ r)
+pub tied-Decides : (r q : OutRef) → Decides (eq_by_cmp ref_cmp r q) (q ≡ r)
 tied-Decides r q = (λ e. sym (ref_exact r q (equal _ e)), λ e. ap (λ k. is_eq (ref_cmp r k)) e ∙ ap is_eq (tied_itself ref_total r))
 
 -- a reference is found exactly where it is among those of the outputs

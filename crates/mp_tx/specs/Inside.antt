@@ -1,5 +1,10 @@
+pub mod Base
+pub mod BlockFault
+pub mod Changes
+pub mod Layers
 pub mod Ledger
 pub mod LedgerFault
+pub mod Outputs
 pub mod Parts
 pub mod Reference
 pub mod Tx

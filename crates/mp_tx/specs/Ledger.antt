@@ -1,6 +1,6 @@
 -- Ledger states.
-use Rattle.std.specs.Prelude.{ℕ, ◌<◌, ◌≤◌, ◌^◌, List, map, length, take, Contains, HoldsAt, AllPairs, ◌≢◌}
-use Rattle.std.specs.FinMap.{FinMap}
+use Rattle.std.specs.Prelude.{ℕ, ◌<◌, ◌≤◌, ◌^◌, List, [], ◌∷◌, map, fold, length, take, Contains, HoldsAt, AllPairs, IsSome, IsNone, ◌≢◌}
+use Rattle.std.specs.FinMap.{FinMap, get, insert, remove}
 use Rattle.std.specs.FinMap as finite
 use Rattle.mp_tx.specs.declared.reference.OutRef.{OutRef}
 use Rattle.mp_tx.specs.Reference.{ref_cmp}
@@ -41,3 +41,47 @@ pub record IsFirstRepeat (rs : List OutRef) (place : ℕ) : Type 0 where
 
 abbrev pub ledger_of : ℕ → ℕ → List (OutRef × Output) → LedgerState
 ledger_of tick block_bytes outputs = record { tick = tick; block_bytes = block_bytes; utxo = finite.from_entries outputs }
+
+-- without what these references lead to
+abbrev pub without : Utxo → List OutRef → Utxo
+without utxo spent = fold remove utxo spent
+
+-- with these outputs
+abbrev pub with_outputs : Utxo → List (OutRef × Output) → Utxo
+with_outputs utxo made = fold (λ u e. insert u e.0 e.1) utxo made
+
+-- after a block: without what was spent, and with what was made
+abbrev pub ledger_after : LedgerState → ℕ → ℕ → List OutRef → List (OutRef × Output) → LedgerState
+ledger_after l tick block_bytes spent made = record {
+  tick = tick;
+  block_bytes = block_bytes;
+  utxo = with_outputs (without l.utxo spent) made;
+}
+
+-- each reference leads to an output, also when those before it are spent
+abbrev pub AreThere : Utxo → List OutRef → Type 0
+AreThere utxo [] = Unit {0}
+AreThere utxo (r ∷ rs) = IsSome (get utxo r) × AreThere (remove utxo r) rs
+
+-- each reference leads to no output, also when those before it are made
+abbrev pub AreFree : Utxo → List (OutRef × Output) → Type 0
+AreFree utxo [] = Unit {0}
+AreFree utxo (e ∷ es) = IsNone (get utxo e.0) × AreFree (insert utxo e.0 e.1) es
+
+-- the first place whose reference leads to no output, or was spent before
+pub record IsFirstMissing (utxo : Utxo) (spent : List OutRef) (place : ℕ) : Type 0 where
+  -- a reference stands at the place
+  pub within : place < length spent
+  -- it leads to nothing once those before it are spent
+  pub missing : HoldsAt (λ r. IsNone (get (without utxo (take place spent)) r)) spent place
+  -- no earlier one did
+  pub before : AreThere utxo (take place spent)
+
+-- the first place whose reference leads to an output, or was made before
+pub record IsFirstTaken (utxo : Utxo) (made : List (OutRef × Output)) (place : ℕ) : Type 0 where
+  -- an output stands at the place
+  pub within : place < length made
+  -- its reference leads to one once those before it are made
+  pub taken : HoldsAt (λ e. IsSome (get (with_outputs utxo (take place made)) e.0)) made place
+  -- no earlier one's did
+  pub before : AreFree utxo (take place made)

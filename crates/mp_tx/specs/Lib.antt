@@ -8,4 +8,5 @@ pub mod TxFault
 pub mod Laws
 pub mod Ledger
 pub mod LedgerFault
+pub mod BlockFault
 pub mod Inside

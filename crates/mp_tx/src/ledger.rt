@@ -1,9 +1,17 @@
 //! Ledger states.
 
-ghost use Rattle.std.specs.Prelude.{◌≡◌, [], OnOk, IfErr};
-ghost use Rattle.mp_tx.specs.Ledger.{refs, AreDistinct};
+ghost use Rattle.std.specs.Prelude.{◌≡◌, ◌↔◌, [], IsTrue, OnOk, IfErr};
+ghost use Rattle.mp_tx.specs.Ledger.{refs, AreDistinct, HasBlockBytes};
 ghost use Rattle.mp_tx.specs.Inside.LedgerFault.{HasRepeat};
 
+mod base;
+mod change;
+mod layers;
+mod outputs;
+
+use crate::block_fault::BlockFault;
+use crate::ledger::base::Base;
+use crate::ledger::outputs::Outputs;
 use crate::ledger_fault::LedgerFault;
 use crate::output::Output;
 use crate::reference::OutRef;
@@ -11,7 +19,6 @@ use crate::salt::Salt;
 use indexmap::IndexMap;
 use mp_memory::{Memory, NoMemory};
 use std::marker::Model;
-use std::sync::Arc;
 
 /// The most bytes that a block may have: 2^39.
 pub const MAX_BLOCK_BYTES: u64 = 1 << 39;
@@ -19,15 +26,13 @@ pub const MAX_BLOCK_BYTES: u64 = 1 << 39;
 /// An output with its reference.
 type Entry = (OutRef, Output);
 
-type Outputs = IndexMap<OutRef, Output, Salt, Memory>;
-
 /// A ledger state: a tick, the bytes that a block may have, and a finite map from references to outputs. Several owners may
 /// share the map. Looking an output up takes no walk over the others: the map is a table whose places depend on a salt.
 #[derive(Drop)]
 pub struct Ledger {
     tick: u64,
     block_bytes: u64,
-    outputs: Arc<Outputs, Memory>,
+    outputs: Outputs,
 }
 
 impl Model for Ledger {
@@ -47,9 +52,16 @@ impl Model for Ledger {
     ghost invariant = { λ l. HasBlockBytes l.block_bytes };
 }
 
+// Whether a block may have so many bytes.
+fn is_in_range(block_bytes: u64) -> bool
+    ensures { IsTrue result ↔ HasBlockBytes block_bytes }
+{
+    1 <= block_bytes && block_bytes <= MAX_BLOCK_BYTES
+}
+
 // Puts outputs into a map that is empty, up to the first whose reference stood before. Its place is the number of those
 // that the map has.
-fn put_outputs(map: &mut Outputs, outputs: Vec<Entry, Memory>) -> Result<(), LedgerFault>
+fn put_outputs(map: &mut Base, outputs: Vec<Entry, Memory>) -> Result<(), LedgerFault>
     requires { map.old.entries ≡ [] }
     ensures all { OnOk result (map.new.entries ≡ outputs.items) }
     ensures distinct { OnOk result (AreDistinct (refs outputs.items)) }
@@ -68,6 +80,8 @@ impl Ledger {
     ghost use Rattle.std.specs.FinMap.{get};
     ghost use Rattle.mp_tx.specs.Ledger.{HasBlockBytes, ledger_of, refs, AreDistinct};
     ghost use Rattle.mp_tx.specs.LedgerFault.{HasFault};
+    ghost use Rattle.mp_tx.specs.Ledger.{ledger_after, without, AreThere, AreFree};
+    ghost use Rattle.mp_tx.specs.BlockFault.{HasBlockFault};
 
     /// The ledger state of these outputs, in one pass over them and five growths, or one where there are none. The salt is the
     /// host's to pick at random and to keep secret.
@@ -87,7 +101,7 @@ impl Ledger {
         ensures distinct { OnOk result (AreDistinct (refs outputs.items)) }
         ensures fault { IfErr result (λ e. HasFault e block_bytes (refs outputs.items)) }
     {
-        if block_bytes == 0 || block_bytes > MAX_BLOCK_BYTES {
+        if !is_in_range(block_bytes) {
             return Err(LedgerFault::BadBlockBytes);
         }
         let mut map = IndexMap::with_capacity_and_hasher(memory, outputs.len(), salt)?;
@@ -95,7 +109,38 @@ impl Ledger {
         Ok(Ledger {
             tick,
             block_bytes,
-            outputs: Arc::new(memory, map)?,
+            outputs: Outputs::of(memory, map)?,
+        })
+    }
+
+    /// The ledger state after a block: without what was spent, and with what was made. This one stays as it is, and what both
+    /// have is shared. Over many blocks the cost is in proportion to the block, and not to the ledger.
+    ///
+    /// # Errors
+    /// `BadBlockBytes` as `of_outputs` has it. Else `Missing` with the first place in `spent` whose reference leads to no output or
+    /// was spent before. Else `Repeated` with the first place in `made` whose reference leads to an output that isn't spent or was
+    /// made before. `NoMemory` may stand in place of each.
+    pub fn after(
+        &self,
+        memory: Memory,
+        tick: u64,
+        block_bytes: u64,
+        spent: &[OutRef],
+        made: Vec<Entry, Memory>,
+    ) -> Result<Ledger, BlockFault>
+        ensures ok { IfOk result (λ l. l ≡ ledger_after self.now tick block_bytes spent.now made.items) }
+        ensures block_bytes { OnOk result (HasBlockBytes block_bytes) }
+        ensures there { OnOk result (AreThere self.now.utxo spent.now) }
+        ensures free { OnOk result (AreFree (without self.now.utxo spent.now) made.items) }
+        ensures fault { IfErr result (λ e. HasBlockFault e self.now block_bytes spent.now made.items) }
+    {
+        if !is_in_range(block_bytes) {
+            return Err(BlockFault::BadBlockBytes);
+        }
+        Ok(Ledger {
+            tick,
+            block_bytes,
+            outputs: self.outputs.after(memory, spent, made)?,
         })
     }
 
@@ -116,7 +161,7 @@ impl Ledger {
 
     /// The salt that it was made with.
     pub fn salt(&self) -> Salt {
-        *self.outputs.hasher()
+        self.outputs.salt()
     }
 
     /// The output that the reference leads to, if there is one.
@@ -133,7 +178,7 @@ impl Ledger {
         Ok(Ledger {
             tick: self.tick,
             block_bytes: self.block_bytes,
-            outputs: Arc::try_clone(&self.outputs)?,
+            outputs: self.outputs.share()?,
         })
     }
 }

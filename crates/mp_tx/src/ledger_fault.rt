@@ -4,6 +4,7 @@ ghost use Rattle.std.specs.Prelude.{◌≡◌};
 ghost use Rattle.mp_tx.specs.declared.ledger_fault.LedgerFault.TheVariants as ledger_faults;
 ghost use Rattle.mp_tx.specs.LedgerFault as ledger_fault;
 
+use mp_memory::NoMemory;
 use std::alloc::{AllocError, AllocFailed};
 use thiserror::Error;
 
@@ -45,6 +46,14 @@ impl<T: Drop> From<AllocFailed<T>> for LedgerFault {
     ghost from_gives = { λ _ e. e ≡ ledger_faults.NoMemory };
 
     fn from(_refused: AllocFailed<T>) -> LedgerFault {
+        LedgerFault::NoMemory
+    }
+}
+
+impl From<NoMemory> for LedgerFault {
+    ghost from_gives = { λ _ e. e ≡ ledger_faults.NoMemory };
+
+    fn from(_error: NoMemory) -> LedgerFault {
         LedgerFault::NoMemory
     }
 }

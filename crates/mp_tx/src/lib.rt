@@ -1,6 +1,7 @@
 //! Transactions and ledger states.
 #![tactic(auto)]
 
+mod block_fault;
 mod decoding;
 mod encoding;
 mod fault;
@@ -16,6 +17,7 @@ mod signature;
 mod tx;
 mod typed;
 
+pub use block_fault::BlockFault;
 pub use fault::TxFault;
 pub use input::Input;
 pub use ledger::{Ledger, MAX_BLOCK_BYTES};

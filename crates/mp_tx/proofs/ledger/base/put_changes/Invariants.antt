@@ -1,0 +1,8 @@
+use Rattle.std.proofs.Common.{◌≡◌, fold}
+use Rattle.mp_tx.specs.Inside.Base.{with_change}
+use Rattle.mp_tx.proofs.ledger.base.put_changes.Given as goal
+
+-- with those that are left the table comes to all
+abbrev pub invariant-loop-reference : goal.invariant-loop-reference
+invariant-loop-reference l =
+    fold with_change l.base.entries l.reference-iterator ≡ fold with_change l.fn.base.entries l.fn.changes.entries

@@ -1,0 +1,8 @@
+use Rattle.std.proofs.Common.{◌≡◌, fold}
+use Rattle.mp_tx.specs.Inside.Changes.{with_earlier}
+use Rattle.mp_tx.proofs.ledger.change.join.Given as goal
+
+-- with those that are left the changes come to all
+abbrev pub invariant-loop-reference : goal.invariant-loop-reference
+invariant-loop-reference l =
+    fold with_earlier l.changes.entries l.reference-iterator ≡ fold with_earlier l.fn.changes.entries l.fn.earlier.entries

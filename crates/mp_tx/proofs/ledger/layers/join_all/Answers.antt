@@ -1,0 +1,10 @@
+use Rattle.std.proofs.Common.{ap, ◌∙◌, fold}
+use Rattle.mp_tx.specs.Inside.Changes.{with_earlier}
+use Rattle.mp_tx.proofs.Layering.{joined_more}
+use Rattle.mp_tx.proofs.ledger.layers.join_all.Goals as goal
+
+pub loop-layer-preserved : goal.loop-layer-preserved
+loop-layer-preserved c =
+    let mid = c.loop-layer.changes.entries in
+    joined_more c.args.changes.now.entries mid c.join.new.changes.entries c.args.layers.now c.loop-layer.layer-index c.layer-item.result c.loop-layer-test.true c.layer-item.is c.loop-layer.invariant
+    (c.in_ok-join.ensures ∙ ap (fold with_earlier mid) c.changes.ensures)

@@ -1,0 +1,14 @@
+-- How layers are seen.
+use Rattle.std.specs.Prelude.{List, [], Option, None, Some}
+use Rattle.std.specs.Arc.{arc_value}
+use Rattle.std.specs.declared.sync.Arc.{Arc}
+use Rattle.std.specs.declared.vec.Vec.{Vec}
+use Rattle.mp_tx.specs.declared.ledger.layers.Layers.TheInside.{Inside}
+use Rattle.mp_tx.specs.Inside.Changes.{Noted}
+
+abbrev pub shared_items : {Y Z : Type 0} → Option (Arc (Vec Noted Y) Z) → List Noted
+shared_items None = []
+shared_items (Some shared) = (arc_value shared).items
+
+abbrev pub layers_of : Inside → List Noted
+layers_of l = shared_items l.layers

@@ -1,0 +1,72 @@
+//! The table of outputs below all layers.
+
+ghost use Rattle.std.specs.Prelude.{◌≡◌, fold, IfOk, OnOk, []};
+ghost use Rattle.std.specs.FinMap.{from_entries};
+ghost use Rattle.mp_tx.specs.Inside.Changes.{changed};
+ghost use Rattle.mp_tx.specs.Inside.Base.{with_kept, with_change};
+
+use crate::ledger::change::{Change, Changes};
+use crate::output::Output;
+use crate::reference::OutRef;
+use crate::salt::Salt;
+use indexmap::IndexMap;
+use mp_memory::{Memory, NoMemory};
+
+/// Outputs under their references.
+pub type Base = IndexMap<OutRef, Output, Salt, Memory>;
+
+// Puts a share of the output in, unless the changes have its reference.
+fn put_kept(
+    base: &mut Base,
+    changes: &Changes,
+    reference: &OutRef,
+    output: &Output,
+) -> Result<(), NoMemory>
+    ensures { OnOk result (base.new.entries ≡ with_kept changes.now.entries base.old.entries (reference.now, output.now)) }
+{
+    if !changes.contains_key(reference) {
+        base.insert(*reference, output.share()?)?;
+    }
+    Ok(())
+}
+
+// Puts shares of the old outputs in, but for those whose references the changes have.
+fn put_all_kept(base: &mut Base, changes: &Changes, old: &Base) -> Result<(), NoMemory>
+    ensures { OnOk result (base.new.entries ≡ fold (with_kept changes.now.entries) base.old.entries old.now.entries) }
+{
+    for (reference, output) in old {
+        put_kept(base, changes, reference, output)?;
+    }
+    Ok(())
+}
+
+// Puts the output in, if one was made.
+fn put_change(base: &mut Base, reference: OutRef, change: Change) -> Result<(), NoMemory>
+    ensures { OnOk result (base.new.entries ≡ with_change base.old.entries (reference, change)) }
+{
+    if let Change::Made(output) = change {
+        base.insert(reference, output)?;
+    }
+    Ok(())
+}
+
+// Puts the outputs in that were made.
+fn put_changes(base: &mut Base, changes: Changes) -> Result<(), NoMemory>
+    ensures { OnOk result (base.new.entries ≡ fold with_change base.old.entries changes.entries) }
+{
+    for (reference, change) in changes {
+        put_change(base, reference, change)?;
+    }
+    Ok(())
+}
+
+/// The outputs after the changes, in a table of their own.
+pub fn settled(memory: Memory, old: &Base, changes: Changes) -> Result<Base, NoMemory>
+    ensures { IfOk result (λ b. from_entries b.entries ≡ changed (from_entries old.now.entries) changes.entries) }
+{
+    let room = old.len() + changes.len();
+    let mut base = IndexMap::with_capacity_and_hasher(memory, room, *old.hasher())?;
+    put_all_kept(&mut base, &changes, old)?;
+    put_changes(&mut base, changes)?;
+    Ok(base)
+}

@@ -1,0 +1,79 @@
+//! What became of references.
+
+ghost use Rattle.std.specs.Prelude.{◌≡◌, fold, OnOk};
+ghost use Rattle.mp_tx.specs.Ledger.{Utxo};
+ghost use Rattle.mp_tx.specs.Inside.Changes.{changed_at, changed, with_earlier};
+
+use crate::output::Output;
+use crate::reference::OutRef;
+use crate::salt::Salt;
+use indexmap::IndexMap;
+use mp_memory::{Memory, NoMemory};
+
+/// What became of a reference.
+#[derive(Drop)]
+pub enum Change {
+    Spent,
+    Made(Output),
+}
+
+/// What became of each reference that was spent or made.
+pub type Changes = IndexMap<OutRef, Change, Salt, Memory>;
+
+impl Change {
+    ghost use Rattle.std.specs.Prelude.{◌≡◌, IfOk, option_copied};
+    ghost use Rattle.mp_tx.specs.Inside.Changes.{output_of};
+
+    /// The output that stands under the reference after the change.
+    pub fn output(&self) -> Option<&Output>
+        ensures { option_copied result ≡ output_of self.now }
+    {
+        match self {
+            Change::Spent => None,
+            Change::Made(output) => Some(output),
+        }
+    }
+
+    /// The same change. The entries of the output's bundle are shared, and not copied.
+    pub fn share(&self) -> Result<Change, NoMemory>
+        ensures { IfOk result (λ c. c ≡ self.now) }
+    {
+        match self {
+            Change::Spent => Ok(Change::Spent),
+            Change::Made(output) => Ok(Change::Made(output.share()?)),
+        }
+    }
+}
+
+/// Notes what became of the reference, in the place of what became of it before.
+pub fn note(changes: &mut Changes, reference: OutRef, change: Change) -> Result<(), NoMemory>
+    ensures { OnOk result
+        ((u : Utxo) → changed u changes.new.entries ≡ changed_at (changed u changes.old.entries) reference change) }
+{
+    changes.insert(reference, change)?;
+    Ok(())
+}
+
+// Notes what became of the reference earlier, unless the changes have it.
+fn note_earlier(
+    changes: &mut Changes,
+    reference: &OutRef,
+    change: &Change,
+) -> Result<(), NoMemory>
+    ensures { OnOk result (changes.new.entries ≡ with_earlier changes.old.entries (reference.now, change.now)) }
+{
+    if !changes.contains_key(reference) {
+        changes.insert(*reference, change.share()?)?;
+    }
+    Ok(())
+}
+
+/// Notes what became of references earlier.
+pub fn join(changes: &mut Changes, earlier: &Changes) -> Result<(), NoMemory>
+    ensures { OnOk result (changes.new.entries ≡ fold with_earlier changes.old.entries earlier.now.entries) }
+{
+    for (reference, change) in earlier {
+        note_earlier(changes, reference, change)?;
+    }
+    Ok(())
+}

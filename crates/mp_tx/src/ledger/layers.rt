@@ -1,0 +1,164 @@
+//! Layers of changes, newest first.
+
+ghost use Rattle.std.specs.Prelude.{◌≡◌, ◌≤◌, ◌++◌, fold, length, IfOk, OnOk, [], option_copied};
+ghost use Rattle.std.specs.Map.{lookup};
+ghost use Rattle.mp_tx.specs.Reference.{same_ref};
+ghost use Rattle.mp_tx.specs.Inside.Changes.{Noted, with_earlier, all_of};
+
+use crate::ledger::change::{Change, Changes, join};
+use crate::reference::OutRef;
+use mp_memory::{Memory, NoMemory};
+use std::marker::Model;
+use std::sync::Arc;
+
+/// How many times as long as what lies above it a layer is at least.
+pub const RATIO: usize = 8;
+
+/// Changes that several owners may share.
+#[derive(Drop)]
+pub struct Layer {
+    changes: Arc<Changes, Memory>,
+}
+
+impl Model for Layer {
+    ghost use Rattle.std.specs.Arc.{arc_value};
+    ghost use Rattle.mp_tx.specs.Inside.Changes.{Noted};
+
+    ghost Value = { Noted };
+
+    ghost view = { λ l. (arc_value l.changes).entries };
+}
+
+impl Layer {
+    ghost use Rattle.std.specs.Prelude.{◌≡◌, IfOk};
+
+    fn of(memory: Memory, changes: Changes) -> Result<Layer, NoMemory>
+        ensures { IfOk result (λ l. l ≡ changes.entries) }
+    {
+        Ok(Layer {
+            changes: Arc::new(memory, changes)?,
+        })
+    }
+
+    fn share(&self) -> Result<Layer, NoMemory>
+        ensures { IfOk result (λ l. l ≡ self.now) }
+    {
+        Ok(Layer {
+            changes: Arc::try_clone(&self.changes)?,
+        })
+    }
+
+    fn changes(&self) -> &Changes
+        ensures { result.now.entries ≡ self.now }
+    {
+        &self.changes
+    }
+}
+
+/// Layers of changes, newest first. Several owners may share them.
+#[derive(Drop)]
+pub struct Layers {
+    layers: Option<Arc<Vec<Layer, Memory>, Memory>>,
+}
+
+impl Model for Layers {
+    ghost use Rattle.std.specs.Prelude.{List};
+    ghost use Rattle.mp_tx.specs.Inside.Changes.{Noted};
+
+    ghost Value = { List Noted };
+
+    ghost use Rattle.mp_tx.specs.Inside.Layers.{layers_of};
+
+    ghost view = { layers_of };
+}
+
+impl Layers {
+    ghost use Rattle.std.specs.Prelude.{◌≡◌, ◌∷◌, [], IfOk};
+
+    /// No layers.
+    pub fn none() -> Layers
+        ensures { result ≡ [] }
+    {
+        Layers { layers: None }
+    }
+
+    /// The changes as a layer above the older ones.
+    pub fn over(memory: Memory, changes: Changes, older: &[Layer]) -> Result<Layers, NoMemory>
+        ensures { IfOk result (λ l. l ≡ changes.entries ∷ older.now) }
+    {
+        let mut layers = Vec::new(memory);
+        layers.push(Layer::of(memory, changes)?)?;
+        push_shares(&mut layers, older)?;
+        Ok(Layers {
+            layers: Some(Arc::new(memory, layers)?),
+        })
+    }
+
+    /// The same layers, which are shared.
+    pub fn share(&self) -> Result<Layers, NoMemory>
+        ensures { IfOk result (λ l. l ≡ self.now) }
+    {
+        let layers = match &self.layers {
+            Some(layers) => Some(Arc::try_clone(layers)?),
+            None => None,
+        };
+        Ok(Layers { layers })
+    }
+
+    /// The layers in their order.
+    pub fn as_slice(&self) -> &[Layer]
+        ensures { result.now ≡ self.now }
+    {
+        match &self.layers {
+            Some(layers) => layers,
+            None => &[],
+        }
+    }
+}
+
+// Puts shares of the layers at the end.
+fn push_shares(layers: &mut Vec<Layer, Memory>, older: &[Layer]) -> Result<(), NoMemory>
+    ensures { OnOk result (layers.new.items ≡ layers.old.items ++ older.now) }
+{
+    for layer in older {
+        layers.push(layer.share()?)?;
+    }
+    Ok(())
+}
+
+/// What became of the reference last.
+pub fn last_change<'a>(layers: &'a [Layer], reference: &OutRef) -> Option<&'a Change>
+    ensures { option_copied result ≡ lookup (same_ref reference.now) (all_of layers.now) }
+{
+    for layer in layers {
+        if let Some(change) = layer.changes().get(reference) {
+            return Some(change);
+        }
+    }
+    None
+}
+
+/// How many of the newest layers are to be joined with what lies above them and has this length, so that the layers below are long enough.
+pub fn count_short(layers: &[Layer], above: usize) -> usize
+    ensures { result ≤ length layers.now }
+{
+    let mut above = above;
+    for (count, layer) in layers.iter().enumerate() {
+        let length = layer.changes().len();
+        if length / RATIO >= above {
+            return count;
+        }
+        above = above.saturating_add(length);
+    }
+    layers.len()
+}
+
+/// Notes what became of references in these layers, which are older than the changes.
+pub fn join_all(changes: &mut Changes, layers: &[Layer]) -> Result<(), NoMemory>
+    ensures { OnOk result (changes.new.entries ≡ fold with_earlier changes.old.entries (all_of layers.now)) }
+{
+    for layer in layers {
+        join(changes, layer.changes())?;
+    }
+    Ok(())
+}

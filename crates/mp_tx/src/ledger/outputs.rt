@@ -1,0 +1,167 @@
+//! The outputs of a ledger state: a table, and layers of changes above it.
+
+ghost use Rattle.mp_tx.specs.Ledger.{Utxo};
+
+use crate::block_fault::BlockFault;
+use crate::ledger::base::{Base, settled};
+use crate::ledger::change::{Change, Changes, note};
+use crate::ledger::layers::{Layers, RATIO, count_short, join_all, last_change};
+use crate::output::Output;
+use crate::reference::OutRef;
+use crate::salt::Salt;
+use indexmap::IndexMap;
+use mp_memory::{Memory, NoMemory};
+use std::marker::Model;
+use std::sync::Arc;
+
+/// A finite map from references to outputs, made of a table and of layers of changes above it, which several maps may share.
+/// The table and each layer is at least RATIO times as long as the layers above it. So there are few layers, and what a block
+/// costs is, over many blocks, in proportion to the block.
+#[derive(Drop)]
+pub struct Outputs {
+    base: Arc<Base, Memory>,
+    layers: Layers,
+}
+
+impl Model for Outputs {
+    ghost use Rattle.std.specs.Coded.{codes};
+    ghost use Rattle.std.specs.FinMap as finite;
+    ghost use Rattle.mp_tx.specs.Ledger.{Utxo};
+
+    ghost Value = { Utxo };
+
+    ghost coded = { Prim.hlevel (codes, finite.code) };
+
+    ghost use Rattle.mp_tx.specs.Inside.Outputs.{utxo};
+
+    ghost view = { utxo };
+}
+
+impl Outputs {
+    ghost use Rattle.std.specs.Prelude.{◌≡◌, IfOk, IfErr, OnOk, Bool, None, is_some, option_copied, []};
+    ghost use Rattle.std.specs.FinMap.{get, from_entries};
+    ghost use Rattle.mp_tx.specs.Ledger.{without, with_outputs, AreThere, AreFree};
+    ghost use Rattle.mp_tx.specs.Inside.Changes.{changed};
+    ghost use Rattle.mp_tx.specs.Inside.BlockFault.{IsOfSpent, IsOfMade, IsOfBoth};
+
+    /// The outputs of the table.
+    pub fn of(memory: Memory, base: Base) -> Result<Outputs, NoMemory>
+        ensures { IfOk result (λ o. o ≡ from_entries base.entries) }
+    {
+        Ok(Outputs {
+            base: Arc::new(memory, base)?,
+            layers: Layers::none(),
+        })
+    }
+
+    /// The salt of its tables.
+    pub fn salt(&self) -> Salt {
+        *self.base.hasher()
+    }
+
+    /// The output under the reference.
+    pub fn get(&self, reference: &OutRef) -> Option<&Output>
+        ensures { option_copied result ≡ get self.now reference.now }
+    {
+        match last_change(self.layers.as_slice(), reference) {
+            Some(change) => change.output(),
+            None => self.base.get(reference),
+        }
+    }
+
+    /// The same outputs, which are shared.
+    pub fn share(&self) -> Result<Outputs, NoMemory>
+        ensures { IfOk result (λ o. o ≡ self.now) }
+    {
+        Ok(Outputs {
+            base: Arc::try_clone(&self.base)?,
+            layers: self.layers.share()?,
+        })
+    }
+
+    // Whether there is an output under the reference after the changes.
+    fn is_there(&self, changes: &Changes, reference: &OutRef) -> bool
+        ensures { result ≡ is_some (get (changed self.now changes.now.entries) reference.now) }
+    {
+        match changes.get(reference) {
+            Some(change) => change.output().is_some(),
+            None => self.get(reference).is_some(),
+        }
+    }
+
+    // Notes the references as spent, up to the first that leads to no output.
+    fn spend(&self, changes: &mut Changes, spent: &[OutRef]) -> Result<(), BlockFault>
+        requires { changes.old.entries ≡ [] }
+        ensures ok { OnOk result (changed self.now changes.new.entries ≡ without self.now spent.now) }
+        ensures there { OnOk result (AreThere self.now spent.now) }
+        ensures fault { IfErr result (IsOfSpent self.now spent.now) }
+    {
+        for (place, reference) in spent.iter().enumerate() {
+            if !self.is_there(changes, reference) {
+                return Err(BlockFault::Missing(place));
+            }
+            note(changes, *reference, Change::Spent)?;
+        }
+        Ok(())
+    }
+
+    // Notes the outputs as made, up to the first whose reference leads to one.
+    fn make(
+        &self,
+        changes: &mut Changes,
+        made: Vec<(OutRef, Output), Memory>,
+    ) -> Result<(), BlockFault>
+        ensures ok { OnOk result (changed self.now changes.new.entries ≡ with_outputs (changed self.now changes.old.entries) made.items) }
+        ensures free { OnOk result (AreFree (changed self.now changes.old.entries) made.items) }
+        ensures fault { IfErr result (IsOfMade (changed self.now changes.old.entries) made.items) }
+    {
+        let mut place = 0;
+        for (reference, output) in made {
+            if self.is_there(changes, &reference) {
+                return Err(BlockFault::Repeated(place));
+            }
+            note(changes, reference, Change::Made(output))?;
+            place += 1;
+        }
+        Ok(())
+    }
+
+    // The outputs after the changes. Layers that aren't long enough for these are joined with them, and so is the table.
+    fn changed(&self, memory: Memory, changes: Changes) -> Result<Outputs, NoMemory>
+        ensures { IfOk result (λ o. o ≡ changed self.now changes.entries) }
+    {
+        let mut changes = changes;
+        let layers = self.layers.as_slice();
+        let (short, long) = layers.split_at(count_short(layers, changes.len()));
+        join_all(&mut changes, short)?;
+        if long.is_empty() && self.base.len() / RATIO < changes.len() {
+            return Outputs::of(memory, settled(memory, &self.base, changes)?);
+        }
+        Ok(Outputs {
+            base: Arc::try_clone(&self.base)?,
+            layers: Layers::over(memory, changes, long)?,
+        })
+    }
+
+    /// The outputs without what is spent, and with what is made.
+    pub fn after(
+        &self,
+        memory: Memory,
+        spent: &[OutRef],
+        made: Vec<(OutRef, Output), Memory>,
+    ) -> Result<Outputs, BlockFault>
+        ensures ok { IfOk result (λ o. o ≡ with_outputs (without self.now spent.now) made.items) }
+        ensures there { OnOk result (AreThere self.now spent.now) }
+        ensures free { OnOk result (AreFree (without self.now spent.now) made.items) }
+        ensures fault { IfErr result (IsOfBoth self.now spent.now made.items) }
+    {
+        let room = spent.len().saturating_add(made.len());
+        let mut changes = IndexMap::with_capacity_and_hasher(memory, room, self.salt())?;
+        self.spend(&mut changes, spent)?;
+        self.make(&mut changes, made)?;
+        if changes.is_empty() {
+            return Ok(self.share()?);
+        }
+        Ok(self.changed(memory, changes)?)
+    }
+}
