@@ -1,19 +1,17 @@
 -- A transaction that meets what it met when it was valid is valid.
-use Rattle.std.proofs.Common.{◌≡◌, ℕ, ◌+◌, ◌<◌, List, [], ◌∷◌, ◌++◌, map, length, get_or, take, refl, sym, ap, subst, ◌∙◌}
+use Rattle.std.proofs.Common.{◌≡◌, ℕ, List, [], ◌∷◌, map, refl, sym, ap, subst, ◌∙◌}
 use Rattle.std.specs.Prelude.{Option, None, Some, IsSome, IfSome, All, IsTrue}
 use Rattle.std.specs.Borrow.{Bor}
 use Rattle.std.specs.List.{filter_map, cons_option}
 use Rattle.std.proofs.lemmas.List.Elements.{All-nil, All-cons, All-head, All-tail}
 use Rattle.sha2.specs.Sha256.{sha256}
-use Rattle.mp_tx.specs.declared.reference.OutRef.{OutRef}
 use Rattle.mp_tx.specs.declared.output.Output.{Output}
 use Rattle.mp_tx.specs.Transaction.{Transaction}
 use Rattle.mp_utxo.specs.Apply.{Unspent}
-use Rattle.mp_rules.specs.declared.invalid.Invalid.{Invalid}
 use Rattle.mp_rules.specs.Verifier.{Accepts}
 use Rattle.mp_rules.specs.Resolved.{Resolved, resolve, spendings}
 use Rattle.mp_rules.specs.Scripts.{validator_accepts, policy_accepts}
-use Rattle.mp_rules.specs.Validity.{Rule, HasInput, InInterval, PaysNoDebt, InputsThere, ReferencesThere, AddressesMatch, DataMatch, OutputsFresh, PoliciesCarried, Balanced, SignaturesAccepted, ValidatorsAccept, PoliciesAccept, IsBalanced, Holds, IsValid}
+use Rattle.mp_rules.specs.Validity.{HasInput, InInterval, PaysNoDebt, InputsThere, ReferencesThere, AddressesMatch, DataMatch, OutputsFresh, PoliciesCarried, Balanced, SignaturesAccepted, ValidatorsAccept, PoliciesAccept, IsBalanced, Holds, IsValid}
 use Rattle.mp_rules.specs.FirstFault.{validator_refused, policy_refused, first_of, first_fault}
 use Rattle.mp_rules.specs.Checked.{script_refused, IsSigned, ScriptsAccept, WasValid}
 use Rattle.mp_rules.specs.Laws.{ValidityIsLocal}

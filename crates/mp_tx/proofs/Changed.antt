@@ -113,10 +113,12 @@ lookup-insert_entry {X} (e ∷ es) k v q = by (lookup-insert_entry es k v q) (sa
     shadowed : (b : Bool) (x y z : Option X) → cond b x z ≡ cond b x (cond b y z)
     shadowed true x y z = refl
     shadowed false x y z = refl
+
     swapped : (a b : Bool) (x y z : Option X) → (a ≡ true → b ≡ true → ⊥) → cond a x (cond b y z) ≡ cond b y (cond a x z)
     swapped true true x y z apart = absurd (apart refl refl)
     swapped true false x y z apart = refl
     swapped false b x y z apart = refl
+
     by : lookup (same_ref q) (insert_entry same_ref es k v) ≡ cond (same_ref q k) (Some v) (lookup (same_ref q) es) → (b : Bool) → same_ref k e.0 ≡ b → lookup (same_ref q) (insert_entry same_ref (e ∷ es) k v) ≡ cond (same_ref q k) (Some v) (lookup (same_ref q) (e ∷ es))
     by rest true t =
         ap (λ b. lookup (same_ref q) (cond b ((e.0, v) ∷ es) (e ∷ insert_entry same_ref es k v))) t
@@ -174,10 +176,13 @@ lookup-with_kept cs es e q = by (is_some (lookup (same_ref e.0) cs)) (same_ref q
   where
     L : Option Output
     L = lookup (same_ref q) es
+
     found : same_ref q e.0 ≡ true → is_some (lookup (same_ref q) cs) ≡ is_some (lookup (same_ref e.0) cs)
     found same = ap (λ r. is_some (lookup (same_ref r) cs)) (same_exact q e.0 same)
+
     kept : (b : Bool) → is_some (lookup (same_ref e.0) cs) ≡ b → lookup (same_ref q) (with_kept cs es e) ≡ lookup (same_ref q) (cond b es (insert_entry same_ref es e.0 e.1))
     kept b t = ap (λ b. lookup (same_ref q) (cond b es (insert_entry same_ref es e.0 e.1))) t
+
     by : (b s : Bool) → is_some (lookup (same_ref e.0) cs) ≡ b → same_ref q e.0 ≡ s → lookup (same_ref q) (with_kept cs es e) ≡ cond (is_some (lookup (same_ref q) cs)) L (cond (same_ref q e.0) (Some e.1) L)
     by true true t s = kept true t ∙ ap (λ b. cond b L (cond (same_ref q e.0) (Some e.1) L)) (sym (found s ∙ t))
     by true false t s = kept true t ∙ either (is_some (lookup (same_ref q) cs)) L ∙ ap (λ b. cond (is_some (lookup (same_ref q) cs)) L (cond b (Some e.1) L)) (sym s)
@@ -195,10 +200,13 @@ lookup-all_kept cs es (b ∷ bs) q distinct =
   where
     S : Bool
     S = is_some (lookup (same_ref q) cs)
+
     B : Option Output
     B = lookup (same_ref q) bs
+
     L : Option Output
     L = lookup (same_ref q) es
+
     by : (s m : Bool) → same_ref q b.0 ≡ m → cond s (cond s L (cond m (Some b.1) L)) (option_or B (cond s L (cond m (Some b.1) L))) ≡ cond s L (option_or (cond m (Some b.1) B) L)
     by true m e = refl
     by false true e = ap (λ l. option_or l (Some b.1)) (none_later q b bs distinct e)

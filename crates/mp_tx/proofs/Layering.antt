@@ -43,9 +43,9 @@ pub found_at : (ls : List Noted) (i : ℕ) (l : Noted) (r : OutRef) (c : Change)
 found_at ls i l r c lt is before found =
     let rest = all_of (drop (suc i) ls) in
     let split : all_of ls ≡ all_of (take i ls) ++ (l ++ rest) =
-        ap all_of (sym (take-append-drop i ls)) ∙ all_of-append (take i ls) (drop i ls)
-        ∙ ap (λ ms. all_of (take i ls) ++ all_of ms) (drop-cons ls i l lt)
-        ∙ ap (λ m. all_of (take i ls) ++ (m ++ rest)) (sym is) in
+    ap all_of (sym (take-append-drop i ls)) ∙ all_of-append (take i ls) (drop i ls)
+    ∙ ap (λ ms. all_of (take i ls) ++ all_of ms) (drop-cons ls i l lt)
+    ∙ ap (λ m. all_of (take i ls) ++ (m ++ rest)) (sym is) in
     ap (lookup (same_ref r)) split
     ∙ lookup-append (same_ref r) (all_of (take i ls)) (l ++ rest)
     ∙ ap (λ o. option_or o (lookup (same_ref r) (l ++ rest))) before

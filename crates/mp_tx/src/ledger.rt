@@ -128,11 +128,13 @@ impl Ledger {
         spent: &[OutRef],
         made: Vec<Entry, Memory>,
     ) -> Result<Ledger, BlockFault>
-        ensures ok { IfOk result (λ l. l ≡ ledger_after self.now tick block_bytes spent.now made.items) }
+        ensures ok { IfOk result (λ l. l
+            ≡ ledger_after self.now tick block_bytes spent.now made.items) }
         ensures block_bytes { OnOk result (HasBlockBytes block_bytes) }
         ensures there { OnOk result (AreThere self.now.utxo spent.now) }
         ensures free { OnOk result (AreFree (without self.now.utxo spent.now) made.items) }
-        ensures fault { IfErr result (λ e. HasBlockFault e self.now block_bytes spent.now made.items) }
+        ensures fault { IfErr result (λ e.
+            HasBlockFault e self.now block_bytes spent.now made.items) }
     {
         if !is_in_range(block_bytes) {
             return Err(BlockFault::BadBlockBytes);

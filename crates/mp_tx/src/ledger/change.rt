@@ -55,12 +55,9 @@ pub fn note(changes: &mut Changes, reference: OutRef, change: Change) -> Result<
 }
 
 // Notes what became of the reference earlier, unless the changes have it.
-fn note_earlier(
-    changes: &mut Changes,
-    reference: &OutRef,
-    change: &Change,
-) -> Result<(), NoMemory>
-    ensures { OnOk result (changes.new.entries ≡ with_earlier changes.old.entries (reference.now, change.now)) }
+fn note_earlier(changes: &mut Changes, reference: &OutRef, change: &Change) -> Result<(), NoMemory>
+    ensures { OnOk result (changes.new.entries
+        ≡ with_earlier changes.old.entries (reference.now, change.now)) }
 {
     if !changes.contains_key(reference) {
         changes.insert(*reference, change.share()?)?;
@@ -70,7 +67,8 @@ fn note_earlier(
 
 /// Notes what became of references earlier.
 pub fn join(changes: &mut Changes, earlier: &Changes) -> Result<(), NoMemory>
-    ensures { OnOk result (changes.new.entries ≡ fold with_earlier changes.old.entries earlier.now.entries) }
+    ensures { OnOk result (changes.new.entries
+        ≡ fold with_earlier changes.old.entries earlier.now.entries) }
 {
     for (reference, change) in earlier {
         note_earlier(changes, reference, change)?;

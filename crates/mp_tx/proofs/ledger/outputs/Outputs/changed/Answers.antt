@@ -18,9 +18,9 @@ returns-then-len c =
     let joined = c.in_ok-join_all.ensures ∙ ap (λ (ls : List Noted). fold with_earlier cs (all_of ls)) front in
     let zero : length c.split_at.result.1.now ≡ 0 = Prim.search (rules, tests) in
     let above =
-        c.in_ok-settled.ensures ∙ ap (λ m. changed (from_entries {R = ref_cmp} m.entries) new) c.deref-then-len.ensures
-        ∙ settled_layers (from_entries (arc_value o.base).entries) cs new o.layers n joined (sym back ∙ nothing_in _ zero)
-        ∙ ap (λ (u : Utxo). changed u cs) c.self.view_is in
+    c.in_ok-settled.ensures ∙ ap (λ m. changed (from_entries {R = ref_cmp} m.entries) new) c.deref-then-len.ensures
+    ∙ settled_layers (from_entries (arc_value o.base).entries) cs new o.layers n joined (sym back ∙ nothing_in _ zero)
+    ∙ ap (λ (u : Utxo). changed u cs) c.self.view_is in
     if_ok c.of.result (λ m is. is ∙ above) c.of.ensures
 
 pub returns : goal.returns
