@@ -3,6 +3,7 @@
 //! that one step took. With `mempool-hour` it tries a mempool for an hour, and with `mempool-successors` mempools that hand over.
 #![tactic(auto)]
 
+mod blocks;
 mod handing;
 mod measurement;
 mod round;
@@ -12,6 +13,7 @@ mod trial;
 mod verifier;
 
 use anyhow::{Context, Result, bail, ensure};
+use blocks::time_blocks;
 use measurement::{Asked, MEASUREMENTS, Measurement, SIZES, STEPS, Work};
 use mp_memory::Memory;
 use mp_tx::Ledger;
@@ -33,6 +35,7 @@ fn time<R: Clock + Threads + Wait + Sync>(
 ) -> Option<Duration> {
     match round.work {
         Work::Decode | Work::Check | Work::Pool => time_alone(rt, memory, round),
+        Work::Blocks => time_blocks(rt, memory, round.ledger, round.size),
         _ => time_shared(rt, memory, round.ledger, 1_001, Job::Steps(round)),
     }
 }
@@ -98,7 +101,7 @@ fn take<R: Clock + Threads + Wait + Print + Sync>(
     let (name, _, _, asked, _) = *measurement;
     for size in SIZES {
         let time = time_at(rt, memory, measurement, size).context("a round went wrong")?;
-        let steps = if matches!(asked, Asked::Remove | Asked::Sync) {
+        let steps = if matches!(asked, Asked::Remove | Asked::Sync | Asked::Stay) {
             size
         } else {
             STEPS

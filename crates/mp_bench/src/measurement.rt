@@ -13,6 +13,8 @@ pub enum Work {
     Decode,
     /// Transactions are checked upon the ledger state.
     Check,
+    /// Ledger states follow a thousand blocks.
+    Blocks,
     /// The pool of one thread is asked.
     Pool,
     /// One caller asks the mempool.
@@ -38,6 +40,8 @@ pub enum Asked {
     Remove,
     /// A sync with a ledger state upon which every other transaction is valid.
     Sync,
+    /// A sync with a ledger state upon which all are valid.
+    Stay,
     /// Nothing.
     Nothing,
 }
@@ -47,12 +51,14 @@ pub enum Asked {
 pub type Measurement = (&'static str, Work, bool, Asked, u64);
 
 /// All of them, in the order in which they are taken.
-pub static MEASUREMENTS: [Measurement; 11] = [
+pub static MEASUREMENTS: [Measurement; 13] = [
     ("decode", Work::Decode, false, Asked::First, STEPS),
     ("check", Work::Check, false, Asked::First, STEPS),
+    ("ledger-block", Work::Blocks, false, Asked::Nothing, STEPS),
     ("pool-submit", Work::Pool, true, Asked::Next, STEPS),
     ("pool-remove", Work::Pool, true, Asked::Remove, 1),
     ("pool-sync", Work::Pool, true, Asked::Sync, 1),
+    ("pool-sync-all", Work::Pool, true, Asked::Stay, 1),
     ("mempool-submit", Work::OneThread, true, Asked::Next, STEPS),
     ("mempool-again", Work::OneThread, true, Asked::First, 0),
     (

@@ -68,6 +68,7 @@ fn push_asked(
         Asked::Signed => push_submits(memory, commands, size, last, true),
         Asked::Remove => push_first_remove(memory, commands, before),
         Asked::Sync => push_sync(memory, commands, 2, MANY, size),
+        Asked::Stay => push_sync(memory, commands, 1, MANY, size),
         Asked::Nothing => Some(()),
     }
 }
@@ -156,6 +157,7 @@ fn left(round: &Round<'_>) -> u64 {
     match round.asked {
         Asked::Remove => round.size.saturating_sub(1),
         Asked::Sync => round.size / 2,
+        Asked::Stay => round.size,
         Asked::Next => round.size.saturating_add(STEPS),
         _ => 0,
     }
