@@ -22,7 +22,8 @@ fn put_kept(
     reference: &OutRef,
     output: &Output,
 ) -> Result<(), NoMemory>
-    ensures { OnOk result (base.new.entries ≡ with_kept changes.now.entries base.old.entries (reference.now, output.now)) }
+    ensures { OnOk result (base.new.entries
+        ≡ with_kept changes.now.entries base.old.entries (reference.now, output.now)) }
 {
     if !changes.contains_key(reference) {
         base.insert(*reference, output.share()?)?;
@@ -32,7 +33,8 @@ fn put_kept(
 
 // Puts shares of the old outputs in, but for those whose references the changes have.
 fn put_all_kept(base: &mut Base, changes: &Changes, old: &Base) -> Result<(), NoMemory>
-    ensures { OnOk result (base.new.entries ≡ fold (with_kept changes.now.entries) base.old.entries old.now.entries) }
+    ensures { OnOk result (base.new.entries
+        ≡ fold (with_kept changes.now.entries) base.old.entries old.now.entries) }
 {
     for (reference, output) in old {
         put_kept(base, changes, reference, output)?;
@@ -62,7 +64,8 @@ fn put_changes(base: &mut Base, changes: Changes) -> Result<(), NoMemory>
 
 /// The outputs after the changes, in a table of their own.
 pub fn settled(memory: Memory, old: &Base, changes: Changes) -> Result<Base, NoMemory>
-    ensures { IfOk result (λ b. from_entries b.entries ≡ changed (from_entries old.now.entries) changes.entries) }
+    ensures { IfOk result (λ b. from_entries b.entries
+        ≡ changed (from_entries old.now.entries) changes.entries) }
 {
     let room = old.len() + changes.len();
     let mut base = IndexMap::with_capacity_and_hasher(memory, room, *old.hasher())?;

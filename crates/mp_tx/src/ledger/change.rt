@@ -47,8 +47,8 @@ impl Change {
 
 /// Notes what became of the reference, in the place of what became of it before.
 pub fn note(changes: &mut Changes, reference: OutRef, change: Change) -> Result<(), NoMemory>
-    ensures { OnOk result
-        ((u : Utxo) → changed u changes.new.entries ≡ changed_at (changed u changes.old.entries) reference change) }
+    ensures { OnOk result ((u : Utxo) → changed u changes.new.entries
+        ≡ changed_at (changed u changes.old.entries) reference change) }
 {
     changes.insert(reference, change)?;
     Ok(())
@@ -60,7 +60,8 @@ fn note_earlier(
     reference: &OutRef,
     change: &Change,
 ) -> Result<(), NoMemory>
-    ensures { OnOk result (changes.new.entries ≡ with_earlier changes.old.entries (reference.now, change.now)) }
+    ensures { OnOk result (changes.new.entries
+        ≡ with_earlier changes.old.entries (reference.now, change.now)) }
 {
     if !changes.contains_key(reference) {
         changes.insert(*reference, change.share()?)?;
@@ -70,7 +71,8 @@ fn note_earlier(
 
 /// Notes what became of references earlier.
 pub fn join(changes: &mut Changes, earlier: &Changes) -> Result<(), NoMemory>
-    ensures { OnOk result (changes.new.entries ≡ fold with_earlier changes.old.entries earlier.now.entries) }
+    ensures { OnOk result (changes.new.entries
+        ≡ fold with_earlier changes.old.entries earlier.now.entries) }
 {
     for (reference, change) in earlier {
         note_earlier(changes, reference, change)?;

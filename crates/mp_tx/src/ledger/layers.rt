@@ -138,7 +138,8 @@ pub fn last_change<'a>(layers: &'a [Layer], reference: &OutRef) -> Option<&'a Ch
     None
 }
 
-/// How many of the newest layers are to be joined with what lies above them and has this length, so that the layers below are long enough.
+/// How many of the newest layers are to be joined with what lies above them and has this length, so that the others are long
+/// enough.
 pub fn count_short(layers: &[Layer], above: usize) -> usize
     ensures { result ≤ length layers.now }
 {
@@ -155,7 +156,8 @@ pub fn count_short(layers: &[Layer], above: usize) -> usize
 
 /// Notes what became of references in these layers, which are older than the changes.
 pub fn join_all(changes: &mut Changes, layers: &[Layer]) -> Result<(), NoMemory>
-    ensures { OnOk result (changes.new.entries ≡ fold with_earlier changes.old.entries (all_of layers.now)) }
+    ensures { OnOk result (changes.new.entries
+        ≡ fold with_earlier changes.old.entries (all_of layers.now)) }
 {
     for layer in layers {
         join(changes, layer.changes())?;

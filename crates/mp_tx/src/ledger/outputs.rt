@@ -92,7 +92,8 @@ impl Outputs {
     // Notes the references as spent, up to the first that leads to no output.
     fn spend(&self, changes: &mut Changes, spent: &[OutRef]) -> Result<(), BlockFault>
         requires { changes.old.entries ≡ [] }
-        ensures ok { OnOk result (changed self.now changes.new.entries ≡ without self.now spent.now) }
+        ensures ok { OnOk result
+            (changed self.now changes.new.entries ≡ without self.now spent.now) }
         ensures there { OnOk result (AreThere self.now spent.now) }
         ensures fault { IfErr result (IsOfSpent self.now spent.now) }
     {
@@ -111,9 +112,11 @@ impl Outputs {
         changes: &mut Changes,
         made: Vec<(OutRef, Output), Memory>,
     ) -> Result<(), BlockFault>
-        ensures ok { OnOk result (changed self.now changes.new.entries ≡ with_outputs (changed self.now changes.old.entries) made.items) }
+        ensures ok { OnOk result (changed self.now changes.new.entries
+            ≡ with_outputs (changed self.now changes.old.entries) made.items) }
         ensures free { OnOk result (AreFree (changed self.now changes.old.entries) made.items) }
-        ensures fault { IfErr result (IsOfMade (changed self.now changes.old.entries) made.items) }
+        ensures fault { IfErr result
+            (IsOfMade (changed self.now changes.old.entries) made.items) }
     {
         let mut place = 0;
         for (reference, output) in made {
