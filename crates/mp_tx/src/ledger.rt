@@ -27,7 +27,8 @@ pub const MAX_BLOCK_BYTES: u64 = 1 << 39;
 type Entry = (OutRef, Output);
 
 /// A ledger state: a tick, the bytes that a block may have, and a finite map from references to outputs. Several owners may
-/// share the map. Looking an output up takes no walk over the others: the map is a table whose places depend on a salt.
+/// share the map. Looking an output up takes no walk over the others: the map is a table whose places depend on a salt, with
+/// a few smaller ones above it where the state came about by blocks.
 #[derive(Drop)]
 pub struct Ledger {
     tick: u64,
@@ -128,13 +129,13 @@ impl Ledger {
         spent: &[OutRef],
         made: Vec<Entry, Memory>,
     ) -> Result<Ledger, BlockFault>
-        ensures ok { IfOk result (λ l. l
-            ≡ ledger_after self.now tick block_bytes spent.now made.items) }
+        ensures ok { IfOk result
+            (λ l. l ≡ ledger_after self.now tick block_bytes spent.now made.items) }
         ensures block_bytes { OnOk result (HasBlockBytes block_bytes) }
         ensures there { OnOk result (AreThere self.now.utxo spent.now) }
         ensures free { OnOk result (AreFree (without self.now.utxo spent.now) made.items) }
-        ensures fault { IfErr result (λ e.
-            HasBlockFault e self.now block_bytes spent.now made.items) }
+        ensures fault { IfErr result
+            (λ e. HasBlockFault e self.now block_bytes spent.now made.items) }
     {
         if !is_in_range(block_bytes) {
             return Err(BlockFault::BadBlockBytes);

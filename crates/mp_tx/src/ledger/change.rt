@@ -47,15 +47,19 @@ impl Change {
 
 /// Notes what became of the reference, in the place of what became of it before.
 pub fn note(changes: &mut Changes, reference: OutRef, change: Change) -> Result<(), NoMemory>
-    ensures { OnOk result
-        ((u : Utxo) → changed u changes.new.entries ≡ changed_at (changed u changes.old.entries) reference change) }
+    ensures { OnOk result ((u : Utxo) → changed u changes.new.entries
+        ≡ changed_at (changed u changes.old.entries) reference change) }
 {
     changes.insert(reference, change)?;
     Ok(())
 }
 
 // Notes what became of the reference earlier, unless the changes have it.
-fn note_earlier(changes: &mut Changes, reference: &OutRef, change: &Change) -> Result<(), NoMemory>
+fn note_earlier(
+    changes: &mut Changes,
+    reference: &OutRef,
+    change: &Change,
+) -> Result<(), NoMemory>
     ensures { OnOk result (changes.new.entries
         ≡ with_earlier changes.old.entries (reference.now, change.now)) }
 {

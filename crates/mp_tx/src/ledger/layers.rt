@@ -138,8 +138,8 @@ pub fn last_change<'a>(layers: &'a [Layer], reference: &OutRef) -> Option<&'a Ch
     None
 }
 
-/// How many of the newest layers are to be joined with what lies above them and has this length, so that the layers below are
-/// long enough.
+/// How many of the newest layers are to be joined with what lies above them and has this length, so that the others are long
+/// enough.
 pub fn count_short(layers: &[Layer], above: usize) -> usize
     ensures { result ≤ length layers.now }
 {

@@ -115,7 +115,8 @@ impl Outputs {
         ensures ok { OnOk result (changed self.now changes.new.entries
             ≡ with_outputs (changed self.now changes.old.entries) made.items) }
         ensures free { OnOk result (AreFree (changed self.now changes.old.entries) made.items) }
-        ensures fault { IfErr result (IsOfMade (changed self.now changes.old.entries) made.items) }
+        ensures fault { IfErr result
+            (IsOfMade (changed self.now changes.old.entries) made.items) }
     {
         let mut place = 0;
         for (reference, output) in made {
