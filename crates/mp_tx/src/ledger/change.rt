@@ -55,11 +55,7 @@ pub fn note(changes: &mut Changes, reference: OutRef, change: Change) -> Result<
 }
 
 // Notes what became of the reference earlier, unless the changes have it.
-fn note_earlier(
-    changes: &mut Changes,
-    reference: &OutRef,
-    change: &Change,
-) -> Result<(), NoMemory>
+fn note_earlier(changes: &mut Changes, reference: &OutRef, change: &Change) -> Result<(), NoMemory>
     ensures { OnOk result (changes.new.entries
         ≡ with_earlier changes.old.entries (reference.now, change.now)) }
 {

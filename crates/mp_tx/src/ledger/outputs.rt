@@ -153,8 +153,7 @@ impl Outputs {
         spent: &[OutRef],
         made: Vec<(OutRef, Output), Memory>,
     ) -> Result<Outputs, BlockFault>
-        ensures ok { IfOk result (λ o.
-            o ≡ with_outputs (without self.now spent.now) made.items) }
+        ensures ok { IfOk result (λ o. o ≡ with_outputs (without self.now spent.now) made.items) }
         ensures there { OnOk result (AreThere self.now spent.now) }
         ensures free { OnOk result (AreFree (without self.now spent.now) made.items) }
         ensures fault { IfErr result (IsOfBoth self.now spent.now made.items) }
