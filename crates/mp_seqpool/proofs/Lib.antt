@@ -6,7 +6,7 @@ pub mod Histories
 pub mod Apart
 pub mod Left
 pub mod Forgetting
-pub mod Staying
 pub mod Answering
 pub mod Exits
 pub mod Opening
+pub mod Leavers

@@ -1,6 +1,7 @@
 -- What only the crate's own clauses, views and invariants cite.
 pub mod Command
 pub mod Effect
+pub mod Leaving
 pub mod TicketsById
 pub mod Place
 pub mod Rules

@@ -5,6 +5,7 @@ mod command;
 mod config;
 mod ids;
 pub mod laws;
+mod leaving;
 mod playing;
 mod pool;
 mod prepared;

@@ -11,9 +11,10 @@ ghost use Rattle.mp_seqpool.specs.declared.command.Reply.TheVariants.{Accepted, 
 use crate::command::{Answer, Command, Reply};
 use crate::config::Config;
 use crate::ids::Ids;
+use crate::leaving::take_told;
 use crate::prepared::{Effect, Prepared};
 use crate::refusal::Refusal;
-use crate::tickets_by_id::{TicketsById, forget_others, note, ticket_under};
+use crate::tickets_by_id::{TicketsById, note, ticket_under};
 use indexmap::IndexMap;
 use mp_memory::{Memory, NoMemory};
 use mp_resync::{Kept, ValidatedTx, revalidate};
@@ -125,7 +126,7 @@ impl SeqPool {
     ghost use Rattle.mp_tx.specs.Spelling.{id_of};
     ghost use Rattle.mp_rules.specs.FirstFault.{first_fault};
     ghost use Rattle.mp_rules.specs.Checked.{IsChecked, WasValid};
-    ghost use Rattle.mp_tickets.specs.Tickets.{IsRising, among, shown};
+    ghost use Rattle.mp_tickets.specs.Tickets.{IsRising, shown};
     ghost use Rattle.mp_resync.specs.ValidatedTx as resync;
     ghost use Rattle.mp_resync.specs.ValidatedTx.{ticketed};
     ghost use Rattle.mp_resync.specs.Keep.{transactions, tickets};
@@ -135,7 +136,7 @@ impl SeqPool {
     ghost use Rattle.mp_seqpool.specs.Command.{Submit, Remove, Sync};
     ghost use Rattle.mp_seqpool.specs.Config.{fresh_pool, renewed};
     ghost use Rattle.mp_seqpool.specs.SlowPool.{answer, next, IsRefused, AreSigned, bytes_held, unspent, ticket_of, HasPlace, pool_with, pool_upon};
-    ghost use Rattle.mp_seqpool.specs.Prepared.{Append, Keep, CanAppend, HasRoom, Prepares, IsPrepared, leads_to};
+    ghost use Rattle.mp_seqpool.specs.Prepared.{Append, Keep, CanAppend, HasRoom, Prepares, IsPrepared, left_by, leads_to};
     ghost use Rattle.mp_seqpool.specs.declared.command.Reply.TheVariants.{Accepted};
     ghost use Rattle.mp_seqpool.specs.Inside.Command.{command_of};
 
@@ -338,42 +339,17 @@ impl SeqPool {
         self.changes += 1;
     }
 
-    // Takes nothing out.
-    fn keep_all(&mut self, overlay: Overlay)
+    // Takes out what the reply tells, each by its ticket.
+    fn leave(&mut self, overlay: Overlay, reply: &Reply)
         requires change { self.old.pool.changes < self.old.pool.limit }
-        requires applied { overlay.applied ≡ transactions self.old.pool.items }
-        ensures { self.new.pool
-            ≡ pool_upon self.old.pool overlay.ledger self.old.pool.items }
+        requires applied { overlay.applied
+            ≡ transactions (left_by reply.now self.old.pool.items) }
+        ensures { self.new.pool ≡ pool_upon self.old.pool overlay.ledger
+            (left_by reply.now self.old.pool.items) }
     {
+        self.bytes -= take_told(&mut self.items, &mut self.tickets, reply);
         self.overlay = overlay;
         self.changes += 1;
-    }
-
-    // Takes out all but those under these tickets.
-    fn keep_only(&mut self, overlay: Overlay, kept: &Tickets)
-        requires change { self.old.pool.changes < self.old.pool.limit }
-        requires applied { overlay.applied ≡ transactions (among kept.now self.old.pool.items) }
-        ensures { self.new.pool
-            ≡ pool_upon self.old.pool overlay.ledger (among kept.now self.old.pool.items) }
-    {
-        self.bytes = forget_others(&mut self.tickets, &self.items, kept);
-        self.items.keep_only(kept);
-        self.overlay = overlay;
-        self.changes += 1;
-    }
-
-    // Takes out all but those under these tickets, with no walk over them where all stay.
-    fn keep(&mut self, overlay: Overlay, kept: &Tickets)
-        requires change { self.old.pool.changes < self.old.pool.limit }
-        requires applied { overlay.applied ≡ transactions (among kept.now self.old.pool.items) }
-        ensures { self.new.pool
-            ≡ pool_upon self.old.pool overlay.ledger (among kept.now self.old.pool.items) }
-    {
-        if overlay.len() == self.len() {
-            self.keep_all(overlay);
-        } else {
-            self.keep_only(overlay, kept);
-        }
     }
 
     /// Takes the step, and gives its reply. It takes no memory and can't fail: the step is one that the last `prepare_` call on
@@ -390,7 +366,7 @@ impl SeqPool {
         } = prepared;
         match effect {
             Effect::Append(node, applied) => self.append(node, applied),
-            Effect::Keep(overlay, kept) => self.keep(overlay, &kept),
+            Effect::Keep(overlay, _kept) => self.leave(overlay, &reply),
         }
         reply
     }

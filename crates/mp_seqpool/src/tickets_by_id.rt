@@ -34,32 +34,9 @@ pub fn note(tickets: &mut TicketsById, id: &TxId, ticket: u64)
     }
 }
 
-// Takes the ticket of the id out.
-fn forget(tickets: &mut TicketsById, id: &TxId)
+/// Takes the ticket of the id out.
+pub fn forget(tickets: &mut TicketsById, id: &TxId)
     ensures { Forgets tickets.old.entries id.now tickets.new.entries }
 {
     let _ = tickets.swap_remove(&key_of(id));
-}
-
-/// Takes out the ids of the items that aren't kept, and counts the bytes of those that are.
-pub fn forget_others(
-    tickets: &mut TicketsById,
-    items: &TicketList<ValidatedTx>,
-    kept: &Tickets,
-) -> u64
-    requires noted { AreNoted (ticketed items.now) tickets.old.entries }
-    requires distinct { AllPairs (λ a b. a ≢ b) (map id_of (transactions (ticketed items.now))) }
-    requires most { sum_by size_of (transactions (ticketed items.now)) ≤ 2 ^ 40 }
-    ensures noted { AreNoted (among kept.now (ticketed items.now)) tickets.new.entries }
-    ensures bytes { result ≡ sum_by size_of (transactions (among kept.now (ticketed items.now))) }
-{
-    let mut bytes = 0;
-    for (ticket, item) in items.iter() {
-        if kept.contains(ticket) {
-            bytes += item.tx.size();
-        } else {
-            forget(tickets, item.tx.id());
-        }
-    }
-    bytes
 }
