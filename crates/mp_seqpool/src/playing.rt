@@ -51,7 +51,8 @@ pub fn play<V: Verifier>(
     verifier: &V,
 ) -> Result<Played, NoMemory>
     ensures answers { IfOk result (λ played. played.answers.items
-        ≡ answers (V.accepts verifier.now) (fresh_pool config ledger.now) (commands_of commands.now)) }
+        ≡ answers (V.accepts verifier.now)
+        (fresh_pool config ledger.now) (commands_of commands.now)) }
     ensures pool { IfOk result (λ played. played.pool.pool ≡ pool_after (V.accepts verifier.now)
         (fresh_pool config ledger.now) (commands_of commands.now)) }
     ensures laws { ObeysLaws (V.accepts verifier.now)
