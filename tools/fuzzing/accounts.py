@@ -1,6 +1,6 @@
 """What the answers of a run have to be by docs/FORMATS.md, as far as the answers before them tell, for tools/fuzz."""
 
-from fuzz_edits import list_lines
+from fuzzing.edits import list_lines
 
 TICK_TOP = 2**64 - 1
 # The first words of the answers to each command.

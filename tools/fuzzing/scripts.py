@@ -4,6 +4,8 @@ from dataclasses import dataclass
 
 COIN_NAME = "0320" + "00" * 32 + "0300"
 TICK_TOP = 2**64 - 1
+# The datum that is declared beforehand.
+UNIT = "030000"
 
 
 @dataclass(frozen=True)
@@ -110,7 +112,12 @@ def pick_condition(rng, tick):
 
 
 # By the kind of the value: what makes it of no operands, and the operators with the kinds of their operands.
-LEAVES = {"truth": ("00", "01"), "number": ("50", "51", "57", "60"), "octets": ("06", "0300", "030161", "0320" + "05" * 32), "datum": ("04", "05")}
+LEAVES = {
+    "truth": ("00", "01"),
+    "number": ("50", "51", "57", "60"),
+    "octets": ("06", "0300", "030161", "0320" + "05" * 32),
+    "datum": ("04", "05"),
+}
 OPERATORS = {
     "truth": (
         ("10", "truth"),

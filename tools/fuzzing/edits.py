@@ -156,5 +156,6 @@ def edit(rng, text, other):
 def edit_history(rng, history):
     """Returns a history with a byte, a number or a line otherwise; it may come out as it was."""
     lines = list_lines(history)
-    rng.choice((turn_byte, turn_byte, change_number, change_number, change_word, drop_line, double_line, swap_lines, cut_lines))(rng, lines, [])
+    calls = (turn_byte, turn_byte, change_number, change_number, change_word, drop_line, double_line, swap_lines, cut_lines)
+    rng.choice(calls)(rng, lines, [])
     return b"".join(line + b"\n" for line in lines) if rng.randrange(10) else b"\n".join(lines)

@@ -4,8 +4,8 @@ import collections
 import re
 import subprocess
 
-from fuzz_accounts import FURTHER_READS, find_unfit, is_command, kind_of, list_words
-from fuzz_edits import edit_history, list_lines
+from fuzzing.accounts import FURTHER_READS, find_unfit, is_command, kind_of, list_words, read_setting
+from fuzzing.edits import edit_history, list_lines
 
 MOST_BYTES = 2**24
 TIME_OUT = 120
@@ -172,7 +172,7 @@ class Checker:
             wanted = Outcome(b"".join(answer + b"\n" for _, _, answer in some if answer is not None), b"", 0)
             self.expect(found == wanted, f"without {what} it ends with {show(found)} and not {show(wanted)}", text)
         commands = [(words[0], answer) for _, words, answer in quiet if answer is not None]
-        return b"".join(line + b"\n" for line, _, _ in quiet), commands, read_last(quiet)
+        return b"".join(line + b"\n" for line, _, _ in quiet), commands, read_setting([words for _, words, _ in quiet], b"last", 0)
 
     def check_race_alone(self, rng, text, commands, last):
         """Compares a race of one worker, and its history, with the answers of a run."""
@@ -213,7 +213,8 @@ class Checker:
         asked = collections.Counter(words[0] for words in lines if is_command(words))
         fits = told == workers and accepted + removes + syncs == entries and entries + refused + reads == sum(asked.values())
         fits = fits and reads == asked[b"snapshot"] and removes <= asked[b"remove"] and syncs <= asked[b"sync"]
-        self.expect(fits and last == read_last((None, words, None) for words in lines) + accepted, f"a race tells {show(found)}", text, history)
+        fits = fits and last == read_setting(lines, b"last", 0) + accepted
+        self.expect(fits, f"a race of {workers} tells {show(found)}", text, history)
         self.expect(history.count(b"\n") == 1 + entries, "the history has another number of entries", text, history)
         self.check_audits(rng, text, history)
 
@@ -237,7 +238,3 @@ class Checker:
         edited = edit_history(rng, history)
         found = self.audit(text, edited)
         self.expect(found == self.audit(text, edited), "an audit ends otherwise the second time", text, edited)
-
-
-def read_last(lines):
-    return next((int(words[1]) for _, words, _ in lines if words[:1] == [b"last"]), 0)

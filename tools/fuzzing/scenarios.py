@@ -4,73 +4,13 @@ A Scene keeps what the lines have declared, and about what the pool holds. That 
 compared with it.
 """
 
-from dataclasses import dataclass, field
+from fuzzing.scripts import TICK_TOP, UNIT, Need, make_datum, pick_condition, pick_plain_condition
+from fuzzing.transactions import COIN, FLAWS, QUANTITY_TOP, Output, Tx, draft_valid, spoil
 
-from fuzz_scripts import TICK_TOP, Need, make_datum, pick_condition, pick_plain_condition
-
-COIN = ("coin", "")
-QUANTITY_TOP = 2**63 - 1
 LONGEST_LINE = 4096
-UNIT_BYTES = "030000"
-# What may be wrong with a transaction that is made.
-FLAWS = (
-    "no-inputs interval negative missing reference address datum no-policy unbalanced signature validator policy-script"
-).split()
+
 # Names that are words of the language.
 WORDS = "submit remove sync snapshot after lookup has take forge offer for tx out script data block limit last tick none yes no".split()
-
-
-@dataclass
-class Output:
-    bundle: dict
-    script: str = "yes"
-    datum: str = "unit"
-
-
-@dataclass
-class Tx:
-    """What a line declares; `sound` tells whether it is valid where its references lead to unspent outputs at a good tick."""
-
-    name: str
-    body: tuple
-    inputs: list
-    references: list
-    outputs: list
-    first: int
-    last: int
-    sound: bool
-
-    def made(self):
-        return [f"{self.name}.{place}" for place in range(len(self.outputs))]
-
-
-@dataclass
-class Draft:
-    """The parts of a transaction that is being made."""
-
-    inputs: dict = field(default_factory=dict)
-    references: list = field(default_factory=list)
-    outputs: list = field(default_factory=list)
-    keys: dict = field(default_factory=dict)
-    bad_keys: list = field(default_factory=list)
-    forge: dict = field(default_factory=dict)
-    policies: list = field(default_factory=list)
-    first: int = 0
-    last: int = TICK_TOP
-    sound: bool = True
-
-
-def split_quantity(rng, quantity, count):
-    """Returns so many quantities, none above the greatest, whose sum it is; the count grows where it has to."""
-    parts = []
-    for left in range(count - 1, 0, -1):
-        part = min(rng.choice((0, 1, quantity // (left + 1), quantity)), QUANTITY_TOP)
-        parts.append(part)
-        quantity -= part
-    while quantity > QUANTITY_TOP:
-        parts.append(QUANTITY_TOP)
-        quantity -= QUANTITY_TOP
-    return parts + [quantity]
 
 
 class Scene:
@@ -80,15 +20,13 @@ class Scene:
         self.lines = []
         self.outputs = {}
         self.txs = []
-        self.by_body = {}
         self.scripts = {"yes": Need(), "no": Need(unsure=True)}
         self.policies = ["yes"]
         self.script_bytes = {"01", "00"}
-        self.data = {"unit": UNIT_BYTES}
+        self.data = {"unit": UNIT}
         self.ledger = {}
         self.pool = []
         self.tick = 0
-        self.block = 500_000
         self.given = 0
         self.named = 0
 
@@ -201,8 +139,7 @@ class Scene:
             self.tick = rng.choice((1, 7, 1000, 2**63, TICK_TOP))
             self.say(f"tick {self.tick}")
         if rng.randrange(3) == 0:
-            self.block = rng.choice((1, 90, 150, 300, 1000, 3000, 20_000, 2**39))
-            self.say(f"block {self.block}")
+            self.say(f"block {rng.choice((1, 90, 150, 300, 1000, 3000, 20_000, 2**39))}")
         if rng.randrange(5) == 0:
             self.say(f"limit {rng.choice((1, 2, 3, 5, 10, 20, 2**32))}")
         if rng.randrange(4) == 0:
@@ -232,141 +169,11 @@ class Scene:
             self.outputs[name] = output
             self.ledger[name] = None
 
-    def take_input(self, draft, reference):
-        """Adds an input with a redeemer that its script accepts, and says what else the script asks."""
-        rng = self.rng
-        output = self.outputs[reference]
-        need = self.scripts[output.script]
-        redeemer = "unit"
-        if need.answer is not None:
-            redeemer = self.name_datum("01" + (need.answer % 2**64).to_bytes(8, "big").hex())
-        if need.same:
-            redeemer = output.datum
-            draft.sound &= need.answer is None
-        word = f"in={reference}"
-        if redeemer != "unit" or rng.randrange(12) == 0:
-            word += f":{output.script}/{output.datum}/{redeemer}"
-        draft.inputs[reference] = word
-        if need.keeps:
-            draft.outputs.append(Output({COIN: max(0, output.bundle.get(COIN, 0))}, output.script, output.datum))
-        self.meet(draft, need)
-
-    def meet(self, draft, need):
-        draft.keys.update(dict.fromkeys(need.keys))
-        draft.first, draft.last = max(draft.first, need.first), min(draft.last, need.last)
-        draft.sound &= not need.unsure
-        if need.looks and not draft.references:
-            self.take_reference(draft)
-
-    def take_reference(self, draft):
-        others = [reference for reference in self.find_unspent() if reference not in draft.inputs and reference not in draft.references]
-        if others:
-            draft.references.append(self.rng.choice(others))
-
-    def forge_some(self, draft, total):
-        rng = self.rng
-        policy, token = self.pick_token()
-        held = [held for held, quantity in total.items() if quantity > 0 and held != COIN]
-        if held and rng.randrange(2):
-            policy, token = rng.choice(held)
-            quantity = -rng.choice((1, total[policy, token]))
-        else:
-            quantity = rng.choice((1, 5, 1000, QUANTITY_TOP))
-        draft.forge[policy, token] = quantity
-        total[policy, token] = total.get((policy, token), 0) + quantity
-        draft.policies.append(policy)
-        self.meet(draft, self.scripts[policy])
-
-    def pay(self, draft, total):
-        """Adds outputs that pay what is left of the total."""
-        rng = self.rng
-        for output in draft.outputs:
-            for token, quantity in output.bundle.items():
-                total[token] = total.get(token, 0) - quantity
-        draft.sound &= all(quantity >= 0 for quantity in total.values())
-        count = rng.choice((0, 1, 1, 1, 2, 2, 3, 4))
-        bundles = [{} for _ in range(count)]
-        for token, quantity in total.items():
-            if quantity <= 0:
-                continue
-            for place, part in enumerate(split_quantity(rng, quantity, max(1, rng.randrange(count + 1)))):
-                if place == len(bundles):
-                    bundles.append({})
-                bundles[place][token] = part
-        draft.outputs += [Output(bundle, *self.pick_lock()) for bundle in bundles]
-
-    def draft_valid(self):
-        rng = self.rng
-        draft = Draft()
-        unspent = list(self.find_unspent())
-        sure = [reference for reference in unspent if not self.scripts[self.outputs[reference].script].unsure]
-        some = sure if sure and rng.randrange(8) else unspent
-        for reference in rng.sample(some, min(len(some), rng.choice((1, 1, 1, 1, 2, 3, 12)))):
-            self.take_input(draft, reference)
-        draft.sound &= bool(draft.inputs)
-        draft.references = [reference for reference in draft.references if reference not in draft.inputs]
-        if rng.randrange(6) == 0:
-            self.take_reference(draft)
-        total = {}
-        for reference in draft.inputs:
-            for token, quantity in self.outputs[reference].bundle.items():
-                total[token] = total.get(token, 0) + quantity
-        if rng.randrange(4) == 0:
-            self.forge_some(draft, total)
-        self.pay(draft, total)
-        if rng.randrange(5) == 0:
-            draft.first = max(draft.first, self.tick - rng.randrange(3))
-            draft.last = min(draft.last, self.tick + rng.randrange(4))
-        if rng.randrange(6) == 0:
-            draft.keys[rng.randrange(256)] = None
-        if rng.randrange(150) == 0:
-            draft.keys.update(dict.fromkeys(range(rng.randrange(160, 172))))
-        return draft
-
-    def spoil(self, draft, flaw):
-        rng = self.rng
-        draft.sound = False
-        gone = [reference for reference in self.outputs if reference not in self.find_unspent()] + ["nothing"]
-        missing = rng.choice(gone)
-        if missing == "nothing" or missing in draft.inputs or missing in draft.references:
-            missing = f"{rng.choice(self.txs).name}.{rng.choice((250, 999, 65_535))}" if self.txs else "nothing.0"
-        first = next(iter(draft.inputs), missing)
-        if flaw == "no-inputs":
-            draft.inputs.clear()
-        elif flaw == "interval":
-            draft.first, draft.last = rng.choice(((self.tick + 1, TICK_TOP), (0, self.tick - 1)))
-            if draft.first > TICK_TOP or draft.last < 0:
-                draft.first, draft.last = 3, 4
-        elif flaw == "negative":
-            draft.outputs.append(Output({COIN: -rng.choice((1, QUANTITY_TOP))}))
-        elif flaw == "missing":
-            draft.inputs[missing] = f"in={missing}"
-        elif flaw == "reference":
-            draft.references.append(missing)
-        elif flaw == "address":
-            draft.inputs[first] = f"in={first}:{rng.choice(list(self.scripts))}"
-        elif flaw == "datum" and first in self.outputs:
-            draft.inputs[first] = f"in={first}:{self.outputs[first].script}/{rng.choice(list(self.data))}"
-        elif flaw == "no-policy":
-            token = rng.choice((COIN, self.pick_token()))
-            draft.forge[token] = rng.choice((1, -1))
-        elif flaw == "unbalanced" and draft.outputs:
-            bundle = rng.choice(draft.outputs).bundle
-            token = rng.choice(list(bundle) + [self.pick_token()])
-            bundle[token] = max(0, bundle.get(token, 0) + rng.choice((1, -1)))
-        elif flaw == "signature":
-            draft.bad_keys.append(rng.randrange(256))
-        elif flaw == "validator":
-            draft.inputs = {reference: f"in={reference}" for reference in draft.inputs}
-            draft.keys.clear()
-        elif flaw == "policy-script":
-            draft.policies.append(rng.choice(["no", *self.policies]))
-
     def declare_tx(self, flaw=None):
         """Says the line of a transaction, and returns it, or None where there is no line."""
-        draft = self.draft_valid()
+        draft = draft_valid(self)
         if flaw:
-            self.spoil(draft, flaw)
+            spoil(self, draft, flaw)
         return self.say_tx(draft)
 
     def say_tx(self, draft):
@@ -525,7 +332,8 @@ def make_wide_lines(rng):
     lines.append(f"tx wb in=w{count} " + " ".join(f"ref=w{place}" for place in range(count)) + " out=1")
     outputs = rng.choice((148, 150, 151, 200))
     lines.append(f"tx wc in=wa.0 out={count - outputs} " + " ".join("out=1" for _ in range(outputs)))
-    return lines + ["submit wb", "submit wa", "submit wc", "snapshot", "sync 1 " + " ".join(f"w{place}" for place in range(count)), "snapshot"]
+    sync = "sync 1 " + " ".join(f"w{place}" for place in range(count))
+    return lines + ["submit wb", "submit wa", "submit wc", "snapshot", sync, "snapshot"]
 
 
 def make_scenario(rng):
