@@ -153,9 +153,39 @@ def edit(rng, text, other):
     return join_lines(rng, lines)
 
 
+def change_entry(rng, lines, _):
+    """Has a number of a history's line be a little or quite another one, or stand elsewhere in it."""
+    at = rng.randrange(len(lines))
+    words = lines[at].split(b" ")
+    places = [place for place, word in enumerate(words) if word.isdigit()]
+    if not places:
+        return
+    place = rng.choice(places)
+    how = rng.randrange(4)
+    if how == 0:
+        words.insert(rng.randrange(place, len(words)), words.pop(place))
+    elif how == 1:
+        words[place] = b"%d" % rng.choice(EDGES)
+    else:
+        words[place] = b"%d" % max(0, int(words[place]) + rng.choice((-2, -1, 1, 2)))
+    lines[at] = b" ".join(words)
+
+
+HISTORY_EDITS = (
+    (change_entry, 10),
+    (drop_line, 3),
+    (double_line, 2),
+    (swap_lines, 3),
+    (turn_byte, 4),
+    (change_number, 1),
+    (change_word, 1),
+    (cut_lines, 1),
+)
+
+
 def edit_history(rng, history):
     """Returns a history with a byte, a number or a line otherwise; it may come out as it was."""
     lines = list_lines(history)
-    calls = (turn_byte, turn_byte, change_number, change_number, change_word, drop_line, double_line, swap_lines, cut_lines)
-    rng.choice(calls)(rng, lines, [])
-    return b"".join(line + b"\n" for line in lines) if rng.randrange(10) else b"\n".join(lines)
+    calls, weights = zip(*HISTORY_EDITS)
+    rng.choices(calls, weights)[0](rng, lines, [])
+    return b"".join(line + b"\n" for line in lines) if rng.randrange(30) else b"\n".join(lines)

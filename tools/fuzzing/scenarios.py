@@ -138,12 +138,12 @@ class Scene:
         if rng.randrange(3) == 0:
             self.tick = rng.choice((1, 7, 1000, 2**63, TICK_TOP))
             self.say(f"tick {self.tick}")
-        if rng.randrange(3) == 0:
-            self.say(f"block {rng.choice((1, 90, 150, 300, 1000, 3000, 20_000, 2**39))}")
-        if rng.randrange(5) == 0:
-            self.say(f"limit {rng.choice((1, 2, 3, 5, 10, 20, 2**32))}")
         if rng.randrange(4) == 0:
-            self.given = rng.choice((41, 2**32 - 2, 2**63 - 1, TICK_TOP - rng.randrange(1, 9), TICK_TOP))
+            self.say(f"block {rng.choice((1, 150, 300, 600, 1000, 3000, 20_000, 2**39))}")
+        if rng.randrange(8) == 0:
+            self.say(f"limit {rng.choice((1, 3, 5, 10, 20, 2**32))}")
+        if rng.randrange(6) == 0:
+            self.given = rng.choice((41, 2**32 - 2, 2**63 - 1, TICK_TOP - rng.randrange(9)))
             self.say(f"last {self.given}")
         for _ in range(rng.randrange(1, 25)):
             self.declare_output()
