@@ -7,6 +7,7 @@ mod drops;
 mod handle;
 mod ledger;
 mod output;
+mod picture;
 mod rows;
 mod rules;
 mod script;
@@ -67,7 +68,8 @@ fn try_text(rt: &impl Print, alloc: Global, memory: Memory) -> io::Result<()> {
     let inputs = text::inputs(memory);
     let lengths = text::lengths(memory);
     let outputs = output::outputs(alloc);
-    tell(rt, "text", &[&inputs, &lengths, &outputs])
+    tell(rt, "text", &[&inputs, &lengths, &outputs])?;
+    tell(rt, "picture", &[&picture::growths(memory)])
 }
 
 fn main(rt: HostRuntime) -> Result<()> {

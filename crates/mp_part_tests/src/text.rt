@@ -108,13 +108,19 @@ fn tried(memory: Memory) -> Result<Trialled, TrialFault> {
     under_each_refusal(&memory, &Reading { memory })
 }
 
-/// Inputs that are long.
-pub fn lengths(memory: Memory) -> [Row; 5] {
+/// Inputs that are long, or never end.
+pub fn lengths(memory: Memory) -> [Row; 7] {
     let most = 16_777_216;
     [
         Row::seen("the most bytes", Some([MAX_BYTES as u64]), [most]),
         Row::seen("as many", filled(memory, 16_777_216, 4096), [most, most, 0]),
         Row::seen("one more", filled(memory, 16_777_217, 4096), [0, 0, 2]),
+        Row::seen("no end", filled(memory, usize::MAX, 4096), [0, 0, 2]),
+        Row::seen(
+            "no end, one at once",
+            filled(memory, usize::MAX, 1),
+            [0, 0, 2],
+        ),
         Row::seen(
             "one at once",
             filled(memory, 200_000, 1),

@@ -42,7 +42,11 @@ const FAILURES: [(u64, u64, u64, u64); 17] = [
 
 // How many bytes stand behind a line of 10 bytes and its end, which are `x` and have no line feed, and the fault with its
 // line.
-const LENGTHS: [(usize, u64, u64); 2] = [(16_777_216 - 11, 2, 2), (16_777_217 - 11, 3, 0)];
+const LENGTHS: [(usize, u64, u64); 3] = [
+    (16_777_216 - 11, 2, 2),
+    (16_777_217 - 11, 3, 0),
+    (usize::MAX, 3, 0),
+];
 
 const TEXTS: [(u64, &str); 4] = [
     (1, "fault: no memory"),
@@ -97,12 +101,21 @@ fn see(ended: Ended, written: &[u8], text: &[u8]) -> Seen {
     ]
 }
 
-fn fail_at(rt: &impl Wait, memory: Memory, alloc: Global, read: u64, write: u64) -> Seen {
+// How many bytes a device takes or gives at once, and which of its calls fails.
+type Device = (usize, u64);
+
+fn fail_at(
+    rt: &impl Wait,
+    memory: Memory,
+    alloc: Global,
+    (given, read): Device,
+    (taken, write): Device,
+) -> Seen {
     let mut reader = FailingReader::of(SCENARIO);
-    reader.at_once = 11;
+    reader.at_once = given;
     reader.fails_at = read;
     let mut writer = FailingWriter::new(alloc);
-    writer.at_once = 4;
+    writer.at_once = taken;
     writer.fails_at = write;
     let ended = run_new(rt, memory, &mut reader, &mut writer);
     see(ended, &writer.taken, TEXT)
@@ -111,9 +124,32 @@ fn fail_at(rt: &impl Wait, memory: Memory, alloc: Global, read: u64, write: u64)
 fn held_failures(rt: &(impl Print + Wait), memory: Memory, alloc: Global) -> io::Result<u64> {
     let mut held: u64 = 0;
     for (read, write, fault, written) in FAILURES {
-        let seen = fail_at(rt, memory, alloc, read, write);
+        let seen = fail_at(rt, memory, alloc, (11, read), (4, write));
         let wanted = [fault, 0, written, 1, 0, 0];
         held = held.saturating_add(count(rt, "a failing device", Some(seen), wanted)?);
+    }
+    Ok(held)
+}
+
+// One byte is read and written at once: 48 reads give the scenario and one more finds its end, and 32 writes take the text.
+fn held_reads(rt: &(impl Print + Wait), memory: Memory, alloc: Global) -> io::Result<u64> {
+    let mut held: u64 = 0;
+    for read in 1..=50 {
+        let seen = fail_at(rt, memory, alloc, (1, read), (1, 0));
+        let [fault, written] = if read <= 49 { [3, 0] } else { [0, 32] };
+        let wanted = [fault, 0, written, 1, 0, 0];
+        held = held.saturating_add(count(rt, "reads of one byte", Some(seen), wanted)?);
+    }
+    Ok(held)
+}
+
+fn held_writes(rt: &(impl Print + Wait), memory: Memory, alloc: Global) -> io::Result<u64> {
+    let mut held: u64 = 0;
+    for write in 1..=33u64 {
+        let seen = fail_at(rt, memory, alloc, (1, 0), (1, write));
+        let fault = if write <= 32 { 4 } else { 0 };
+        let wanted = [fault, 0, write - 1, 1, 0, 0];
+        held = held.saturating_add(count(rt, "writes of one byte", Some(seen), wanted)?);
     }
     Ok(held)
 }
@@ -167,11 +203,13 @@ fn held_texts(rt: &impl Print, alloc: Global) -> io::Result<u64> {
 // A scenario and its text.
 #[derive(Clone, Copy)]
 struct Case {
+    name: &'static str,
     scenario: &'static [u8],
     text: &'static [u8],
 }
 
 const SUBMITS: Case = Case {
+    name: "submits at refused growths",
     scenario: b"out g0 100\ntx a in=g0 out=100\nsubmit a\nsubmit a\nsnapshot\n",
     text: b"accepted 1\nrefused already 1\nsnapshot 1 181 1 1:a\n",
 };
@@ -179,6 +217,7 @@ const SUBMITS: Case = Case {
 // The script asks whether the redeemer is the number 5, and the datum is that number. The transaction `a` has 11 bytes more
 // than a plain one for the script, and 6 for the redeemer.
 const SETTINGS_AND_SCRIPTS: Case = Case {
+    name: "settings and scripts at refused growths",
     scenario: b"block 400\nlimit 9\nlast 40\ntick 5\n\
         script five 054002000000000000000520\ndata five 010000000000000005\n\
         out g0 100@five\ntx a in=g0:five/unit/five out=100\n\
@@ -188,6 +227,7 @@ const SETTINGS_AND_SCRIPTS: Case = Case {
 
 // The ledger state that comes has `a.0` and not `g0`: so `a` isn't valid any more, and `b` is.
 const REMOVES_AND_SYNCS: Case = Case {
+    name: "removes and syncs at refused growths",
     scenario: b"out g0 100\nout g1 50\nout g2 7\ntx a in=g0 out=100\ntx b in=a.0 out=100\n\
         tx c in=g1 out=50\ntx d in=g2 out=7\nsubmit a\nsubmit b\nsubmit c\nsubmit d\n\
         sync 1 a.0 g1 g2\nremove c d c\nsnapshot\n",
@@ -197,6 +237,7 @@ const REMOVES_AND_SYNCS: Case = Case {
 
 // Each line that only reads. Upon a ledger state with `a.0` alone `a` isn't valid, and `b` is.
 const QUERIES: Case = Case {
+    name: "queries at refused growths",
     scenario: b"out g0 100\nout g1 50\ntx a in=g0 out=100\ntx b in=a.0 out=100\ntx c in=g1 out=50\n\
         submit a\nsubmit b\nafter 1\nlookup 1\nlookup 3\nhas b\nhas c\ntake 361\nforge 362\n\
         offer 1 1000\noffer 9 1000\noffer 9 1000\nfor 0 a.0\nsnapshot\n",
@@ -204,6 +245,49 @@ const QUERIES: Case = Case {
         take 1 181 1:a\nblock 2 362 1:a 2:b\noffer 1:a\noffer 2:b\noffer\nfor 2:b\n\
         snapshot 2 362 2 1:a 2:b\n",
 };
+
+// Each item of a transaction. A plain one has 181 bytes. Here `a` has an output more, of 107; `b` 17 more for script and redeemer, and
+// 45 for a token with a name of 4; `c` 36 for a reference, 45 and 41 for tokens, 86 for what it forges, 3 for the script and 192 for
+// signatures.
+const ITEMS: Case = Case {
+    name: "items at refused growths",
+    scenario: b"tick 3\nscript five 054002000000000000000520\ndata five 010000000000000005\n\
+        out g0 100\nout g1 100,7*yes.gold@five/unit\ntx a in=g0 out=30 out=70\n\
+        tx b in=g1:five/unit/five out=100,7*yes.gold\n\
+        tx c in=a.1 ref=a.0 out=70,5*yes.gold,2*yes forge=5*yes.gold,2*yes policy=yes \
+        from=3 to=9 sign=2 sign=1\nsubmit a\nsubmit b\nsubmit c\nsnapshot\n",
+    text: b"accepted 1\naccepted 2\naccepted 3\nsnapshot 3 1115 3 1:a 2:b 3:c\n",
+};
+
+// Each rule but that of an output which is taken, and then the other reasons to refuse: `c` has 277 bytes, and two of 181 stand in 600.
+const REFUSALS: Case = Case {
+    name: "refusals at refused growths",
+    scenario: b"block 300\nlimit 3\nout g0 100\nout g1 100\nout gn 5@no\n\
+        data five 010000000000000005\ntx a in=g0 out=100\ntx b in=a.0 out=100\n\
+        tx c in=g1 out=100 sign=5\ntx none out=100\ntx late in=g0 out=100 from=5\n\
+        tx below in=g0 out=-100\ntx looks in=g0 ref=a.0 out=100\ntx other in=g0:no out=100\n\
+        tx data in=g0:yes/five out=100\ntx forges in=g0 out=100,5*yes forge=5*yes\n\
+        tx less in=g0 out=99\ntx more in=g0 out=100,5*yes.gold\n\
+        tx signed in=g0 out=100 badsign=7\ntx locked in=gn out=5\n\
+        tx policy in=g0 out=100,5*no forge=5*no policy=no\n\
+        submit none\nsubmit late\nsubmit below\nsubmit b\nsubmit looks\nsubmit other\n\
+        submit data\nsubmit forges\nsubmit less\nsubmit more\nsubmit signed\nsubmit locked\n\
+        submit policy\nsubmit a\nsubmit a\nsubmit b\nsubmit c\nremove b\nsubmit c\n",
+    text: b"refused no-inputs\nrefused interval\nrefused negative 0\nrefused missing 0\n\
+        refused reference 0\nrefused address 0\nrefused datum 0\nrefused no-policy yes\n\
+        refused unbalanced coin\nrefused unbalanced yes.gold\nrefused signature 7\n\
+        refused validator 0\nrefused policy-script 0\naccepted 1\nrefused already 1\n\
+        accepted 2\nrefused full 277 238\nremoved 2 dropped\nrefused history\n",
+};
+
+const CASES: [Case; 6] = [
+    SUBMITS,
+    SETTINGS_AND_SCRIPTS,
+    REMOVES_AND_SYNCS,
+    QUERIES,
+    ITEMS,
+    REFUSALS,
+];
 
 // Any of these scenarios makes at least so many growths.
 const FEWEST: u64 = 10;
@@ -262,9 +346,9 @@ fn see_case(rt: &impl Wait, memory: Memory, alloc: Global, case: Case) -> Option
 
 fn held_refusals(rt: &(impl Print + Wait), memory: Memory, alloc: Global) -> io::Result<u64> {
     let mut held: u64 = 0;
-    for case in [SUBMITS, SETTINGS_AND_SCRIPTS, REMOVES_AND_SYNCS, QUERIES] {
+    for case in CASES {
         let seen = see_case(rt, memory, alloc, case);
-        held = held.saturating_add(count(rt, "a run", seen, [0, 1, 1, 0, 0, 0])?);
+        held = held.saturating_add(count(rt, case.name, seen, [0, 1, 1, 0, 0, 0])?);
     }
     Ok(held)
 }
@@ -272,11 +356,15 @@ fn held_refusals(rt: &(impl Print + Wait), memory: Memory, alloc: Global) -> io:
 /// How many cases hold.
 pub fn held(rt: &(impl Print + Wait), memory: Memory, alloc: Global) -> io::Result<u64> {
     let failures = held_failures(rt, memory, alloc)?;
+    let reads = held_reads(rt, memory, alloc)?;
+    let writes = held_writes(rt, memory, alloc)?;
     let lengths = held_lengths(rt, memory, alloc)?;
     let texts = held_texts(rt, alloc)?;
     let refusals = held_refusals(rt, memory, alloc)?;
     Ok(
         failures
+            .saturating_add(reads)
+            .saturating_add(writes)
             .saturating_add(lengths)
             .saturating_add(texts)
             .saturating_add(refusals),

@@ -5,7 +5,7 @@ ghost use Rattle.mp_driver.specs.Verifier.{is_key_and_id};
 
 use mp_history::{NewName, PoolName};
 use mp_memory::Memory;
-use mp_race::{Fault, Gate, History, Raced, Report, Scenario, audit_history, race};
+use mp_race::{Fault, Gate, History, Raced, Report, Scenario, audit_history, race, text_if_legal};
 use std::marker::Brand;
 use std::sync::Wait;
 use std::thread::Threads;
@@ -38,9 +38,12 @@ fn numbers_of(report: &Report) -> Numbers {
     ]
 }
 
-// What is told of the race, written and read again, is as many entries and refusals as are counted, and its audit finds no fault.
-fn retell(memory: Memory, scenario: &Scenario, raced: &Raced) -> Result<bool, Fault> {
-    let text = raced.history.to_text(memory)?;
+// What is told of the race, written and read again, is as many entries and refusals as are counted, and its audits find no fault.
+fn retell(memory: Memory, scenario: &Scenario, raced: &Raced) -> Result<bool, Fault>
+    requires some { 1 ≤ raced.now.history.workers }
+    requires most { raced.now.history.workers ≤ 64 }
+{
+    let text = text_if_legal(memory, scenario, &raced.history)?;
     let history = History::parse(memory, &text)?;
     audit_history(memory, scenario, &history)?;
     Ok(
@@ -50,7 +53,10 @@ fn retell(memory: Memory, scenario: &Scenario, raced: &Raced) -> Result<bool, Fa
 }
 
 // The numbers of the report, where what is told of the race fits it.
-fn numbers_told(memory: Memory, scenario: &Scenario, raced: &Raced) -> Ended {
+fn numbers_told(memory: Memory, scenario: &Scenario, raced: &Raced) -> Ended
+    requires some { 1 ≤ raced.now.history.workers }
+    requires most { raced.now.history.workers ≤ 64 }
+{
     match retell(memory, scenario, raced) {
         Ok(true) => Ok(numbers_of(&raced.report)),
         Ok(false) => Err((0, 1)),

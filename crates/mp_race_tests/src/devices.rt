@@ -3,7 +3,7 @@ use crate::cases::number_of;
 use mp_history::AuditFault;
 use mp_memory::Memory;
 use mp_race::{Fault, Report, Scenario};
-use mp_testing::{FailingReader, FailingWriter};
+use mp_testing::{FailingReader, FailingWriter, MAX_GROWTHS};
 use std::alloc::Global;
 use std::io;
 
@@ -39,9 +39,9 @@ const TEXTS: [(Fault, u64, &str); 8] = [
 ];
 
 // The fault's number where the read with this number fails, or 0.
-fn read_failing(memory: Memory, fails_at: u64) -> u64 {
+fn read_failing(memory: Memory, at_once: usize, fails_at: u64) -> u64 {
     let mut reader = FailingReader::of(SCENARIO);
-    reader.at_once = 11;
+    reader.at_once = at_once;
     reader.fails_at = fails_at;
     match Scenario::read(memory, &mut reader) {
         Ok(_) => 0,
@@ -49,23 +49,30 @@ fn read_failing(memory: Memory, fails_at: u64) -> u64 {
     }
 }
 
-// The fault's number where the write with this number fails, or 0, and whether a front of the text is written, which is all where
-// there is no fault.
-fn write_failing(memory: Memory, alloc: Global, fails_at: u64) -> (u64, bool) {
+// The fault's number where the write with this number fails, or 0, and how many bytes of the text are written.
+fn write_failing(
+    memory: Memory,
+    alloc: Global,
+    at_once: usize,
+    fails_at: u64,
+) -> (u64, Option<u64>) {
     let mut writer = FailingWriter::new(alloc);
-    writer.at_once = 8;
+    writer.at_once = at_once;
     writer.fails_at = fails_at;
-    match REPORT.write(memory, &mut writer) {
-        Ok(()) => (0, writer.taken.as_slice() == TEXT),
-        Err(fault) => (fault.number(), TEXT.starts_with(&writer.taken)),
-    }
+    let fault = match REPORT.write(memory, &mut writer) {
+        Ok(()) => 0,
+        Err(fault) => fault.number(),
+    };
+    let is_front = TEXT.starts_with(&writer.taken);
+    (fault, is_front.then_some(writer.taken.len() as u64))
 }
 
-// Five reads give the scenario, a sixth finds its end, and there is no seventh.
-fn held_reads(rt: &impl Print, memory: Memory) -> io::Result<u64> {
+// Each read fails but the one behind the last, which doesn't come.
+fn held_reads(rt: &impl Print, memory: Memory, at_once: usize, last: u64) -> io::Result<u64> {
     let mut held: u64 = 0;
-    for (fails_at, wanted) in [(1, 3), (5, 3), (6, 3), (7, 0)] {
-        let seen = read_failing(memory, fails_at);
+    for fails_at in 1..=last + 1 {
+        let seen = read_failing(memory, at_once, fails_at);
+        let wanted = if fails_at <= last { 3 } else { 0 };
         if seen == wanted {
             held = held.saturating_add(1);
         } else {
@@ -75,18 +82,57 @@ fn held_reads(rt: &impl Print, memory: Memory) -> io::Result<u64> {
     Ok(held)
 }
 
-// Eleven writes give the report.
-fn held_writes(rt: &impl Print, memory: Memory, alloc: Global) -> io::Result<u64> {
+// How many bytes are written where the write with this number fails: those of the writes before it, or all.
+fn written_before(at_once: usize, fails_at: u64) -> u64 {
+    let before = fails_at.wrapping_sub(1).saturating_mul(at_once as u64);
+    before.min(TEXT.len() as u64)
+}
+
+// Each write fails but the one behind the last, which doesn't come.
+fn held_writes(
+    rt: &impl Print,
+    memory: Memory,
+    alloc: Global,
+    at_once: usize,
+    last: u64,
+) -> io::Result<u64> {
     let mut held: u64 = 0;
-    for (fails_at, wanted) in [(0, 0), (1, 4), (2, 4), (11, 4), (12, 0)] {
-        let seen = write_failing(memory, alloc, fails_at);
-        if seen == (wanted, true) {
+    for fails_at in 1..=last + 1 {
+        let seen = write_failing(memory, alloc, at_once, fails_at);
+        let fault = if fails_at <= last { 4 } else { 0 };
+        let wanted = (fault, Some(written_before(at_once, fails_at)));
+        if seen == wanted {
             held = held.saturating_add(1);
         } else {
-            println!(rt; "write {fails_at}: found {seen:?}, wanted {wanted}")?;
+            println!(rt; "write {fails_at}: found {seen:?}, wanted {wanted:?}")?;
         }
     }
     Ok(held)
+}
+
+// Whether nothing is written where this growth is refused, and then all is; or none, where there is no such growth.
+fn stands_refused(memory: Memory, alloc: Global, nth: u64) -> Option<bool> {
+    memory.refuse(nth);
+    let (fault, written) = write_failing(memory, alloc, 4096, 0);
+    let is_met = !memory.waits();
+    memory.refuse(0);
+    let all = write_failing(memory, alloc, 4096, 0);
+    let stands = fault == 1 && written == Some(0) && all == (0, Some(TEXT.len() as u64));
+    is_met.then_some(stands)
+}
+
+// How many growths the writing of a report makes, each of which is refused once.
+fn held_growths(rt: &impl Print, memory: Memory, alloc: Global) -> io::Result<u64> {
+    for nth in 1..MAX_GROWTHS {
+        match stands_refused(memory, alloc, nth) {
+            Some(true) => {}
+            None if nth > 1 => return Ok(1),
+            _ => break,
+        }
+    }
+    let what = "a report at refused growths";
+    println!(rt; "{what}: one isn't told, or something is written")?;
+    Ok(0)
 }
 
 fn is_text(alloc: Global, fault: &Fault, text: &str) -> bool {
@@ -108,10 +154,20 @@ fn held_texts(rt: &impl Print, alloc: Global) -> io::Result<u64> {
     Ok(held)
 }
 
-/// How many cases hold.
+/// How many cases hold. The scenario has 48 bytes, whose end is found by a read of its own, and the report 85.
 pub fn held(rt: &impl Print, memory: Memory, alloc: Global) -> io::Result<u64> {
-    let reads = held_reads(rt, memory)?;
-    let writes = held_writes(rt, memory, alloc)?;
+    let reads = held_reads(rt, memory, 11, 6)?;
+    let bytes_read = held_reads(rt, memory, 1, 49)?;
+    let writes = held_writes(rt, memory, alloc, 8, 11)?;
+    let bytes_written = held_writes(rt, memory, alloc, 1, 85)?;
+    let growths = held_growths(rt, memory, alloc)?;
     let texts = held_texts(rt, alloc)?;
-    Ok(reads.saturating_add(writes).saturating_add(texts))
+    Ok(
+        reads
+            .saturating_add(bytes_read)
+            .saturating_add(writes)
+            .saturating_add(bytes_written)
+            .saturating_add(growths)
+            .saturating_add(texts),
+    )
 }

@@ -147,7 +147,8 @@ fn held_refusals<R: Print + Threads + Wait + Sync>(rt: &R, memory: Memory) -> io
         if are_many {
             held = held.saturating_add(1);
         } else {
-            println!(rt; "refused growths: found {growths:?}")?;
+            let what = "a race at refused growths";
+            println!(rt; "{what}: found {growths:?}")?;
         }
     }
     Ok(held)
