@@ -16,11 +16,13 @@ use chapter::Chapter;
 use dice::Dice;
 use fault::Fault;
 use mp_memory::Memory;
+use mp_mempool::Receipt;
+use mp_tx::Ledger;
 use player::{Counts, Part};
-use pools::{Stage, Tale, play_pools};
+use pools::{Plan, Tale, play_pools};
 use std::io;
 use std::rt::Clock;
-use std::sync::Wait;
+use std::sync::{Mutex, Wait};
 use std::thread::Threads;
 use std::time::{Duration, Instant};
 use table::{OUTPUTS, Table, count_owners, fill};
@@ -28,13 +30,34 @@ use table::{OUTPUTS, Table, count_owners, fill};
 // In how many turns callers play on a pool at most.
 const TURNS: u64 = 40;
 
+/// What all rounds begin with, and what came of all commands.
+#[derive(Drop)]
+pub struct Trial {
+    memory: Memory,
+    ledger: Ledger,
+    table: Table,
+    counts: Counts,
+    callers: u32,
+    receipts: Mutex<Vec<Receipt, Memory>>,
+}
+
 // What all rounds have come to so far, and the seed of the next one.
 #[derive(Clone, Copy)]
 struct Totals {
     seed: u64,
     rounds: u64,
-    entries: usize,
+    entries: u64,
     last: u64,
+}
+
+impl Totals {
+    fn note(&mut self, tale: &Tale) {
+        for chapter in [&tale.before, &tale.after] {
+            self.entries = self.entries.saturating_add(chapter.closing.number);
+            self.last = chapter.closing.last;
+        }
+        self.rounds = self.rounds.saturating_add(1);
+    }
 }
 
 fn part_of(dice: &mut Dice) -> Part {
@@ -47,55 +70,54 @@ fn part_of(dice: &mut Dice) -> Part {
 // Plays both pools, and goes through their histories.
 fn play_both<R: Clock + Threads + Wait + Sync>(
     rt: &R,
-    stage: &Stage<'_>,
+    trial: &Trial,
+    plan: Plan,
     totals: &mut Totals,
 ) -> Result<(), Fault> {
     let mut tale = Tale {
-        before: Chapter::empty(stage.memory),
-        after: Chapter::empty(stage.memory),
+        before: Chapter::empty(trial.memory),
+        after: Chapter::empty(trial.memory),
     };
-    play_pools(rt, stage, &mut tale)?;
-    let entries = audit_tale(rt, stage, &tale)?;
-    totals.entries = totals.entries.saturating_add(entries);
-    totals.last = tale.after.closing.last;
+    play_pools(rt, trial, plan, &mut tale)?;
+    audit_tale(trial, plan, &tale)?;
+    totals.note(&tale);
     Ok(())
 }
 
 // Plays a round. Nothing of its pools may be left then.
 fn play_round<R: Clock + Threads + Wait + Sync>(
     rt: &R,
-    stage: &Stage<'_>,
+    trial: &Trial,
+    plan: Plan,
     totals: &mut Totals,
 ) -> Result<(), Fault> {
-    let owners = count_owners(&stage.table.changes);
-    play_both(rt, stage, totals)?;
-    if stage.counts.has_strange() {
+    let owners = count_owners(&trial.table.changes);
+    play_both(rt, trial, plan, totals)?;
+    if trial.counts.has_strange() {
         return Err(Fault::Strange);
     }
-    if count_owners(&stage.table.changes) != owners {
+    if count_owners(&trial.table.changes) != owners {
         return Err(Fault::Held);
     }
-    totals.rounds = totals.rounds.saturating_add(1);
     Ok(())
 }
 
 // Plays rounds until the time is over, one at least. Their tickets go on.
 fn play_rounds<R: Clock + Threads + Wait + Sync>(
     rt: &R,
-    stage: &Stage<'_>,
+    trial: &Trial,
     length: Duration,
     totals: &mut Totals,
 ) -> Result<(), Fault> {
     let start = Instant::now(rt).ok().ok_or(Fault::Wanting)?;
     for _ in 0..u64::MAX {
         let mut dice = Dice::of(totals.seed);
-        let stage = Stage {
+        let plan = Plan {
             last: totals.last,
             before: part_of(&mut dice),
             after: part_of(&mut dice),
-            ..*stage
         };
-        play_round(rt, &stage, totals)?;
+        play_round(rt, trial, plan, totals)?;
         if start.elapsed(rt).ok().ok_or(Fault::Wanting)? >= length {
             break;
         }
@@ -124,7 +146,7 @@ fn print(rt: &impl Print, counts: [u64; 5], totals: &Totals) -> io::Result<()> {
 
 fn run_upon<R: Clock + Threads + Wait + Print + Sync>(
     rt: &R,
-    stage: &Stage<'_>,
+    trial: &Trial,
     seed: u64,
     length: Duration,
 ) -> Result<()> {
@@ -134,11 +156,11 @@ fn run_upon<R: Clock + Threads + Wait + Print + Sync>(
         entries: 0,
         last: 0,
     };
-    let ended = play_rounds(rt, stage, length, &mut totals);
-    print(rt, stage.counts.read(), &totals)?;
+    let ended = play_rounds(rt, trial, length, &mut totals);
+    print(rt, trial.counts.read(), &totals)?;
     match ended {
         Ok(()) => Ok(()),
-        Err(fault) => bail!("the next round, of the seed {}: {fault}", totals.seed),
+        Err(fault) => bail!("the round of the seed {}: {fault}", totals.seed),
     }
 }
 
@@ -157,17 +179,13 @@ pub fn run<R: Clock + Threads + Wait + Print + Sync>(
     };
     fill(memory, &mut table).context("no memory")?;
     let ledger = ledger_by(memory, 1, MANY, OUTPUTS).context("no memory")?;
-    let counts = Counts::none();
-    let part = Part { seed, turns: 0 };
-    let stage = Stage {
+    let trial = Trial {
         memory,
-        ledger: &ledger,
-        table: &table,
-        counts: &counts,
+        ledger,
+        table,
+        counts: Counts::none(),
         callers: u32::try_from(callers).unwrap_or(0),
-        last: 0,
-        before: part,
-        after: part,
+        receipts: Mutex::new(Vec::new(memory)),
     };
-    run_upon(rt, &stage, seed, Duration::from_secs(seconds))
+    run_upon(rt, &trial, seed, Duration::from_secs(seconds))
 }

@@ -1,13 +1,13 @@
 //! Audits of the history of a pool, and of its successor's.
 
-use super::chapter::{View, are_rising};
+use super::Trial;
+use super::chapter::{Chapter, View, are_rising};
 use super::fault::Fault;
-use super::pools::{LIMIT, Stage, Tale};
+use super::pools::{LIMIT, Plan, Tale};
 use crate::verifier::Spinning;
 use mp_history::{AuditFault, Entry, audit};
 use mp_seqpool::{Config, SeqPool};
 use mp_tx::TxId;
-use std::sync::Wait;
 
 // Does what one entry asks, where the entry is right.
 fn replay(
@@ -54,28 +54,28 @@ fn is_as_seen(pool: &SeqPool, view: &View) -> bool {
     pool.changes() == view.number && pool.last_ticket() == view.last && has(pool, &view.held)
 }
 
-// Whether the tickets of a history rise, and it leads to what was seen last.
-fn look_at(pool: &SeqPool, entries: &[Entry], last: u64, end: &View) -> Result<(), Fault> {
-    if !are_rising(entries, last) {
+// Whether the tickets of a history rise from this one on, and it leads to what was seen last.
+fn look_at(pool: &SeqPool, chapter: &Chapter, last: u64) -> Result<(), Fault> {
+    if !are_rising(&chapter.entries, last) {
         return Err(Fault::OldTicket);
     }
-    if !is_as_seen(pool, end) {
+    if !is_as_seen(pool, &chapter.closing) {
         return Err(Fault::OtherEnd);
     }
     Ok(())
 }
 
 // The pool after the history, if that is legal.
-fn audit_first(stage: &Stage<'_>, entries: &[Entry]) -> Result<SeqPool, Fault> {
+fn audit_first(trial: &Trial, plan: Plan, entries: &[Entry]) -> Result<SeqPool, Fault> {
     let config = Config {
         limit: LIMIT,
-        last: stage.last,
+        last: plan.last,
     };
     match audit(
-        stage.memory,
+        trial.memory,
         config,
-        stage.ledger,
-        stage.callers,
+        &trial.ledger,
+        trial.callers,
         entries,
         &Spinning::new(),
     ) {
@@ -93,32 +93,21 @@ fn audit_second(pool: &mut SeqPool, callers: u32, entries: &[Entry]) -> Result<(
     }
 }
 
-// Goes through both histories.
-fn audit_both(
-    stage: &Stage<'_>,
-    tale: &Tale,
-    before: &[Entry],
-    after: &[Entry],
-) -> Result<(), Fault> {
-    let mut pool = audit_first(stage, before)?;
-    look_at(&pool, before, stage.last, &tale.before.closing)?;
-    audit_second(&mut pool, stage.callers, after)?;
-    look_at(&pool, after, tale.before.closing.last, &tale.after.closing)
+// Whether each pool opened as it had to: the first one empty, and its successor with what it had.
+fn opened_well(plan: Plan, tale: &Tale) -> bool {
+    let end = &tale.before.closing;
+    tale.before.opening.opens_with(plan.last, &[])
+        && tale.after.opening.opens_with(end.last, &end.held)
 }
 
-/// Goes through both histories, and compares where each begins and ends with what was seen there. Gives how many entries they have.
-pub fn audit_tale(rt: &impl Wait, stage: &Stage<'_>, tale: &Tale) -> Result<usize, Fault> {
-    if !tale.after.opening.has_same(&tale.before.closing) {
+/// Goes through both histories, and compares where each begins and ends with what was seen there.
+pub fn audit_tale(trial: &Trial, plan: Plan, tale: &Tale) -> Result<(), Fault> {
+    if !opened_well(plan, tale) {
         return Err(Fault::OtherOpening);
     }
-    let before = tale
-        .before
-        .take_history(rt, stage.memory)
-        .ok_or(Fault::LostEntry)?;
-    let after = tale
-        .after
-        .take_history(rt, stage.memory)
-        .ok_or(Fault::LostEntry)?;
-    audit_both(stage, tale, &before, &after)?;
-    Ok(before.len().saturating_add(after.len()))
+    let Tale { before, after } = tale;
+    let mut pool = audit_first(trial, plan, &before.entries)?;
+    look_at(&pool, before, plan.last)?;
+    audit_second(&mut pool, trial.callers, &after.entries)?;
+    look_at(&pool, after, before.closing.last)
 }

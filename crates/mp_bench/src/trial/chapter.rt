@@ -35,9 +35,9 @@ impl View {
         Some(())
     }
 
-    /// Whether both say the same of tickets and transactions.
-    pub fn has_same(&self, other: &View) -> bool {
-        self.last == other.last && self.held.as_slice() == other.held.as_slice()
+    /// Whether a pool opens so that takes these over, and this last ticket.
+    pub fn opens_with(&self, last: u64, held: &[(u64, TxId)]) -> bool {
+        self.number == 0 && self.last == last && self.held.as_slice() == held
     }
 }
 
@@ -45,7 +45,7 @@ impl View {
 #[derive(Drop)]
 pub struct Chapter {
     pub opening: View,
-    pub receipts: Mutex<Vec<Receipt, Memory>>,
+    pub entries: Vec<Entry, Memory>,
     pub closing: View,
 }
 
@@ -59,6 +59,18 @@ fn are_whole(receipts: &[Receipt], count: u64) -> bool {
     receipts.len() as u64 == count
 }
 
+// All receipts in the order of their places. None is left.
+fn gather(
+    rt: &impl Wait,
+    memory: Memory,
+    all: &Mutex<Vec<Receipt, Memory>>,
+) -> Option<Vec<Receipt, Memory>> {
+    let mut receipts = Vec::new(memory);
+    receipts.append(&mut all.lock(rt)).ok()?;
+    receipts.sort_by_key(|receipt| receipt.place).ok()?;
+    Some(receipts)
+}
+
 // The entries in the order of their places.
 fn entries_of(memory: Memory, receipts: Vec<Receipt, Memory>) -> Option<Vec<Entry, Memory>> {
     let mut entries = Vec::new(memory);
@@ -66,6 +78,20 @@ fn entries_of(memory: Memory, receipts: Vec<Receipt, Memory>) -> Option<Vec<Entr
         entries.push(receipt.entry).ok()?;
     }
     Some(entries)
+}
+
+/// The history of so many entries, if these receipts tell of all.
+pub fn take_history(
+    rt: &impl Wait,
+    memory: Memory,
+    receipts: &Mutex<Vec<Receipt, Memory>>,
+    count: u64,
+) -> Option<Vec<Entry, Memory>> {
+    let receipts = gather(rt, memory, receipts)?;
+    if !are_whole(&receipts, count) {
+        return None;
+    }
+    entries_of(memory, receipts)
 }
 
 /// Whether the tickets that were given rise from this one on.
@@ -87,25 +113,8 @@ impl Chapter {
     pub fn empty(memory: Memory) -> Chapter {
         Chapter {
             opening: View::empty(memory),
-            receipts: Mutex::new(Vec::new(memory)),
+            entries: Vec::new(memory),
             closing: View::empty(memory),
         }
-    }
-
-    // All receipts in the order of their places.
-    fn gather(&self, rt: &impl Wait, memory: Memory) -> Option<Vec<Receipt, Memory>> {
-        let mut receipts = Vec::new(memory);
-        receipts.append(&mut self.receipts.lock(rt)).ok()?;
-        receipts.sort_by_key(|receipt| receipt.place).ok()?;
-        Some(receipts)
-    }
-
-    /// The history, if the receipts tell of all that the last version stands after.
-    pub fn take_history(&self, rt: &impl Wait, memory: Memory) -> Option<Vec<Entry, Memory>> {
-        let receipts = self.gather(rt, memory)?;
-        if !are_whole(&receipts, self.closing.number) {
-            return None;
-        }
-        entries_of(memory, receipts)
     }
 }

@@ -19,7 +19,7 @@ pub enum Fault {
     Strange,
     #[error("a caller doesn't see the last version")]
     OldVersion,
-    #[error("the successor opened with something else than what the pool had")]
+    #[error("a pool opened with something else than what the pool before it had")]
     OtherOpening,
     #[error("the receipts don't tell of the whole history")]
     LostEntry,

@@ -3,16 +3,15 @@ ghost use Rattle.std.specs.Prelude.{◌≡◌};
 ghost use Rattle.mp_history.specs.PoolName.{head_of};
 ghost use Rattle.mp_bench.specs.Signatures.{any};
 
-use super::chapter::{Chapter, View};
+use super::Trial;
+use super::chapter::{Chapter, View, take_history};
 use super::fault::Fault;
-use super::player::{Counts, Part, Scene, play};
-use super::table::Table;
+use super::player::{Part, Scene, play};
 use crate::shared::count_seen;
 use crate::verifier::Spinning;
 use mp_history::{NewName, PoolName};
 use mp_memory::Memory;
 use mp_mempool::{Config, Mempool, Pass};
-use mp_tx::Ledger;
 use std::marker::Brand;
 use std::rt::Clock;
 use std::sync::{Mutex, Wait};
@@ -25,15 +24,10 @@ pub const LIMIT: u64 = 10_000;
 // All callers together ask for some ten thousand commands a second.
 const MILLIS_FOR_EACH: u64 = 2;
 
-/// With what the pools of a round are played.
+/// What is done in a round.
 #[derive(Clone, Copy)]
-pub struct Stage<'a> {
-    pub memory: Memory,
-    pub ledger: &'a Ledger,
-    pub table: &'a Table,
-    pub counts: &'a Counts,
-    pub callers: u32,
-    /// The ticket before the first one of the round.
+pub struct Plan {
+    /// The ticket before the first one.
     pub last: u64,
     /// What is done on the pool, and what on its successor.
     pub before: Part,
@@ -48,22 +42,21 @@ pub struct Tale {
 }
 
 // All callers play to the end.
-fn play_all<'a, N: PoolName + Send + Sync, R: Clock + Threads + Wait + Sync>(
+fn play_all<N: PoolName + Send + Sync, R: Clock + Threads + Wait + Sync>(
     rt: &R,
-    stage: &Stage<'a>,
+    trial: &Trial,
     part: Part,
-    mempool: &'a Mempool<N, Spinning>,
+    mempool: &Mempool<N, Spinning>,
     passes: &mut [Pass<N>],
-    chapter: &'a Chapter,
 ) -> Option<()> {
     let post = Mutex::new(passes.first()?.shown().share().ok()?);
-    let millis = MILLIS_FOR_EACH.saturating_mul(u64::from(stage.callers));
+    let millis = MILLIS_FOR_EACH.saturating_mul(u64::from(trial.callers));
     let scene = Scene {
-        memory: stage.memory,
+        memory: trial.memory,
         mempool,
-        table: stage.table,
-        counts: stage.counts,
-        receipts: &chapter.receipts,
+        table: &trial.table,
+        counts: &trial.counts,
+        receipts: &trial.receipts,
         post: &post,
         part,
         start: Instant::now(rt).ok()?,
@@ -104,31 +97,46 @@ fn see<N: PoolName>(
 // Plays the part, and takes down with what the pool opens and ends.
 fn play_part<N: PoolName + Send + Sync, R: Clock + Threads + Wait + Sync>(
     rt: &R,
-    stage: &Stage<'_>,
+    trial: &Trial,
     part: Part,
     mempool: &Mempool<N, Spinning>,
     passes: &mut [Pass<N>],
     chapter: &mut Chapter,
 ) -> Option<()> {
     see(mempool, passes, &mut chapter.opening)?;
-    play_all(rt, stage, part, mempool, passes, chapter)?;
+    play_all(rt, trial, part, mempool, passes)?;
     see(mempool, passes, &mut chapter.closing)
 }
 
 // What comes of a pool whose passes are these.
 fn live<N: PoolName + Send + Sync, R: Clock + Threads + Wait + Sync>(
     rt: &R,
-    stage: &Stage<'_>,
+    trial: &Trial,
     part: Part,
     mempool: &Mempool<N, Spinning>,
     passes: &mut [Pass<N>],
     chapter: &mut Chapter,
 ) -> Result<(), Fault> {
-    if !are_fresh(passes, stage.callers) {
+    if !are_fresh(passes, trial.callers) {
         return Err(Fault::StalePasses);
     }
-    play_part(rt, stage, part, mempool, passes, chapter).ok_or(Fault::Wanting)?;
-    if count_seen(mempool, passes, chapter.closing.number) != u64::from(stage.callers) {
+    play_part(rt, trial, part, mempool, passes, chapter).ok_or(Fault::Wanting)?;
+    let history = take_history(rt, trial.memory, &trial.receipts, chapter.closing.number);
+    chapter.entries = history.ok_or(Fault::LostEntry)?;
+    Ok(())
+}
+
+// What comes of the successor, whose last version all callers see in the end.
+fn live_on<M: PoolName + Send + Sync, R: Clock + Threads + Wait + Sync>(
+    rt: &R,
+    trial: &Trial,
+    part: Part,
+    heir: &Mempool<M, Spinning>,
+    passes: &mut [Pass<M>],
+    chapter: &mut Chapter,
+) -> Result<(), Fault> {
+    live(rt, trial, part, heir, passes, chapter)?;
+    if count_seen(heir, passes, chapter.closing.number) != u64::from(trial.callers) {
         return Err(Fault::OldVersion);
     }
     Ok(())
@@ -137,48 +145,57 @@ fn live<N: PoolName + Send + Sync, R: Clock + Threads + Wait + Sync>(
 // What comes of the pool, and of a successor of this name.
 fn go_on<N: PoolName + Send + Sync, M: PoolName + Send + Sync, R: Clock + Threads + Wait + Sync>(
     rt: &R,
-    stage: &Stage<'_>,
+    trial: &Trial,
+    plan: Plan,
     mempool: Mempool<N, Spinning>,
     mut passes: Vec<Pass<N>, Memory>,
     name: NewName,
     tale: &mut Tale,
 ) -> Result<(), Fault>
     requires name { name ≡ head_of M.book M.root }
-    requires callers { stage.now.callers ≡ M.callers }
+    requires callers { trial.now.callers ≡ M.callers }
     requires accepts { M.accepts ≡ N.accepts }
 {
     live(
         rt,
-        stage,
-        stage.before,
+        trial,
+        plan.before,
         &mempool,
         &mut passes,
         &mut tale.before,
     )?;
-    match mempool.into_successor::<M>(rt, stage.memory, name, passes, LIMIT, stage.callers) {
-        Ok((heir, mut passes)) => live(rt, stage, stage.after, &heir, &mut passes, &mut tale.after),
+    match mempool.into_successor::<M>(rt, trial.memory, name, passes, LIMIT, trial.callers) {
+        Ok((heir, mut passes)) => live_on(
+            rt,
+            trial,
+            plan.after,
+            &heir,
+            &mut passes,
+            &mut tale.after,
+        ),
         Err((refusal, _, _)) => Err(Fault::NotHandedOver(refusal.number())),
     }
 }
 
 fn open<N: PoolName + Send + Sync, R: Clock + Threads + Wait + Sync>(
     rt: &R,
-    stage: &Stage<'_>,
+    trial: &Trial,
+    plan: Plan,
     name: NewName,
     tale: &mut Tale,
 ) -> Result<(), Fault>
     requires name { name ≡ head_of N.book N.root }
-    requires callers { stage.now.callers ≡ N.callers }
+    requires callers { trial.now.callers ≡ N.callers }
     requires accepts { N.accepts ≡ any }
 {
     let config = Config {
         limit: LIMIT,
-        last: stage.last,
+        last: plan.last,
     };
-    let (memory, ledger, callers) = (stage.memory, stage.ledger, stage.callers);
+    let (memory, ledger, callers) = (trial.memory, &trial.ledger, trial.callers);
     match Mempool::<N, _>::open(rt, memory, name, config, ledger, Spinning::new(), callers) {
         Ok((mempool, passes)) => {
-            go_on::<N, Brand, _>(rt, stage, mempool, passes, NewName::new(), tale)
+            go_on::<N, Brand, _>(rt, trial, plan, mempool, passes, NewName::new(), tale)
         }
         Err(_) => Err(Fault::NotOpened),
     }
@@ -187,8 +204,9 @@ fn open<N: PoolName + Send + Sync, R: Clock + Threads + Wait + Sync>(
 /// Plays a pool, has it hand over, and plays its successor.
 pub fn play_pools<R: Clock + Threads + Wait + Sync>(
     rt: &R,
-    stage: &Stage<'_>,
+    trial: &Trial,
+    plan: Plan,
     tale: &mut Tale,
 ) -> Result<(), Fault> {
-    open::<Brand, _>(rt, stage, NewName::new(), tale)
+    open::<Brand, _>(rt, trial, plan, NewName::new(), tale)
 }
