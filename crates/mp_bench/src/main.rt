@@ -1,10 +1,9 @@
 //! Measures what the product's parts cost. Without an argument it prints the names of its measurements. With `run` it takes
 //! each, or the one that is named after it, at several sizes, and prints a line for it: its name, the size, and the nanoseconds
-//! that one step took. With `mempool-hour` it tries a mempool for an hour, and with `mempool-successors` mempools that hand over.
+//! that one step took. With `mempool-hour` it tries mempools that hand over for an hour.
 #![tactic(auto)]
 
 mod blocks;
-mod handing;
 mod measurement;
 mod round;
 mod samples;
@@ -18,7 +17,7 @@ use measurement::{Asked, MEASUREMENTS, Measurement, SIZES, STEPS, Work};
 use mp_memory::Memory;
 use mp_tx::Ledger;
 use round::{Round, Tally, encoded, fill, opening, time_alone};
-use shared::{Job, time_shared};
+use shared::time_shared;
 use std::env::{self, Env};
 use std::rt::Clock;
 use std::sync::Wait;
@@ -36,7 +35,7 @@ fn time<R: Clock + Threads + Wait + Sync>(
     match round.work {
         Work::Decode | Work::Check | Work::Pool => time_alone(rt, memory, round),
         Work::Blocks => time_blocks(rt, memory, round.ledger, round.size),
-        _ => time_shared(rt, memory, round.ledger, 1_001, Job::Steps(round)),
+        _ => time_shared(rt, memory, round.ledger, 1_001, round),
     }
 }
 
@@ -166,15 +165,9 @@ fn obey<R: Clock + Threads + Wait + Print + Sync>(
             ensure!(taken > 0, "no measurement has this name");
         }
         "mempool-hour" => {
-            let is_well = trial::run(rt, memory, numbers(words, [1, 3_600, 64])?)?;
-            ensure!(is_well, "what must not come has come");
+            trial::run(rt, memory, numbers(words, [1, 3_600, 64])?)?;
         }
-        "mempool-successors" => {
-            let [limit, times, _] = numbers(words, [100_000, 10, 0])?;
-            let last = handing::run(rt, memory, limit, times).context("a handover went wrong")?;
-            println!(rt; "last ticket {last}")?;
-        }
-        _ => bail!("expected nothing, 'run', 'mempool-hour' or 'mempool-successors'"),
+        _ => bail!("expected nothing, 'run' or 'mempool-hour'"),
     }
     Ok(())
 }

@@ -5,7 +5,6 @@ ghost use Rattle.mp_bench.specs.Signatures.{any};
 
 use crate::measurement::{STEPS, Work};
 use crate::round::{Round, Tally};
-use crate::trial::{Trial, play_all};
 use crate::verifier::Spinning;
 use mp_history::{NewName, PoolName};
 use mp_memory::Memory;
@@ -19,20 +18,11 @@ use std::sync::atomic::Ordering;
 use std::thread::{Threads, for_each_mut};
 use std::time::{Duration, Instant};
 
-/// As many changes as there may be, and the first ticket is 1.
-pub const CONFIG: Config = Config {
+// As many changes as there may be, and the first ticket is 1.
+const CONFIG: Config = Config {
     limit: 1 << 32,
     last: 0,
 };
-
-/// What is done with a new mempool.
-#[derive(Clone, Copy)]
-pub enum Job<'a> {
-    /// The steps of a round.
-    Steps(&'a Round<'a>),
-    /// A long trial.
-    Trial(&'a Trial),
-}
 
 /// The command is asked of the mempool.
 pub fn ask<N: PoolName>(
@@ -89,8 +79,8 @@ fn look_until<N: PoolName>(mempool: &Mempool<N, Spinning>, pass: &mut Pass<N>, t
     tally.looks.store(looks, Ordering::SeqCst);
 }
 
-// How many of these callers see so many entries.
-fn count_seen<N: PoolName>(
+/// How many of these callers see so many entries.
+pub fn count_seen<N: PoolName>(
     mempool: &Mempool<N, Spinning>,
     passes: &mut [Pass<N>],
     entries: u64,
@@ -204,28 +194,25 @@ fn open<N: PoolName + Send + Sync, R: Clock + Threads + Wait + Sync>(
     name: NewName,
     ledger: &Ledger,
     callers: u32,
-    job: Job<'_>,
+    round: &Round<'_>,
 ) -> Option<Duration>
     requires name { name ≡ head_of N.book N.root }
     requires callers { callers ≡ N.callers }
     requires accepts { N.accepts ≡ any }
 {
     match Mempool::<N, _>::open(rt, memory, name, CONFIG, ledger, Spinning::new(), callers) {
-        Ok((mempool, mut passes)) => match job {
-            Job::Steps(round) => time_steps(rt, &mempool, &mut passes, round),
-            Job::Trial(trial) => play_all(rt, memory, &mempool, &mut passes, trial),
-        },
+        Ok((mempool, mut passes)) => time_steps(rt, &mempool, &mut passes, round),
         Err(_) => None,
     }
 }
 
-/// What the job takes on a new mempool of so many callers.
+/// What the steps of the round take on a new mempool of so many callers.
 pub fn time_shared<R: Clock + Threads + Wait + Sync>(
     rt: &R,
     memory: Memory,
     ledger: &Ledger,
     callers: u32,
-    job: Job<'_>,
+    round: &Round<'_>,
 ) -> Option<Duration> {
-    open::<Brand, _>(rt, memory, NewName::new(), ledger, callers, job)
+    open::<Brand, _>(rt, memory, NewName::new(), ledger, callers, round)
 }

@@ -1,159 +1,191 @@
-//! A long trial of the mempool: callers ask for whatever the dice say, each in a thread of its own, and in the end an audit goes
-//! through all that was entered.
+//! A long trial of mempools that hand over. In each round callers ask a mempool for whatever the dice say, each in a thread of its
+//! own; it hands over to a successor, upon which they go on; and audits go through both histories.
 
+mod audits;
+mod chapter;
 mod dice;
+mod fault;
 mod player;
+mod pools;
 mod table;
 
 use crate::samples::{MANY, ledger_by};
-use crate::shared::{CONFIG, Job, time_shared};
-use crate::verifier::Spinning;
-use mp_history::{Entry, PoolName, audit};
+use anyhow::{Context, Result, bail};
+use audits::audit_tale;
+use chapter::Chapter;
+use dice::Dice;
+use fault::Fault;
 use mp_memory::Memory;
-use mp_mempool::{Mempool, Pass, Receipt};
+use mp_mempool::Receipt;
 use mp_tx::Ledger;
-use player::{Counts, Scene, play};
+use player::{Counts, Part};
+use pools::{Plan, Tale, play_pools};
 use std::io;
 use std::rt::Clock;
 use std::sync::{Mutex, Wait};
-use std::thread::{Threads, for_each_mut};
+use std::thread::Threads;
 use std::time::{Duration, Instant};
-use table::{OUTPUTS, Table, fill};
+use table::{OUTPUTS, Table, count_owners, fill};
 
-// All callers together ask for some thousand commands a second: each change keeps a version.
-const MILLIS_FOR_EACH: u64 = 20;
+// In how many turns callers play on a pool at most.
+const TURNS: u64 = 40;
 
-/// How a trial goes, and what comes of it.
+/// What all rounds begin with, and what came of all commands.
 #[derive(Drop)]
 pub struct Trial {
-    seed: u64,
-    seconds: u64,
-    callers: u32,
+    memory: Memory,
+    ledger: Ledger,
     table: Table,
     counts: Counts,
+    callers: u32,
     receipts: Mutex<Vec<Receipt, Memory>>,
 }
 
-/// All callers play to the end.
-pub fn play_all<N: PoolName + Send + Sync, R: Clock + Threads + Wait + Sync>(
-    rt: &R,
-    memory: Memory,
-    mempool: &Mempool<N, Spinning>,
-    passes: &mut [Pass<N>],
-    trial: &Trial,
-) -> Option<Duration> {
-    let post = Mutex::new(passes.first()?.shown().share().ok()?);
-    let scene = Scene {
-        memory,
-        mempool,
-        table: &trial.table,
-        counts: &trial.counts,
-        receipts: &trial.receipts,
-        post: &post,
-        seed: trial.seed,
-        start: Instant::now(rt).ok()?,
-        length: Duration::from_secs(trial.seconds),
-        period: Duration::from_millis(MILLIS_FOR_EACH.saturating_mul(u64::from(trial.callers))),
-    };
-    let threads = passes.len().max(1);
-    for_each_mut(
-        rt,
-        passes,
-        threads,
-        &|caller, pass: &mut Pass<N>| play(rt, &scene, caller, pass),
-    );
-    Some(scene.length)
+// What all rounds have come to so far, and the seed of the next one.
+#[derive(Clone, Copy)]
+struct Totals {
+    seed: u64,
+    rounds: u64,
+    entries: u64,
+    last: u64,
 }
 
-// The entries in the order of their places.
-fn history_of(memory: Memory, receipts: Vec<Receipt, Memory>) -> Option<Vec<Entry, Memory>> {
-    let mut entries = Vec::new(memory);
-    for receipt in receipts {
-        entries.push(receipt.entry).ok()?;
-    }
-    Some(entries)
-}
-
-// All receipts in the order of their places.
-fn gather(rt: &impl Wait, memory: Memory, trial: &Trial) -> Option<Vec<Receipt, Memory>> {
-    let mut receipts = Vec::new(memory);
-    receipts.append(&mut trial.receipts.lock(rt)).ok()?;
-    receipts.sort_by_key(|receipt| receipt.place).ok()?;
-    Some(receipts)
-}
-
-// How many entries the history has and its last ticket, if it is legal.
-fn audit_all(
-    memory: Memory,
-    ledger: &Ledger,
-    callers: u32,
-    entries: &[Entry],
-) -> Option<(usize, u64)> {
-    let config = mp_seqpool::Config {
-        limit: CONFIG.limit,
-        last: CONFIG.last,
-    };
-    match audit(memory, config, ledger, callers, entries, &Spinning::new()) {
-        Ok(pool) => Some((entries.len(), pool.last_ticket())),
-        Err(_) => None,
+impl Totals {
+    fn note(&mut self, tale: &Tale) {
+        for chapter in [&tale.before, &tale.after] {
+            self.entries = self.entries.saturating_add(chapter.closing.number);
+            self.last = chapter.closing.last;
+        }
+        self.rounds = self.rounds.saturating_add(1);
     }
 }
 
-// Plays the trial upon the ledger state, and then audits its history.
-fn play_out<R: Clock + Threads + Wait + Sync>(
-    rt: &R,
-    memory: Memory,
-    ledger: &Ledger,
-    trial: &Trial,
-) -> Option<(usize, u64)> {
-    time_shared(rt, memory, ledger, trial.callers, Job::Trial(trial))?;
-    let entries = history_of(memory, gather(rt, memory, trial)?)?;
-    audit_all(memory, ledger, trial.callers, &entries)
+fn part_of(dice: &mut Dice) -> Part {
+    Part {
+        seed: dice.roll(),
+        turns: (dice.roll() % TURNS) as u32 + 1,
+    }
 }
 
-// Prints what came of the commands and of the audit. Gives whether that is as it should be.
-fn print(rt: &impl Print, counts: [u64; 5], audited: Option<(usize, u64)>) -> io::Result<bool> {
+// Plays both pools, and goes through their histories.
+fn play_both<R: Clock + Threads + Wait + Sync>(
+    rt: &R,
+    trial: &Trial,
+    plan: Plan,
+    totals: &mut Totals,
+) -> Result<(), Fault> {
+    let mut tale = Tale {
+        before: Chapter::empty(trial.memory),
+        after: Chapter::empty(trial.memory),
+    };
+    play_pools(rt, trial, plan, &mut tale)?;
+    audit_tale(trial, plan, &tale)?;
+    totals.note(&tale);
+    Ok(())
+}
+
+// Plays a round. Nothing of its pools may be left then.
+fn play_round<R: Clock + Threads + Wait + Sync>(
+    rt: &R,
+    trial: &Trial,
+    plan: Plan,
+    totals: &mut Totals,
+) -> Result<(), Fault> {
+    let owners = count_owners(&trial.table.changes);
+    play_both(rt, trial, plan, totals)?;
+    if trial.counts.has_strange() {
+        return Err(Fault::Strange);
+    }
+    if count_owners(&trial.table.changes) != owners {
+        return Err(Fault::Held);
+    }
+    Ok(())
+}
+
+// Plays rounds until the time is over, one at least. Their tickets go on.
+fn play_rounds<R: Clock + Threads + Wait + Sync>(
+    rt: &R,
+    trial: &Trial,
+    length: Duration,
+    totals: &mut Totals,
+) -> Result<(), Fault> {
+    let start = Instant::now(rt).ok().ok_or(Fault::Wanting)?;
+    for _ in 0..u64::MAX {
+        let mut dice = Dice::of(totals.seed);
+        let plan = Plan {
+            last: totals.last,
+            before: part_of(&mut dice),
+            after: part_of(&mut dice),
+        };
+        play_round(rt, trial, plan, totals)?;
+        if start.elapsed(rt).ok().ok_or(Fault::Wanting)? >= length {
+            break;
+        }
+        totals.seed = dice.roll();
+    }
+    Ok(())
+}
+
+// Prints what came of the commands and of the audits.
+fn print(rt: &impl Print, counts: [u64; 5], totals: &Totals) -> io::Result<()> {
     let [entered, refused, snapshots, learned, strange] = counts;
     println!(rt;
         "{entered} entered, {refused} refused, {snapshots} snapshots, {learned} learned, {strange} strange"
     )?;
-    match audited {
-        Some((count, last)) => {
-            println!(rt; "the history is legal: {count} entries, last ticket {last}")?;
-            Ok(strange == 0)
-        }
-        None => Ok(false),
+    let Totals {
+        rounds,
+        entries,
+        last,
+        ..
+    } = *totals;
+    println!(rt;
+        "{rounds} rounds, {} histories are legal: {entries} entries, last ticket {last}",
+        rounds.saturating_mul(2)
+    )
+}
+
+fn run_upon<R: Clock + Threads + Wait + Print + Sync>(
+    rt: &R,
+    trial: &Trial,
+    seed: u64,
+    length: Duration,
+) -> Result<()> {
+    let mut totals = Totals {
+        seed,
+        rounds: 0,
+        entries: 0,
+        last: 0,
+    };
+    let ended = play_rounds(rt, trial, length, &mut totals);
+    print(rt, trial.counts.read(), &totals)?;
+    match ended {
+        Ok(()) => Ok(()),
+        Err(fault) => bail!("the round of the seed {}: {fault}", totals.seed),
     }
 }
 
-// What the audit comes to.
-fn try_upon<R: Clock + Threads + Wait + Sync>(
-    rt: &R,
-    memory: Memory,
-    trial: &mut Trial,
-) -> Option<(usize, u64)> {
-    fill(memory, &mut trial.table)?;
-    let ledger = ledger_by(memory, 1, MANY, OUTPUTS)?;
-    play_out(rt, memory, &ledger, trial)
-}
-
-/// Goes through a trial, and prints what came of it and whether the history is legal. Gives whether all is as it should be.
+/// Plays rounds until so many seconds are over, and prints what came of them.
+///
+/// # Errors
+/// What went wrong, and the seed of its round, at once. A trial of that seed begins with the same commands.
 pub fn run<R: Clock + Threads + Wait + Print + Sync>(
     rt: &R,
     memory: Memory,
     [seed, seconds, callers]: [u64; 3],
-) -> io::Result<bool> {
-    let mut trial = Trial {
-        seed,
-        seconds,
-        callers: u32::try_from(callers).unwrap_or(0),
-        table: Table {
-            changes: Vec::new(memory),
-            syncs: Vec::new(memory),
-        },
+) -> Result<()> {
+    let mut table = Table {
+        changes: Vec::new(memory),
+        syncs: Vec::new(memory),
+    };
+    fill(memory, &mut table).context("no memory")?;
+    let ledger = ledger_by(memory, 1, MANY, OUTPUTS).context("no memory")?;
+    let trial = Trial {
+        memory,
+        ledger,
+        table,
         counts: Counts::none(),
+        callers: u32::try_from(callers).unwrap_or(0),
         receipts: Mutex::new(Vec::new(memory)),
     };
-    let audited = try_upon(rt, memory, &mut trial);
-    print(rt, trial.counts.read(), audited)
+    run_upon(rt, &trial, seed, Duration::from_secs(seconds))
 }

@@ -64,6 +64,11 @@ impl Counts {
         count.fetch_add(1, Ordering::SeqCst);
     }
 
+    /// Whether anything came that must not come.
+    pub fn has_strange(&self) -> bool {
+        self.strange.load(Ordering::SeqCst) != 0
+    }
+
     /// How many were entered and refused, how many snapshots were taken, how often a caller was told of a version, and how much
     /// came that must not come.
     pub fn read(&self) -> [u64; 5] {
@@ -77,6 +82,13 @@ impl Counts {
     }
 }
 
+/// What callers do on one pool: from which seed, and in how many turns.
+#[derive(Clone, Copy)]
+pub struct Part {
+    pub seed: u64,
+    pub turns: u32,
+}
+
 /// What callers share, and when they play.
 #[derive(Drop)]
 pub struct Scene<'a, N: PoolName> {
@@ -87,10 +99,9 @@ pub struct Scene<'a, N: PoolName> {
     pub receipts: &'a Mutex<Vec<Receipt, Memory>>,
     /// Where callers tell one another what they have seen.
     pub post: &'a Mutex<Shown<N>>,
-    pub seed: u64,
-    /// How long they play, and when each of their turns begins: at the same times for all.
+    pub part: Part,
+    /// When each of their turns begins: at the same times for all.
     pub start: Instant,
-    pub length: Duration,
     pub period: Duration,
 }
 
@@ -123,8 +134,8 @@ fn change<N: PoolName>(
     }
 }
 
-// Whether it has at least so many entries, its tickets rise, and its numbers are those of its transactions.
-fn is_sound<N: PoolName>(snapshot: &Snapshot<'_, N>, least: u64) -> bool {
+// Whether it has at least so many entries and given tickets, its tickets rise, and its numbers are those of its transactions.
+fn is_sound<N: PoolName>(snapshot: &Snapshot<'_, N>, least: u64, last: u64) -> bool {
     let mut count: usize = 0;
     let mut bytes: u64 = 0;
     let mut ticket: u64 = 0;
@@ -136,12 +147,14 @@ fn is_sound<N: PoolName>(snapshot: &Snapshot<'_, N>, least: u64) -> bool {
         count = count.saturating_add(1);
         bytes = bytes.saturating_add(item.tx.size());
     }
-    snapshot.number() >= least && snapshot.last() >= ticket && snapshot.size() == (count, bytes)
+    snapshot.number() >= least
+        && snapshot.last() >= ticket.max(last)
+        && snapshot.size() == (count, bytes)
 }
 
 fn look<N: PoolName>(mempool: &Mempool<N, Spinning>, pass: &mut Pass<N>) -> Came {
-    let least = pass.front().len();
-    if is_sound(&mempool.reader().snapshot(pass), least) {
+    let (least, last) = (pass.front().len(), pass.snapshot().last());
+    if is_sound(&mempool.reader().snapshot(pass), least, last) {
         Came::Snapshot
     } else {
         Came::Strange
@@ -202,20 +215,15 @@ fn step<N: PoolName>(rt: &impl Wait, scene: &Scene<'_, N>, dice: &mut Dice, pass
     scene.counts.add(came);
 }
 
-// Waits until the turn begins. False where the time is over, or the clock can't be read.
-fn wait_for<N: PoolName>(rt: &impl Clock, scene: &Scene<'_, N>, turn: u32) -> bool {
+// Waits until the turn begins.
+fn wait_for<N: PoolName>(rt: &impl Clock, scene: &Scene<'_, N>, turn: u32) {
     let due = scene.period.saturating_mul(turn);
-    let Ok(now) = scene.start.elapsed(rt) else {
-        return false;
-    };
-    if due.max(now) >= scene.length {
-        return false;
+    if let Ok(now) = scene.start.elapsed(rt) {
+        thread::sleep(rt, due.saturating_sub(now));
     }
-    thread::sleep(rt, due.saturating_sub(now));
-    true
 }
 
-/// What the caller of this number does until the time is over.
+/// What the caller of this number does in all turns.
 pub fn play<N: PoolName>(
     rt: &(impl Clock + Wait),
     scene: &Scene<'_, N>,
@@ -224,14 +232,13 @@ pub fn play<N: PoolName>(
 ) {
     let mut dice = Dice::of(
         scene
+            .part
             .seed
             .wrapping_add(caller as u64)
             .wrapping_mul(0x9e37_79b9_7f4a_7c15),
     );
-    for turn in 0..u32::MAX {
-        if !wait_for(rt, scene, turn) {
-            break;
-        }
+    for turn in 0..scene.part.turns {
+        wait_for(rt, scene, turn);
         for _ in 0..BURST {
             step(rt, scene, &mut dice, pass);
         }

@@ -2,8 +2,10 @@
 
 use crate::samples::{Commands, MANY, push_remove, push_submit, push_sync, reference};
 use mp_memory::Memory;
+use mp_seqpool::Command;
 use mp_testing::output_of;
 use mp_tx::TxId;
+use std::sync::Arc;
 
 /// How many outputs the ledger states have at most.
 pub const OUTPUTS: u64 = 128;
@@ -49,4 +51,15 @@ fn push_syncs(memory: Memory, commands: &mut Commands) -> Option<()> {
 pub fn fill(memory: Memory, table: &mut Table) -> Option<()> {
     push_changes(memory, &mut table.changes)?;
     push_syncs(memory, &mut table.syncs)
+}
+
+/// How many owners the transactions have, all together.
+pub fn count_owners(commands: &[Command]) -> usize {
+    let mut owners: usize = 0;
+    for command in commands {
+        if let Command::Submit(tx) = command {
+            owners = owners.saturating_add(Arc::strong_count(tx));
+        }
+    }
+    owners
 }

@@ -1,6 +1,0 @@
-use Rattle.mp_bench.specs.Signatures.{any}
-use Rattle.mp_bench.proofs.handing.open.Given as goal
-
--- the name that was just made, for one caller
-abbrev pub ghosts-go_on : goal.ghosts-go_on
-ghosts-go_on g a = record { book = a.name.book; root = a.name.key; callers = 1; accepts = any }

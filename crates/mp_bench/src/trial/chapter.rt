@@ -1,0 +1,120 @@
+//! What came of one pool.
+
+use mp_history::{Entry, PoolName};
+use mp_memory::Memory;
+use mp_mempool::Receipt;
+use mp_seqpool::Reply;
+use mp_tx::TxId;
+use mp_versions::Snapshot;
+use std::sync::{Mutex, Wait};
+
+/// What a snapshot says: how many entries there were, the last ticket, and the transactions under their tickets.
+#[derive(Drop)]
+pub struct View {
+    pub number: u64,
+    pub last: u64,
+    pub held: Vec<(u64, TxId), Memory>,
+}
+
+impl View {
+    fn empty(memory: Memory) -> View {
+        View {
+            number: 0,
+            last: 0,
+            held: Vec::new(memory),
+        }
+    }
+
+    /// Takes down what the snapshot says.
+    pub fn take_down<N: PoolName>(&mut self, snapshot: &Snapshot<'_, N>) -> Option<()> {
+        self.number = snapshot.number();
+        self.last = snapshot.last();
+        for item in snapshot.txs() {
+            self.held.push((item.ticket, *item.tx.id())).ok()?;
+        }
+        Some(())
+    }
+
+    /// Whether a pool opens so that takes these over, and this last ticket.
+    pub fn opens_with(&self, last: u64, held: &[(u64, TxId)]) -> bool {
+        self.number == 0 && self.last == last && self.held.as_slice() == held
+    }
+}
+
+/// What came of one pool: with what it opened, what was entered, and what it had in the end.
+#[derive(Drop)]
+pub struct Chapter {
+    pub opening: View,
+    pub entries: Vec<Entry, Memory>,
+    pub closing: View,
+}
+
+// Whether the places are 0, 1, .., so many.
+fn are_whole(receipts: &[Receipt], count: u64) -> bool {
+    for (place, receipt) in receipts.iter().enumerate() {
+        if receipt.place != place as u64 {
+            return false;
+        }
+    }
+    receipts.len() as u64 == count
+}
+
+// All receipts in the order of their places. None is left.
+fn gather(
+    rt: &impl Wait,
+    memory: Memory,
+    all: &Mutex<Vec<Receipt, Memory>>,
+) -> Option<Vec<Receipt, Memory>> {
+    let mut receipts = Vec::new(memory);
+    receipts.append(&mut all.lock(rt)).ok()?;
+    receipts.sort_by_key(|receipt| receipt.place).ok()?;
+    Some(receipts)
+}
+
+// The entries in the order of their places.
+fn entries_of(memory: Memory, receipts: Vec<Receipt, Memory>) -> Option<Vec<Entry, Memory>> {
+    let mut entries = Vec::new(memory);
+    for receipt in receipts {
+        entries.push(receipt.entry).ok()?;
+    }
+    Some(entries)
+}
+
+/// The history of so many entries, if these receipts tell of all.
+pub fn take_history(
+    rt: &impl Wait,
+    memory: Memory,
+    receipts: &Mutex<Vec<Receipt, Memory>>,
+    count: u64,
+) -> Option<Vec<Entry, Memory>> {
+    let receipts = gather(rt, memory, receipts)?;
+    if !are_whole(&receipts, count) {
+        return None;
+    }
+    entries_of(memory, receipts)
+}
+
+/// Whether the tickets that were given rise from this one on.
+pub fn are_rising(entries: &[Entry], last: u64) -> bool {
+    let mut last = last;
+    for entry in entries {
+        if let Reply::Accepted { ticket } = &entry.reply {
+            if *ticket <= last {
+                return false;
+            }
+            last = *ticket;
+        }
+    }
+    true
+}
+
+impl Chapter {
+    /// Nothing yet.
+    pub fn empty(memory: Memory) -> Chapter {
+        Chapter {
+            opening: View::empty(memory),
+            entries: Vec::new(memory),
+            closing: View::empty(memory),
+        }
+    }
+}

@@ -1,0 +1,212 @@
+//! A pool and its successor, and what their callers do.
+ghost use Rattle.std.specs.Prelude.{◌≡◌};
+ghost use Rattle.mp_history.specs.PoolName.{head_of};
+ghost use Rattle.mp_bench.specs.Signatures.{any};
+
+use super::Trial;
+use super::chapter::{Chapter, View, take_history};
+use super::fault::Fault;
+use super::player::{Part, Scene, play};
+use crate::shared::count_seen;
+use crate::verifier::Spinning;
+use mp_history::{NewName, PoolName};
+use mp_memory::Memory;
+use mp_mempool::{Config, Mempool, Pass};
+use std::marker::Brand;
+use std::rt::Clock;
+use std::sync::{Mutex, Wait};
+use std::thread::{Threads, for_each_mut};
+use std::time::{Duration, Instant};
+
+/// How many changes each pool makes at most. Half of the pools come to that.
+pub const LIMIT: u64 = 10_000;
+
+// All callers together ask for some ten thousand commands a second.
+const MILLIS_FOR_EACH: u64 = 2;
+
+/// What is done in a round.
+#[derive(Clone, Copy)]
+pub struct Plan {
+    /// The ticket before the first one.
+    pub last: u64,
+    /// What is done on the pool, and what on its successor.
+    pub before: Part,
+    pub after: Part,
+}
+
+/// What came of a pool and of its successor.
+#[derive(Drop)]
+pub struct Tale {
+    pub before: Chapter,
+    pub after: Chapter,
+}
+
+// All callers play to the end.
+fn play_all<N: PoolName + Send + Sync, R: Clock + Threads + Wait + Sync>(
+    rt: &R,
+    trial: &Trial,
+    part: Part,
+    mempool: &Mempool<N, Spinning>,
+    passes: &mut [Pass<N>],
+) -> Option<()> {
+    let post = Mutex::new(passes.first()?.shown().share().ok()?);
+    let millis = MILLIS_FOR_EACH.saturating_mul(u64::from(trial.callers));
+    let scene = Scene {
+        memory: trial.memory,
+        mempool,
+        table: &trial.table,
+        counts: &trial.counts,
+        receipts: &trial.receipts,
+        post: &post,
+        part,
+        start: Instant::now(rt).ok()?,
+        period: Duration::from_millis(millis),
+    };
+    let threads = passes.len().max(1);
+    for_each_mut(
+        rt,
+        passes,
+        threads,
+        &|caller, pass: &mut Pass<N>| play(rt, &scene, caller, pass),
+    );
+    Some(())
+}
+
+fn is_fresh<N: PoolName>(place: usize, pass: &Pass<N>) -> bool {
+    pass.caller() as usize == place && pass.last().is_none() && pass.front().len() == 0
+}
+
+// Whether these are the passes of so many callers before any change.
+fn are_fresh<N: PoolName>(passes: &[Pass<N>], callers: u32) -> bool {
+    for (place, pass) in passes.iter().enumerate() {
+        if !is_fresh(place, pass) {
+            return false;
+        }
+    }
+    passes.len() == callers as usize
+}
+
+fn see<N: PoolName>(
+    mempool: &Mempool<N, Spinning>,
+    passes: &mut [Pass<N>],
+    view: &mut View,
+) -> Option<()> {
+    view.take_down(&mempool.reader().snapshot(passes.first_mut()?))
+}
+
+// Plays the part, and takes down with what the pool opens and ends.
+fn play_part<N: PoolName + Send + Sync, R: Clock + Threads + Wait + Sync>(
+    rt: &R,
+    trial: &Trial,
+    part: Part,
+    mempool: &Mempool<N, Spinning>,
+    passes: &mut [Pass<N>],
+    chapter: &mut Chapter,
+) -> Option<()> {
+    see(mempool, passes, &mut chapter.opening)?;
+    play_all(rt, trial, part, mempool, passes)?;
+    see(mempool, passes, &mut chapter.closing)
+}
+
+// What comes of a pool whose passes are these.
+fn live<N: PoolName + Send + Sync, R: Clock + Threads + Wait + Sync>(
+    rt: &R,
+    trial: &Trial,
+    part: Part,
+    mempool: &Mempool<N, Spinning>,
+    passes: &mut [Pass<N>],
+    chapter: &mut Chapter,
+) -> Result<(), Fault> {
+    if !are_fresh(passes, trial.callers) {
+        return Err(Fault::StalePasses);
+    }
+    play_part(rt, trial, part, mempool, passes, chapter).ok_or(Fault::Wanting)?;
+    let history = take_history(rt, trial.memory, &trial.receipts, chapter.closing.number);
+    chapter.entries = history.ok_or(Fault::LostEntry)?;
+    Ok(())
+}
+
+// What comes of the successor, whose last version all callers see in the end.
+fn live_on<M: PoolName + Send + Sync, R: Clock + Threads + Wait + Sync>(
+    rt: &R,
+    trial: &Trial,
+    part: Part,
+    heir: &Mempool<M, Spinning>,
+    passes: &mut [Pass<M>],
+    chapter: &mut Chapter,
+) -> Result<(), Fault> {
+    live(rt, trial, part, heir, passes, chapter)?;
+    if count_seen(heir, passes, chapter.closing.number) != u64::from(trial.callers) {
+        return Err(Fault::OldVersion);
+    }
+    Ok(())
+}
+
+// What comes of the pool, and of a successor of this name.
+fn go_on<N: PoolName + Send + Sync, M: PoolName + Send + Sync, R: Clock + Threads + Wait + Sync>(
+    rt: &R,
+    trial: &Trial,
+    plan: Plan,
+    mempool: Mempool<N, Spinning>,
+    mut passes: Vec<Pass<N>, Memory>,
+    name: NewName,
+    tale: &mut Tale,
+) -> Result<(), Fault>
+    requires name { name ≡ head_of M.book M.root }
+    requires callers { trial.now.callers ≡ M.callers }
+    requires accepts { M.accepts ≡ N.accepts }
+{
+    live(
+        rt,
+        trial,
+        plan.before,
+        &mempool,
+        &mut passes,
+        &mut tale.before,
+    )?;
+    match mempool.into_successor::<M>(rt, trial.memory, name, passes, LIMIT, trial.callers) {
+        Ok((heir, mut passes)) => live_on(
+            rt,
+            trial,
+            plan.after,
+            &heir,
+            &mut passes,
+            &mut tale.after,
+        ),
+        Err((refusal, _, _)) => Err(Fault::NotHandedOver(refusal.number())),
+    }
+}
+
+fn open<N: PoolName + Send + Sync, R: Clock + Threads + Wait + Sync>(
+    rt: &R,
+    trial: &Trial,
+    plan: Plan,
+    name: NewName,
+    tale: &mut Tale,
+) -> Result<(), Fault>
+    requires name { name ≡ head_of N.book N.root }
+    requires callers { trial.now.callers ≡ N.callers }
+    requires accepts { N.accepts ≡ any }
+{
+    let config = Config {
+        limit: LIMIT,
+        last: plan.last,
+    };
+    let (memory, ledger, callers) = (trial.memory, &trial.ledger, trial.callers);
+    match Mempool::<N, _>::open(rt, memory, name, config, ledger, Spinning::new(), callers) {
+        Ok((mempool, passes)) => {
+            go_on::<N, Brand, _>(rt, trial, plan, mempool, passes, NewName::new(), tale)
+        }
+        Err(_) => Err(Fault::NotOpened),
+    }
+}
+
+/// Plays a pool, has it hand over, and plays its successor.
+pub fn play_pools<R: Clock + Threads + Wait + Sync>(
+    rt: &R,
+    trial: &Trial,
+    plan: Plan,
+    tale: &mut Tale,
+) -> Result<(), Fault> {
+    open::<Brand, _>(rt, trial, plan, NewName::new(), tale)
+}
