@@ -59,7 +59,15 @@ fn try_transactions(rt: &impl Print, memory: Memory) -> io::Result<()> {
         "script",
         &[&script::growths(memory), &script::looks(memory)],
     )?;
-    tell(rt, "tx", &[&ledger::ledgers(memory), &tx::growths(memory)])?;
+    tell(
+        rt,
+        "tx",
+        &[
+            &ledger::ledgers(memory),
+            &ledger::blocks(memory),
+            &tx::growths(memory),
+        ],
+    )?;
     tell(rt, "utxo", &[&utxo::growths(memory)])?;
     tell(rt, "rules", &[&rules::growths(memory)])
 }
