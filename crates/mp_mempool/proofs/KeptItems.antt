@@ -17,7 +17,7 @@ use Rattle.mp_rules.specs.Verifier.{Accepts}
 use Rattle.mp_rules.specs.Checked.{IsSigned}
 use Rattle.mp_resync.specs.Keep.{transactions, is_valid, keep_upon, keep, bytes_of}
 use Rattle.mp_resync.proofs.Keeping.{kept_last}
-use Rattle.mp_seqpool.proofs.Forgetting.{sum-last}
+use Rattle.mp_versions.proofs.ByteSums.{sum-last}
 use Rattle.mp_versions.specs.declared.item.Item.{Item}
 use Rattle.mp_versions.specs.Item.{shown}
 use Rattle.mp_mempool.specs.declared.snapshot_for.Kept.{Kept}

@@ -1,6 +1,7 @@
 pub mod Ascents
 pub mod Blocks
 pub mod Building
+pub mod ByteSums
 pub mod Chunks
 pub mod Counting
 pub mod Finding
