@@ -67,12 +67,12 @@ fn write_failing(
     (fault, is_front.then_some(writer.taken.len() as u64))
 }
 
-// Each read fails but the one behind the last, which doesn't come.
+// Each read fails but the last, which doesn't come.
 fn held_reads(rt: &impl Print, memory: Memory, at_once: usize, last: u64) -> io::Result<u64> {
     let mut held: u64 = 0;
-    for fails_at in 1..=last + 1 {
+    for fails_at in 1..=last {
         let seen = read_failing(memory, at_once, fails_at);
-        let wanted = if fails_at <= last { 3 } else { 0 };
+        let wanted = if fails_at < last { 3 } else { 0 };
         if seen == wanted {
             held = held.saturating_add(1);
         } else {
@@ -88,7 +88,7 @@ fn written_before(at_once: usize, fails_at: u64) -> u64 {
     before.min(TEXT.len() as u64)
 }
 
-// Each write fails but the one behind the last, which doesn't come.
+// Each write fails but the last, which doesn't come.
 fn held_writes(
     rt: &impl Print,
     memory: Memory,
@@ -97,9 +97,9 @@ fn held_writes(
     last: u64,
 ) -> io::Result<u64> {
     let mut held: u64 = 0;
-    for fails_at in 1..=last + 1 {
+    for fails_at in 1..=last {
         let seen = write_failing(memory, alloc, at_once, fails_at);
-        let fault = if fails_at <= last { 4 } else { 0 };
+        let fault = if fails_at < last { 4 } else { 0 };
         let wanted = (fault, Some(written_before(at_once, fails_at)));
         if seen == wanted {
             held = held.saturating_add(1);
@@ -154,12 +154,13 @@ fn held_texts(rt: &impl Print, alloc: Global) -> io::Result<u64> {
     Ok(held)
 }
 
-/// How many cases hold. The scenario has 48 bytes, whose end is found by a read of its own, and the report 85.
+/// How many cases hold. The scenario has 48 bytes, whose end is found by a read of its own, and the report 85. One read and one write more
+/// than these take don't come.
 pub fn held(rt: &impl Print, memory: Memory, alloc: Global) -> io::Result<u64> {
-    let reads = held_reads(rt, memory, 11, 6)?;
-    let bytes_read = held_reads(rt, memory, 1, 49)?;
-    let writes = held_writes(rt, memory, alloc, 8, 11)?;
-    let bytes_written = held_writes(rt, memory, alloc, 1, 85)?;
+    let reads = held_reads(rt, memory, 11, 7)?;
+    let bytes_read = held_reads(rt, memory, 1, 50)?;
+    let writes = held_writes(rt, memory, alloc, 8, 12)?;
+    let bytes_written = held_writes(rt, memory, alloc, 1, 86)?;
     let growths = held_growths(rt, memory, alloc)?;
     let texts = held_texts(rt, alloc)?;
     Ok(
