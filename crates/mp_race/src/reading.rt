@@ -54,15 +54,18 @@ fn front_of(line: &[u8]) -> Option<Front<'_>> {
 fn read_tickets(memory: Memory, words: &[u8]) -> Result<(Tickets, &[u8]), NoMemory> {
     let mut tickets = Tickets::new(memory);
     let mut rest = words;
-    let mut least = 0;
+    // Wider than a ticket, since nothing comes after the greatest one.
+    let mut least = 0u128;
     while let Some((word, after)) = first_word(rest) {
         rest = after;
-        let ticket = number(word).unwrap_or(u64::MAX);
-        if ticket < least || ticket == u64::MAX {
+        let Some(ticket) = number(word) else {
+            break;
+        };
+        if (ticket as u128) < least {
             break;
         }
         tickets.push(ticket)?;
-        least = ticket + 1;
+        least = ticket as u128 + 1;
     }
     Ok((tickets, rest))
 }
