@@ -145,7 +145,7 @@ fn held_reads(rt: &(impl Print + Wait), memory: Memory, alloc: Global) -> io::Re
 
 fn held_writes(rt: &(impl Print + Wait), memory: Memory, alloc: Global) -> io::Result<u64> {
     let mut held: u64 = 0;
-    for write in 1..=33u64 {
+    for write in 1..34u64 {
         let seen = fail_at(rt, memory, alloc, (1, 0), (1, write));
         let fault = if write <= 32 { 4 } else { 0 };
         let wanted = [fault, 0, write - 1, 1, 0, 0];
