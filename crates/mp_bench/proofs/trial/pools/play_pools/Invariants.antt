@@ -3,4 +3,4 @@ use Rattle.mp_bench.proofs.trial.pools.play_pools.Given as goal
 
 -- the name that was just made, for so many callers
 abbrev pub ghosts-open : goal.ghosts-open
-ghosts-open g a = record { book = a.name.book; root = a.name.key; callers = a.stage.now.callers; accepts = any }
+ghosts-open g a = record { book = a.name.book; root = a.name.key; callers = a.trial.now.callers; accepts = any }
