@@ -204,10 +204,13 @@ impl<N: PoolName> Scene<N> {
         ensures bad { IsBad result → ⊥ }
         ensures halt { IfErr result (TellsOf (entries_told (scene_of self.old))) }
     {
-        let ledger = ledger_at(memory, &self.settings, ledger)?;
-        let pool = take_pool(rt, memory, &self.settings, &mut self.stage)?;
-        let (pool, kept) = pool.snapshot_for(memory, &ledger)?;
-        self.stage = Stage::Open(pool);
+        let kept = {
+            let ledger = ledger_at(memory, &self.settings, ledger)?;
+            let pool = take_pool(rt, memory, &self.settings, &mut self.stage)?;
+            let (pool, kept) = pool.snapshot_for(memory, &ledger)?;
+            self.stage = Stage::Open(pool);
+            kept
+        };
         Ok(for_line(memory, &self.names, kept.items.as_slice())?)
     }
 
