@@ -55,7 +55,7 @@ fn output_at(applied: &[Applied], place: usize, index: u16) -> Option<&Output>
 }
 
 impl Overlay {
-    ghost use Rattle.std.specs.Prelude.{◌≡◌, ◌==◌, length, IfOk, OnOk, option_copied};
+    ghost use Rattle.std.specs.Prelude.{◌≡◌, IfOk, OnOk, option_copied};
     ghost use Rattle.std.specs.Arc.{arc_value};
     ghost use Rattle.mp_utxo.specs.Overlay.{unspent, IsOver, HasRoomFor, IsSame, Applies};
 
@@ -77,20 +77,6 @@ impl Overlay {
         ensures { result.now ≡ self.now.ledger }
     {
         &self.ledger
-    }
-
-    /// How many transactions were applied.
-    pub fn len(&self) -> usize
-        ensures { result ≡ length self.now.applied }
-    {
-        self.applied.len()
-    }
-
-    /// Whether none was.
-    pub fn is_empty(&self) -> bool
-        ensures { result ≡ (length self.now.applied == 0) }
-    {
-        self.applied.is_empty()
     }
 
     /// The output that may be spent under the reference.

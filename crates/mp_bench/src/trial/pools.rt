@@ -18,7 +18,7 @@ use std::sync::{Mutex, Wait};
 use std::thread::{Threads, for_each_mut};
 use std::time::{Duration, Instant};
 
-/// How many changes each pool makes at most. Half of the pools come to that.
+/// How many changes each pool makes at most.
 pub const LIMIT: u64 = 10_000;
 
 // All callers together ask for some ten thousand commands a second.
