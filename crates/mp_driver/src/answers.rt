@@ -1,6 +1,7 @@
 //! The lines that commands write.
 
-ghost use Rattle.std.specs.Prelude.{◌≡◌, ◌++◌, IfOk, OnOk, codes};
+ghost use Rattle.std.specs.Prelude.{◌≡◌, ◌++◌, Ok, IfOk, OnOk, codes};
+ghost use Rattle.mp_names.specs.Names as told;
 ghost use Rattle.mp_driver.specs.AnswerText.{number_text, tickets_text, reply_text, refusal_text, told_text, answer_text};
 
 use crate::refusals::{put_number, put_refusal, put_word};
@@ -102,6 +103,18 @@ fn put_answer(
         Ok(reply) => put_reply(memory, text, reply),
         Err(refusal) => put_refused(memory, text, names, refusal),
     }
+}
+
+/// The line of a pool's reply.
+#[tactic(auto, unfolding(crate::specs::AnswerText::answer_text))]
+pub fn reply_line(memory: Memory, reply: &Reply) -> Result<Text, NoMemory>
+    ensures { IfOk result (λ text. (names : told.Names)
+        → text.items ≡ answer_text names (Ok reply.now)) }
+{
+    let mut text = Vec::new(memory);
+    put_reply(memory, &mut text, reply)?;
+    text.push(b'\n')?;
+    Ok(text)
 }
 
 /// The line of a pool's answer.

@@ -27,7 +27,9 @@ impl Model for Openings {
 }
 
 impl Openings {
-    ghost use Rattle.std.specs.Prelude.{◌≡◌, ◌<◌, ◌^◌, [], ◌∷◌, ◌++◌, length, OnOk};
+    ghost use Rattle.std.specs.Prelude.{◌≡◌, ◌<◌, ◌^◌, List, [], ◌∷◌, ◌++◌, length, OnOk, OnErr};
+    ghost use Rattle.mp_tx.specs.declared.reference.OutRef.{OutRef};
+    ghost use Rattle.mp_tx.specs.declared.output.Output.{Output};
     ghost use Rattle.mp_names.specs.References.{opening_ref};
     ghost use Rattle.mp_tx.specs.Ledger.{refs, AreDistinct};
 
@@ -61,12 +63,29 @@ impl Openings {
     /// Puts the output last, under the next reference.
     pub fn push(&mut self, output: Output) -> Result<(), NoMemory>
         requires { length self.old < 2 ^ 16 }
-        ensures { OnOk result
+        ensures ok { OnOk result
             (self.new ≡ self.old ++ (opening_ref (length self.old), output) ∷ []) }
+        ensures err { OnErr result (self.new ≡ self.old) }
     {
         let reference = self.next();
         self.entries.push((reference, output))?;
         Ok(())
+    }
+
+    /// Takes out the output that was put in last.
+    pub fn pop(&mut self)
+        ensures { (outputs : List (OutRef × Output)) (output : OutRef × Output)
+            → self.old ≡ outputs ++ output ∷ [] → self.new ≡ outputs }
+    {
+        let _ = self.entries.pop();
+    }
+
+    /// The outputs under their references.
+    pub fn as_slice(&self) -> &[(OutRef, Output)]
+        ensures entries { result.now ≡ self.now }
+        ensures distinct { AreDistinct (refs result.now) }
+    {
+        &self.entries
     }
 
     /// The outputs under their references.

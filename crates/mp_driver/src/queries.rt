@@ -4,7 +4,7 @@ ghost use Rattle.std.specs.Prelude.{◌≡◌, ◌++◌, codes, option_map, IfOk
 ghost use Rattle.std.specs.Arc.{arc_value};
 ghost use Rattle.mp_resync.specs.Keep.{bytes_of};
 ghost use Rattle.mp_history.specs.Log.{state_after};
-ghost use Rattle.mp_versions.specs.Item.{item_of, items_of};
+ghost use Rattle.mp_versions.specs.Item.{items_of};
 ghost use Rattle.mp_versions.specs.Reading.{within};
 ghost use Rattle.mp_peer.specs.Offers.{offer, moved};
 ghost use Rattle.mp_driver.specs.AnswerText.{item_text, items_text, numbers_text};
@@ -22,13 +22,20 @@ use std::sync::Arc;
 
 type Text = Vec<u8, Memory>;
 
-fn put_item(memory: Memory, text: &mut Text, names: &Names, item: &Item) -> Result<(), NoMemory>
+/// A transaction under its ticket: the ticket and the name.
+pub fn put_item(
+    memory: Memory,
+    text: &mut Text,
+    names: &Names,
+    ticket: u64,
+    tx: &Tx,
+) -> Result<(), NoMemory>
     ensures { OnOk result (text.new.items ≡ text.old.items
-        ++ item_text names.now (item_of item.now)) }
+        ++ item_text names.now (ticket, tx.now)) }
 {
-    put_number(memory, text, item.ticket)?;
+    put_number(memory, text, ticket)?;
     text.push(b':')?;
-    text.extend_from_slice(names.name_of(item.tx.id()))?;
+    text.extend_from_slice(names.name_of(tx.id()))?;
     Ok(())
 }
 
@@ -36,17 +43,23 @@ fn put_run(memory: Memory, text: &mut Text, names: &Names, run: Run<'_>) -> Resu
     ensures { OnOk result (text.new.items ≡ text.old.items ++ items_text names.now run.entry) }
 {
     for item in run {
-        put_item(memory, text, names, item)?;
+        put_item(memory, text, names, item.ticket, &item.tx)?;
     }
     Ok(())
 }
 
-fn put_items(memory: Memory, text: &mut Text, names: &Names, items: &[Item]) -> Result<(), NoMemory>
+/// Each item: its ticket, and the name of its transaction.
+pub fn put_items(
+    memory: Memory,
+    text: &mut Text,
+    names: &Names,
+    items: &[Item],
+) -> Result<(), NoMemory>
     ensures { OnOk result (text.new.items ≡ text.old.items
         ++ items_text names.now (items_of items.now)) }
 {
     for item in items {
-        put_item(memory, text, names, item)?;
+        put_item(memory, text, names, item.ticket, &item.tx)?;
     }
     Ok(())
 }
@@ -89,7 +102,8 @@ fn put_after(memory: Memory, text: &mut Text, names: &Names, run: Run<'_>) -> Re
     put_run(memory, text, names, run)
 }
 
-fn put_found(
+/// What stands under a ticket.
+pub fn put_found(
     text: &mut Text,
     names: &Names,
     found: Option<&Arc<Tx, Memory>>,
@@ -106,7 +120,8 @@ fn put_found(
     }
 }
 
-fn put_has(text: &mut Text, has: bool) -> Result<(), NoMemory>
+/// Whether a transaction is there.
+pub fn put_has(text: &mut Text, has: bool) -> Result<(), NoMemory>
     ensures { OnOk result (text.new.items ≡ text.old.items ++ has_text has) }
 {
     if has {
@@ -116,8 +131,8 @@ fn put_has(text: &mut Text, has: bool) -> Result<(), NoMemory>
     }
 }
 
-// How many items there are, their bytes, and the items.
-fn put_sized(
+/// How many items there are, their bytes, and the items.
+pub fn put_sized(
     memory: Memory,
     text: &mut Text,
     names: &Names,

@@ -20,7 +20,7 @@ pub struct Settings {
 }
 
 impl Settings {
-    ghost use Rattle.std.specs.Prelude.{◌≡◌, Some, None, OnOk};
+    ghost use Rattle.std.specs.Prelude.{◌≡◌, Some, None, OnOk, OnErr};
     ghost use Rattle.mp_tx.specs.Ledger.{HasBlockBytes};
     ghost use Rattle.mp_names.specs.Fault.{IsBad};
     ghost use Rattle.mp_names.specs.Settings.{IsLimit};
@@ -42,7 +42,7 @@ impl Settings {
     pub fn set<'a>(&mut self, setting: Setting) -> Result<(), LineFault<'a>>
         ensures ok { OnOk result (with_setting self.old setting ≡ Some self.new) }
         ensures bad { IsBad result → with_setting self.old setting ≡ None }
-        ensures stays { IsBad result → self.new ≡ self.old }
+        ensures err { OnErr result (self.new ≡ self.old) }
     {
         match setting {
             Setting::BlockBytes(bytes) => {

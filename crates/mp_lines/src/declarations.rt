@@ -18,7 +18,11 @@ use mp_names::{LineFault, Name, NamedDatum, NamedScript, Names, Reason, payment_
 use mp_script::{Data, DataFault, Script, ScriptFault};
 use mp_text::first_word;
 
-fn bytes_of(memory: Memory, digits: &[u8]) -> Result<Vec<u8, Memory>, LineFault<'_>>
+/// The bytes that the hexadecimal digits write, of either case.
+///
+/// # Errors
+/// `Bad` where they aren't pairs of such digits. `NoMemory` may stand in place of each answer.
+pub fn bytes_of(memory: Memory, digits: &[u8]) -> Result<Vec<u8, Memory>, LineFault<'_>>
     ensures { Gives (λ v. v.items) (bytes_of digits.now) result }
 {
     match hex::decode(memory, digits) {

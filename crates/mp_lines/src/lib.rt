@@ -16,6 +16,8 @@ mod signing;
 mod subjects;
 mod words;
 
+pub use declarations::bytes_of;
 pub use forms::{BLOCK, Form, LAST, LIMIT, TICK};
-pub use line::{Line, MAX_OUTPUTS};
+pub use line::{Line, MAX_OUTPUTS, unclean};
 pub use query::Query;
+pub use words::{no_word, one_word, two_words};

@@ -105,8 +105,8 @@ fn asked_line<'a>(
     }
 }
 
-// What is wrong with a line that isn't clean.
-fn unclean(line: &[u8]) -> Reason<'_> {
+/// What is wrong with a line that isn't clean.
+pub fn unclean(line: &[u8]) -> Reason<'_> {
     if line.len() > MAX_LINE_BYTES {
         return Reason::LongLine;
     }

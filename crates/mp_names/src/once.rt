@@ -1,6 +1,6 @@
 //! What may stand once.
 
-ghost use Rattle.std.specs.Prelude.{◌≡◌, None, Some, OnOk};
+ghost use Rattle.std.specs.Prelude.{◌≡◌, None, Some, OnOk, OnErr};
 ghost use Rattle.mp_names.specs.Fault.{IsBad};
 ghost use Rattle.mp_names.specs.Once.{set_once};
 
@@ -15,7 +15,7 @@ pub fn set_once<'a, T: Drop>(
 ) -> Result<(), LineFault<'a>>
     ensures ok { OnOk result (set_once set.old value ≡ Some set.new) }
     ensures bad { IsBad result → set_once set.old value ≡ None }
-    ensures stays { IsBad result → set.new ≡ set.old }
+    ensures err { OnErr result (set.new ≡ set.old) }
 {
     if set.is_some() {
         return Err(LineFault::Bad(reason));

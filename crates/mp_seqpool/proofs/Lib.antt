@@ -9,4 +9,5 @@ pub mod Forgetting
 pub mod Answering
 pub mod Exits
 pub mod Opening
+pub mod Reading
 pub mod Leavers

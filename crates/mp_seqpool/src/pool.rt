@@ -550,8 +550,13 @@ impl SeqPool {
 }
 
 impl SeqPool {
-    ghost use Rattle.std.specs.Prelude.{◌≡◌, ◌+◌, ◌*◌, ◌≤◌, ◌^◌};
-    ghost use Rattle.mp_seqpool.specs.SlowPool.{bytes_held, free_bytes};
+    ghost use Rattle.std.specs.Prelude.{◌≡◌, ◌+◌, ◌*◌, ◌≤◌, ◌^◌, option_map};
+    ghost use Rattle.std.specs.Arc.{arc_value};
+    ghost use Rattle.std.specs.Map.Iter.{ShowsInOrder};
+    ghost use Rattle.mp_tickets.specs.Tickets.{item_at, after, shown};
+    ghost use Rattle.mp_resync.specs.ValidatedTx as resync;
+    ghost use Rattle.mp_resync.specs.ValidatedTx.{ticketed};
+    ghost use Rattle.mp_seqpool.specs.SlowPool.{bytes_held, free_bytes, ticket_of};
 
     /// How many bytes the transactions may have together: twice those of a block of the adopted ledger state.
     pub fn capacity(&self) -> u64
@@ -559,6 +564,32 @@ impl SeqPool {
         ensures most { result ≤ 2 ^ 40 }
     {
         2 * self.overlay.ledger().block_bytes()
+    }
+
+    /// The ticket of the transaction with this id, if it stands in the pool. It takes no walk over the pool.
+    pub fn ticket_of(&self, id: &TxId) -> Option<u64>
+        ensures { result ≡ ticket_of id.now self.now.pool.items }
+    {
+        ticket_under(&self.tickets, id)
+    }
+
+    /// The transaction under the ticket, if there is one. It takes no walk over the pool.
+    pub fn get(&self, ticket: u64) -> Option<&Arc<Tx, Memory>>
+        ensures { option_map (λ tx. arc_value tx.now) result
+            ≡ item_at self.now.pool.items ticket }
+    {
+        match self.items.get(ticket) {
+            Some(item) => Some(&item.tx),
+            None => None,
+        }
+    }
+
+    /// The transactions with greater tickets than this one, oldest first. To begin, it takes a step for each of them.
+    pub fn contents_after(&self, ticket: u64) -> Iter<'_, ValidatedTx>
+        ensures all { ticketed result ≡ after self.now.pool.items ticket }
+        ensures runs { ShowsInOrder (shown {T = resync.ValidatedTx}) }
+    {
+        self.items.iter_after(ticket)
     }
 
     /// How many bytes are free, which is 0 where the transactions have more than they may.

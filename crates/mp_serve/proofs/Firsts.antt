@@ -1,0 +1,68 @@
+-- The first items that fit, found one after the other.
+use Rattle.std.proofs.Common.{◌≡◌, ℕ, zero, suc, ◌+◌, ◌-◌, ◌<◌, ◌≤◌, Bool, true, false, cond, List, [], ◌∷◌, ◌++◌, take, length, refl, sym, ap, subst, ◌∙◌, arith}
+use Rattle.std.specs.Prelude.{nat_le}
+use Rattle.std.proofs.lemmas.Bool.Decides.{nat_tests}
+use Rattle.mp_tx.specs.Transaction.{Transaction}
+use Rattle.mp_tx.specs.Spelling.{size_of}
+use Rattle.mp_resync.specs.Keep.{transactions, bytes_of}
+use Rattle.mp_versions.specs.Reading.{within}
+
+fits : (size room : ℕ) → size ≤ room → nat_le size room ≡ true
+fits size room le = grind (arith, nat_tests)
+
+fits_not : (size room : ℕ) → room < size → nat_le size room ≡ false
+fits_not size room lt = grind (arith, nat_tests)
+
+none_taken : (xs : List (ℕ × Transaction)) → take 0 xs ≡ []
+none_taken [] = refl
+none_taken (x ∷ xs) = refl
+
+of_none : (n : ℕ) → take n ([] {A = ℕ × Transaction}) ≡ []
+of_none zero = refl
+of_none (suc n) = refl
+
+-- one more is found
+pub one_found : (count n room bytes : ℕ) (i : ℕ × Transaction) (rest : List (ℕ × Transaction)) → n < count → size_of i.1 ≤ room - bytes
+    → take (count - n) (within (room - bytes) (i ∷ rest)) ≡ i ∷ take (count - (n + 1)) (within (room - (bytes + size_of i.1)) rest)
+one_found count n room bytes i rest lt le =
+    let size : ℕ = size_of i.1 in
+    let more : count - n ≡ suc (count - (n + 1)) = omega (arith, lt) in
+    let left : (room - bytes) - size ≡ room - (bytes + size) = omega (arith, le) in
+    ap (λ b. take (count - n) (cond b (i ∷ within ((room - bytes) - size) rest) [])) (fits size (room - bytes) le)
+    ∙ ap (λ m. take m (i ∷ within ((room - bytes) - size) rest)) more
+    ∙ ap (λ r. i ∷ take (count - (n + 1)) (within r rest)) left
+
+-- the next one doesn't fit
+pub none_fits : (count n room bytes : ℕ) (i : ℕ × Transaction) (rest : List (ℕ × Transaction)) → room - bytes < size_of i.1
+    → take (count - n) (within (room - bytes) (i ∷ rest)) ≡ []
+none_fits count n room bytes i rest lt =
+    ap (λ b. take (count - n) (cond b (i ∷ within ((room - bytes) - size_of i.1) rest) [])) (fits_not (size_of i.1) (room - bytes) lt) ∙ of_none (count - n)
+
+-- there are as many as were asked for
+pub are_all : (count n : ℕ) (xs : List (ℕ × Transaction)) → n ≡ count → take (count - n) xs ≡ []
+are_all count n xs e = ap (λ m. take m xs) (let z : count - n ≡ 0 = omega (arith, e) in z) ∙ none_taken xs
+
+-- nothing is left
+pub none_left : (count n room : ℕ) → take (count - n) (within room []) ≡ []
+none_left count n room = of_none (count - n)
+
+pub bytes-last : (found : List (ℕ × Transaction)) (i : ℕ × Transaction) → bytes_of (found ++ i ∷ []) ≡ bytes_of found + size_of i.1
+bytes-last [] i = omega arith
+bytes-last (f ∷ fs) i = let e = bytes-last fs i in omega (arith, e)
+
+-- what fits isn't more than there is
+pub length-within : (room : ℕ) (items : List (ℕ × Transaction)) → length (within room items) ≤ length items
+length-within room [] = omega arith
+length-within room (i ∷ is) = by (nat_le (size_of i.1) room)
+  where
+    by : (b : Bool) → length (cond b (i ∷ within (room - size_of i.1) is) []) ≤ suc (length is)
+    by true = let e = length-within (room - size_of i.1) is in omega (arith, e)
+    by false = omega arith
+
+take_long : (n : ℕ) (xs : List (ℕ × Transaction)) → length xs ≤ n → take n xs ≡ xs
+take_long n [] le = of_none n
+take_long zero (x ∷ xs) le = absurd (omega (arith, le))
+take_long (suc n) (x ∷ xs) le = ap (λ l. x ∷ l) (take_long n xs (omega (arith, le)))
+
+pub all_within : (room : ℕ) (items : List (ℕ × Transaction)) → take (length items) (within room items) ≡ within room items
+all_within room items = take_long (length items) (within room items) (length-within room items)

@@ -1,0 +1,5 @@
+pub mod Firsts
+pub mod Others
+pub mod Pools
+pub mod Lines
+pub mod Progress

@@ -1,0 +1,54 @@
+-- What a line of a conversation asks, in view of what was declared before it.
+use Rattle.std.specs.Prelude.{ℕ, nat_eq, List, [], ◌∷◌, codes, Option, None, Some, option_map, option_and_then, if◌then◌else◌}
+use Rattle.std.specs.Cmp.Lexicographic.{pointwise}
+use Rattle.mp_text.specs.Lines.{is_clean}
+use Rattle.mp_text.specs.Words.{words_of}
+use Rattle.mp_tx.specs.Transaction.{Transaction}
+use Rattle.mp_names.specs.Names.{Names, tx_named, is_new_binding}
+use Rattle.mp_lines.specs.Words.{no_word, one_word, two_words}
+use Rattle.mp_lines.specs.Lines.{Line, bytes_of, line_of}
+
+pub data Ask : Type 0 where
+  -- what a line of a scenario asks
+  Does : Line → Ask
+  -- to read a transaction from these bytes, for the name
+  Reads : List ℕ → List ℕ → Ask
+  -- the bytes of the transaction
+  Shows : Transaction → Ask
+  -- what its submit would be answered
+  Checks : Transaction → Ask
+  -- the pool's numbers
+  Counts : Ask
+
+-- bytes NAME HEX
+abbrev pub bytes_by : Names → List ℕ × List ℕ → Option Ask
+bytes_by names words = if is_new_binding words.0 names then option_map (Reads words.0) (bytes_of words.1) else None
+
+abbrev pub bytes_ask : Names → List (List ℕ) → Option Ask
+bytes_ask names words = option_and_then (bytes_by names) (two_words words)
+
+-- the transaction that is the line's one word
+abbrev pub one_tx : Names → List (List ℕ) → Option Transaction
+one_tx names words = option_map (λ t. t.tx) (option_and_then (λ w. tx_named w names) (one_word words))
+
+-- by the first word: show TX, check TX, stats, and else the lines of scenarios
+abbrev pub clean_ask : Names → List ℕ → List ℕ → List (List ℕ) → Option Ask
+clean_ask names line word words =
+    if pointwise nat_eq word (codes "bytes") then bytes_ask names words
+    else if pointwise nat_eq word (codes "show") then option_map Shows (one_tx names words)
+    else if pointwise nat_eq word (codes "check") then option_map Checks (one_tx names words)
+    else if pointwise nat_eq word (codes "stats") then option_map (λ u. Counts) (no_word words)
+    else option_map Does (line_of names line)
+
+abbrev pub words_ask : Names → List ℕ → List (List ℕ) → Option Ask
+words_ask names line [] = option_map Does (line_of names line)
+words_ask names line (word ∷ words) = clean_ask names line word words
+
+-- a line of bytes may be longer than others
+abbrev pub long_ask : Names → List (List ℕ) → Option Ask
+long_ask names [] = None
+long_ask names (word ∷ words) = if pointwise nat_eq word (codes "bytes") then bytes_ask names words else None
+
+-- what the line asks, if it is one of the language
+unfoldable pub ask_of : Names → List ℕ → Option Ask
+ask_of names line = if is_clean line then words_ask names line (words_of line) else long_ask names (words_of line)

@@ -1,0 +1,5 @@
+-- What only the crate's own clauses, views and invariants cite.
+pub mod Ask
+pub mod Request
+pub mod Pool
+pub mod Talk

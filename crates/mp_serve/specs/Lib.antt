@@ -1,0 +1,6 @@
+pub mod Ask
+pub mod Texts
+pub mod Request
+pub mod Talk
+pub mod Served
+pub mod Inside

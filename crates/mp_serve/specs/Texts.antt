@@ -1,0 +1,55 @@
+-- The lines that are written beside those of scenarios.
+use Rattle.std.specs.Prelude.{ℕ, List, [], ◌∷◌, ◌++◌, length, codes, Result, Ok, Err}
+use Rattle.hex.specs.Hex.{encode_lower}
+use Rattle.mp_tx.specs.Transaction.{Transaction}
+use Rattle.mp_tx.specs.Spelling.{id_of, size_of, spelling}
+use Rattle.mp_tx.specs.declared.fault.TxFault.{TxFault}
+use Rattle.mp_tx.specs.declared.fault.TxFault.TheVariants as faults
+use Rattle.mp_seqpool.specs.Pool.{Pool}
+use Rattle.mp_seqpool.specs.SlowPool.{bytes_held, free_bytes}
+use Rattle.mp_driver.specs.AnswerText.{number_text}
+
+-- what is answered where there is nothing to tell
+abbrev pub ok_text : List ℕ
+ok_text = codes "ok\n"
+
+-- what is answered where memory was wanting
+abbrev pub no_memory_text : List ℕ
+no_memory_text = codes "fault: no memory\n"
+
+-- how a bad line is answered; why it is bad stands behind
+abbrev pub bad_text : ℕ → List ℕ
+bad_text number = codes "bad" ++ number_text number ++ codes ": "
+
+-- the name of a fault in a transaction's bytes
+abbrev pub fault_name : TxFault → List ℕ
+fault_name faults.NoMemory = codes "memory"
+fault_name faults.Truncated = codes "truncated"
+fault_name faults.Trailing = codes "trailing"
+fault_name faults.BadVersion = codes "version"
+fault_name faults.NotRising = codes "order"
+fault_name faults.BadBundle = codes "bundle"
+fault_name faults.BadScript = codes "script"
+fault_name faults.BadData = codes "data"
+fault_name faults.BadInterval = codes "interval"
+fault_name faults.TooLarge = codes "large"
+fault_name faults.ReferenceSpent = codes "spent"
+fault_name faults.NoReferences = codes "references"
+
+-- the size and the id
+abbrev pub tx_words : Transaction → List ℕ
+tx_words t = codes "tx" ++ number_text (size_of t) ++ 32 ∷ encode_lower (id_of t)
+
+-- of bytes that were read, or why they are no transaction
+unfoldable pub bytes_text : Result Transaction TxFault → List ℕ
+bytes_text (Ok t) = tx_words t ++ 10 ∷ []
+bytes_text (Err fault) = (codes "undecodable " ++ fault_name fault) ++ 10 ∷ []
+
+-- with the bytes
+unfoldable pub show_text : Transaction → List ℕ
+show_text t = (tx_words t ++ 32 ∷ encode_lower (spelling t)) ++ 10 ∷ []
+
+-- how many transactions, their bytes, the free bytes, the last ticket, and the changes since they were last counted anew
+unfoldable pub stats_text : Pool → List ℕ
+stats_text p =
+    (codes "stats" ++ number_text (length p.items) ++ number_text (bytes_held p) ++ number_text (free_bytes p) ++ number_text p.last ++ number_text p.changes) ++ 10 ∷ []

@@ -1,0 +1,268 @@
+//! The lines of what is read of a pool.
+
+ghost use Rattle.std.specs.Prelude.{◌≡◌, ◌++◌, ◌<◌, [], codes, take, if◌then◌else◌, IfOk, OnOk};
+ghost use Rattle.mp_tickets.specs.Tickets.{has_ticket};
+ghost use Rattle.mp_resync.specs.ValidatedTx.{ticketed};
+ghost use Rattle.mp_resync.specs.Keep.{keep, bytes_of};
+ghost use Rattle.mp_seqpool.specs.Prepared.{apart};
+ghost use Rattle.mp_seqpool.specs.SlowPool.{AreSigned};
+ghost use Rattle.mp_versions.specs.Item.{items_of};
+ghost use Rattle.mp_versions.specs.Reading.{within};
+ghost use Rattle.mp_peer.specs.Offers.{offer, moved};
+ghost use Rattle.mp_driver.specs.Verifier.{is_key_and_id};
+ghost use Rattle.mp_driver.specs.AnswerText.{item_text, items_text, numbers_text};
+ghost use Rattle.mp_driver.specs.QueryText.{sized_text, words_text, query_text, for_text, cursor_after};
+
+use crate::texts::Text;
+use mp_driver::{KeyAndId, put_found, put_has, put_item, put_items, put_number, put_sized, put_word};
+use mp_lines::Query;
+use mp_memory::{Memory, NoMemory};
+use mp_names::Names;
+use mp_resync::ValidatedTx;
+use mp_seqpool::{Reply, SeqPool};
+use mp_tickets::{Iter, Tickets};
+use mp_tx::{Ledger, Tx};
+use mp_versions::Item;
+use std::sync::Arc;
+
+// Items of a pool, and how many bytes their transactions have together.
+#[derive(Drop)]
+struct Found {
+    items: Vec<Item, Memory>,
+    bytes: u64,
+}
+
+// Of these the first ones, at most so many, as long as they fit into so many bytes together.
+fn first_within(
+    memory: Memory,
+    items: Iter<'_, ValidatedTx>,
+    count: u64,
+    room: u64,
+) -> Result<Found, NoMemory>
+    ensures items { IfOk result
+        (λ f. items_of f.items.items ≡ take count (within room (ticketed items.entry))) }
+    ensures bytes { IfOk result (λ f. f.bytes ≡ bytes_of (items_of f.items.items)) }
+{
+    let mut found = Vec::new(memory);
+    let mut bytes = 0;
+    for (ticket, item) in items {
+        let size = item.tx.size();
+        if found.len() as u64 == count || size > room - bytes {
+            break;
+        }
+        let tx = Arc::try_clone(&item.tx)?;
+        found.push(Item { ticket, tx })?;
+        bytes += size;
+    }
+    Ok(Found {
+        items: found,
+        bytes,
+    })
+}
+
+fn put_contents(
+    memory: Memory,
+    text: &mut Text,
+    names: &Names,
+    items: Iter<'_, ValidatedTx>,
+) -> Result<(), NoMemory>
+    ensures { OnOk result (text.new.items
+        ≡ text.old.items ++ items_text names.now (ticketed items.entry)) }
+{
+    for (ticket, item) in items {
+        put_item(memory, text, names, ticket, &item.tx)?;
+    }
+    Ok(())
+}
+
+// How many transactions there are, their bytes, and the last ticket.
+fn put_numbers(memory: Memory, text: &mut Text, pool: &SeqPool) -> Result<(), NoMemory>
+    ensures { OnOk result (text.new.items ≡ text.old.items ++ numbers_text pool.now.pool) }
+{
+    put_number(memory, text, pool.len() as u64)?;
+    put_number(memory, text, pool.bytes())?;
+    put_number(memory, text, pool.last_ticket())
+}
+
+fn put_snapshot(
+    memory: Memory,
+    text: &mut Text,
+    names: &Names,
+    pool: &SeqPool,
+) -> Result<(), NoMemory>
+    ensures { OnOk result (text.new.items ≡ text.old.items ++ (codes "snapshot"
+        ++ numbers_text pool.now.pool ++ items_text names.now pool.now.pool.items)) }
+{
+    put_word(text, b"snapshot")?;
+    put_numbers(memory, text, pool)?;
+    put_contents(memory, text, names, pool.contents())
+}
+
+// The word, and the oldest transactions that fit into so many bytes together.
+fn put_oldest(
+    memory: Memory,
+    text: &mut Text,
+    names: &Names,
+    pool: &SeqPool,
+    word: &[u8],
+    room: u64,
+) -> Result<(), NoMemory>
+    ensures { OnOk result (text.new.items ≡ text.old.items
+        ++ (word.now ++ sized_text names.now (within room pool.now.pool.items))) }
+{
+    put_word(text, word)?;
+    let found = first_within(memory, pool.contents(), pool.len() as u64, room)?;
+    put_sized(memory, text, names, found.bytes, &found.items)
+}
+
+// The ticket of the last item, or the cursor where there is none.
+fn moved_over(cursor: u64, items: &[Item]) -> u64
+    ensures { result ≡ moved cursor (items_of items.now) }
+{
+    match items.split_last() {
+        Some((item, _)) => item.ticket,
+        None => cursor,
+    }
+}
+
+// What the peer is offered next.
+fn put_offer(
+    memory: Memory,
+    text: &mut Text,
+    names: &Names,
+    cursor: &mut u64,
+    pool: &SeqPool,
+    count: u64,
+    room: u64,
+) -> Result<(), NoMemory>
+    ensures text { OnOk result (text.new.items ≡ text.old.items ++ (codes "offer"
+        ++ items_text names.now (offer cursor.old count room pool.now.pool.items))) }
+    ensures cursor { OnOk result (cursor.new
+        ≡ moved cursor.old (offer cursor.old count room pool.now.pool.items)) }
+{
+    put_word(text, b"offer")?;
+    let found = first_within(memory, pool.contents_after(*cursor), count, room)?;
+    put_items(memory, text, names, &found.items)?;
+    *cursor = moved_over(*cursor, &found.items);
+    Ok(())
+}
+
+fn put_query(
+    memory: Memory,
+    text: &mut Text,
+    names: &Names,
+    cursor: &mut u64,
+    pool: &SeqPool,
+    query: Query,
+) -> Result<(), NoMemory>
+    ensures text { OnOk result (text.new.items
+        ≡ text.old.items ++ words_text names.now cursor.old pool.now.pool query) }
+    ensures cursor { OnOk result (cursor.new ≡ cursor_after cursor.old pool.now.pool query) }
+{
+    match query {
+        Query::Snapshot => put_snapshot(memory, text, names, pool),
+        Query::After(ticket) => {
+            put_word(text, b"after")?;
+            put_contents(memory, text, names, pool.contents_after(ticket))
+        }
+        Query::Lookup(ticket) => put_found(text, names, pool.get(ticket)),
+        Query::Has(id) => put_has(text, pool.ticket_of(&id).is_some()),
+        Query::Take(bytes) => put_oldest(memory, text, names, pool, b"take", bytes),
+        Query::Forge(bytes) => put_oldest(memory, text, names, pool, b"block", bytes),
+        Query::Offer { count, bytes } => {
+            put_offer(memory, text, names, cursor, pool, count, bytes)
+        }
+    }
+}
+
+/// The line that the query writes. An offer moves the peer's cursor.
+#[tactic(auto, unfolding(crate::specs::QueryText::query_text))]
+pub fn query_line(
+    memory: Memory,
+    names: &Names,
+    cursor: u64,
+    pool: &SeqPool,
+    query: Query,
+) -> Result<(Text, u64), NoMemory>
+    ensures text { IfOk result (λ r. r.0.items ≡ query_text names.now cursor pool.now.pool query) }
+    ensures cursor { IfOk result (λ r. r.1 ≡ cursor_after cursor pool.now.pool query) }
+{
+    let mut text = Vec::new(memory);
+    let mut next = cursor;
+    put_query(memory, &mut text, names, &mut next, pool, query)?;
+    text.push(b'\n')?;
+    Ok((text, next))
+}
+
+// The transaction under its ticket, unless it is dropped.
+fn put_unless_dropped(
+    memory: Memory,
+    text: &mut Text,
+    names: &Names,
+    dropped: &Tickets,
+    ticket: u64,
+    tx: &Tx,
+) -> Result<(), NoMemory>
+    ensures { OnOk result (text.new.items ≡ text.old.items
+        ++ (if has_ticket dropped.now ticket then [] else item_text names.now (ticket, tx.now))) }
+{
+    if dropped.contains(ticket) {
+        return Ok(());
+    }
+    put_item(memory, text, names, ticket, tx)
+}
+
+// The transactions that aren't dropped.
+fn put_others(
+    memory: Memory,
+    text: &mut Text,
+    names: &Names,
+    items: Iter<'_, ValidatedTx>,
+    dropped: &Tickets,
+) -> Result<(), NoMemory>
+    ensures { OnOk result (text.new.items ≡ text.old.items
+        ++ items_text names.now (apart dropped.now (ticketed items.entry))) }
+{
+    for (ticket, item) in items {
+        put_unless_dropped(memory, text, names, dropped, ticket, &item.tx)?;
+    }
+    Ok(())
+}
+
+// What stays of a pool where these are dropped.
+fn others_line(
+    memory: Memory,
+    names: &Names,
+    pool: &SeqPool,
+    dropped: &Tickets,
+) -> Result<Text, NoMemory>
+    ensures { IfOk result (λ text.
+        text.items ≡ for_text names.now (apart dropped.now pool.now.pool.items)) }
+{
+    let mut text = Vec::new(memory);
+    put_word(&mut text, b"for")?;
+    put_others(memory, &mut text, names, pool.contents(), dropped)?;
+    text.push(b'\n')?;
+    Ok(text)
+}
+
+/// The line of what would stay upon the ledger state.
+pub fn kept_line(
+    memory: Memory,
+    names: &Names,
+    pool: &SeqPool,
+    ledger: &Ledger,
+) -> Result<Text, NoMemory>
+    requires signed { AreSigned is_key_and_id pool.now.pool }
+    requires change { pool.now.pool.changes < pool.now.pool.limit }
+    ensures { IfOk result (λ text. text.items
+        ≡ for_text names.now (keep is_key_and_id ledger.now pool.now.pool.items)) }
+{
+    match pool.prepare_sync(ledger, &KeyAndId) {
+        Ok(prepared) => match prepared.reply() {
+            Reply::Synced { dropped, .. } => others_line(memory, names, pool, dropped),
+            _ => unreachable!(),
+        },
+        Err(_) => Err(NoMemory),
+    }
+}

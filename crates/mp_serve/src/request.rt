@@ -1,0 +1,22 @@
+//! What is asked of the pool.
+
+use mp_lines::Query;
+use mp_memory::Memory;
+use mp_seqpool::Command;
+use mp_tx::{Ledger, Tx};
+use std::sync::Arc;
+
+/// What is asked of the pool.
+#[derive(Drop)]
+pub enum Request {
+    /// To do what is asked.
+    Do(Command),
+    /// What is read of it.
+    Read(Query),
+    /// What would stay upon the ledger state.
+    Try(Ledger),
+    /// What the submit of the transaction would be answered.
+    Check(Arc<Tx, Memory>),
+    /// Its numbers.
+    Count,
+}

@@ -1,0 +1,129 @@
+//! The lines that are written beside those of scenarios.
+
+ghost use Rattle.std.specs.Prelude.{◌≡◌, ◌++◌, ◌∷◌, [], ℕ, List, Ok, Err, IfOk, OnOk};
+ghost use Rattle.hex.specs.Hex.{encode_lower};
+ghost use Rattle.mp_serve.specs.Texts.{ok_text, bad_text, fault_name, tx_words, bytes_text, show_text, stats_text};
+
+use mp_driver::{put_number, put_word};
+use mp_memory::{Memory, NoMemory};
+use mp_names::Reason;
+use mp_seqpool::SeqPool;
+use mp_tx::{Tx, TxFault};
+
+/// One line of text.
+pub type Text = Vec<u8, Memory>;
+
+/// What is written where an answer finds no memory.
+pub const NO_MEMORY: &[u8] = b"fault: no memory\n";
+
+/// What is answered where there is nothing to tell.
+pub fn ok_line(memory: Memory) -> Result<Text, NoMemory>
+    ensures { IfOk result (λ text. text.items ≡ ok_text) }
+{
+    Ok(Vec::from_slice(memory, b"ok\n")?)
+}
+
+/// The answer to the bad line with this number.
+pub fn bad_line(memory: Memory, number: u64, reason: Reason<'_>) -> Result<Text, NoMemory>
+    ensures { IfOk result (λ text.
+        (why : List ℕ) × (text.items ≡ bad_text number ++ why ++ 10 ∷ [])) }
+{
+    let mut text = Vec::new(memory);
+    put_word(&mut text, b"bad")?;
+    put_number(memory, &mut text, number)?;
+    put_word(&mut text, b": ")?;
+    let why = format!(in memory; "{reason}")?;
+    put_word(&mut text, why.as_bytes())?;
+    text.push(b'\n')?;
+    Ok(text)
+}
+
+// Each byte as two digits.
+fn put_hex(memory: Memory, text: &mut Text, bytes: &[u8]) -> Result<(), NoMemory>
+    ensures { OnOk result (text.new.items ≡ text.old.items ++ encode_lower bytes.now) }
+{
+    let digits = hex::encode(memory, bytes)?;
+    put_word(text, digits.as_bytes())
+}
+
+// The size and the id.
+fn put_tx(memory: Memory, text: &mut Text, tx: &Tx) -> Result<(), NoMemory>
+    ensures { OnOk result (text.new.items ≡ text.old.items ++ tx_words tx.now) }
+{
+    put_word(text, b"tx")?;
+    put_number(memory, text, tx.size())?;
+    put_word(text, b" ")?;
+    put_hex(memory, text, tx.id())
+}
+
+fn fault_name(fault: TxFault) -> &'static [u8]
+    ensures { result.now ≡ fault_name fault }
+{
+    match fault {
+        TxFault::NoMemory => b"memory",
+        TxFault::Truncated => b"truncated",
+        TxFault::Trailing => b"trailing",
+        TxFault::BadVersion => b"version",
+        TxFault::NotRising => b"order",
+        TxFault::BadBundle => b"bundle",
+        TxFault::BadScript => b"script",
+        TxFault::BadData => b"data",
+        TxFault::BadInterval => b"interval",
+        TxFault::TooLarge => b"large",
+        TxFault::ReferenceSpent => b"spent",
+        TxFault::NoReferences => b"references",
+    }
+}
+
+/// The line of bytes that were read.
+#[tactic(auto, unfolding(crate::specs::Texts::bytes_text))]
+pub fn read_line(memory: Memory, tx: &Tx) -> Result<Text, NoMemory>
+    ensures { IfOk result (λ text. text.items ≡ bytes_text (Ok tx.now)) }
+{
+    let mut text = Vec::new(memory);
+    put_tx(memory, &mut text, tx)?;
+    text.push(b'\n')?;
+    Ok(text)
+}
+
+/// The line of bytes that are no transaction.
+#[tactic(auto, unfolding(crate::specs::Texts::bytes_text))]
+pub fn undecodable_line(memory: Memory, fault: TxFault) -> Result<Text, NoMemory>
+    ensures { IfOk result (λ text. text.items ≡ bytes_text (Err fault)) }
+{
+    let mut text = Vec::new(memory);
+    put_word(&mut text, b"undecodable ")?;
+    put_word(&mut text, fault_name(fault))?;
+    text.push(b'\n')?;
+    Ok(text)
+}
+
+/// The line of a transaction with its bytes.
+#[tactic(auto, unfolding(crate::specs::Texts::show_text))]
+pub fn show_line(memory: Memory, tx: &Tx) -> Result<Text, NoMemory>
+    ensures { IfOk result (λ text. text.items ≡ show_text tx.now) }
+{
+    let mut text = Vec::new(memory);
+    put_tx(memory, &mut text, tx)?;
+    put_word(&mut text, b" ")?;
+    let bytes = tx.encode(memory)?;
+    put_hex(memory, &mut text, &bytes)?;
+    text.push(b'\n')?;
+    Ok(text)
+}
+
+/// The line of a pool's numbers.
+#[tactic(auto, unfolding(crate::specs::Texts::stats_text))]
+pub fn stats_line(memory: Memory, pool: &SeqPool) -> Result<Text, NoMemory>
+    ensures { IfOk result (λ text. text.items ≡ stats_text pool.now.pool) }
+{
+    let mut text = Vec::new(memory);
+    put_word(&mut text, b"stats")?;
+    put_number(memory, &mut text, pool.len() as u64)?;
+    put_number(memory, &mut text, pool.bytes())?;
+    put_number(memory, &mut text, pool.free_bytes())?;
+    put_number(memory, &mut text, pool.last_ticket())?;
+    put_number(memory, &mut text, pool.changes())?;
+    text.push(b'\n')?;
+    Ok(text)
+}
