@@ -20,10 +20,10 @@ use Rattle.mp_resync.specs.Keep.{transactions, tickets, is_named, unnamed, is_va
 AllPairs-nil : {A : Type 0} (R : A → A → Type 0) → AllPairs R []
 AllPairs-nil R i j d lt within = absurd (omega arith)
 
-AllPairs-head : {A : Type 0} (R : A → A → Type 0) (x : A) (xs : List A) → AllPairs R (x ∷ xs) → All (R x) xs
+pub AllPairs-head : {A : Type 0} (R : A → A → Type 0) (x : A) (xs : List A) → AllPairs R (x ∷ xs) → All (R x) xs
 AllPairs-head R x xs pairs k d lt = pairs zero (suc k) d (omega arith) (omega arith)
 
-AllPairs-tail : {A : Type 0} (R : A → A → Type 0) (x : A) (xs : List A) → AllPairs R (x ∷ xs) → AllPairs R xs
+pub AllPairs-tail : {A : Type 0} (R : A → A → Type 0) (x : A) (xs : List A) → AllPairs R (x ∷ xs) → AllPairs R xs
 AllPairs-tail R x xs pairs i j d lt within = pairs (suc i) (suc j) d (omega arith) (omega arith)
 
 pub All-unmap : {A B : Type 0} (f : A → B) (P : B → Type 0) (xs : List A) → All P (map f xs) → All (λ x. P (f x)) xs
@@ -48,7 +48,7 @@ AllPairs-unmap f R (x ∷ xs) pairs =
 increasing : (ks : List ℕ) → AllPairs (λ a b. a < b) ks → IsStrictlyIncreasing ks
 increasing ks pairs k lt = pairs k (k + 1) 0 (omega arith) lt
 
-no_fault : {A : Type 0} (o : Option A) → is_none o ≡ true → o ≡ None
+pub no_fault : {A : Type 0} (o : Option A) → is_none o ≡ true → o ≡ None
 no_fault None e = refl
 no_fault (Some x) e = Prim.cc
 

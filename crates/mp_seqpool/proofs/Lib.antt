@@ -11,3 +11,5 @@ pub mod Exits
 pub mod Opening
 pub mod Reading
 pub mod Leavers
+pub mod Dependents
+pub mod DependentsFollowed

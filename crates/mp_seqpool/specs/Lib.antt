@@ -6,3 +6,4 @@ pub mod PoolLaws
 pub mod Config
 pub mod Refusal
 pub mod Inside
+pub mod Dependents

@@ -8,6 +8,7 @@ ghost use Rattle.mp_seqpool.specs.Pool.{Pool};
 ghost use Rattle.mp_seqpool.specs.Config.{renewed};
 ghost use Rattle.mp_seqpool.specs.SlowPool.{empty_pool, AreSigned};
 ghost use Rattle.mp_seqpool.specs.PoolLaws.{IsLawful, ObeysLaws};
+ghost use Rattle.mp_seqpool.specs.Dependents.{IsApart, DropsDependents};
 
 /// Whatever the verifier accepts, the pool laws hold along every list of commands from each lawful state on. A pool that opens
 /// with no transaction is lawful, and so is one that opens with what a lawful one holds. All signatures in a lawful pool are
@@ -20,4 +21,11 @@ pub fn pool_laws()
     ensures renewals { (accepts : Accepts) (limit : ℕ) (p : Pool)
         → IsLawful accepts p → IsLawful accepts (renewed limit p) }
     ensures signed { (accepts : Accepts) (p : Pool) → IsLawful accepts p → AreSigned accepts p }
+{}
+
+/// Where the ledger state has no output under the id of a transaction of the pool, a remove drops, beside what is named, exactly
+/// the transactions that spend or look at an output of one that goes.
+pub fn dependents()
+    ensures { (accepts : Accepts) (p : Pool) (ids : List (List ℕ))
+        → IsLawful accepts p → IsApart p → DropsDependents accepts p ids }
 {}
