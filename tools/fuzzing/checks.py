@@ -12,6 +12,8 @@ TIME_OUT = 120
 RUN_FAULT = re.compile(rb"fault: (?:bad line ([1-9][0-9]*)|read)\n")
 EXPLAINED = re.compile(rb"bad line ([1-9][0-9]*): [ -~]+\n")
 AUDIT_FAULT = re.compile(rb"fault: (?:audit|missing entry|bad line) ([0-9]+)\n[ -~]+\n")
+# What only a conversation takes.
+TALK_LINE = re.compile(rb" *(?:bytes|show|check|stats)(?: |$)")
 REPORT = re.compile(
     rb"race (\d+) accepted (\d+) refused (\d+) removes (\d+) syncs (\d+) reads (\d+) entries (\d+) last (\d+)\naudit legal\n"
 )
@@ -84,6 +86,7 @@ class Checker:
         if len(text) > MOST_BYTES:
             return None
         self.check_beginning(rng, text, bad_line, first)
+        self.check_talk(text, bad_line, first)
         self.check_race_fault(text, bad_line)
         quiet = self.check_without(text, bad_line, first)
         self.check_race_alone(rng, *quiet)
@@ -144,6 +147,23 @@ class Checker:
         told = found.answers.split(b"\n")[:-1]
         fits = told[:commands] == wanted and (not whole or (found.status == 0 and len(told) == commands))
         self.expect(fits, f"its first {len(beginning)} bytes end with {show(found)}", text)
+
+    def check_talk(self, text, bad_line, first):
+        """Has a conversation over the lines, each of which has an answer; up to a bad one or a full history they are those of the run."""
+        found = self.do(["serve"], text, given=text)
+        told, lines = list_lines(found.answers), list_lines(text)
+        fits = found.status == 0 and len(told) == len(lines) and found.answers == b"".join(line + b"\n" for line in told)
+        self.expect(fits, f"a conversation of {len(lines)} lines ends with {len(told)} answers and {show(found)}", text)
+        self.counts["talks"] += 1
+        answers = iter(list_lines(first.answers))
+        for number, words in enumerate(list_words(text, bad_line), 1):
+            wanted = next(answers) if is_command(words) else b"ok"
+            if wanted == b"refused history":
+                return
+            self.expect(told[number - 1] == wanted, f"in a conversation line {number} is told as {told[number - 1]!r}", text)
+        if bad_line is not None and not TALK_LINE.match(lines[bad_line - 1]):
+            is_bad = told[bad_line - 1].startswith(b"bad %d: " % bad_line)
+            self.expect(is_bad, f"in a conversation the bad line {bad_line} is told as {told[bad_line - 1]!r}", text)
 
     def check_race_fault(self, text, bad_line):
         """Where a race doesn't take the scenario it has to tell the first line that it doesn't take, and so has an audit."""

@@ -1,6 +1,6 @@
 //! The program: `keltuvar run [--explain] [FILE]` reads a scenario and writes its answers to standard output, and
 //! `keltuvar race --workers N [--explain] [FILE]` has so many threads race over it and writes the report, and on wish the history and a
-//! picture of it; `keltuvar audit SCENARIO HISTORY` says whether such a history is legal.
+//! picture of it; `keltuvar audit SCENARIO HISTORY` says whether such a history is legal; `keltuvar serve` holds a conversation.
 //! It ends with status 0, with 1 at a fault, and with 2 where the command line is refused.
 #![tactic(auto)]
 
@@ -9,12 +9,14 @@ ghost use Rattle.mp_history.specs.PoolName.{head_of};
 ghost use Rattle.mp_driver.specs.Verifier.{is_key_and_id};
 
 mod audits;
+mod conversation;
 mod ending;
 mod races;
 mod slow;
 mod texts;
 
 use audits::audit_files;
+use conversation::converse;
 use ending::{end_answers, end_unparsed, end_unworded};
 use mp_command_line::{Asked, Input, parse_words};
 use mp_driver::answer_text;
@@ -46,6 +48,7 @@ fn main(rt: HostRuntime) -> ExitCode {
                     explains,
                 },
             ) => audit_files(&rt, scenario, history, explains),
+            Ok(Asked::Serve) => converse(&rt),
             Err(error) => end_unparsed(&rt, error),
         },
         Err(error) => end_unworded(&rt, error),

@@ -9,6 +9,7 @@ mod rows;
 mod runs;
 mod samples;
 mod seqpool;
+mod talks;
 mod told;
 mod verifier;
 mod versions;
@@ -31,6 +32,7 @@ fn check_all<R: Print + Threads + Wait + Sync>(
     println!(rt; "mempool {}", mempool::held(rt, samples)?)?;
     println!(rt; "peers {}", peers::held(rt, samples)?)?;
     println!(rt; "runs {}", runs::held(rt, samples.memory, alloc)?)?;
+    println!(rt; "talks {}", talks::held(rt, samples.memory, alloc)?)?;
     Ok(())
 }
 

@@ -1,7 +1,9 @@
 -- The first items that fit, found one after the other.
 use Rattle.std.proofs.Common.{◌≡◌, ℕ, zero, suc, ◌+◌, ◌-◌, ◌<◌, ◌≤◌, Bool, true, false, cond, List, [], ◌∷◌, ◌++◌, take, length, refl, sym, ap, subst, ◌∙◌, arith}
-use Rattle.std.specs.Prelude.{nat_le}
+use Rattle.std.specs.Prelude.{nat_le, sum_by}
 use Rattle.std.proofs.lemmas.Bool.Decides.{nat_tests}
+use Rattle.std.proofs.lemmas.List.{map-append}
+use Rattle.std.proofs.lemmas.List.Sums.{sum_by-append}
 use Rattle.mp_tx.specs.Transaction.{Transaction}
 use Rattle.mp_tx.specs.Spelling.{size_of}
 use Rattle.mp_resync.specs.Keep.{transactions, bytes_of}
@@ -17,7 +19,7 @@ none_taken : (xs : List (ℕ × Transaction)) → take 0 xs ≡ []
 none_taken [] = refl
 none_taken (x ∷ xs) = refl
 
-of_none : (n : ℕ) → take n ([] {A = ℕ × Transaction}) ≡ []
+of_none : (n : ℕ) → take {A = ℕ × Transaction} n [] ≡ []
 of_none zero = refl
 of_none (suc n) = refl
 
@@ -46,18 +48,22 @@ are_all count n xs e = ap (λ m. take m xs) (let z : count - n ≡ 0 = omega (ar
 pub none_left : (count n room : ℕ) → take (count - n) (within room []) ≡ []
 none_left count n room = of_none (count - n)
 
+alone : (i : ℕ × Transaction) → bytes_of (i ∷ []) ≡ size_of i.1
+alone i = omega arith
+
 pub bytes-last : (found : List (ℕ × Transaction)) (i : ℕ × Transaction) → bytes_of (found ++ i ∷ []) ≡ bytes_of found + size_of i.1
-bytes-last [] i = omega arith
-bytes-last (f ∷ fs) i = let e = bytes-last fs i in omega (arith, e)
+bytes-last found i =
+    ap (sum_by size_of) (map-append (λ i. i.1) found (i ∷ [])) ∙ sum_by-append size_of (transactions found) (i.1 ∷ [])
+    ∙ ap (λ n. bytes_of found + n) (alone i)
+
+shorter : (b : Bool) (i : ℕ × Transaction) (xs is : List (ℕ × Transaction)) → length xs ≤ length is → length (cond b (i ∷ xs) []) ≤ suc (length is)
+shorter true i xs is le = omega (arith, le)
+shorter false i xs is le = omega arith
 
 -- what fits isn't more than there is
-pub length-within : (room : ℕ) (items : List (ℕ × Transaction)) → length (within room items) ≤ length items
+length-within : (room : ℕ) (items : List (ℕ × Transaction)) → length (within room items) ≤ length items
 length-within room [] = omega arith
-length-within room (i ∷ is) = by (nat_le (size_of i.1) room)
-  where
-    by : (b : Bool) → length (cond b (i ∷ within (room - size_of i.1) is) []) ≤ suc (length is)
-    by true = let e = length-within (room - size_of i.1) is in omega (arith, e)
-    by false = omega arith
+length-within room (i ∷ is) = shorter (nat_le (size_of i.1) room) i (within (room - size_of i.1) is) is (length-within (room - size_of i.1) is)
 
 take_long : (n : ℕ) (xs : List (ℕ × Transaction)) → length xs ≤ n → take n xs ≡ xs
 take_long n [] le = of_none n

@@ -2,7 +2,7 @@
 use Rattle.std.proofs.Common.{◌≡◌, ℕ, suc, ◌+◌, List, [], ◌∷◌, ◌++◌, length, take, refl, sym, ap, subst, ◌∙◌, arith, append_assoc, append-nil, length-append}
 use Rattle.std.specs.Prelude.{Option, None, Some, IfSome, Err}
 use Rattle.std.specs.Io.KnownBytes.{Appends}
-use Rattle.std.proofs.Math.Seq.{take-append_seam}
+use Rattle.std.proofs.Math.Seq.{take-append_seam, take-append-add}
 use Rattle.mp_text.specs.Lines.{lines_of}
 use Rattle.mp_text.specs.Output.{AppendsFront}
 use Rattle.mp_driver.specs.Scene.{Scene, empty_scene}
@@ -50,4 +50,18 @@ module _ (old now : Option (List ℕ)) (all rest : List (List ℕ)) (s : Scene) 
 
   -- a front of an answer was written
   pub is_cut : (new : Option (List ℕ)) (u : Scene) (line answer : List ℕ) → Progress old now all (line ∷ rest) s n → IsAnswer n s line answer u → AppendsFront now new answer → WasCut old new all
-  is_cut new u line answer p is (taken, lt, w) = ?
+  is_cut new u line answer p is (taken, lt, w) =
+      let done : List (List ℕ) = p.lines ++ line ∷ [] in
+      let front : take (length done) all ≡ done = ap (take (length done)) (p.whole ∙ sym (append_assoc p.lines (line ∷ []) rest)) ∙ take-append_seam done rest in
+      let told : AreAnswers 1 empty_scene done (p.text ++ answer) u =
+      answers-more 1 empty_scene p.lines p.text s line answer u p.told (subst (λ m. IsAnswer m s line answer u) (let c = p.count in let e : n ≡ 1 + length p.lines = omega (arith, c) in e) is) in (
+        length done,
+        p.text ++ answer,
+        u,
+        subst (λ l. AreAnswers 1 empty_scene l (p.text ++ answer) u) (sym front) told,
+        (
+          length p.text + taken,
+          omega (arith, length-append p.text answer, lt),
+          subst (Appends old new) (sym (take-append-add p.text answer taken)) (Appends-more old now new p.text (take taken answer) p.wrote w),
+        ),
+      )

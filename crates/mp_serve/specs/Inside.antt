@@ -2,4 +2,3 @@
 pub mod Ask
 pub mod Request
 pub mod Pool
-pub mod Talk

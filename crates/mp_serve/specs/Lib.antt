@@ -2,5 +2,6 @@ pub mod Ask
 pub mod Texts
 pub mod Request
 pub mod Talk
+pub mod Conversation
 pub mod Served
 pub mod Inside

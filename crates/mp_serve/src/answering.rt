@@ -5,7 +5,7 @@ ghost use Rattle.std.specs.Io.KnownBytes.{Appends};
 ghost use Rattle.mp_text.specs.Output.{AppendsFront};
 ghost use Rattle.mp_serve.specs.Texts.{no_memory_text};
 ghost use Rattle.mp_serve.specs.Served.{IsAnswer};
-ghost use Rattle.mp_serve.specs.Inside.Talk.{scene_of};
+ghost use Rattle.mp_serve.specs.Conversation.{scene_of};
 
 use crate::conversation::Conversation;
 use crate::texts::{NO_MEMORY, Text, bad_line};

@@ -110,7 +110,7 @@ impl Conversation {
     ghost use Rattle.mp_serve.specs.Talk.{ask, does, read, take, line_step};
     ghost use Rattle.mp_serve.specs.Inside.Ask.{to_ask};
     ghost use Rattle.mp_serve.specs.Inside.Request.{to_request};
-    ghost use Rattle.mp_serve.specs.Inside.Talk.{stage_of, scene_of};
+    ghost use Rattle.mp_serve.specs.Conversation.{stage_of, scene_of};
 
     /// Before the first line.
     pub fn new(memory: Memory) -> Result<Conversation, NoMemory>

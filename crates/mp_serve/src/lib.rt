@@ -11,5 +11,7 @@ mod request;
 mod serving;
 mod texts;
 
+pub use conversation::{Conversation, Stage};
 pub use fault::Fault;
+pub use pool::ServedPool;
 pub use serving::serve;

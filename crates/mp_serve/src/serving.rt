@@ -2,7 +2,7 @@
 
 ghost use Rattle.std.specs.Prelude.{◌≡◌, IfSome};
 ghost use Rattle.mp_serve.specs.Served.{Ended};
-ghost use Rattle.mp_serve.specs.Inside.Talk.{scene_of};
+ghost use Rattle.mp_serve.specs.Conversation.{scene_of};
 ghost use Rattle.std.specs.Io.BufRead.{strip_last};
 
 use crate::answering::{answer, write_answer};

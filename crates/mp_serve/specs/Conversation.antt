@@ -1,4 +1,4 @@
--- What the conversation of the code says.
+-- What a conversation of the code has come to.
 use Rattle.mp_driver.specs.Scene.{Scene, Before, Open}
 use Rattle.mp_driver.specs.Scene as told
 use Rattle.mp_serve.specs.declared.conversation.Stage.{Stage}

@@ -1,0 +1,143 @@
+//! Conversations at refused growths: a line that finds no memory is said again.
+
+use crate::rows::count;
+use mp_memory::{Memory, NoMemory};
+use mp_names::LineFault;
+use mp_serve::Conversation;
+use mp_testing::MAX_GROWTHS;
+use std::alloc::Global;
+use std::io;
+
+// Lines and their answers.
+#[derive(Clone, Copy)]
+struct Talk {
+    name: &'static str,
+    lines: &'static [&'static [u8]],
+    answers: &'static [u8],
+}
+
+// Each line that changes something, and then what has come of it.
+const CHANGES: Talk = Talk {
+    name: "changes in a conversation at refused growths",
+    lines: &[
+        b"block 400",
+        b"limit 2",
+        b"script five 054002000000000000000520",
+        b"data five 010000000000000005",
+        b"out g0 100@five",
+        b"out g1 7",
+        b"tx a in=g0:five/unit/five out=100",
+        b"tx b in=g1 out=7",
+        b"check a",
+        b"submit a",
+        b"submit a",
+        b"submit b",
+        b"remove b",
+        b"sync 6 block=300 g0 g1",
+        b"submit b",
+        b"stats",
+        b"snapshot",
+    ],
+    answers: b"ok\nok\nok\nok\nok\nok\nok\nok\naccepted 1\naccepted 1\nrefused already 1\n\
+        accepted 2\nremoved 2 dropped\nkept 1 dropped\naccepted 3\nstats 2 379 221 3 1\n\
+        snapshot 2 379 3 1:a 3:b\n",
+};
+
+// The bytes of a transaction are read again under another name, by which it can't be told from the first. Upon a ledger state with `a.0`
+// alone `a` isn't valid.
+const READS: Talk = Talk {
+    name: "reads in a conversation at refused growths",
+    lines: &[
+        b"out g0 100",
+        b"tx a in=g0 out=100",
+        b"bytes x 00",
+        b"bytes y",
+        b"submit a",
+        b"after 0",
+        b"lookup 1",
+        b"lookup 2",
+        b"has a",
+        b"take 180",
+        b"forge 181",
+        b"offer 9 1000",
+        b"offer 9 1000",
+        b"for 0 a.0",
+        b"for 0 g0",
+    ],
+    answers: b"ok\nok\nundecodable version\nbad\naccepted 1\nafter 1:a\nlookup a\nlookup none\nhas yes\ntake 0 0\n\
+        block 1 181 1:a\noffer 1:a\noffer\nfor\nfor 1:a\n",
+};
+
+const TALKS: [Talk; 2] = [CHANGES, READS];
+
+// Any of these conversations makes at least so many growths.
+const FEWEST: u64 = 20;
+
+fn begin(memory: Memory) -> Result<Conversation, NoMemory> {
+    match Conversation::new(memory) {
+        Ok(conversation) => Ok(conversation),
+        Err(_) => Conversation::new(memory),
+    }
+}
+
+// Puts what is answered to the line, which is said once more where there is no memory.
+fn say(
+    conversation: &mut Conversation,
+    memory: Memory,
+    line: &[u8],
+    told: &mut Vec<u8, Global>,
+) -> Option<()> {
+    let answer = match conversation.hear(memory, line) {
+        Err(LineFault::NoMemory) => conversation.hear(memory, line),
+        answer => answer,
+    };
+    match answer {
+        Ok(text) => told.extend_from_slice(&text).ok(),
+        Err(LineFault::Bad(_)) => told.extend_from_slice(b"bad\n").ok(),
+        Err(LineFault::NoMemory) => None,
+    }
+}
+
+fn hold(memory: Memory, alloc: Global, talk: Talk) -> Option<Vec<u8, Global>> {
+    let mut told = Vec::new(alloc);
+    let mut conversation = begin(memory).ok()?;
+    for line in talk.lines {
+        say(&mut conversation, memory, line, &mut told)?;
+    }
+    Some(told)
+}
+
+fn is_right(memory: Memory, alloc: Global, talk: Talk) -> bool {
+    match hold(memory, alloc, talk) {
+        Some(told) => told.as_slice() == talk.answers,
+        None => false,
+    }
+}
+
+// How many growths the conversation makes, each of which is refused once; none where an answer isn't right.
+fn growths_of(memory: Memory, alloc: Global, talk: Talk) -> Option<u64> {
+    for nth in 1..MAX_GROWTHS {
+        memory.refuse(nth);
+        let right = is_right(memory, alloc, talk);
+        let is_met = !memory.waits();
+        memory.refuse(0);
+        if !right {
+            return None;
+        }
+        if !is_met {
+            return Some(nth - 1);
+        }
+    }
+    None
+}
+
+/// How many cases hold.
+pub fn held(rt: &impl Print, memory: Memory, alloc: Global) -> io::Result<u64> {
+    let mut held: u64 = 0;
+    for talk in TALKS {
+        let growths = growths_of(memory, alloc, talk).unwrap_or(0);
+        let seen = [u64::from(FEWEST <= growths), 0, 0, 0, 0, 0];
+        held = held.saturating_add(count(rt, talk.name, Some(seen), [1, 0, 0, 0, 0, 0])?);
+    }
+    Ok(held)
+}
