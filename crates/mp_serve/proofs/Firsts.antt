@@ -1,5 +1,5 @@
 -- The first items that fit, found one after the other.
-use Rattle.std.proofs.Common.{◌≡◌, ℕ, zero, suc, ◌+◌, ◌-◌, ◌<◌, ◌≤◌, Bool, true, false, cond, List, [], ◌∷◌, ◌++◌, take, length, refl, sym, ap, subst, ◌∙◌, arith}
+use Rattle.std.proofs.Common.{◌≡◌, ℕ, zero, suc, ◌+◌, ◌-◌, ◌<◌, ◌≤◌, Bool, true, false, cond, List, [], ◌∷◌, ◌++◌, take, length, refl, sym, ap, subst, ◌∙◌, arith, append_assoc}
 use Rattle.std.specs.Prelude.{nat_le, sum_by}
 use Rattle.std.proofs.lemmas.Bool.Decides.{nat_tests}
 use Rattle.std.proofs.lemmas.List.{map-append}
@@ -72,3 +72,19 @@ take_long (suc n) (x ∷ xs) le = ap (λ l. x ∷ l) (take_long n xs (omega (ari
 
 pub all_within : (room : ℕ) (items : List (ℕ × Transaction)) → take (length items) (within room items) ≡ within room items
 all_within room items = take_long (length items) (within room items) (length-within room items)
+
+-- with one item more there is one less to come
+module _ (count room bytes size n m : ℕ) (i : ℕ × Transaction) (found new it rest all : List (ℕ × Transaction)) where
+  pub goes_on : it ≡ i ∷ rest → new ≡ found ++ i ∷ [] → m ≡ n + 1 → size ≡ size_of i.1 → n < count → size ≤ room - bytes
+      → found ++ take (count - n) (within (room - bytes) it) ≡ take count (within room all) → bytes ≡ bytes_of found → bytes ≤ room
+      → (new ++ take (count - m) (within (room - (bytes + size)) rest) ≡ take count (within room all)) × (bytes + size ≡ bytes_of new) × (bytes + size ≤ room) × (m ≤ count)
+  goes_on left more next sized lt le are sum fit = (
+    ap (λ l. l ++ take (count - m) (within (room - (bytes + size)) rest)) more ∙ append_assoc found (i ∷ []) (take (count - m) (within (room - (bytes + size)) rest))
+        ∙ ap (λ k. found ++ i ∷ take (count - k) (within (room - (bytes + size)) rest)) next
+        ∙ ap (λ k. found ++ i ∷ take (count - (n + 1)) (within (room - (bytes + k)) rest)) sized
+        ∙ ap (λ l. found ++ l) (sym (one_found count n room bytes i rest lt (subst (λ k. k ≤ room - bytes) sized le)))
+        ∙ ap (λ l. found ++ take (count - n) (within (room - bytes) l)) (sym left) ∙ are,
+    ap (λ k. k + size) sum ∙ ap (λ k. bytes_of found + k) sized ∙ sym (bytes-last found i) ∙ ap bytes_of (sym more),
+    omega (arith, le, fit),
+    omega (arith, lt, next),
+  )

@@ -1,13 +1,23 @@
 -- What a served pool keeps, whatever it is asked.
 use Rattle.std.proofs.Common.{◌≡◌, ℕ, ◌<◌, ◌≤◌, ◌^◌, Bool, true, false, cond, refl, sym, ap, subst, ◌∙◌, arith}
-use Rattle.std.specs.Prelude.{nat_le, is_ok}
+use Rattle.std.specs.Prelude.{nat_le, is_ok, List, Result, Ok, Err, OnOk, OnErr}
+use Rattle.std.specs.FinMap.{get}
 use Rattle.std.proofs.lemmas.Bool.Decides.{nat_tests}
+use Rattle.mp_tx.specs.Ledger.{LedgerState}
+use Rattle.mp_tickets.specs.Tickets.{IsRising}
+use Rattle.mp_resync.specs.Keep.{keep, dropped}
+use Rattle.mp_seqpool.specs.declared.refusal.Refusal.{Refusal}
+use Rattle.mp_seqpool.specs.declared.refusal.Refusal.TheVariants as refusals
+use Rattle.mp_seqpool.specs.declared.command.Reply.{Reply}
+use Rattle.mp_seqpool.specs.declared.command.Reply.TheVariants.{Synced}
 use Rattle.mp_seqpool.specs.Command.{Command, Submit, Remove, Sync}
 use Rattle.mp_seqpool.specs.Config.{renewed}
 use Rattle.mp_seqpool.specs.Pool.{Pool}
 use Rattle.mp_seqpool.specs.PoolLaws.{IsLawful}
-use Rattle.mp_seqpool.specs.SlowPool.{is_at_limit, answer, done, next}
-use Rattle.mp_seqpool.proofs.Histories.{lawful-next, lawful-renewed}
+use Rattle.mp_seqpool.specs.SlowPool.{is_at_limit, answer, done, next, reply_synced}
+use Rattle.mp_seqpool.specs.Prepared.{apart}
+use Rattle.mp_seqpool.proofs.Apart.{apart_dropped}
+use Rattle.mp_seqpool.proofs.Histories.{lawful-next, lawful-renewed, next-refused}
 use Rattle.mp_driver.specs.Verifier.{is_key_and_id}
 use Rattle.mp_serve.specs.Request.{counted_anew}
 use Rattle.mp_serve.specs.Inside.Pool.{IsServed}
@@ -48,3 +58,35 @@ pub served-next : (p : Pool) (c : Command) → IsServed p → IsServed (counted_
 served-next p c s =
     let same : (next is_key_and_id p c).limit ≡ p.limit = limit-next p c in
     served_anew (next is_key_and_id p c) (lawful-next is_key_and_id p c s.lawful) (subst (λ n. 1 ≤ n) (sym same) s.least) (subst (λ n. n ≤ 2 ^ 32) (sym same) s.most)
+
+-- where one more change may be made, a sync is replied to
+pub synced : (p : Pool) (l : LedgerState) (reply : Reply) → p.changes < p.limit → answer is_key_and_id p (Sync l) ≡ Ok reply → reply ≡ reply_synced is_key_and_id l p
+unfolding answer
+synced p l reply lt e =
+    let is : Ok (reply_synced is_key_and_id l p) ≡ Ok reply =
+    sym (ap (λ b. cond b (Err refusals.HistoryFull) (Ok (reply_synced is_key_and_id l p))) (under p.changes p.limit lt)) ∙ e in
+    Prim.cc
+
+-- what isn't dropped is kept
+pub kept : (p : Pool) (l : LedgerState) (stay gone : List ℕ) → IsRising p.items → Synced stay gone ≡ reply_synced is_key_and_id l p → apart gone p.items ≡ keep is_key_and_id l p.items
+kept p l stay gone rising e =
+    let same : gone ≡ dropped is_key_and_id l p.items = Prim.cc in
+    ap (λ g. apart g p.items) same ∙ apart_dropped is_key_and_id (get l.utxo) l.tick 0 p.items rising
+
+pub on_ok : {X E : Type 0} (r : Result X E) (P : Type 0) → P → OnOk r P
+on_ok (Ok x) P p = p
+on_ok (Err e) P p = tt
+
+pub on_err : {X E : Type 0} (r : Result X E) (P : Type 0) → P → OnErr r P
+on_err (Ok x) P p = tt
+on_err (Err e) P p = p
+
+-- whether it obeyed or had no memory for it
+pub served_either : {X E : Type 0} (r : Result X E) (old new : Pool) (c : Command)
+    → OnOk r (new ≡ counted_anew (next is_key_and_id old c)) → OnErr r (new ≡ old) → IsServed old → IsServed new
+served_either (Ok x) old new c done same s = subst IsServed (sym done) (served-next old c s)
+served_either (Err e) old new c done same s = subst IsServed (sym same) s
+
+-- a command that is refused changes nothing
+pub refused_same : (p : Pool) (c : Command) (f : Refusal) → p.changes < p.limit → answer is_key_and_id p c ≡ Err f → p ≡ counted_anew (next is_key_and_id p c)
+refused_same p c f lt is = sym (ap counted_anew (next-refused is_key_and_id p c f is) ∙ not_anew p lt)

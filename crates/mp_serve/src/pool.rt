@@ -1,14 +1,14 @@
 //! The pool of a conversation.
 
-ghost use Rattle.std.specs.Prelude.{◌≡◌, ◌<◌, ◌≤◌, ◌^◌, None, Err, IfOk, IfErr, OnOk, OnErr};
+ghost use Rattle.std.specs.Prelude.{◌≡◌, ◌≤◌, ◌^◌, IfOk, IfErr, OnOk, OnErr};
 ghost use Rattle.std.specs.Arc.{arc_value};
-ghost use Rattle.mp_tx.specs.Ledger.{AreDistinct, refs};
 ghost use Rattle.mp_seqpool.specs.Command.{Submit};
 ghost use Rattle.mp_seqpool.specs.Inside.Command.{command_of};
 ghost use Rattle.mp_seqpool.specs.Prepared.{Prepares};
 ghost use Rattle.mp_seqpool.specs.SlowPool.{answer, next, AreSigned, IsRefused};
 ghost use Rattle.mp_driver.specs.Verifier.{is_key_and_id};
 ghost use Rattle.mp_driver.specs.AnswerText.{answer_text};
+ghost use Rattle.mp_driver.specs.Scene.{opening_ledger};
 ghost use Rattle.mp_serve.specs.Request.{counted_anew};
 ghost use Rattle.mp_serve.specs.Inside.Pool.{IsServed};
 
@@ -118,8 +118,10 @@ fn obey(
             count_anew(pool);
             Ok(text)
         }
-        Err(Refusal::NoMemory) => Err(NoMemory),
-        Err(refusal) => answer_line(memory, names, &Err(refusal)),
+        Err(refusal) => match refusal {
+            Refusal::NoMemory => Err(NoMemory),
+            other => answer_line(memory, names, &Err(other)),
+        },
     }
 }
 
@@ -142,10 +144,7 @@ fn check(
 }
 
 impl ServedPool {
-    ghost use Rattle.std.specs.Prelude.{◌≡◌, IfOk, OnOk, OnErr};
-    ghost use Rattle.std.specs.Arc.{arc_value};
-    ghost use Rattle.mp_tx.specs.Ledger.{LedgerState};
-    ghost use Rattle.mp_seqpool.specs.Command as commands;
+    ghost use Rattle.std.specs.Prelude.{◌≡◌, IfOk, OnErr};
     ghost use Rattle.mp_driver.specs.Scene.{Before, pool_at};
     ghost use Rattle.mp_serve.specs.Request.{respond};
     ghost use Rattle.mp_serve.specs.Inside.Request.{to_request};

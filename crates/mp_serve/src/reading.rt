@@ -98,7 +98,16 @@ fn put_snapshot(
     put_contents(memory, text, names, pool.contents())
 }
 
-// The word, and the oldest transactions that fit into so many bytes together.
+// The oldest transactions, as long as they fit into so many bytes together.
+fn oldest_within(memory: Memory, pool: &SeqPool, room: u64) -> Result<Found, NoMemory>
+    ensures items { IfOk result
+        (λ f. items_of f.items.items ≡ within room pool.now.pool.items) }
+    ensures bytes { IfOk result (λ f. f.bytes ≡ bytes_of (items_of f.items.items)) }
+{
+    first_within(memory, pool.contents(), pool.len() as u64, room)
+}
+
+// The word, and those transactions.
 fn put_oldest(
     memory: Memory,
     text: &mut Text,
@@ -111,7 +120,7 @@ fn put_oldest(
         ++ (word.now ++ sized_text names.now (within room pool.now.pool.items))) }
 {
     put_word(text, word)?;
-    let found = first_within(memory, pool.contents(), pool.len() as u64, room)?;
+    let found = oldest_within(memory, pool, room)?;
     put_sized(memory, text, names, found.bytes, &found.items)
 }
 
@@ -176,7 +185,6 @@ fn put_query(
 }
 
 /// The line that the query writes. An offer moves the peer's cursor.
-#[tactic(auto, unfolding(crate::specs::QueryText::query_text))]
 pub fn query_line(
     memory: Memory,
     names: &Names,
@@ -229,19 +237,19 @@ fn put_others(
     Ok(())
 }
 
-// What stays of a pool where these are dropped.
+// What stays of these where some are dropped.
 fn others_line(
     memory: Memory,
     names: &Names,
-    pool: &SeqPool,
+    items: Iter<'_, ValidatedTx>,
     dropped: &Tickets,
 ) -> Result<Text, NoMemory>
     ensures { IfOk result (λ text.
-        text.items ≡ for_text names.now (apart dropped.now pool.now.pool.items)) }
+        text.items ≡ for_text names.now (apart dropped.now (ticketed items.entry))) }
 {
     let mut text = Vec::new(memory);
     put_word(&mut text, b"for")?;
-    put_others(memory, &mut text, names, pool.contents(), dropped)?;
+    put_others(memory, &mut text, names, items, dropped)?;
     text.push(b'\n')?;
     Ok(text)
 }
@@ -258,9 +266,10 @@ pub fn kept_line(
     ensures { IfOk result (λ text. text.items
         ≡ for_text names.now (keep is_key_and_id ledger.now pool.now.pool.items)) }
 {
+    let items = pool.contents();
     match pool.prepare_sync(ledger, &KeyAndId) {
         Ok(prepared) => match prepared.reply() {
-            Reply::Synced { dropped, .. } => others_line(memory, names, pool, dropped),
+            Reply::Synced { dropped, .. } => others_line(memory, names, items, dropped),
             _ => unreachable!(),
         },
         Err(_) => Err(NoMemory),
