@@ -9,12 +9,11 @@ use Rattle.clap.specs.Facts.{explicit_source}
 use Rattle.clap.specs.Values.{Accepts, reading_of, refused_kind}
 use Rattle.clap.specs.ValueTests.{accepts}
 use Rattle.clap.specs.Walk.{Row, Rule, Text, action_of, at_row, count_of, default_rows, first_of, has_row, more_values, new_count}
-use Rattle.clap.specs.Walk.{nothing_held, one_of, reading_by, row_text, rows_after, settled, used_as, walk, walk_from}
-use Rattle.clap.specs.Walk.{with_values, without}
+use Rattle.clap.specs.Walk.{nothing_held, one_of, reading_by, row_text, rows_after, used_as, with_values, without}
 use Rattle.clap.specs.Simple.{Shape}
 use Rattle.clap.specs.Takes.{is_given}
 use Rattle.clap.specs.Kinds.{Kinds, or_else, range_kinds, value_kinds}
-use Rattle.clap.specs.Faults.{check_fault, defaults_fault, level_fault, repeat_fault, settle_fault, walk_fault}
+use Rattle.clap.specs.Faults.{check_fault, level_fault, repeat_fault}
 use Rattle.clap.specs.declared.builder.action.ArgAction.{ArgAction}
 use Rattle.clap.specs.declared.builder.action.ArgAction.TheVariants.{Set, Append, SetTrue, SetFalse, Count, Help, HelpShort}
 use Rattle.clap.specs.declared.builder.action.ArgAction.TheVariants.{HelpLong, Version}
@@ -24,8 +23,7 @@ use Rattle.clap.specs.declared.builder.value_parser.Reading.TheVariants.{AsWritt
 use Rattle.clap.specs.declared.parser.matches.ValueSource.{ValueSource}
 use Rattle.clap.specs.declared.parser.matches.ValueSource.TheVariants.{CommandLine}
 use Rattle.clap.proofs.ValueTestLemmas.{accepts-Accepts}
-use Rattle.mp_command_line.proofs.Kept.{Each, KeepsDefault, KeepsUse, both_none, defaults_keep, found_has, not_none, settles}
-use Rattle.mp_command_line.proofs.Kept.{walk_keeps}
+use Rattle.mp_command_line.proofs.Kept.{Each, KeepsDefault, KeepsUse, both_none, found_has, level_keeps, not_none}
 
 each_maps : {X : Type 0} (Q R : X → Type 0) → ((x : X) → Q x → R x) → (xs : List X) → Each Q xs → Each R xs
 each_maps Q R so [] q = tt
@@ -179,15 +177,9 @@ module _ (id : Text) (parser : ValueParser) (written : reading_of parser ≡ AsW
       → level_fault s [] nothing_held words false [] ≡ []
       → AreGood (rows_after s.rules [] words) × (check_fault s (rows_after s.rules [] words) false ≡ [])
   level_good s apart words none =
-      let end = (walk s.rules [] nothing_held words).held in
-      let n = both_none (walk_fault s [] (walk_from nothing_held) words) _ none in
-      let m = both_none (settle_fault s.rules s.args_override_self end) _ n.1 in
-      let k = both_none (defaults_fault (settled s.rules end).rows s.rules) _ m.1 in
-      let keeps = each_maps IsApart (KeepsUse s.args_override_self AreGood) (keeps_use s.args_override_self) s.rules apart in
-      let walked_good = walk_keeps s AreGood keeps [] (walk_from nothing_held) words n.0 tt in
-      let settled_good = settles s AreGood keeps end m.0 walked_good in
+      let uses = each_maps IsApart (KeepsUse s.args_override_self AreGood) (keeps_use s.args_override_self) s.rules apart in
       let defaults = each_maps IsApart (KeepsDefault AreGood) keeps_default s.rules apart in
-      (defaults_keep AreGood s.rules (settled s.rules end).rows defaults k.0 settled_good, k.1)
+      level_keeps s AreGood uses defaults tt words none
 
   row_read : (rows : List Row) (r : Row) → AreGood rows → find (λ r. bytes_eq r.id id) rows ≡ Some r → IsRead r.reading r.values
   row_read rows r good is = found_has IsGood _ rows r good is (hit (λ r. bytes_eq r.id id) rows r is)

@@ -12,11 +12,12 @@ use Rattle.clap.specs.Walk.{is_pending, long_met, long_or_other, next, option, o
 use Rattle.clap.specs.Walk.{positional, reacted, refused, settled, settled_rows, short_met, short_or_plain, subcommand}
 use Rattle.clap.specs.Walk.{subcommand_met, subcommand_or_other, takes_several, takes_values, to_positional, trailing, used}
 use Rattle.clap.specs.Walk.{used_by_id, value, waits, walked, walked_from, with_default, word_met, idle}
+use Rattle.clap.specs.Walk.{nothing_held, rows_after, walk, walk_from}
 use Rattle.clap.specs.Simple.{Shape}
 use Rattle.clap.specs.Kinds.{Kinds, or_else}
 use Rattle.clap.specs.Faults.{bundle_fault, bundle_step_fault, default_fault, defaults_fault, flag_word_fault, flags_fault}
 use Rattle.clap.specs.Faults.{long_fault, option_fault, other_fault, positional_fault, react_fault, settle_fault, short_fault}
-use Rattle.clap.specs.Faults.{step_fault, turn_fault, use_fault, walk_fault, word_fault, stray_fault}
+use Rattle.clap.specs.Faults.{check_fault, level_fault, step_fault, turn_fault, use_fault, walk_fault, word_fault, stray_fault}
 use Rattle.clap.specs.declared.error.kind.ErrorKind.{ErrorKind}
 use Rattle.clap.specs.declared.error.kind.ErrorKind.TheVariants.{TooManyValues}
 
@@ -233,3 +234,15 @@ defaults_keep P [] rows keep none p = p
 defaults_keep P (a ∷ c) rows keep none p =
     let n = both_none (default_fault rows a) _ none in
     defaults_keep P c (with_default rows a) keep.1 n.1 (keep.0 rows n.0 p)
+
+-- and so does a command whose words are taken
+pub level_keeps : (s : Shape) (P : List Row → Type 0) → Each (KeepsUse s.args_override_self P) s.rules
+    → Each (KeepsDefault P) s.rules → P [] → (words : List Text) → level_fault s [] nothing_held words false [] ≡ []
+    → P (rows_after s.rules [] words) × (check_fault s (rows_after s.rules [] words) false ≡ [])
+level_keeps s P uses defaults start words none =
+    let end = (walk s.rules [] nothing_held words).held in
+    let n = both_none (walk_fault s [] (walk_from nothing_held) words) _ none in
+    let m = both_none (settle_fault s.rules s.args_override_self end) _ n.1 in
+    let k = both_none (defaults_fault (settled s.rules end).rows s.rules) _ m.1 in
+    let at_end = walk_keeps s P uses [] (walk_from nothing_held) words n.0 start in
+    (defaults_keep P s.rules (settled s.rules end).rows defaults k.0 (settles s P uses end m.0 at_end), k.1)

@@ -1,6 +1,6 @@
 -- The command lines that the program takes: `keltuvar run [--explain] [FILE]`,
 -- `keltuvar race --workers N [--history FILE] [--svg FILE] [--verify-us MICROSECONDS] [--explain] [FILE]`,
--- `keltuvar audit [--explain] SCENARIO HISTORY`, `--help` and `--version`.
+-- `keltuvar audit [--explain] SCENARIO HISTORY`, `keltuvar serve`, `--help` and `--version`.
 use Rattle.std.specs.Prelude.{◌≡◌, ◌≤◌, ⊤, ℕ, Bool, true, false, List, Option, None, Some, codes, option_and_then, option_map}
 use Rattle.std.specs.Prelude.{unwrap_or}
 use Rattle.std.specs.Borrow.{Bor}
@@ -11,7 +11,7 @@ use Rattle.clap.specs.declared.builder.value_parser.ValueParser.TheVariants.{Uns
 use Rattle.clap.specs.Words.{App, Row, Rule, Text, first_of, one_of, new_app, new_rule, subcommand_of, with_rule}
 use Rattle.clap.specs.Words.{with_subcommand}
 use Rattle.mp_command_line.specs.declared.asked.Asked.{Asked}
-use Rattle.mp_command_line.specs.declared.asked.Asked.TheVariants.{Run, Race, Audit}
+use Rattle.mp_command_line.specs.declared.asked.Asked.TheVariants.{Run, Race, Audit, Serve}
 
 abbrev pub explain_rule : Rule
 explain_rule = record (new_rule (codes "explain")) { long = Some (codes "explain"); action = Some SetTrue }
@@ -63,14 +63,19 @@ abbrev pub audit_command : App
 audit_command = with_rule (with_rule (with_rule (new_app (codes "audit"))
     explain_rule) (input_rule (codes "FILE"))) (input_rule (codes "history"))
 
--- a command has to be named, and there is none but `run`, `race` and `audit`
+-- `serve`, with no argument
+abbrev pub serve_command : App
+serve_command = new_app (codes "serve")
+
+-- a command has to be named, and there is none but `run`, `race`, `audit` and `serve`
 abbrev pub program : App
-program = with_subcommand (with_subcommand (with_subcommand
+program = with_subcommand (with_subcommand (with_subcommand (with_subcommand
     (on_top (λ s. record s { has_version = true; disable_help_subcommand = true; subcommand_required = true })
     (new_app (codes "keltuvar")))
     run_command.top)
     race_command.top)
-    audit_command.top
+    audit_command.top)
+    serve_command.top
 
 -- the command that these words name, the program's name first, with what they give to it
 abbrev pub met_in : List Text → Option (Text × List Row)
@@ -128,6 +133,7 @@ abbrev pub name_of : Asked → Text
 name_of (Run input) = codes "run"
 name_of (Race input workers wishes) = codes "race"
 name_of (Audit scenario history explains) = codes "audit"
+name_of Serve = codes "serve"
 
 abbrev pub file_text : Option (Bor Text) → Option Text
 file_text = option_map (λ s. s.now)
@@ -137,11 +143,13 @@ abbrev pub scenario_of : Asked → Option Text
 scenario_of (Run input) = file_text input.file
 scenario_of (Race input workers wishes) = file_text input.file
 scenario_of (Audit scenario history explains) = Some scenario.now
+scenario_of Serve = None
 
 abbrev pub explains_of : Asked → Bool
 explains_of (Run input) = input.explains
 explains_of (Race input workers wishes) = input.explains
 explains_of (Audit scenario history explains) = explains
+explains_of Serve = false
 
 -- a race is of as many workers as are given, from 1 to 64
 abbrev pub HasWorkers : Option ℕ → Asked → Type 0
@@ -153,6 +161,7 @@ abbrev pub HasHistory : Option Text → Asked → Type 0
 HasHistory given (Run input) = ⊤
 HasHistory given (Race input workers wishes) = file_text wishes.history ≡ given
 HasHistory given (Audit scenario history explains) = Some history.now ≡ given
+HasHistory given Serve = ⊤
 
 -- the file for a race's picture is the one that is given, or none
 abbrev pub HasPicture : Option Text → Asked → Type 0

@@ -36,6 +36,8 @@ pub enum Asked<'a> {
         /// Whether is to be said what is wrong with a bad line.
         explains: bool,
     },
+    /// A conversation over standard input and output.
+    Serve,
 }
 
 /// The scenario, and how its faults are told.
@@ -114,6 +116,8 @@ fn read_matches<'a>(matches: &ArgMatches<'a>) -> Asked<'a>
                     history: value_of(given, "history"),
                     explains: explains_of(given),
                 }
+            } else if name == "serve" {
+                Asked::Serve
             } else {
                 Asked::Run {
                     input: input_of(given),

@@ -23,11 +23,12 @@ Examples:
                                     also writes the race's history, and a picture of it
   keltuvar audit scenario.scn race.log
                                     whether that history is legal over the scenario
+  keltuvar serve                    a conversation: each line of standard input is answered at once
 
-The status is 0, or 1 at a fault, as a bad line or a history that isn't legal, or 2 where the
-command line is refused.";
+The status is 0, or 1 at a fault, as a scenario's bad line or a history that isn't legal, or 2
+where the command line is refused.";
 
-/// The program, with the three commands that it has.
+/// The program, with the four commands that it has.
 pub(crate) fn program<'a>(alloc: Global) -> Result<Command<'a>, AllocError>
     ensures { IfOk result (λ c. app_of c ≡ spec.program) }
 {
@@ -41,7 +42,8 @@ pub(crate) fn program<'a>(alloc: Global) -> Result<Command<'a>, AllocError>
         .bin_name("keltuvar")?
         .subcommand(run_command(alloc)?)?
         .subcommand(race_command(alloc)?)?
-        .subcommand(audit_command(alloc)?)
+        .subcommand(audit_command(alloc)?)?
+        .subcommand(serve_command(alloc))
 }
 
 fn run_command<'a>(alloc: Global) -> Result<Command<'a>, AllocError>
@@ -91,6 +93,15 @@ fn audit_command<'a>(alloc: Global) -> Result<Command<'a>, AllocError>
             "HISTORY",
             "The history, as race --history writes it",
         ))
+}
+
+fn serve_command<'a>(alloc: Global) -> Command<'a>
+    ensures shape { app_of result ≡ spec.serve_command }
+    ensures local { (fields_of result).has_globals ≡ false }
+{
+    Command::new(alloc, "serve").about(
+        "Holds a conversation with a pool: answers each line of standard input on standard output",
+    )
 }
 
 fn workers_option<'a>(alloc: Global) -> Arg<'a>

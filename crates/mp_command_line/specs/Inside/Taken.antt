@@ -1,5 +1,5 @@
 -- What was given to a command of which the program took the words.
-use Rattle.std.specs.Prelude.{◌≡◌, ◌⊎◌, IfSome, IsSomeAnd, List, Option, None, Some, codes, is_some, true}
+use Rattle.std.specs.Prelude.{◌≡◌, ◌⊎◌, IfSome, IsSomeAnd, List, [], Option, None, Some, codes, is_some, true}
 use Rattle.clap.specs.Values.{IsUnsignedIn}
 use Rattle.clap.specs.Words.{Row, Text, first_of, one_of}
 
@@ -17,9 +17,10 @@ pub record IsAudit (rows : List Row) : Type 0 where
   pub scenario : is_some (first_of (codes "FILE") rows) ≡ true
   pub history : is_some (first_of (codes "history") rows) ≡ true
 
--- a run, a race or an audit
+-- a run, a race, an audit or a conversation, to which nothing is given
 abbrev pub IsTaken : Option (Text × List Row) → Type 0
 IsTaken None = ⊥
 IsTaken (Some command) = (command.0 ≡ codes "run")
     ⊎ ((command.0 ≡ codes "race") × IsRace command.1)
     ⊎ ((command.0 ≡ codes "audit") × IsAudit command.1)
+    ⊎ ((command.0 ≡ codes "serve") × (command.1 ≡ []))

@@ -12,5 +12,7 @@ returns c =
     ∙ ap₂ with_subcommand named (ap (λ (a : App). a.top) c.in_ok-run_command.ensures.shape) in
     let with_race = c.in_ok-subcommand-2.ensures.shape c.in_ok-race_command.ensures.local
     ∙ ap₂ with_subcommand with_run (ap (λ (a : App). a.top) c.in_ok-race_command.ensures.shape) in
-    IfOk-weaker c.subcommand-3.result _ _ (λ r h. h.shape c.in_ok-audit_command.ensures.local
-    ∙ ap₂ with_subcommand with_race (ap (λ (a : App). a.top) c.in_ok-audit_command.ensures.shape)) c.subcommand-3.ensures
+    let with_audit = c.in_ok-subcommand-3.ensures.shape c.in_ok-audit_command.ensures.local
+    ∙ ap₂ with_subcommand with_race (ap (λ (a : App). a.top) c.in_ok-audit_command.ensures.shape) in
+    IfOk-weaker c.subcommand-4.result _ _ (λ r h. h.shape c.serve_command.ensures.local
+    ∙ ap₂ with_subcommand with_audit (ap (λ (a : App). a.top) c.serve_command.ensures.shape)) c.subcommand-4.ensures
