@@ -14,7 +14,7 @@ use Rattle.mp_seqpool.specs.Command.{Command, Submit, Remove, Sync}
 use Rattle.mp_seqpool.specs.Config.{renewed}
 use Rattle.mp_seqpool.specs.Pool.{Pool}
 use Rattle.mp_seqpool.specs.PoolLaws.{IsLawful}
-use Rattle.mp_seqpool.specs.SlowPool.{is_at_limit, answer, done, next, reply_synced}
+use Rattle.mp_seqpool.specs.SlowPool.{answer, done, next, reply_synced}
 use Rattle.mp_seqpool.specs.Prepared.{apart}
 use Rattle.mp_seqpool.proofs.Apart.{apart_dropped}
 use Rattle.mp_seqpool.proofs.Histories.{lawful-next, lawful-renewed, next-refused}

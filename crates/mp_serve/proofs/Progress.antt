@@ -1,22 +1,41 @@
 -- How far a conversation has come.
 use Rattle.std.proofs.Common.{◌≡◌, ℕ, suc, ◌+◌, List, [], ◌∷◌, ◌++◌, length, take, refl, sym, ap, subst, ◌∙◌, arith, append_assoc, append-nil, length-append}
-use Rattle.std.specs.Prelude.{Option, None, Some, IfSome, Err}
-use Rattle.std.specs.Io.KnownBytes.{Appends}
+use Rattle.std.specs.Prelude.{Option, None, Some, IfSome, Ok, Err}
+use Rattle.std.specs.Io.KnownBytes.{Appends, IsAtEnd}
+use Rattle.std.specs.Io.BufRead.{take_through, drop_through, strip_last, DropsThrough}
 use Rattle.std.proofs.Math.Seq.{take-append_seam, take-append-add}
 use Rattle.mp_text.specs.Lines.{lines_of}
 use Rattle.mp_text.specs.Output.{AppendsFront}
 use Rattle.mp_driver.specs.Scene.{Scene, empty_scene}
-use Rattle.mp_driver.proofs.Progress.{Appends-nothing, Appends-more}
-use Rattle.mp_serve.specs.Served.{IsAnswer, AreAnswers, WereAnswered, WasCut}
+use Rattle.mp_driver.proofs.Progress.{Appends-nothing}
+use Rattle.mp_serve.specs.declared.fault.Fault.TheVariants.{ReadFault, WriteFault}
+use Rattle.mp_serve.specs.Served.{IsAnswer, AreAnswers, WereAnswered, WasCut, Ended}
+use Rattle.mp_serve.proofs.Lines.{first_through}
+
+Appends-more : (a b c : Option (List ℕ)) (xs ys : List ℕ) → Appends a b xs → Appends b c ys → Appends a c (xs ++ ys)
+Appends-more None b c xs ys p q = tt
+Appends-more (Some a) None c xs ys p q = absurd p
+Appends-more (Some a) (Some b) None xs ys p q = absurd q
+Appends-more (Some a) (Some b) (Some c) xs ys p q = q ∙ ap (λ z. z ++ ys) p ∙ append_assoc a xs ys
 
 pub answers-more : (n : ℕ) (s : Scene) (lines : List (List ℕ)) (text : List ℕ) (t : Scene) (line answer : List ℕ) (u : Scene)
     → AreAnswers n s lines text t → IsAnswer (n + length lines) t line answer u → AreAnswers n s (lines ++ line ∷ []) (text ++ answer) u
-answers-more n s [] text t line answer u (none, same) is =
-    (answer, [], u, ap (λ l. l ++ answer) none ∙ sym (append-nil answer),
-    subst (λ v. IsAnswer n v line answer u) same (subst (λ m. IsAnswer m t line answer u) (let e : n + 0 ≡ n = omega arith in e) is), (refl, refl))
-answers-more n s (l ∷ ls) text t line answer u (first, rest, v, whole, told, more) is =
-    (first, rest ++ answer, v, ap (λ x. x ++ answer) whole ∙ append_assoc first rest answer, told,
-    answers-more (n + 1) v ls rest t line answer u more (subst (λ m. IsAnswer m t line answer u) (let e : n + suc (length ls) ≡ (n + 1) + length ls = omega arith in e) is))
+answers-more n s [] text t line answer u (none, same) is = (
+  answer,
+  [],
+  u,
+  ap (λ l. l ++ answer) none ∙ sym (append-nil answer),
+  subst (λ v. IsAnswer n v line answer u) same (subst (λ m. IsAnswer m t line answer u) (let e : n + 0 ≡ n = omega arith in e) is),
+  (refl, refl),
+)
+answers-more n s (l ∷ ls) text t line answer u (first, rest, v, whole, told, more) is = (
+  first,
+  rest ++ answer,
+  v,
+  ap (λ x. x ++ answer) whole ∙ append_assoc first rest answer,
+  told,
+  answers-more (n + 1) v ls rest t line answer u more (subst (λ m. IsAnswer m t line answer u) (let e : n + suc (length ls) ≡ (n + 1) + length ls = omega arith in e) is),
+)
 
 -- The lines that are done were answered, and the answers are what the writer got.
 pub record Progress (old now : Option (List ℕ)) (all rest : List (List ℕ)) (s : Scene) (n : ℕ) : Type 0 where
@@ -65,3 +84,51 @@ module _ (old now : Option (List ℕ)) (all rest : List (List ℕ)) (s : Scene) 
           subst (Appends old new) (sym (take-append-add p.text answer taken)) (Appends-more old now new p.text (take taken answer) p.wrote w),
         ),
       )
+
+-- The lines that were read from known bytes were answered, and those of the bytes that are left weren't read.
+abbrev pub Stands : Option (List ℕ) → Option (List ℕ) → Option (List ℕ) → Option (List ℕ) → Scene → ℕ → Type 0
+Stands all left old now s n =
+    IfSome all (λ bytes. (rest : List ℕ) × (left ≡ Some rest) × Progress old now (lines_of bytes) (lines_of rest) s n)
+
+pub stands-first : (all old : Option (List ℕ)) (s : Scene) (n : ℕ) → s ≡ empty_scene → n ≡ 1 → Stands all all old old s n
+stands-first None old s n e one = tt
+stands-first (Some bytes) old s n e one = (bytes, refl, begins old (lines_of bytes) s n e one)
+
+module _ (old now : Option (List ℕ)) (s : Scene) (n : ℕ) where
+  -- at the end of the input
+  pub ends : (all left : Option (List ℕ)) → Stands all left old now s n → IsAtEnd left → IfSome all (λ bytes. Ended bytes old now (Ok tt))
+  ends None left i end = tt
+  ends (Some bytes) left (rest, is, p) end =
+      let none : rest ≡ [] = subst IsAtEnd is end in
+      let done : lines_of bytes ≡ p.lines = p.whole ∙ ap (λ l. p.lines ++ lines_of l) none ∙ append-nil p.lines in
+      (p.text, s, subst (λ l. AreAnswers 1 empty_scene l p.text s) (sym done) p.told, p.wrote)
+
+  -- where a read fails
+  pub fails : (all left : Option (List ℕ)) → Stands all left old now s n → IfSome all (λ bytes. Ended bytes old now (Err ReadFault))
+  fails None left i = tt
+  fails (Some bytes) left (rest, is, p) = stops old now (lines_of bytes) (lines_of rest) s n p
+
+  first_read : (all : List (List ℕ)) (rest buffer : List ℕ) → buffer ≡ take_through 10 rest → (length buffer ≡ 0 → ⊥)
+      → Progress old now all (lines_of rest) s n → Progress old now all (strip_last 10 buffer ∷ lines_of (drop_through 10 rest)) s n
+  first_read all [] buffer is some p = absurd (some (ap length is))
+  first_read all (x ∷ xs) buffer is some p =
+      subst (λ l. Progress old now all l s n) (first_through x xs ∙ ap (λ l. strip_last 10 l ∷ lines_of (drop_through 10 (x ∷ xs))) (sym is)) p
+
+  module _ (left after new : Option (List ℕ)) (u : Scene) (buffer answer : List ℕ) (read : IfSome left (λ xs. buffer ≡ take_through 10 xs))
+      (dropped : DropsThrough left after 10) (some : length buffer ≡ 0 → ⊥) (answered : IsAnswer n s (strip_last 10 buffer) answer u) where
+    -- a line that is read and answered
+    pub stands-more : (all : Option (List ℕ)) → Stands all left old now s n → Appends now new answer → Stands all after old new u (n + 1)
+    stands-more None i w = tt
+    stands-more (Some bytes) (rest, is, p) w = (
+      drop_through 10 rest,
+      subst (λ o. DropsThrough o after 10) is dropped,
+      goes_on old now (lines_of bytes) (lines_of (drop_through 10 rest)) s n new u (strip_last 10 buffer) answer
+          (first_read (lines_of bytes) rest buffer (subst (λ o. IfSome o (λ xs. buffer ≡ take_through 10 xs)) is read) some p) answered w,
+    )
+
+    -- where a write fails
+    pub stands-cut : (all : Option (List ℕ)) → Stands all left old now s n → AppendsFront now new answer → IfSome all (λ bytes. Ended bytes old new (Err WriteFault))
+    stands-cut None i w = tt
+    stands-cut (Some bytes) (rest, is, p) w =
+        is_cut old now (lines_of bytes) (lines_of (drop_through 10 rest)) s n new u (strip_last 10 buffer) answer
+        (first_read (lines_of bytes) rest buffer (subst (λ o. IfSome o (λ xs. buffer ≡ take_through 10 xs)) is read) some p) answered w

@@ -1,5 +1,5 @@
 -- What is answered to lines, each in its turn.
-use Rattle.std.specs.Prelude.{◌≡◌, ℕ, ◌+◌, ◌⊎◌, List, [], ◌∷◌, ◌++◌, length, take, Option, None, Some, Result, Ok, Err}
+use Rattle.std.specs.Prelude.{◌≡◌, ℕ, ◌+◌, ◌⊎◌, List, [], ◌∷◌, ◌++◌, take, Option, None, Some, Result, Ok, Err}
 use Rattle.std.specs.Io.KnownBytes.{Appends}
 use Rattle.mp_text.specs.Lines.{lines_of}
 use Rattle.mp_text.specs.Output.{AppendsFront}
@@ -7,7 +7,7 @@ use Rattle.mp_driver.specs.Scene.{Scene, Step, empty_scene}
 use Rattle.mp_serve.specs.Texts.{no_memory_text, bad_text}
 use Rattle.mp_serve.specs.Talk.{line_step}
 use Rattle.mp_serve.specs.declared.fault.Fault.{Fault}
-use Rattle.mp_serve.specs.declared.fault.Fault.TheVariants.{NoMemory, ReadFault, WriteFault}
+use Rattle.mp_serve.specs.declared.fault.Fault.TheVariants.{WriteFault}
 
 -- as the line asks; a bad one is told with its number and why, and nothing has changed
 abbrev pub IsTold : ℕ → Scene → Step → List ℕ → Scene → Type 0

@@ -1,5 +1,5 @@
 -- What a conversation has come to, and what a line makes of it. It is what a scenario comes to.
-use Rattle.std.specs.Prelude.{ℕ, List, [], Option, None, Some, option_map, option_and_then, Result, Ok, Err}
+use Rattle.std.specs.Prelude.{ℕ, List, [], Some, option_map, option_and_then, Result, Ok, Err}
 use Rattle.mp_tx.specs.Transaction.{Transaction}
 use Rattle.mp_tx.specs.declared.fault.TxFault.{TxFault}
 use Rattle.mp_tx.specs.Reading.{transaction_of}

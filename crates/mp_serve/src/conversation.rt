@@ -19,9 +19,7 @@ use crate::texts::{Text, ok_line, read_line, show_line, undecodable_line};
 use mp_driver::{Openings, Settings, ledger_at};
 use mp_lines::{Line, MAX_OUTPUTS};
 use mp_memory::{Memory, NoMemory};
-use mp_names::{
-    Binding, DeclaredTx, LineFault, Name, Names, Payment, Reason, Setting,
-};
+use mp_names::{Binding, DeclaredTx, LineFault, Name, Names, Payment, Reason, Setting};
 use mp_seqpool::{Command, Ids};
 use mp_tx::{Tx, TxFault, TxId};
 use std::sync::Arc;
@@ -74,7 +72,9 @@ fn put_opening<'a>(
     payment: Payment,
 ) -> Result<(), LineFault<'a>>
     ensures names { OnOk result (names.new ≡ with_binding names.old (record {
-        name = name; binding = Opening (opening_ref (length openings.old)) payment })) }
+      name = name;
+      binding = Opening (opening_ref (length openings.old)) payment;
+    })) }
     ensures openings { OnOk result (openings.new ≡ openings.old
         ++ (opening_ref (length openings.old), output_of payment) ∷ []) }
     ensures few { OnOk result (nat_lt (length openings.old) (2 ^ 16) ≡ true) }

@@ -14,7 +14,9 @@ ghost use Rattle.mp_driver.specs.AnswerText.{item_text, items_text, numbers_text
 ghost use Rattle.mp_driver.specs.QueryText.{sized_text, words_text, query_text, for_text, cursor_after};
 
 use crate::texts::Text;
-use mp_driver::{KeyAndId, put_found, put_has, put_item, put_items, put_number, put_sized, put_word};
+use mp_driver::{
+    KeyAndId, put_found, put_has, put_item, put_items, put_number, put_sized, put_word,
+};
 use mp_lines::Query;
 use mp_memory::{Memory, NoMemory};
 use mp_names::Names;

@@ -1,6 +1,7 @@
 //! A conversation, from a reader to a writer.
 
 ghost use Rattle.std.specs.Prelude.{◌≡◌, IfSome};
+ghost use Rattle.mp_driver.specs.Scene.{empty_scene};
 ghost use Rattle.mp_serve.specs.Served.{Ended};
 ghost use Rattle.mp_serve.specs.Conversation.{scene_of};
 ghost use Rattle.std.specs.Io.BufRead.{strip_last};
@@ -23,6 +24,34 @@ fn without_feed(line: &[u8]) -> &[u8]
     }
 }
 
+// Answers each line that is left. The line is where it is read to.
+fn answer_all<R: BufRead, W: Write>(
+    memory: Memory,
+    conversation: &mut Conversation,
+    line: &mut Vec<u8, Memory>,
+    reader: &mut R,
+    writer: &mut W,
+) -> Result<(), Fault>
+    requires empty { scene_of conversation.old ≡ empty_scene }
+    ensures { IfSome (R.remaining reader.old)
+        (λ bytes. Ended bytes (W.contents writer.old) (W.contents writer.new) result) }
+{
+    for number in 1..u64::MAX {
+        line.clear();
+        match reader.read_until(LINE_FEED, line) {
+            Ok(0) => return Ok(()),
+            Ok(_) => {}
+            Err(_) => return Err(Fault::ReadFault),
+        }
+        let answer = answer(conversation, memory, number, without_feed(line));
+        match write_answer(writer, &answer) {
+            Ok(()) => {}
+            Err(_) => return Err(Fault::WriteFault),
+        }
+    }
+    Err(Fault::ReadFault)
+}
+
 /// Answers each line of the input as it comes, until the input ends. An answer is written in one piece, and the line after it is
 /// read afterwards.
 ///
@@ -37,22 +66,11 @@ pub fn serve<R: BufRead, W: Write>(
     ensures { IfSome (R.remaining reader.old)
         (λ bytes. Ended bytes (W.contents writer.old) (W.contents writer.new) result) }
 {
-    let mut conversation = match Conversation::new(memory) {
-        Ok(conversation) => conversation,
-        Err(_) => return Err(Fault::NoMemory),
-    };
-    let mut line = Vec::new(memory);
-    for number in 1..u64::MAX {
-        line.clear();
-        match reader.read_until(LINE_FEED, &mut line) {
-            Ok(0) => return Ok(()),
-            Ok(_) => {}
-            Err(_) => return Err(Fault::ReadFault),
+    match Conversation::new(memory) {
+        Ok(mut conversation) => {
+            let mut line = Vec::new(memory);
+            answer_all(memory, &mut conversation, &mut line, reader, writer)
         }
-        let answer = answer(&mut conversation, memory, number, without_feed(&line));
-        if write_answer(writer, &answer).is_err() {
-            return Err(Fault::WriteFault);
-        }
+        Err(_) => Err(Fault::NoMemory),
     }
-    Err(Fault::ReadFault)
 }

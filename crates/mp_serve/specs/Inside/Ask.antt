@@ -1,5 +1,4 @@
 -- What an ask of the code says.
-use Rattle.std.specs.Prelude.{List}
 use Rattle.std.specs.Arc.{arc_value}
 use Rattle.mp_lines.specs.Inside.Line.{to_line}
 use Rattle.mp_serve.specs.declared.ask.Ask as code
