@@ -12,13 +12,6 @@ use Rattle.mp_versions.specs.Reading.{within}
 fits : (size room : ℕ) → size ≤ room → nat_le size room ≡ true
 fits size room le = grind (arith, nat_tests)
 
-fits_not : (size room : ℕ) → room < size → nat_le size room ≡ false
-fits_not size room lt = grind (arith, nat_tests)
-
-none_taken : (xs : List (ℕ × Transaction)) → take 0 xs ≡ []
-none_taken [] = refl
-none_taken (x ∷ xs) = refl
-
 of_none : (n : ℕ) → take {A = ℕ × Transaction} n [] ≡ []
 of_none zero = refl
 of_none (suc n) = refl
@@ -33,20 +26,6 @@ one_found count n room bytes i rest lt le =
     ap (λ b. take (count - n) (cond b (i ∷ within ((room - bytes) - size) rest) [])) (fits size (room - bytes) le)
     ∙ ap (λ m. take m (i ∷ within ((room - bytes) - size) rest)) more
     ∙ ap (λ r. i ∷ take (count - (n + 1)) (within r rest)) left
-
--- the next one doesn't fit
-pub none_fits : (count n room bytes : ℕ) (i : ℕ × Transaction) (rest : List (ℕ × Transaction)) → room - bytes < size_of i.1
-    → take (count - n) (within (room - bytes) (i ∷ rest)) ≡ []
-none_fits count n room bytes i rest lt =
-    ap (λ b. take (count - n) (cond b (i ∷ within ((room - bytes) - size_of i.1) rest) [])) (fits_not (size_of i.1) (room - bytes) lt) ∙ of_none (count - n)
-
--- there are as many as were asked for
-pub are_all : (count n : ℕ) (xs : List (ℕ × Transaction)) → n ≡ count → take (count - n) xs ≡ []
-are_all count n xs e = ap (λ m. take m xs) (let z : count - n ≡ 0 = omega (arith, e) in z) ∙ none_taken xs
-
--- nothing is left
-pub none_left : (count n room : ℕ) → take (count - n) (within room []) ≡ []
-none_left count n room = of_none (count - n)
 
 alone : (i : ℕ × Transaction) → bytes_of (i ∷ []) ≡ size_of i.1
 alone i = omega arith
