@@ -1,6 +1,6 @@
 //! The answer to a line, and what writes it.
 
-ghost use Rattle.std.specs.Prelude.{◌≡◌, List, ℕ, IfSome, IfNone, OnOk, OnErr, unwrap_or, option_map};
+ghost use Rattle.std.specs.Prelude.{OnOk, OnErr, unwrap_or, option_map};
 ghost use Rattle.std.specs.Io.KnownBytes.{Appends};
 ghost use Rattle.mp_text.specs.Output.{AppendsFront};
 ghost use Rattle.mp_serve.specs.Texts.{no_memory_text};
