@@ -1,13 +1,13 @@
 -- What is answered to lines, each in its turn.
 use Rattle.std.specs.Prelude.{◌≡◌, ℕ, ◌+◌, ◌⊎◌, List, [], ◌∷◌, ◌++◌, take, Option, None, Some, Result, Ok, Err}
-use Rattle.std.specs.Io.KnownBytes.{Appends}
+use Rattle.std.specs.Io.KnownBytes.{Appends, Keeps}
 use Rattle.mp_text.specs.Lines.{lines_of}
 use Rattle.mp_text.specs.Output.{AppendsFront}
 use Rattle.mp_driver.specs.Scene.{Scene, Step, empty_scene}
 use Rattle.mp_serve.specs.Texts.{no_memory_text, bad_text}
 use Rattle.mp_serve.specs.Talk.{line_step}
 use Rattle.mp_serve.specs.declared.fault.Fault.{Fault}
-use Rattle.mp_serve.specs.declared.fault.Fault.TheVariants.{WriteFault}
+use Rattle.mp_serve.specs.declared.fault.Fault.TheVariants.{NoMemory, ReadFault, WriteFault}
 
 -- as the line asks; a bad one is told with its number and why, and nothing has changed
 abbrev pub IsTold : ℕ → Scene → Step → List ℕ → Scene → Type 0
@@ -32,8 +32,9 @@ WereAnswered old new lines = (text : List ℕ) × (t : Scene) × AreAnswers 1 em
 abbrev pub WasCut : Option (List ℕ) → Option (List ℕ) → List (List ℕ) → Type 0
 WasCut old new lines = (k : ℕ) × (text : List ℕ) × (t : Scene) × AreAnswers 1 empty_scene (take k lines) text t × AppendsFront old new text
 
--- how a conversation ends: at the end of the input, or where a device fails
+-- how a conversation ends: at the end of the input, where a device fails, or before it begins
 abbrev pub Ended : List ℕ → Option (List ℕ) → Option (List ℕ) → Result (Unit {0}) Fault → Type 0
 Ended bytes old new (Ok u) = WereAnswered old new (lines_of bytes)
 Ended bytes old new (Err WriteFault) = WasCut old new (lines_of bytes)
-Ended bytes old new (Err fault) = (k : ℕ) × WereAnswered old new (take k (lines_of bytes))
+Ended bytes old new (Err ReadFault) = (k : ℕ) × WereAnswered old new (take k (lines_of bytes))
+Ended bytes old new (Err NoMemory) = Keeps old new

@@ -178,6 +178,7 @@ impl Conversation {
             Stage::Before(openings) => put_opening(&mut self.names, openings, name, payment),
         }
     }
+
     // What a line of a scenario asks.
     fn does<'a>(&mut self, memory: Memory, line: Line) -> Result<Text, LineFault<'a>>
         ensures ok { IfOk result (λ text.

@@ -52,8 +52,7 @@ fn answer_all<R: BufRead, W: Write>(
     Err(Fault::ReadFault)
 }
 
-/// Answers each line of the input as it comes, until the input ends. An answer is written in one piece, and the line after it is
-/// read afterwards.
+/// Answers each line of the input as it comes, until the input ends. The line after it is read once its answer is written.
 ///
 /// # Errors
 /// `ReadFault` where a read fails; `WriteFault` where a write does, with a front of an answer written; `NoMemory` before the first
