@@ -34,8 +34,8 @@ pub fn make_ledger(
     }
 }
 
-// The setting holds where a line tells no bytes of a block.
-fn block_bytes_at(settings: &Settings, told: &Option<BlockBytes>) -> u64
+/// The bytes of a block: the setting holds where a line tells none.
+pub fn block_bytes_at(settings: &Settings, told: &Option<BlockBytes>) -> u64
     ensures same { result ≡ unwrap_or told.now (block_bytes_of settings.now) }
     ensures range { HasBlockBytes result }
 {

@@ -19,11 +19,11 @@ mod verifier;
 
 pub use answers::{answer_line, put_reply, reply_line};
 pub use fault::Fault;
-pub use ledgers::{ledger_at, make_ledger};
+pub use ledgers::{block_bytes_at, ledger_at, make_ledger};
 pub use missing_entry::MissingEntry;
 pub use openings::Openings;
 pub use queries::{put_found, put_has, put_item, put_items, put_sized};
-pub use refusals::{put_number, put_word};
+pub use refusals::{put_number, put_refusal, put_word};
 pub use running::{answer_text, run};
 pub use settings::Settings;
 pub use stop::Stop;

@@ -1,4 +1,4 @@
--- The ledger states that lines tell: TICK [block=N] REF ..
+-- The ledger states that lines tell: TICK [block=N] REF .., and what stands before the references.
 use Rattle.std.specs.Prelude.{ℕ, nat_eq, List, [], ◌∷◌, codes, Option, None, Some, option_map, option_and_then, if◌then◌else◌}
 use Rattle.std.specs.Cmp.Lexicographic.{pointwise}
 use Rattle.mp_text.specs.Numbers.{number_of}
@@ -23,19 +23,32 @@ ledger_with tick block_bytes outputs = record { tick = tick; block_bytes = block
 unfoldable pub block_word : List ℕ → Option (List ℕ)
 block_word word = if pointwise nat_eq (split_once 61 word).0 (codes "block") then (split_once 61 word).1 else None
 
--- with the bytes of a block
-abbrev pub ledger_told : Names → ℕ → List (List ℕ) → ℕ → Option NewLedger
-ledger_told names tick words n = option_map (ledger_with tick (Some n)) (put_outputs names [] words)
+-- what stands before the outputs or the transactions of a line: TICK [block=N]
+pub record LedgerHead : Type 0 where
+  pub tick : ℕ
+  -- the bytes of a block, where they are told
+  pub block_bytes : Option ℕ
+  -- the words behind
+  pub rest : List (List ℕ)
 
--- the outputs, and before them the bytes of a block, where they are told
-abbrev pub ledger_by : Names → ℕ → Option (List ℕ) → List (List ℕ) → List (List ℕ) → Option NewLedger
-ledger_by names tick None all others = option_map (ledger_with tick None) (put_outputs names [] all)
-ledger_by names tick (Some value) all others = option_and_then (ledger_told names tick others) (block_bytes_of value)
+abbrev pub block_bytes_by : Option (List ℕ) → List ℕ → List (List ℕ) → Option (Option ℕ × List (List ℕ))
+block_bytes_by None word words = Some (None, word ∷ words)
+block_bytes_by (Some value) word words = option_map (λ n. (Some n, words)) (block_bytes_of value)
 
-abbrev pub ledger_at : Names → List (List ℕ) → ℕ → Option NewLedger
-ledger_at names [] tick = Some (ledger_with tick None [])
-ledger_at names (word ∷ words) tick = ledger_by names tick (block_word word) (word ∷ words) words
+-- the bytes of a block, where the first word tells them, and the words behind
+abbrev pub block_bytes_in : List (List ℕ) → Option (Option ℕ × List (List ℕ))
+block_bytes_in [] = Some (None, [])
+block_bytes_in (word ∷ words) = block_bytes_by (block_word word) word words
+
+abbrev pub head_at : List (List ℕ) → ℕ → Option LedgerHead
+head_at words tick = option_map (λ b. record { tick = tick; block_bytes = b.0; rest = b.1 }) (block_bytes_in words)
+
+abbrev pub head_of : List (List ℕ) → Option LedgerHead
+head_of [] = None
+head_of (tick ∷ words) = option_and_then (head_at words) (number_of tick)
+
+abbrev pub ledger_behind : Names → LedgerHead → Option NewLedger
+ledger_behind names head = option_map (ledger_with head.tick head.block_bytes) (put_outputs names [] head.rest)
 
 abbrev pub ledger_of : Names → List (List ℕ) → Option NewLedger
-ledger_of names [] = None
-ledger_of names (tick ∷ words) = option_and_then (ledger_at names words) (number_of tick)
+ledger_of names words = option_and_then (ledger_behind names) (head_of words)

@@ -1,12 +1,13 @@
 //! Ledger states that lines tell.
 
-ghost use Rattle.std.specs.Prelude.{◌≡◌, [], None, Some, option_map, option_copied, option_and_then, OnOk};
+ghost use Rattle.std.specs.Prelude.{◌≡◌, [], None, Some, option_map, option_copied, OnOk};
+ghost use Rattle.std.specs.Result.{result_ok};
 ghost use Rattle.mp_text.specs.Words.{words_of};
-ghost use Rattle.mp_names.specs.Settings.{block_bytes_of};
 ghost use Rattle.mp_names.specs.References.{ref_of, paid_at};
 ghost use Rattle.mp_names.specs.Outputs.{with_output};
 ghost use Rattle.mp_names.specs.Fault.{Reads, IsBad};
-ghost use Rattle.mp_lines.specs.Ledgers.{put_outputs, block_word, ledger_with, ledger_told, ledger_at, ledger_of};
+ghost use Rattle.mp_lines.specs.Ledgers.{put_outputs, block_word, block_bytes_in, head_of, ledger_of};
+ghost use Rattle.mp_lines.specs.Inside.LedgerHead.{to_head};
 
 use crate::forms::BLOCK;
 use mp_memory::Memory;
@@ -15,6 +16,16 @@ use mp_names::{
     ref_of, split_once,
 };
 use mp_text::first_word;
+
+/// What stands before the outputs or the transactions of a line.
+#[derive(Drop)]
+pub struct LedgerHead<'a> {
+    pub tick: u64,
+    /// The bytes of a block, where they are told.
+    pub block_bytes: Option<BlockBytes>,
+    /// The words behind.
+    pub rest: &'a [u8],
+}
 
 fn put_output<'a>(outputs: &mut Outputs, names: &Names, word: &'a [u8]) -> Result<(), LineFault<'a>>
     ensures ok { OnOk result
@@ -83,54 +94,34 @@ fn block_word(word: &[u8]) -> Option<&[u8]>
     if key == BLOCK.word { value } else { None }
 }
 
-fn ledger_with<'a>(
-    memory: Memory,
-    names: &Names,
-    tick: u64,
-    block_bytes: Option<BlockBytes>,
-    words: &'a [u8],
-) -> Result<NewLedger, LineFault<'a>>
-    ensures { Reads (option_map (ledger_with tick block_bytes)
-        (put_outputs names.now [] (words_of words.now))) result }
+// The bytes of a block, where the first word tells them, and the words behind.
+fn block_bytes_in(words: &[u8]) -> Result<(Option<BlockBytes>, &[u8]), Reason<'_>>
+    ensures { option_map (λ b. (b.0, words_of b.1.now)) (result_ok result)
+        ≡ block_bytes_in (words_of words.now) }
 {
-    let outputs = outputs_of(memory, names, words)?;
-    Ok(NewLedger {
+    let Some((word, others)) = first_word(words) else {
+        return Ok((None, words));
+    };
+    match block_word(word) {
+        Some(value) => Ok((Some(BlockBytes::parse(value)?), others)),
+        None => Ok((None, words)),
+    }
+}
+
+/// What the words of a line of this form tell before the outputs or the transactions.
+pub fn read_head<'a>(form: &'static [u8], words: &'a [u8]) -> Result<LedgerHead<'a>, Reason<'a>>
+    ensures { option_map to_head (result_ok result) ≡ head_of (words_of words.now) }
+{
+    let Some((word, others)) = first_word(words) else {
+        return Err(Reason::FewWords(form));
+    };
+    let tick = any_number(word)?;
+    let (block_bytes, rest) = block_bytes_in(others)?;
+    Ok(LedgerHead {
         tick,
         block_bytes,
-        outputs,
+        rest,
     })
-}
-
-fn ledger_told<'a>(
-    memory: Memory,
-    names: &Names,
-    tick: u64,
-    value: &'a [u8],
-    others: &'a [u8],
-) -> Result<NewLedger, LineFault<'a>>
-    ensures { Reads (option_and_then (ledger_told names.now tick (words_of others.now))
-        (block_bytes_of value.now)) result }
-{
-    let bytes = BlockBytes::parse(value)?;
-    ledger_with(memory, names, tick, Some(bytes), others)
-}
-
-// The outputs, and before them the bytes of a block, where they are told.
-fn ledger_at<'a>(
-    memory: Memory,
-    names: &Names,
-    words: &'a [u8],
-    tick: u64,
-) -> Result<NewLedger, LineFault<'a>>
-    ensures { Reads (ledger_at names.now (words_of words.now) tick) result }
-{
-    match first_word(words) {
-        Some((word, others)) => match block_word(word) {
-            Some(value) => ledger_told(memory, names, tick, value, others),
-            None => ledger_with(memory, names, tick, None, words),
-        },
-        None => ledger_with(memory, names, tick, None, words),
-    }
 }
 
 /// The ledger state that the words of a line of this form tell.
@@ -142,9 +133,15 @@ pub fn read_ledger<'a>(
 ) -> Result<NewLedger, LineFault<'a>>
     ensures { Reads (ledger_of names.now (words_of words.now)) result }
 {
-    let Some((word, others)) = first_word(words) else {
-        return Err(LineFault::Bad(Reason::FewWords(form)));
-    };
-    let tick = any_number(word)?;
-    ledger_at(memory, names, others, tick)
+    let LedgerHead {
+        tick,
+        block_bytes,
+        rest,
+    } = read_head(form, words)?;
+    let outputs = outputs_of(memory, names, rest)?;
+    Ok(NewLedger {
+        tick,
+        block_bytes,
+        outputs,
+    })
 }

@@ -18,6 +18,7 @@ mod words;
 
 pub use declarations::bytes_of;
 pub use forms::{BLOCK, Form, LAST, LIMIT, TICK};
+pub use ledgers::{LedgerHead, read_head};
 pub use line::{Line, MAX_OUTPUTS, unclean};
 pub use query::Query;
 pub use words::{no_word, one_word, two_words};

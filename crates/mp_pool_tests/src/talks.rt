@@ -3,7 +3,7 @@
 use crate::rows::count;
 use mp_memory::{Memory, NoMemory};
 use mp_names::LineFault;
-use mp_serve::Conversation;
+use mp_serve::{Conversation, Signatures};
 use mp_testing::MAX_GROWTHS;
 use std::alloc::Global;
 use std::io;
@@ -68,15 +68,40 @@ const READS: Talk = Talk {
         block 1 181 1:a\noffer 1:a\noffer\nfor\nfor 1:a\n",
 };
 
-const TALKS: [Talk; 2] = [CHANGES, READS];
+// Blocks, one of which has a transaction whose input isn't there, and the way back.
+const BLOCKS: Talk = Talk {
+    name: "blocks in a conversation at refused growths",
+    lines: &[
+        b"block 400",
+        b"out g0 100",
+        b"out g1 7",
+        b"tx a in=g0 out=100",
+        b"tx b in=a.0 out=60 out=40",
+        b"tx c in=g1 out=7",
+        b"submit a",
+        b"submit c",
+        b"adopt 1 b",
+        b"adopt 1 block=300 a b",
+        b"back 2",
+        b"back 1",
+        b"submit a",
+        b"forget b a nobody",
+        b"submit b",
+        b"stats",
+    ],
+    answers: b"ok\nok\nok\nok\nok\nok\naccepted 1\naccepted 2\nrefused adopt b missing 0\nkept 2 dropped 1\n\
+        refused back 1\nkept 2 dropped\naccepted 3\nforgotten 1\nbad\nstats 2 362 438 3 5\n",
+};
+
+const TALKS: [Talk; 3] = [CHANGES, READS, BLOCKS];
 
 // Any of these conversations makes at least so many growths.
 const FEWEST: u64 = 20;
 
 fn begin(memory: Memory) -> Result<Conversation, NoMemory> {
-    match Conversation::new(memory) {
+    match Conversation::new(memory, Signatures::OfScenarios) {
         Ok(conversation) => Ok(conversation),
-        Err(_) => Conversation::new(memory),
+        Err(_) => Conversation::new(memory, Signatures::OfScenarios),
     }
 }
 

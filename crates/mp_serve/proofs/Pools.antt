@@ -5,6 +5,7 @@ use Rattle.std.specs.FinMap.{get}
 use Rattle.std.proofs.lemmas.Bool.Decides.{nat_tests}
 use Rattle.mp_tx.specs.Ledger.{LedgerState}
 use Rattle.mp_tickets.specs.Tickets.{IsRising}
+use Rattle.mp_rules.specs.Verifier.{Accepts}
 use Rattle.mp_resync.specs.Keep.{keep, dropped}
 use Rattle.mp_seqpool.specs.declared.refusal.Refusal.{Refusal}
 use Rattle.mp_seqpool.specs.declared.refusal.Refusal.TheVariants as refusals
@@ -18,9 +19,8 @@ use Rattle.mp_seqpool.specs.SlowPool.{answer, done, next, reply_synced}
 use Rattle.mp_seqpool.specs.Prepared.{apart}
 use Rattle.mp_seqpool.proofs.Apart.{apart_dropped}
 use Rattle.mp_seqpool.proofs.Histories.{lawful-next, lawful-renewed, next-refused}
-use Rattle.mp_driver.specs.Verifier.{is_key_and_id}
 use Rattle.mp_serve.specs.Request.{counted_anew}
-use Rattle.mp_serve.specs.Inside.Pool.{IsServed}
+use Rattle.mp_serve.specs.Inside.Pool.{IsReady}
 
 under : (changes limit : ℕ) → changes < limit → nat_le limit changes ≡ false
 under changes limit lt = grind (arith, nat_tests)
@@ -28,50 +28,6 @@ under changes limit lt = grind (arith, nat_tests)
 -- where one more change may be made, nothing is counted anew
 pub not_anew : (p : Pool) → p.changes < p.limit → counted_anew p ≡ p
 not_anew p lt = ap (λ b. cond b (renewed p.limit p) p) (under p.changes p.limit lt)
-
-limit-done : (p : Pool) (c : Command) → (done is_key_and_id p c).limit ≡ p.limit
-limit-done p (Submit t) = refl
-limit-done p (Remove ids) = refl
-limit-done p (Sync l) = refl
-
-limit-next : (p : Pool) (c : Command) → (next is_key_and_id p c).limit ≡ p.limit
-unfolding next
-limit-next p c = by (is_ok (answer is_key_and_id p c))
-  where
-    by : (b : Bool) → (cond b (done is_key_and_id p c) p).limit ≡ p.limit
-    by true = limit-done p c
-    by false = refl
-
-pub served_anew : (p : Pool) → IsLawful is_key_and_id p → 1 ≤ p.limit → p.limit ≤ 2 ^ 32 → IsServed (counted_anew p)
-served_anew p lawful least most = by (nat_le p.limit p.changes) refl
-  where
-    by : (b : Bool) → nat_le p.limit p.changes ≡ b → IsServed (cond b (renewed p.limit p) p)
-    by true e = record {
-      lawful = lawful-renewed is_key_and_id p.limit p lawful;
-      change = omega (arith, least);
-      least = least;
-      most = most;
-    }
-    by false e = record { lawful = lawful; change = grind (arith, nat_tests); least = least; most = most }
-
-pub served-next : (p : Pool) (c : Command) → IsServed p → IsServed (counted_anew (next is_key_and_id p c))
-served-next p c s =
-    let same : (next is_key_and_id p c).limit ≡ p.limit = limit-next p c in
-    served_anew (next is_key_and_id p c) (lawful-next is_key_and_id p c s.lawful) (subst (λ n. 1 ≤ n) (sym same) s.least) (subst (λ n. n ≤ 2 ^ 32) (sym same) s.most)
-
--- where one more change may be made, a sync is replied to
-pub synced : (p : Pool) (l : LedgerState) (reply : Reply) → p.changes < p.limit → answer is_key_and_id p (Sync l) ≡ Ok reply → reply ≡ reply_synced is_key_and_id l p
-unfolding answer
-synced p l reply lt e =
-    let is : Ok (reply_synced is_key_and_id l p) ≡ Ok reply =
-    sym (ap (λ b. cond b (Err refusals.HistoryFull) (Ok (reply_synced is_key_and_id l p))) (under p.changes p.limit lt)) ∙ e in
-    Prim.cc
-
--- what isn't dropped is kept
-pub kept : (p : Pool) (l : LedgerState) (stay gone : List ℕ) → IsRising p.items → Synced stay gone ≡ reply_synced is_key_and_id l p → apart gone p.items ≡ keep is_key_and_id l p.items
-kept p l stay gone rising e =
-    let same : gone ≡ dropped is_key_and_id l p.items = Prim.cc in
-    ap (λ g. apart g p.items) same ∙ apart_dropped is_key_and_id (get l.utxo) l.tick 0 p.items rising
 
 pub on_ok : {X E : Type 0} (r : Result X E) (P : Type 0) → P → OnOk r P
 on_ok (Ok x) P p = p
@@ -81,12 +37,57 @@ pub on_err : {X E : Type 0} (r : Result X E) (P : Type 0) → P → OnErr r P
 on_err (Ok x) P p = tt
 on_err (Err e) P p = p
 
--- whether it obeyed or had no memory for it
-pub served_either : {X E : Type 0} (r : Result X E) (old new : Pool) (c : Command)
-    → OnOk r (new ≡ counted_anew (next is_key_and_id old c)) → OnErr r (new ≡ old) → IsServed old → IsServed new
-served_either (Ok x) old new c done same s = subst IsServed (sym done) (served-next old c s)
-served_either (Err e) old new c done same s = subst IsServed (sym same) s
+module _ (accepts : Accepts) where
+  limit-done : (p : Pool) (c : Command) → (done accepts p c).limit ≡ p.limit
+  limit-done p (Submit t) = refl
+  limit-done p (Remove ids) = refl
+  limit-done p (Sync l) = refl
 
--- a command that is refused changes nothing
-pub refused_same : (p : Pool) (c : Command) (f : Refusal) → p.changes < p.limit → answer is_key_and_id p c ≡ Err f → p ≡ counted_anew (next is_key_and_id p c)
-refused_same p c f lt is = sym (ap counted_anew (next-refused is_key_and_id p c f is) ∙ not_anew p lt)
+  limit-next : (p : Pool) (c : Command) → (next accepts p c).limit ≡ p.limit
+  unfolding next
+  limit-next p c = by (is_ok (answer accepts p c))
+    where
+      by : (b : Bool) → (cond b (done accepts p c) p).limit ≡ p.limit
+      by true = limit-done p c
+      by false = refl
+
+  pub served_anew : (p : Pool) → IsLawful accepts p → 1 ≤ p.limit → p.limit ≤ 2 ^ 32 → IsReady accepts (counted_anew p)
+  served_anew p lawful least most = by (nat_le p.limit p.changes) refl
+    where
+      by : (b : Bool) → nat_le p.limit p.changes ≡ b → IsReady accepts (cond b (renewed p.limit p) p)
+      by true e = record {
+        lawful = lawful-renewed accepts p.limit p lawful;
+        change = omega (arith, least);
+        least = least;
+        most = most;
+      }
+      by false e = record { lawful = lawful; change = grind (arith, nat_tests); least = least; most = most }
+
+  pub served-next : (p : Pool) (c : Command) → IsReady accepts p → IsReady accepts (counted_anew (next accepts p c))
+  served-next p c s =
+      let same : (next accepts p c).limit ≡ p.limit = limit-next p c in
+      served_anew (next accepts p c) (lawful-next accepts p c s.lawful) (subst (λ n. 1 ≤ n) (sym same) s.least) (subst (λ n. n ≤ 2 ^ 32) (sym same) s.most)
+
+  -- where one more change may be made, a sync is replied to
+  pub synced : (p : Pool) (l : LedgerState) (reply : Reply) → p.changes < p.limit → answer accepts p (Sync l) ≡ Ok reply → reply ≡ reply_synced accepts l p
+  unfolding answer
+  synced p l reply lt e =
+      let is : Ok (reply_synced accepts l p) ≡ Ok reply =
+      sym (ap (λ b. cond b (Err refusals.HistoryFull) (Ok (reply_synced accepts l p))) (under p.changes p.limit lt)) ∙ e in
+      Prim.cc
+
+  -- what isn't dropped is kept
+  pub kept : (p : Pool) (l : LedgerState) (stay gone : List ℕ) → IsRising p.items → Synced stay gone ≡ reply_synced accepts l p → apart gone p.items ≡ keep accepts l p.items
+  kept p l stay gone rising e =
+      let same : gone ≡ dropped accepts l p.items = Prim.cc in
+      ap (λ g. apart g p.items) same ∙ apart_dropped accepts (get l.utxo) l.tick 0 p.items rising
+
+  -- whether it obeyed or had no memory for it
+  pub served_either : {X E : Type 0} (r : Result X E) (old new : Pool) (c : Command)
+      → OnOk r (new ≡ counted_anew (next accepts old c)) → OnErr r (new ≡ old) → IsReady accepts old → IsReady accepts new
+  served_either (Ok x) old new c done same s = subst IsReady accepts (sym done) (served-next old c s)
+  served_either (Err e) old new c done same s = subst IsReady accepts (sym same) s
+
+  -- a command that is refused changes nothing
+  pub refused_same : (p : Pool) (c : Command) (f : Refusal) → p.changes < p.limit → answer accepts p c ≡ Err f → p ≡ counted_anew (next accepts p c)
+  refused_same p c f lt is = sym (ap counted_anew (next-refused accepts p c f is) ∙ not_anew p lt)

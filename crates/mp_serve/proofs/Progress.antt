@@ -6,9 +6,10 @@ use Rattle.std.specs.Io.BufRead.{take_through, drop_through, strip_last, DropsTh
 use Rattle.std.proofs.Math.Seq.{take-append_seam, take-append-add}
 use Rattle.mp_text.specs.Lines.{lines_of}
 use Rattle.mp_text.specs.Output.{AppendsFront}
-use Rattle.mp_driver.specs.Scene.{Scene, empty_scene}
 use Rattle.mp_driver.proofs.Progress.{Appends-nothing}
+use Rattle.mp_serve.specs.declared.signatures.Signatures.{Signatures}
 use Rattle.mp_serve.specs.declared.fault.Fault.TheVariants.{ReadFault, WriteFault}
+use Rattle.mp_serve.specs.Talk.{Talk, empty_talk}
 use Rattle.mp_serve.specs.Served.{IsAnswer, AreAnswers, WereAnswered, WasCut, Ended}
 use Rattle.mp_serve.proofs.Lines.{first_through}
 
@@ -18,7 +19,7 @@ Appends-more (Some a) None c xs ys p q = absurd p
 Appends-more (Some a) (Some b) None xs ys p q = absurd q
 Appends-more (Some a) (Some b) (Some c) xs ys p q = q ∙ ap (λ z. z ++ ys) p ∙ append_assoc a xs ys
 
-pub answers-more : (n : ℕ) (s : Scene) (lines : List (List ℕ)) (text : List ℕ) (t : Scene) (line answer : List ℕ) (u : Scene)
+pub answers-more : (n : ℕ) (s : Talk) (lines : List (List ℕ)) (text : List ℕ) (t : Talk) (line answer : List ℕ) (u : Talk)
     → AreAnswers n s lines text t → IsAnswer (n + length lines) t line answer u → AreAnswers n s (lines ++ line ∷ []) (text ++ answer) u
 answers-more n s [] text t line answer u (none, same) is = (
   answer,
@@ -38,46 +39,46 @@ answers-more n s (l ∷ ls) text t line answer u (first, rest, v, whole, told, m
 )
 
 -- The lines that are done were answered, and the answers are what the writer got.
-pub record Progress (old now : Option (List ℕ)) (all rest : List (List ℕ)) (s : Scene) (n : ℕ) : Type 0 where
+pub record Progress (g : Signatures) (old now : Option (List ℕ)) (all rest : List (List ℕ)) (s : Talk) (n : ℕ) : Type 0 where
   pub lines : List (List ℕ)
   pub text : List ℕ
   pub whole : all ≡ lines ++ rest
-  pub told : AreAnswers 1 empty_scene lines text s
+  pub told : AreAnswers 1 (empty_talk g) lines text s
   pub wrote : Appends old now text
   pub count : n ≡ length lines + 1
 
-pub begins : (o : Option (List ℕ)) (all : List (List ℕ)) (s : Scene) (n : ℕ) → s ≡ empty_scene → n ≡ 1 → Progress o o all all s n
-begins o all s n e one = record { lines = []; text = []; whole = refl; told = (refl, e); wrote = Appends-nothing o; count = one }
+pub begins : (g : Signatures) (o : Option (List ℕ)) (all : List (List ℕ)) (s : Talk) (n : ℕ) → s ≡ empty_talk g → n ≡ 1 → Progress g o o all all s n
+begins g o all s n e one = record { lines = []; text = []; whole = refl; told = (refl, e); wrote = Appends-nothing o; count = one }
 
-module _ (old now : Option (List ℕ)) (all rest : List (List ℕ)) (s : Scene) (n : ℕ) where
+module _ (g : Signatures) (old now : Option (List ℕ)) (all rest : List (List ℕ)) (s : Talk) (n : ℕ) where
   -- one more line
-  pub goes_on : (new : Option (List ℕ)) (u : Scene) (line answer : List ℕ) → Progress old now all (line ∷ rest) s n → IsAnswer n s line answer u → Appends now new answer → Progress old new all rest u (n + 1)
+  pub goes_on : (new : Option (List ℕ)) (u : Talk) (line answer : List ℕ) → Progress g old now all (line ∷ rest) s n → IsAnswer n s line answer u → Appends now new answer → Progress g old new all rest u (n + 1)
   goes_on new u line answer p is w = record {
     lines = p.lines ++ line ∷ [];
     text = p.text ++ answer;
     whole = p.whole ∙ sym (append_assoc p.lines (line ∷ []) rest);
-    told = answers-more 1 empty_scene p.lines p.text s line answer u p.told (subst (λ m. IsAnswer m s line answer u) (let c = p.count in let e : n ≡ 1 + length p.lines = omega (arith, c) in e) is);
+    told = answers-more 1 (empty_talk g) p.lines p.text s line answer u p.told (subst (λ m. IsAnswer m s line answer u) (let c = p.count in let e : n ≡ 1 + length p.lines = omega (arith, c) in e) is);
     wrote = Appends-more old now new p.text answer p.wrote w;
     count = let c = p.count in let l = length-append p.lines (line ∷ []) in omega (arith, c, l);
   }
 
   -- some first lines were answered
-  pub stops : Progress old now all rest s n → (k : ℕ) × WereAnswered old now (take k all)
+  pub stops : Progress g old now all rest s n → (k : ℕ) × WereAnswered g old now (take k all)
   stops p =
       let front : take (length p.lines) all ≡ p.lines = ap (take (length p.lines)) p.whole ∙ take-append_seam p.lines rest in
-      (length p.lines, (p.text, s, subst (λ l. AreAnswers 1 empty_scene l p.text s) (sym front) p.told, p.wrote))
+      (length p.lines, (p.text, s, subst (λ l. AreAnswers 1 (empty_talk g) l p.text s) (sym front) p.told, p.wrote))
 
   -- a front of an answer was written
-  pub is_cut : (new : Option (List ℕ)) (u : Scene) (line answer : List ℕ) → Progress old now all (line ∷ rest) s n → IsAnswer n s line answer u → AppendsFront now new answer → WasCut old new all
+  pub is_cut : (new : Option (List ℕ)) (u : Talk) (line answer : List ℕ) → Progress g old now all (line ∷ rest) s n → IsAnswer n s line answer u → AppendsFront now new answer → WasCut g old new all
   is_cut new u line answer p is (taken, lt, w) =
       let done : List (List ℕ) = p.lines ++ line ∷ [] in
       let front : take (length done) all ≡ done = ap (take (length done)) (p.whole ∙ sym (append_assoc p.lines (line ∷ []) rest)) ∙ take-append_seam done rest in
-      let told : AreAnswers 1 empty_scene done (p.text ++ answer) u =
-      answers-more 1 empty_scene p.lines p.text s line answer u p.told (subst (λ m. IsAnswer m s line answer u) (let c = p.count in let e : n ≡ 1 + length p.lines = omega (arith, c) in e) is) in (
+      let told : AreAnswers 1 (empty_talk g) done (p.text ++ answer) u =
+      answers-more 1 (empty_talk g) p.lines p.text s line answer u p.told (subst (λ m. IsAnswer m s line answer u) (let c = p.count in let e : n ≡ 1 + length p.lines = omega (arith, c) in e) is) in (
         length done,
         p.text ++ answer,
         u,
-        subst (λ l. AreAnswers 1 empty_scene l (p.text ++ answer) u) (sym front) told,
+        subst (λ l. AreAnswers 1 (empty_talk g) l (p.text ++ answer) u) (sym front) told,
         (
           length p.text + taken,
           omega (arith, length-append p.text answer, lt),
@@ -86,49 +87,49 @@ module _ (old now : Option (List ℕ)) (all rest : List (List ℕ)) (s : Scene) 
       )
 
 -- The lines that were read from known bytes were answered, and those of the bytes that are left weren't read.
-abbrev pub Stands : Option (List ℕ) → Option (List ℕ) → Option (List ℕ) → Option (List ℕ) → Scene → ℕ → Type 0
-Stands all left old now s n =
-    IfSome all (λ bytes. (rest : List ℕ) × (left ≡ Some rest) × Progress old now (lines_of bytes) (lines_of rest) s n)
+abbrev pub Stands : Signatures → Option (List ℕ) → Option (List ℕ) → Option (List ℕ) → Option (List ℕ) → Talk → ℕ → Type 0
+Stands g all left old now s n =
+    IfSome all (λ bytes. (rest : List ℕ) × (left ≡ Some rest) × Progress g old now (lines_of bytes) (lines_of rest) s n)
 
-pub stands-first : (all old : Option (List ℕ)) (s : Scene) (n : ℕ) → s ≡ empty_scene → n ≡ 1 → Stands all all old old s n
-stands-first None old s n e one = tt
-stands-first (Some bytes) old s n e one = (bytes, refl, begins old (lines_of bytes) s n e one)
+pub stands-first : (g : Signatures) (all old : Option (List ℕ)) (s : Talk) (n : ℕ) → s ≡ empty_talk g → n ≡ 1 → Stands g all all old old s n
+stands-first g None old s n e one = tt
+stands-first g (Some bytes) old s n e one = (bytes, refl, begins g old (lines_of bytes) s n e one)
 
-module _ (old now : Option (List ℕ)) (s : Scene) (n : ℕ) where
+module _ (g : Signatures) (old now : Option (List ℕ)) (s : Talk) (n : ℕ) where
   -- at the end of the input
-  pub ends : (all left : Option (List ℕ)) → Stands all left old now s n → IsAtEnd left → IfSome all (λ bytes. Ended bytes old now (Ok tt))
+  pub ends : (all left : Option (List ℕ)) → Stands g all left old now s n → IsAtEnd left → IfSome all (λ bytes. Ended g bytes old now (Ok tt))
   ends None left i end = tt
   ends (Some bytes) left (rest, is, p) end =
       let none : rest ≡ [] = subst IsAtEnd is end in
       let done : lines_of bytes ≡ p.lines = p.whole ∙ ap (λ l. p.lines ++ lines_of l) none ∙ append-nil p.lines in
-      (p.text, s, subst (λ l. AreAnswers 1 empty_scene l p.text s) (sym done) p.told, p.wrote)
+      (p.text, s, subst (λ l. AreAnswers 1 (empty_talk g) l p.text s) (sym done) p.told, p.wrote)
 
   -- where a read fails
-  pub fails : (all left : Option (List ℕ)) → Stands all left old now s n → IfSome all (λ bytes. Ended bytes old now (Err ReadFault))
+  pub fails : (all left : Option (List ℕ)) → Stands g all left old now s n → IfSome all (λ bytes. Ended g bytes old now (Err ReadFault))
   fails None left i = tt
-  fails (Some bytes) left (rest, is, p) = stops old now (lines_of bytes) (lines_of rest) s n p
+  fails (Some bytes) left (rest, is, p) = stops g old now (lines_of bytes) (lines_of rest) s n p
 
   first_read : (all : List (List ℕ)) (rest buffer : List ℕ) → buffer ≡ take_through 10 rest → (length buffer ≡ 0 → ⊥)
-      → Progress old now all (lines_of rest) s n → Progress old now all (strip_last 10 buffer ∷ lines_of (drop_through 10 rest)) s n
+      → Progress g old now all (lines_of rest) s n → Progress g old now all (strip_last 10 buffer ∷ lines_of (drop_through 10 rest)) s n
   first_read all [] buffer is some p = absurd (some (ap length is))
   first_read all (x ∷ xs) buffer is some p =
-      subst (λ l. Progress old now all l s n) (first_through x xs ∙ ap (λ l. strip_last 10 l ∷ lines_of (drop_through 10 (x ∷ xs))) (sym is)) p
+      subst (λ l. Progress g old now all l s n) (first_through x xs ∙ ap (λ l. strip_last 10 l ∷ lines_of (drop_through 10 (x ∷ xs))) (sym is)) p
 
-  module _ (left after new : Option (List ℕ)) (u : Scene) (buffer answer : List ℕ) (read : IfSome left (λ xs. buffer ≡ take_through 10 xs))
+  module _ (left after new : Option (List ℕ)) (u : Talk) (buffer answer : List ℕ) (read : IfSome left (λ xs. buffer ≡ take_through 10 xs))
       (dropped : DropsThrough left after 10) (some : length buffer ≡ 0 → ⊥) (answered : IsAnswer n s (strip_last 10 buffer) answer u) where
     -- a line that is read and answered
-    pub stands-more : (all : Option (List ℕ)) → Stands all left old now s n → Appends now new answer → Stands all after old new u (n + 1)
+    pub stands-more : (all : Option (List ℕ)) → Stands g all left old now s n → Appends now new answer → Stands g all after old new u (n + 1)
     stands-more None i w = tt
     stands-more (Some bytes) (rest, is, p) w = (
       drop_through 10 rest,
       subst (λ o. DropsThrough o after 10) is dropped,
-      goes_on old now (lines_of bytes) (lines_of (drop_through 10 rest)) s n new u (strip_last 10 buffer) answer
+      goes_on g old now (lines_of bytes) (lines_of (drop_through 10 rest)) s n new u (strip_last 10 buffer) answer
           (first_read (lines_of bytes) rest buffer (subst (λ o. IfSome o (λ xs. buffer ≡ take_through 10 xs)) is read) some p) answered w,
     )
 
     -- where a write fails
-    pub stands-cut : (all : Option (List ℕ)) → Stands all left old now s n → AppendsFront now new answer → IfSome all (λ bytes. Ended bytes old new (Err WriteFault))
+    pub stands-cut : (all : Option (List ℕ)) → Stands g all left old now s n → AppendsFront now new answer → IfSome all (λ bytes. Ended g bytes old new (Err WriteFault))
     stands-cut None i w = tt
     stands-cut (Some bytes) (rest, is, p) w =
-        is_cut old now (lines_of bytes) (lines_of (drop_through 10 rest)) s n new u (strip_last 10 buffer) answer
+        is_cut g old now (lines_of bytes) (lines_of (drop_through 10 rest)) s n new u (strip_last 10 buffer) answer
         (first_read (lines_of bytes) rest buffer (subst (λ o. IfSome o (λ xs. buffer ≡ take_through 10 xs)) is read) some p) answered w

@@ -1,12 +1,20 @@
 -- What a line of a conversation asks, in view of what was declared before it.
-use Rattle.std.specs.Prelude.{ℕ, nat_eq, List, [], ◌∷◌, codes, Option, None, option_map, option_and_then, if◌then◌else◌}
+use Rattle.std.specs.Prelude.{ℕ, nat_eq, List, [], ◌∷◌, ◌++◌, codes, Option, None, Some, option_map, option_and_then, if◌then◌else◌}
 use Rattle.std.specs.Cmp.Lexicographic.{pointwise}
 use Rattle.mp_text.specs.Lines.{is_clean}
+use Rattle.mp_text.specs.Numbers.{number_of}
 use Rattle.mp_text.specs.Words.{words_of}
 use Rattle.mp_tx.specs.Transaction.{Transaction}
 use Rattle.mp_names.specs.Names.{Names, tx_named, is_new_binding}
 use Rattle.mp_lines.specs.Words.{no_word, one_word, two_words}
+use Rattle.mp_lines.specs.Ledgers.{LedgerHead, head_of}
 use Rattle.mp_lines.specs.Lines.{Line, bytes_of, line_of}
+
+-- a block's transactions, with the tick, and the bytes of a block where the line tells them
+pub record NewBlock : Type 0 where
+  pub tick : ℕ
+  pub block_bytes : Option ℕ
+  pub txs : List Transaction
 
 pub data Ask : Type 0 where
   -- what a line of a scenario asks
@@ -19,6 +27,10 @@ pub data Ask : Type 0 where
   Checks : Transaction → Ask
   -- the pool's numbers
   Counts : Ask
+  -- to adopt the ledger state after the block
+  Extends : NewBlock → Ask
+  -- to adopt the ledger state of so many ago
+  Returns : ℕ → Ask
 
 -- bytes NAME HEX
 abbrev pub bytes_by : Names → List ℕ × List ℕ → Option Ask
@@ -31,14 +43,40 @@ bytes_ask names words = option_and_then (bytes_by names) (two_words words)
 abbrev pub one_tx : Names → List (List ℕ) → Option Transaction
 one_tx names words = option_map (λ t. t.tx) (option_and_then (λ w. tx_named w names) (one_word words))
 
--- by the first word: show TX, check TX, stats, and else the lines of scenarios
+-- the transactions named, behind these
+abbrev pub put_txs : Names → List Transaction → List (List ℕ) → Option (List Transaction)
+put_txs names txs [] = Some txs
+put_txs names txs (word ∷ words) = option_and_then (λ t. put_txs names (txs ++ t.tx ∷ []) words) (tx_named word names)
+
+abbrev pub block_with : LedgerHead → List Transaction → Ask
+block_with head txs = Extends (record { tick = head.tick; block_bytes = head.block_bytes; txs = txs })
+
+abbrev pub block_behind : Names → LedgerHead → Option Ask
+block_behind names head = option_map (block_with head) (put_txs names [] head.rest)
+
+-- adopt TICK [block=N] TX ..
+abbrev pub adopt_ask : Names → List (List ℕ) → Option Ask
+adopt_ask names words = option_and_then (block_behind names) (head_of words)
+
+-- back COUNT
+abbrev pub back_ask : List (List ℕ) → Option Ask
+back_ask words = option_map Returns (option_and_then number_of (one_word words))
+
+-- adopt, back, and else the lines of scenarios
+abbrev pub ledger_ask : Names → List ℕ → List ℕ → List (List ℕ) → Option Ask
+ledger_ask names line word words =
+    if pointwise nat_eq word (codes "adopt") then adopt_ask names words
+    else if pointwise nat_eq word (codes "back") then back_ask words
+    else option_map Does (line_of names line)
+
+-- by the first word: show TX, check TX, stats, and else those
 abbrev pub clean_ask : Names → List ℕ → List ℕ → List (List ℕ) → Option Ask
 clean_ask names line word words =
     if pointwise nat_eq word (codes "bytes") then bytes_ask names words
     else if pointwise nat_eq word (codes "show") then option_map Shows (one_tx names words)
     else if pointwise nat_eq word (codes "check") then option_map Checks (one_tx names words)
     else if pointwise nat_eq word (codes "stats") then option_map (λ u. Counts) (no_word words)
-    else option_map Does (line_of names line)
+    else ledger_ask names line word words
 
 abbrev pub words_ask : Names → List ℕ → List (List ℕ) → Option Ask
 words_ask names line [] = option_map Does (line_of names line)

@@ -1,5 +1,6 @@
 pub mod Ask
 pub mod Texts
+pub mod ServedPool
 pub mod Request
 pub mod Talk
 pub mod Conversation

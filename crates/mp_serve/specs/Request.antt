@@ -1,7 +1,9 @@
 -- What is asked of the pool, and what it answers.
-use Rattle.std.specs.Prelude.{ℕ, List, if◌then◌else◌}
+use Rattle.std.specs.Prelude.{ℕ, ◌-◌, List, [], ◌∷◌, ◌++◌, length, take, Option, None, Some, Result, Ok, Err, if◌then◌else◌}
 use Rattle.mp_tx.specs.Transaction.{Transaction}
 use Rattle.mp_tx.specs.Ledger.{LedgerState}
+use Rattle.mp_rules.specs.declared.invalid.Invalid.{Invalid}
+use Rattle.mp_block.specs.Block.{apply_block}
 use Rattle.mp_resync.specs.Keep.{keep}
 use Rattle.mp_seqpool.specs.Command.{Command}
 use Rattle.mp_seqpool.specs.Command as commands
@@ -10,14 +12,26 @@ use Rattle.mp_seqpool.specs.Pool.{Pool}
 use Rattle.mp_seqpool.specs.SlowPool.{is_at_limit, answer, next}
 use Rattle.mp_names.specs.Names.{Names}
 use Rattle.mp_lines.specs.declared.query.Query.{Query}
-use Rattle.mp_driver.specs.Verifier.{is_key_and_id}
 use Rattle.mp_driver.specs.AnswerText.{answer_text}
 use Rattle.mp_driver.specs.QueryText.{query_text, for_text, cursor_after}
-use Rattle.mp_serve.specs.Texts.{stats_text}
+use Rattle.mp_serve.specs.ServedPool.{ServedPool, accepted_by, latest, state_back}
+use Rattle.mp_serve.specs.Texts.{stats_text, block_refused_text, back_refused_text}
+
+-- a block's transactions, and where it leads to
+pub record Block : Type 0 where
+  pub tick : ℕ
+  pub block_bytes : ℕ
+  pub txs : List Transaction
 
 pub data Request : Type 0 where
   -- to do what is asked
   Do : Command → Request
+  -- to adopt the ledger state
+  Adopt : LedgerState → Request
+  -- to adopt the ledger state after the block
+  Extend : Block → Request
+  -- to adopt the ledger state of so many ago
+  Return : ℕ → Request
   -- what is read of it
   Read : Query → Request
   -- what would stay upon the ledger state
@@ -28,7 +42,7 @@ pub data Request : Type 0 where
   Count : Request
 
 pub record Response : Type 0 where
-  pub pool : Pool
+  pub served : ServedPool
   -- the last ticket that the peer was offered
   pub cursor : ℕ
   pub text : List ℕ
@@ -37,18 +51,51 @@ pub record Response : Type 0 where
 abbrev pub counted_anew : Pool → Pool
 counted_anew p = if is_at_limit p then renewed p.limit p else p
 
--- the pool changes by a command alone
-abbrev pub respond : Names → ℕ → Pool → Request → Response
-respond names cursor p (Do c) = record {
-  pool = counted_anew (next is_key_and_id p c);
+-- what the pool is after a command
+abbrev pub obeyed : ServedPool → Command → Pool
+obeyed p c = counted_anew (next (accepted_by p.signatures) p.pool c)
+
+-- what is answered to a command
+abbrev pub answered : Names → ServedPool → Command → List ℕ
+answered names p c = answer_text names (answer (accepted_by p.signatures) p.pool c)
+
+-- the pool as it was, and the text
+abbrev pub unchanged : ℕ → ServedPool → List ℕ → Response
+unchanged cursor p text = record { served = p; cursor = cursor; text = text }
+
+-- the pool is synced with the ledger state, before which it has had these
+abbrev pub adopt : Names → ℕ → ServedPool → LedgerState → List LedgerState → Response
+adopt names cursor p l former = record {
+  served = record p { pool = obeyed p (commands.Sync l); former = former };
   cursor = cursor;
-  text = answer_text names (answer is_key_and_id p c);
+  text = answered names p (commands.Sync l);
 }
-respond names cursor p (Read query) = record { pool = p; cursor = cursor_after cursor p query; text = query_text names cursor p query }
-respond names cursor p (Try l) = record { pool = p; cursor = cursor; text = for_text names (keep is_key_and_id l p.items) }
-respond names cursor p (Check t) = record {
-  pool = p;
-  cursor = cursor;
-  text = answer_text names (answer is_key_and_id p (commands.Submit t));
+
+-- a new ledger state
+abbrev pub go_on : Names → ℕ → ServedPool → LedgerState → Response
+go_on names cursor p l = adopt names cursor p l (latest (p.former ++ p.pool.ledger ∷ []))
+
+-- the ledger state after the block, or that one of its transactions isn't valid after those before it
+abbrev pub extend : Names → ℕ → ServedPool → List Transaction → Result LedgerState (ℕ × Invalid) → Response
+extend names cursor p txs (Ok l) = go_on names cursor p l
+extend names cursor p txs (Err refused) = unchanged cursor p (block_refused_text names txs refused.0 refused.1)
+
+-- a former ledger state, with those before it
+abbrev pub go_back : Names → ℕ → ServedPool → ℕ → Option LedgerState → Response
+go_back names cursor p count None = unchanged cursor p (back_refused_text (length p.former))
+go_back names cursor p count (Some l) = adopt names cursor p l (take (length p.former - count) p.former)
+
+abbrev pub respond : Names → ℕ → ServedPool → Request → Response
+respond names cursor p (Do c) = record { served = record p { pool = obeyed p c }; cursor = cursor; text = answered names p c }
+respond names cursor p (Adopt l) = go_on names cursor p l
+respond names cursor p (Extend block) =
+    extend names cursor p block.txs (apply_block (accepted_by p.signatures) p.pool.ledger block.tick block.block_bytes block.txs)
+respond names cursor p (Return count) = go_back names cursor p count (state_back p.former p.pool.ledger count)
+respond names cursor p (Read query) = record {
+  served = p;
+  cursor = cursor_after cursor p.pool query;
+  text = query_text names cursor p.pool query;
 }
-respond names cursor p Count = record { pool = p; cursor = cursor; text = stats_text p }
+respond names cursor p (Try l) = unchanged cursor p (for_text names (keep (accepted_by p.signatures) l p.pool.items))
+respond names cursor p (Check t) = unchanged cursor p (answered names p (commands.Submit t))
+respond names cursor p Count = unchanged cursor p (stats_text p.pool)

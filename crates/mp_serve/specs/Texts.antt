@@ -1,13 +1,15 @@
 -- The lines that are written beside those of scenarios.
-use Rattle.std.specs.Prelude.{ℕ, List, [], ◌∷◌, ◌++◌, length, codes, Result, Ok, Err}
+use Rattle.std.specs.Prelude.{ℕ, List, [], ◌∷◌, ◌++◌, length, slice_get, codes, Option, None, Some, Result, Ok, Err}
 use Rattle.hex.specs.Hex.{encode_lower}
 use Rattle.mp_tx.specs.Transaction.{Transaction}
 use Rattle.mp_tx.specs.Spelling.{id_of, size_of, spelling}
 use Rattle.mp_tx.specs.declared.fault.TxFault.{TxFault}
 use Rattle.mp_tx.specs.declared.fault.TxFault.TheVariants as faults
+use Rattle.mp_rules.specs.declared.invalid.Invalid.{Invalid}
 use Rattle.mp_seqpool.specs.Pool.{Pool}
 use Rattle.mp_seqpool.specs.SlowPool.{bytes_held, free_bytes}
-use Rattle.mp_driver.specs.AnswerText.{number_text}
+use Rattle.mp_names.specs.Names.{Names, name_of}
+use Rattle.mp_driver.specs.AnswerText.{number_text, invalid_text}
 
 -- what is answered where there is nothing to tell
 abbrev pub ok_text : List ℕ
@@ -53,3 +55,17 @@ show_text t = (tx_words t ++ 32 ∷ encode_lower (spelling t)) ++ 10 ∷ []
 unfoldable pub stats_text : Pool → List ℕ
 stats_text p =
     (codes "stats" ++ number_text (length p.items) ++ number_text (bytes_held p) ++ number_text (free_bytes p) ++ number_text p.last ++ number_text p.changes) ++ 10 ∷ []
+
+-- the name of the transaction, if there is one
+abbrev pub name_if_any : Names → Option Transaction → List ℕ
+name_if_any names None = []
+name_if_any names (Some t) = name_of (id_of t) names
+
+-- a block of which the transaction at this place isn't valid after those before it
+unfoldable pub block_refused_text : Names → List Transaction → ℕ → Invalid → List ℕ
+block_refused_text names txs place fault =
+    (codes "refused adopt " ++ name_if_any names (slice_get txs place) ++ 32 ∷ invalid_text names fault) ++ 10 ∷ []
+
+-- so many former ledger states are kept, and no more
+unfoldable pub back_refused_text : ℕ → List ℕ
+back_refused_text kept = (codes "refused back" ++ number_text kept) ++ 10 ∷ []

@@ -1,16 +1,20 @@
 //! What a line asks.
 
-ghost use Rattle.std.specs.Prelude.{option_map};
+ghost use Rattle.std.specs.Prelude.{◌≡◌, Some, None, map, option_map, OnOk};
 ghost use Rattle.std.specs.Arc.{arc_value};
 ghost use Rattle.mp_text.specs.Words.{words_of};
 ghost use Rattle.mp_lines.specs.Lines.{line_of};
-ghost use Rattle.mp_names.specs.Fault.{Gives};
-ghost use Rattle.mp_serve.specs.Ask.{Does, Shows, Checks, bytes_by, bytes_ask, one_tx, clean_ask, words_ask, long_ask};
+ghost use Rattle.mp_lines.specs.Inside.LedgerHead.{to_head};
+ghost use Rattle.mp_names.specs.Fault.{Gives, IsBad};
+ghost use Rattle.mp_serve.specs.Ask.{Does, Shows, Checks, Extends, bytes_by, bytes_ask, one_tx, put_txs, block_behind, adopt_ask, back_ask, ledger_ask, clean_ask, words_ask, long_ask};
 ghost use Rattle.mp_serve.specs.Inside.Ask.{to_ask};
 
-use mp_lines::{Form, Line, bytes_of, no_word, one_word, two_words, unclean};
+use crate::block::{NewBlock, Txs};
+use mp_lines::{
+    Form, LedgerHead, Line, bytes_of, no_word, one_word, read_head, two_words, unclean,
+};
 use mp_memory::Memory;
-use mp_names::{LineFault, Name, Names, refused_name};
+use mp_names::{LineFault, Name, Names, any_number, refused_name};
 use mp_text::{first_word, is_clean};
 use mp_tx::Tx;
 use std::sync::Arc;
@@ -28,6 +32,10 @@ pub enum Ask {
     Checks(Arc<Tx, Memory>),
     /// The pool's numbers.
     Counts,
+    /// To adopt the ledger state after the block.
+    Extends(NewBlock),
+    /// To adopt the ledger state of so many ago.
+    Returns(u64),
 }
 
 const BYTES: Form = Form {
@@ -48,6 +56,16 @@ const CHECK: Form = Form {
 const STATS: Form = Form {
     word: b"stats",
     text: b"stats",
+};
+
+const ADOPT: Form = Form {
+    word: b"adopt",
+    text: b"adopt TICK TX ..' or 'adopt TICK block=N TX ..",
+};
+
+const BACK: Form = Form {
+    word: b"back",
+    text: b"back COUNT",
 };
 
 fn bytes_by<'a>(
@@ -98,11 +116,83 @@ fn check_ask<'a>(names: &Names, words: &'a [u8]) -> Result<Ask, LineFault<'a>>
     Ok(Ask::Checks(one_tx(names, CHECK.text, words)?))
 }
 
+// Puts in the transactions named.
+fn put_txs<'a>(txs: &mut Txs, names: &Names, words: &'a [u8]) -> Result<(), LineFault<'a>>
+    ensures ok { OnOk result
+        (put_txs names.now (map arc_value txs.old.items) (words_of words.now)
+        ≡ Some (map arc_value txs.new.items)) }
+    ensures bad { IsBad result
+        → put_txs names.now (map arc_value txs.old.items) (words_of words.now) ≡ None }
+{
+    let mut rest = words;
+    while let Some((word, others)) = first_word(rest) {
+        let declared = names.tx(word)?;
+        txs.push(Arc::try_clone(declared.tx())?)?;
+        rest = others;
+    }
+    Ok(())
+}
+
+fn block_behind<'a>(
+    memory: Memory,
+    names: &Names,
+    head: LedgerHead<'a>,
+) -> Result<Ask, LineFault<'a>>
+    ensures { Gives to_ask (block_behind names.now (to_head head)) result }
+{
+    let LedgerHead {
+        tick,
+        block_bytes,
+        rest,
+    } = head;
+    let mut txs = Vec::new(memory);
+    put_txs(&mut txs, names, rest)?;
+    Ok(Ask::Extends(NewBlock {
+        tick,
+        block_bytes,
+        txs,
+    }))
+}
+
+// adopt TICK [block=N] TX ..
+fn adopt_ask<'a>(memory: Memory, names: &Names, words: &'a [u8]) -> Result<Ask, LineFault<'a>>
+    ensures { Gives to_ask (adopt_ask names.now (words_of words.now)) result }
+{
+    let head = read_head(ADOPT.text, words)?;
+    block_behind(memory, names, head)
+}
+
+// back COUNT
+fn back_ask<'a>(words: &'a [u8]) -> Result<Ask, LineFault<'a>>
+    ensures { Gives to_ask (back_ask (words_of words.now)) result }
+{
+    let word = one_word(BACK.text, words)?;
+    Ok(Ask::Returns(any_number(word)?))
+}
+
 // A line of scenarios.
 fn scenario_ask<'a>(memory: Memory, names: &Names, line: &'a [u8]) -> Result<Ask, LineFault<'a>>
     ensures { Gives to_ask (option_map Does (line_of names.now line.now)) result }
 {
     Ok(Ask::Does(Line::parse(memory, names, line)?))
+}
+
+fn ledger_ask<'a>(
+    memory: Memory,
+    names: &Names,
+    line: &'a [u8],
+    word: &'a [u8],
+    words: &'a [u8],
+) -> Result<Ask, LineFault<'a>>
+    ensures { Gives to_ask (ledger_ask names.now line.now word.now (words_of words.now)) result }
+{
+    if word == ADOPT.word {
+        adopt_ask(memory, names, words)
+    } else if word == BACK.word {
+        back_ask(words)
+    } else {
+        scenario_ask(memory, names, line)
+    }
 }
 
 fn clean_ask<'a>(
@@ -124,7 +214,7 @@ fn clean_ask<'a>(
         no_word(STATS.text, words)?;
         Ok(Ask::Counts)
     } else {
-        scenario_ask(memory, names, line)
+        ledger_ask(memory, names, line, word, words)
     }
 }
 

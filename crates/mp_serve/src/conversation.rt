@@ -13,8 +13,10 @@ ghost use Rattle.mp_serve.specs.Request.{respond};
 ghost use Rattle.mp_serve.specs.Inside.Request.{to_request};
 
 use crate::ask::Ask;
+use crate::block::Block;
 use crate::pool::ServedPool;
 use crate::request::Request;
+use crate::signatures::Signatures;
 use crate::texts::{Text, ok_line, read_line, show_line, undecodable_line};
 use mp_driver::{Openings, Settings, ledger_at};
 use mp_lines::{Line, MAX_OUTPUTS};
@@ -27,8 +29,8 @@ use std::sync::Arc;
 /// How far a conversation is.
 #[derive(Drop)]
 pub enum Stage {
-    /// Nothing was asked of the pool: the opening outputs so far.
-    Before(Openings),
+    /// Nothing was asked of the pool: which signatures it will accept, and the opening outputs so far.
+    Before(Signatures, Openings),
     /// From the first request on: the pool.
     Open(ServedPool),
 }
@@ -50,16 +52,22 @@ type Opened = (ServedPool, (Text, u64));
 fn open_for(
     memory: Memory,
     names: &Names,
+    signatures: Signatures,
     settings: &Settings,
     openings: &Openings,
     cursor: u64,
     request: &Request,
 ) -> Result<Opened, NoMemory>
     ensures { IfOk result (λ r. respond names.now cursor
-        (pool_at settings.now (Before openings.now)) (to_request request.now)
-        ≡ record { pool = r.0; cursor = r.1.1; text = r.1.0.items }) }
+        (record {
+            pool = pool_at settings.now (Before openings.now);
+            signatures = signatures;
+            former = [];
+        })
+        (to_request request.now)
+        ≡ record { served = r.0; cursor = r.1.1; text = r.1.0.items }) }
 {
-    let mut pool = ServedPool::open(memory, settings, openings)?;
+    let mut pool = ServedPool::open(memory, signatures, settings, openings)?;
     let response = pool.respond(memory, names, cursor, request)?;
     Ok((pool, response))
 }
@@ -105,37 +113,38 @@ impl Conversation {
     ghost use Rattle.std.specs.Prelude.{◌≡◌, [], Some, None, IfOk, OnOk, OnErr};
     ghost use Rattle.mp_names.specs.Fault as lines;
     ghost use Rattle.mp_lines.specs.Inside.Line.{to_line};
-    ghost use Rattle.mp_driver.specs.Scene.{empty_scene, set_at, output_at};
+    ghost use Rattle.mp_driver.specs.Scene.{set_at, output_at};
     ghost use Rattle.mp_tx.specs.Reading.{transaction_of};
-    ghost use Rattle.mp_serve.specs.Talk.{ask, does, read, take, line_step};
+    ghost use Rattle.mp_serve.specs.Talk.{empty_talk, ask, does, read, take, line_step};
     ghost use Rattle.mp_serve.specs.Inside.Ask.{to_ask};
     ghost use Rattle.mp_serve.specs.Inside.Request.{to_request};
-    ghost use Rattle.mp_serve.specs.Conversation.{stage_of, scene_of};
+    ghost use Rattle.mp_serve.specs.Conversation.{stage_of, signatures_of, former_of, scene_of, talk_of};
 
     /// Before the first line.
-    pub fn new(memory: Memory) -> Result<Conversation, NoMemory>
-        ensures { IfOk result (λ c. scene_of c ≡ empty_scene) }
+    pub fn new(memory: Memory, signatures: Signatures) -> Result<Conversation, NoMemory>
+        ensures { IfOk result (λ c. talk_of c ≡ empty_talk signatures) }
     {
         Ok(Conversation {
             names: Names::new(memory)?,
             settings: Settings::new(),
             cursor: 0,
-            stage: Stage::Before(Openings::new(memory)),
+            stage: Stage::Before(signatures, Openings::new(memory)),
         })
     }
 
     // The pool, which opens with the first request, responds.
     fn ask(&mut self, memory: Memory, request: &Request) -> Result<Text, NoMemory>
-        ensures ok { IfOk result (λ text. ask (scene_of self.old) (to_request request.now)
-            ≡ (scene_of self.new, text.items)) }
-        ensures err { OnErr result (scene_of self.new ≡ scene_of self.old) }
+        ensures ok { IfOk result (λ text. ask (talk_of self.old) (to_request request.now)
+            ≡ (talk_of self.new, text.items)) }
+        ensures err { OnErr result (talk_of self.new ≡ talk_of self.old) }
     {
         let (text, cursor) = match &mut self.stage {
             Stage::Open(pool) => pool.respond(memory, &self.names, self.cursor, request)?,
-            Stage::Before(openings) => {
+            Stage::Before(signatures, openings) => {
                 let (pool, response) = open_for(
                     memory,
                     &self.names,
+                    *signatures,
                     &self.settings,
                     openings,
                     self.cursor,
@@ -154,12 +163,13 @@ impl Conversation {
         ensures ok { OnOk result
             (set_at (scene_of self.old) setting (stage_of self.old.stage)
             ≡ Some (scene_of self.new, [])) }
+        ensures others { self.new.stage ≡ self.old.stage }
         ensures bad { lines.IsBad result
             → set_at (scene_of self.old) setting (stage_of self.old.stage) ≡ None }
-        ensures err { OnErr result (scene_of self.new ≡ scene_of self.old) }
+        ensures err { OnErr result (talk_of self.new ≡ talk_of self.old) }
     {
         match &self.stage {
-            Stage::Before(_) => self.settings.set(setting),
+            Stage::Before(_, _) => self.settings.set(setting),
             Stage::Open(_) => Err(LineFault::Bad(Reason::LateSetting)),
         }
     }
@@ -169,22 +179,24 @@ impl Conversation {
         ensures ok { OnOk result
             (output_at (scene_of self.old) name payment (stage_of self.old.stage)
             ≡ Some (scene_of self.new, [])) }
+        ensures signatures { signatures_of self.new.stage ≡ signatures_of self.old.stage }
+        ensures former { former_of self.new.stage ≡ former_of self.old.stage }
         ensures bad { lines.IsBad result
             → output_at (scene_of self.old) name payment (stage_of self.old.stage) ≡ None }
-        ensures err { OnErr result (scene_of self.new ≡ scene_of self.old) }
+        ensures err { OnErr result (talk_of self.new ≡ talk_of self.old) }
     {
         match &mut self.stage {
             Stage::Open(_) => Err(LineFault::Bad(Reason::LateOutput)),
-            Stage::Before(openings) => put_opening(&mut self.names, openings, name, payment),
+            Stage::Before(_, openings) => put_opening(&mut self.names, openings, name, payment),
         }
     }
 
     // What a line of a scenario asks.
     fn does<'a>(&mut self, memory: Memory, line: Line) -> Result<Text, LineFault<'a>>
         ensures ok { IfOk result (λ text.
-            does (scene_of self.old) (to_line line) ≡ Some (scene_of self.new, text.items)) }
-        ensures bad { lines.IsBad result → does (scene_of self.old) (to_line line) ≡ None }
-        ensures err { OnErr result (scene_of self.new ≡ scene_of self.old) }
+            does (talk_of self.old) (to_line line) ≡ Some (talk_of self.new, text.items)) }
+        ensures bad { lines.IsBad result → does (talk_of self.old) (to_line line) ≡ None }
+        ensures err { OnErr result (talk_of self.new ≡ talk_of self.old) }
     {
         let ok = ok_line(memory)?;
         match line {
@@ -203,7 +215,7 @@ impl Conversation {
             }
             Line::Sync(ledger) => {
                 let ledger = ledger_at(memory, &self.settings, ledger)?;
-                return Ok(self.ask(memory, &Request::Do(Command::Sync(ledger)))?);
+                return Ok(self.ask(memory, &Request::Adopt(ledger))?);
             }
             Line::For(ledger) => {
                 let ledger = ledger_at(memory, &self.settings, ledger)?;
@@ -216,9 +228,9 @@ impl Conversation {
 
     // Reads a transaction from the bytes, for the name.
     fn read(&mut self, memory: Memory, name: Name, bytes: &[u8]) -> Result<Text, NoMemory>
-        ensures ok { IfOk result (λ text. read (scene_of self.old) name (transaction_of bytes.now)
-            ≡ (scene_of self.new, text.items)) }
-        ensures err { OnErr result (scene_of self.new ≡ scene_of self.old) }
+        ensures ok { IfOk result (λ text. read (talk_of self.old) name (transaction_of bytes.now)
+            ≡ (talk_of self.new, text.items)) }
+        ensures err { OnErr result (talk_of self.new ≡ talk_of self.old) }
     {
         match Tx::decode(memory, bytes) {
             Ok(tx) => {
@@ -239,9 +251,9 @@ impl Conversation {
     /// After an `Err` nothing has changed.
     pub fn take<'a>(&mut self, memory: Memory, ask: Ask) -> Result<Text, LineFault<'a>>
         ensures ok { IfOk result (λ text.
-            take (scene_of self.old) (to_ask ask) ≡ Some (scene_of self.new, text.items)) }
-        ensures bad { lines.IsBad result → take (scene_of self.old) (to_ask ask) ≡ None }
-        ensures err { OnErr result (scene_of self.new ≡ scene_of self.old) }
+            take (talk_of self.old) (to_ask ask) ≡ Some (talk_of self.new, text.items)) }
+        ensures bad { lines.IsBad result → take (talk_of self.old) (to_ask ask) ≡ None }
+        ensures err { OnErr result (talk_of self.new ≡ talk_of self.old) }
     {
         match ask {
             Ask::Does(line) => self.does(memory, line),
@@ -249,6 +261,11 @@ impl Conversation {
             Ask::Shows(tx) => Ok(show_line(memory, &tx)?),
             Ask::Checks(tx) => Ok(self.ask(memory, &Request::Check(tx))?),
             Ask::Counts => Ok(self.ask(memory, &Request::Count)?),
+            Ask::Extends(block) => {
+                let block = Block::at(&self.settings, block);
+                Ok(self.ask(memory, &Request::Extend(block))?)
+            }
+            Ask::Returns(count) => Ok(self.ask(memory, &Request::Return(count))?),
         }
     }
 
@@ -259,9 +276,9 @@ impl Conversation {
     #[tactic(auto, unfolding(crate::specs::Talk::line_step))]
     pub fn hear<'a>(&mut self, memory: Memory, line: &'a [u8]) -> Result<Text, LineFault<'a>>
         ensures ok { IfOk result (λ text.
-            line_step (scene_of self.old) line.now ≡ Some (scene_of self.new, text.items)) }
-        ensures bad { lines.IsBad result → line_step (scene_of self.old) line.now ≡ None }
-        ensures err { OnErr result (scene_of self.new ≡ scene_of self.old) }
+            line_step (talk_of self.old) line.now ≡ Some (talk_of self.new, text.items)) }
+        ensures bad { lines.IsBad result → line_step (talk_of self.old) line.now ≡ None }
+        ensures err { OnErr result (talk_of self.new ≡ talk_of self.old) }
     {
         let ask = Ask::parse(memory, &self.names, line)?;
         self.take(memory, ask)

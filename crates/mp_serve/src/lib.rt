@@ -1,17 +1,22 @@
 //! A conversation with a pool, line by line: from a reader to a writer, each line answered at once.
 #![tactic(auto)]
 
+mod adopting;
 mod answering;
 mod ask;
+mod block;
 mod conversation;
+mod extending;
 mod fault;
+mod obeying;
 mod pool;
 mod reading;
 mod request;
 mod serving;
+mod signatures;
 mod texts;
 
-pub use conversation::{Conversation, Stage};
+pub use conversation::Conversation;
 pub use fault::Fault;
-pub use pool::ServedPool;
 pub use serving::serve;
+pub use signatures::Signatures;

@@ -9,14 +9,13 @@ ghost use Rattle.mp_seqpool.specs.SlowPool.{AreSigned};
 ghost use Rattle.mp_versions.specs.Item.{items_of};
 ghost use Rattle.mp_versions.specs.Reading.{within};
 ghost use Rattle.mp_peer.specs.Offers.{offer, moved};
-ghost use Rattle.mp_driver.specs.Verifier.{is_key_and_id};
 ghost use Rattle.mp_driver.specs.AnswerText.{item_text, items_text, numbers_text};
+ghost use Rattle.mp_serve.specs.ServedPool.{accepted_by};
 ghost use Rattle.mp_driver.specs.QueryText.{sized_text, words_text, query_text, for_text, cursor_after};
 
+use crate::signatures::Signatures;
 use crate::texts::Text;
-use mp_driver::{
-    KeyAndId, put_found, put_has, put_item, put_items, put_number, put_sized, put_word,
-};
+use mp_driver::{put_found, put_has, put_item, put_items, put_number, put_sized, put_word};
 use mp_lines::Query;
 use mp_memory::{Memory, NoMemory};
 use mp_names::Names;
@@ -260,16 +259,17 @@ fn others_line(
 pub fn kept_line(
     memory: Memory,
     names: &Names,
+    signatures: Signatures,
     pool: &SeqPool,
     ledger: &Ledger,
 ) -> Result<Text, NoMemory>
-    requires signed { AreSigned is_key_and_id pool.now.pool }
+    requires signed { AreSigned (accepted_by signatures) pool.now.pool }
     requires change { pool.now.pool.changes < pool.now.pool.limit }
     ensures { IfOk result (λ text. text.items
-        ≡ for_text names.now (keep is_key_and_id ledger.now pool.now.pool.items)) }
+        ≡ for_text names.now (keep (accepted_by signatures) ledger.now pool.now.pool.items)) }
 {
     let items = pool.contents();
-    match pool.prepare_sync(ledger, &KeyAndId) {
+    match pool.prepare_sync(ledger, &signatures) {
         Ok(prepared) => match prepared.reply() {
             Reply::Synced { dropped, .. } => others_line(memory, names, items, dropped),
             _ => unreachable!(),

@@ -1,5 +1,6 @@
 //! What is asked of the pool.
 
+use crate::block::Block;
 use mp_lines::Query;
 use mp_memory::Memory;
 use mp_seqpool::Command;
@@ -11,6 +12,12 @@ use std::sync::Arc;
 pub enum Request {
     /// To do what is asked.
     Do(Command),
+    /// To adopt the ledger state.
+    Adopt(Ledger),
+    /// To adopt the ledger state after the block.
+    Extend(Block),
+    /// To adopt the ledger state of so many ago.
+    Return(u64),
     /// What is read of it.
     Read(Query),
     /// What would stay upon the ledger state.

@@ -1,14 +1,15 @@
 //! A conversation, from a reader to a writer.
 
 ghost use Rattle.std.specs.Prelude.{◌≡◌, IfSome};
-ghost use Rattle.mp_driver.specs.Scene.{empty_scene};
 ghost use Rattle.mp_serve.specs.Served.{Ended};
-ghost use Rattle.mp_serve.specs.Conversation.{scene_of};
+ghost use Rattle.mp_serve.specs.Talk.{empty_talk};
+ghost use Rattle.mp_serve.specs.Conversation.{signatures_of, talk_of};
 ghost use Rattle.std.specs.Io.BufRead.{strip_last};
 
 use crate::answering::{answer, write_answer};
 use crate::conversation::Conversation;
 use crate::fault::Fault;
+use crate::signatures::Signatures;
 use mp_memory::Memory;
 use std::io::{BufRead, Write};
 
@@ -32,9 +33,11 @@ fn answer_all<R: BufRead, W: Write>(
     reader: &mut R,
     writer: &mut W,
 ) -> Result<(), Fault>
-    requires empty { scene_of conversation.old ≡ empty_scene }
-    ensures { IfSome (R.remaining reader.old)
-        (λ bytes. Ended bytes (W.contents writer.old) (W.contents writer.new) result) }
+    requires empty { talk_of conversation.old
+        ≡ empty_talk (signatures_of conversation.old.stage) }
+    ensures { IfSome (R.remaining reader.old) (λ bytes. Ended
+        (signatures_of conversation.old.stage) bytes
+        (W.contents writer.old) (W.contents writer.new) result) }
 {
     for number in 1..u64::MAX {
         line.clear();
@@ -59,13 +62,14 @@ fn answer_all<R: BufRead, W: Write>(
 /// line. Want of memory at a line is its answer.
 pub fn serve<R: BufRead, W: Write>(
     memory: Memory,
+    signatures: Signatures,
     reader: &mut R,
     writer: &mut W,
 ) -> Result<(), Fault>
     ensures { IfSome (R.remaining reader.old)
-        (λ bytes. Ended bytes (W.contents writer.old) (W.contents writer.new) result) }
+        (λ bytes. Ended signatures bytes (W.contents writer.old) (W.contents writer.new) result) }
 {
-    match Conversation::new(memory) {
+    match Conversation::new(memory, signatures) {
         Ok(mut conversation) => {
             let mut line = Vec::new(memory);
             answer_all(memory, &mut conversation, &mut line, reader, writer)

@@ -2,13 +2,16 @@
 
 ghost use Rattle.std.specs.Prelude.{◌≡◌, ◌++◌, ◌∷◌, [], ℕ, List, Ok, Err, IfOk, OnOk};
 ghost use Rattle.hex.specs.Hex.{encode_lower};
-ghost use Rattle.mp_serve.specs.Texts.{ok_text, bad_text, fault_name, tx_words, bytes_text, show_text, stats_text};
+ghost use Rattle.std.specs.Prelude.{slice_get, map};
+ghost use Rattle.std.specs.Arc.{arc_value};
+ghost use Rattle.mp_serve.specs.Texts.{ok_text, bad_text, fault_name, tx_words, bytes_text, show_text, stats_text, name_if_any, block_refused_text, back_refused_text};
 
-use mp_driver::{put_number, put_word};
+use mp_driver::{put_number, put_refusal, put_word};
 use mp_memory::{Memory, NoMemory};
-use mp_names::Reason;
-use mp_seqpool::SeqPool;
+use mp_names::{Names, Reason};
+use mp_seqpool::{Invalid, Refusal, SeqPool};
 use mp_tx::{Tx, TxFault};
+use std::sync::Arc;
 
 /// One line of text.
 pub type Text = Vec<u8, Memory>;
@@ -124,6 +127,48 @@ pub fn stats_line(memory: Memory, pool: &SeqPool) -> Result<Text, NoMemory>
     put_number(memory, &mut text, pool.free_bytes())?;
     put_number(memory, &mut text, pool.last_ticket())?;
     put_number(memory, &mut text, pool.changes())?;
+    text.push(b'\n')?;
+    Ok(text)
+}
+
+fn name_if_any<'a>(names: &'a Names, tx: Option<&Arc<Tx, Memory>>) -> &'a [u8]
+    ensures { result.now ≡ name_if_any names.now (option_map arc_value (option_copied tx)) }
+{
+    match tx {
+        Some(tx) => names.name_of(tx.id()),
+        None => &[],
+    }
+}
+
+/// The line of a block of which the transaction at this place isn't valid after those before it.
+#[tactic(auto, unfolding(crate::specs::Texts::block_refused_text))]
+pub fn block_refused_line(
+    memory: Memory,
+    names: &Names,
+    txs: &[Arc<Tx, Memory>],
+    place: usize,
+    fault: Invalid,
+) -> Result<Text, NoMemory>
+    ensures { IfOk result (λ text. text.items
+        ≡ block_refused_text names.now (map arc_value txs.now) place fault) }
+{
+    let mut text = Vec::new(memory);
+    put_word(&mut text, b"refused adopt ")?;
+    put_word(&mut text, name_if_any(names, txs.get(place)))?;
+    put_word(&mut text, b" ")?;
+    put_refusal(memory, &mut text, names, &Refusal::Invalid(fault))?;
+    text.push(b'\n')?;
+    Ok(text)
+}
+
+/// The line of a ledger state so long ago that it isn't kept, as so many are.
+#[tactic(auto, unfolding(crate::specs::Texts::back_refused_text))]
+pub fn back_refused_line(memory: Memory, kept: u64) -> Result<Text, NoMemory>
+    ensures { IfOk result (λ text. text.items ≡ back_refused_text kept) }
+{
+    let mut text = Vec::new(memory);
+    put_word(&mut text, b"refused back")?;
+    put_number(memory, &mut text, kept)?;
     text.push(b'\n')?;
     Ok(text)
 }

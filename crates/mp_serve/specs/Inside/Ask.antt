@@ -1,9 +1,14 @@
 -- What an ask of the code says.
+use Rattle.std.specs.Prelude.{map}
 use Rattle.std.specs.Arc.{arc_value}
 use Rattle.mp_lines.specs.Inside.Line.{to_line}
 use Rattle.mp_serve.specs.declared.ask.Ask as code
 use Rattle.mp_serve.specs.declared.ask.Ask.TheVariants as asks
-use Rattle.mp_serve.specs.Ask.{Ask, Does, Reads, Shows, Checks, Counts}
+use Rattle.mp_serve.specs.declared.block.NewBlock as blocks
+use Rattle.mp_serve.specs.Ask.{Ask, NewBlock, Does, Reads, Shows, Checks, Counts, Extends, Returns}
+
+abbrev pub to_block : blocks.NewBlock → NewBlock
+to_block b = record { tick = b.tick; block_bytes = b.block_bytes; txs = map arc_value b.txs.items }
 
 abbrev pub to_ask : code.Ask → Ask
 to_ask (asks.Does line) = Does (to_line line)
@@ -11,3 +16,5 @@ to_ask (asks.Reads name bytes) = Reads name bytes.items
 to_ask (asks.Shows tx) = Shows (arc_value tx)
 to_ask (asks.Checks tx) = Checks (arc_value tx)
 to_ask asks.Counts = Counts
+to_ask (asks.Extends block) = Extends (to_block block)
+to_ask (asks.Returns count) = Returns count

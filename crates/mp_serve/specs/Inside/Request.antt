@@ -3,10 +3,13 @@ use Rattle.std.specs.Arc.{arc_value}
 use Rattle.mp_seqpool.specs.Inside.Command.{command_of}
 use Rattle.mp_serve.specs.declared.request.Request as code
 use Rattle.mp_serve.specs.declared.request.Request.TheVariants as requests
-use Rattle.mp_serve.specs.Request.{Request, Do, Read, Try, Check, Count}
+use Rattle.mp_serve.specs.Request.{Request, Do, Adopt, Extend, Return, Read, Try, Check, Count}
 
 abbrev pub to_request : code.Request → Request
 to_request (requests.Do command) = Do (command_of command)
+to_request (requests.Adopt ledger) = Adopt ledger
+to_request (requests.Extend block) = Extend block
+to_request (requests.Return count) = Return count
 to_request (requests.Read query) = Read query
 to_request (requests.Try ledger) = Try ledger
 to_request (requests.Check tx) = Check (arc_value tx)

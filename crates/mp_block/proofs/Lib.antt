@@ -1,0 +1,4 @@
+pub mod Spending
+pub mod Making
+pub mod Effect
+pub mod Blocks

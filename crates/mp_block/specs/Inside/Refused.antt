@@ -1,0 +1,28 @@
+-- Why one transaction of a block is refused.
+use Rattle.std.specs.Prelude.{◌≡◌, ℕ, Some}
+use Rattle.std.specs.FinMap.{get}
+use Rattle.mp_tx.specs.Transaction.{Transaction}
+use Rattle.mp_tx.specs.Ledger.{LedgerState, HasBlockBytes}
+use Rattle.mp_rules.specs.declared.invalid.Invalid as rule
+use Rattle.mp_rules.specs.declared.invalid.Invalid.TheVariants as rules
+use Rattle.mp_rules.specs.Verifier.{Accepts}
+use Rattle.mp_rules.specs.FirstFault.{first_fault}
+use Rattle.mp_block.specs.declared.block_refusal.BlockRefusal.{BlockRefusal}
+use Rattle.mp_block.specs.declared.block_refusal.BlockRefusal.TheVariants.{NoMemory, BadBlockBytes, Invalid}
+
+-- a broken rule as a refusal; want of memory isn't one
+abbrev pub refusal_at : ℕ → rule.Invalid → BlockRefusal
+refusal_at place rules.NoMemory = NoMemory
+refusal_at place fault = Invalid place fault
+
+-- the refusal tells the place and the rule that the transaction breaks first; memory may be wanting for any
+abbrev pub IsRefusedAt : Accepts → LedgerState → Transaction → ℕ → BlockRefusal → Type 0
+IsRefusedAt accepts l t place NoMemory = Unit {0}
+IsRefusedAt accepts l t place BadBlockBytes = ⊥
+IsRefusedAt accepts l t place (Invalid at fault) = (at ≡ place) × (first_fault accepts (get l.utxo) l.tick t ≡ Some fault)
+
+-- of a block that can be spent and made nothing is refused but its block bytes
+abbrev pub HasBadBytes : ℕ → BlockRefusal → Type 0
+HasBadBytes block_bytes NoMemory = Unit {0}
+HasBadBytes block_bytes BadBlockBytes = HasBlockBytes block_bytes → ⊥
+HasBadBytes block_bytes (Invalid at fault) = ⊥

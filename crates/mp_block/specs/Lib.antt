@@ -1,0 +1,4 @@
+pub mod Block
+pub mod BlockRefusal
+pub mod Laws
+pub mod Inside

@@ -1,0 +1,57 @@
+//! Blocks of transactions.
+
+ghost use Rattle.std.specs.Prelude.{◌≡◌, IfOk, OnOk, IfErr, Ok, map};
+ghost use Rattle.std.specs.Arc.{arc_value};
+ghost use Rattle.mp_tx.specs.Ledger.{HasBlockBytes};
+ghost use Rattle.mp_block.specs.Block.{at_tick, apply_block};
+ghost use Rattle.mp_block.specs.BlockRefusal.{IsBlockRefusal};
+ghost use Rattle.mp_block.specs.Inside.Refused.{HasBadBytes};
+
+use crate::applying::{after_tx, follow};
+use crate::block_refusal::BlockRefusal;
+use mp_memory::Memory;
+use mp_rules::Verifier;
+use mp_tx::{Ledger, Tx};
+use std::sync::Arc;
+
+// The same outputs at the tick, with these block bytes. They are shared, and not copied.
+fn at_tick(
+    memory: Memory,
+    ledger: &Ledger,
+    tick: u64,
+    block_bytes: u64,
+) -> Result<Ledger, BlockRefusal>
+    ensures ok { IfOk result (λ l. l ≡ at_tick ledger.now tick block_bytes) }
+    ensures block_bytes { OnOk result (HasBlockBytes block_bytes) }
+    ensures refused { IfErr result (HasBadBytes block_bytes) }
+{
+    follow(memory, ledger, tick, block_bytes, &[], Vec::new(memory))
+}
+
+/// The ledger state after a block of these transactions, which stands at the tick: each is checked by all rules upon the ledger
+/// state after those before it, and takes out what it spends and puts in what it makes. The block bytes are those that the block
+/// after it may have. The ledger state that it is applied to stays as it is, and what both have is shared.
+///
+/// # Errors
+/// `BadBlockBytes` where a block may have no bytes or more than 2^39. Else `Invalid` with the place of the first transaction that
+/// isn't valid, and the rule that it breaks. `NoMemory` may stand in place of each.
+pub fn apply_block<V: Verifier>(
+    memory: Memory,
+    ledger: &Ledger,
+    tick: u64,
+    block_bytes: u64,
+    txs: &[Arc<Tx, Memory>],
+    verifier: &V,
+) -> Result<Ledger, BlockRefusal>
+    ensures ok { IfOk result (λ l. apply_block (V.accepts verifier.now)
+        ledger.now tick block_bytes (map arc_value txs.now) ≡ Ok l) }
+    ensures block_bytes { OnOk result (HasBlockBytes block_bytes) }
+    ensures refused { IfErr result (IsBlockRefusal (V.accepts verifier.now)
+        ledger.now tick block_bytes (map arc_value txs.now)) }
+{
+    let mut now = at_tick(memory, ledger, tick, block_bytes)?;
+    for (place, tx) in txs.iter().enumerate() {
+        now = after_tx(memory, &now, place, tx, verifier)?;
+    }
+    Ok(now)
+}

@@ -1,0 +1,10 @@
+//! Blocks: a ledger state after a block of transactions, each of which is valid after those before it.
+#![tactic(auto)]
+
+mod applying;
+mod block;
+mod block_refusal;
+pub mod laws;
+
+pub use block::apply_block;
+pub use block_refusal::BlockRefusal;

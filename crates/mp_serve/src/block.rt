@@ -1,0 +1,92 @@
+//! Blocks after which a pool is to adopt the ledger state.
+
+ghost use Rattle.std.specs.Prelude.{◌≡◌, map, unwrap_or};
+ghost use Rattle.mp_driver.specs.Settings.{block_bytes_of};
+ghost use Rattle.mp_serve.specs.Inside.Ask.{to_block};
+
+use mp_driver::{Settings, block_bytes_at};
+use mp_memory::Memory;
+use mp_names::BlockBytes;
+use mp_tx::Tx;
+use std::marker::Model;
+use std::sync::Arc;
+
+/// Transactions, in their order.
+pub type Txs = Vec<Arc<Tx, Memory>, Memory>;
+
+/// A block as a line tells it.
+#[derive(Drop)]
+pub struct NewBlock {
+    pub tick: u64,
+    /// The bytes that a block may have, where the line tells them.
+    pub block_bytes: Option<BlockBytes>,
+    pub txs: Txs,
+}
+
+/// A block's transactions, with the tick and the bytes of a block, 1 to 2^39, of the ledger state after it.
+#[derive(Drop)]
+pub struct Block {
+    tick: u64,
+    block_bytes: u64,
+    txs: Txs,
+}
+
+impl Model for Block {
+    ghost use Rattle.mp_serve.specs.Request as told;
+    ghost use Rattle.mp_serve.specs.Inside.Block.{block_of};
+    ghost use Rattle.mp_tx.specs.Ledger.{HasBlockBytes};
+
+    ghost Value = { told.Block };
+
+    ghost view = { block_of };
+
+    ghost invariant = { λ b. HasBlockBytes b.block_bytes };
+}
+
+impl Block {
+    ghost use Rattle.std.specs.Prelude.{◌≡◌, map, unwrap_or};
+    ghost use Rattle.std.specs.Arc.{arc_value};
+    ghost use Rattle.mp_tx.specs.Ledger.{HasBlockBytes};
+    ghost use Rattle.mp_driver.specs.Settings.{block_bytes_of};
+    ghost use Rattle.mp_serve.specs.Inside.Ask.{to_block};
+
+    /// The block that a line tells. The setting holds where it tells no bytes of a block.
+    pub fn at(settings: &Settings, block: NewBlock) -> Block
+        ensures { result ≡ record {
+            tick = block.tick;
+            block_bytes = unwrap_or block.block_bytes (block_bytes_of settings.now);
+            txs = (to_block block).txs;
+        } }
+    {
+        let NewBlock {
+            tick,
+            block_bytes,
+            txs,
+        } = block;
+        Block {
+            tick,
+            block_bytes: block_bytes_at(settings, &block_bytes),
+            txs,
+        }
+    }
+
+    pub fn tick(&self) -> u64
+        ensures { result ≡ self.now.tick }
+    {
+        self.tick
+    }
+
+    /// 1 to 2^39.
+    pub fn block_bytes(&self) -> u64
+        ensures same { result ≡ self.now.block_bytes }
+        ensures range { HasBlockBytes result }
+    {
+        self.block_bytes
+    }
+
+    pub fn txs(&self) -> &[Arc<Tx, Memory>]
+        ensures { map arc_value result.now ≡ self.now.txs }
+    {
+        &self.txs
+    }
+}

@@ -1,0 +1,55 @@
+//! The ledger state after a block.
+
+ghost use Rattle.std.specs.Prelude.{IfOk};
+ghost use Rattle.mp_block.specs.Block.{apply_block};
+ghost use Rattle.mp_serve.specs.ServedPool.{accepted_by};
+ghost use Rattle.mp_serve.specs.Inside.Extended.{IsExtended};
+
+use crate::block::Block;
+use crate::signatures::Signatures;
+use crate::texts::{Text, block_refused_line};
+use mp_block::{BlockRefusal, apply_block};
+use mp_memory::{Memory, NoMemory};
+use mp_names::Names;
+use mp_tx::Ledger;
+
+/// What a block comes to.
+#[derive(Drop)]
+pub enum Extended {
+    /// The ledger state after it.
+    To(Ledger),
+    /// The line that tells which transaction isn't valid after those before it.
+    Refused(Text),
+}
+
+/// Applies the block upon the ledger state.
+pub fn extend(
+    memory: Memory,
+    names: &Names,
+    signatures: Signatures,
+    ledger: &Ledger,
+    block: &Block,
+) -> Result<Extended, NoMemory>
+    ensures { IfOk result (IsExtended names.now block.now.txs
+        (apply_block (accepted_by signatures) ledger.now block.now.tick block.now.block_bytes
+            block.now.txs)) }
+{
+    match apply_block(
+        memory,
+        ledger,
+        block.tick(),
+        block.block_bytes(),
+        block.txs(),
+        &signatures,
+    ) {
+        Ok(ledger) => Ok(Extended::To(ledger)),
+        Err(refusal) => match refusal {
+            BlockRefusal::NoMemory => Err(NoMemory),
+            BlockRefusal::BadBlockBytes => unreachable!(),
+            BlockRefusal::Invalid(place, fault) => {
+                let text = block_refused_line(memory, names, block.txs(), place, fault)?;
+                Ok(Extended::Refused(text))
+            }
+        },
+    }
+}

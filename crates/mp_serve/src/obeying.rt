@@ -1,0 +1,101 @@
+//! What a pool does when it is told to.
+
+ghost use Rattle.std.specs.Prelude.{◌≡◌, ◌≤◌, ◌^◌, IfOk, IfErr, OnOk, OnErr};
+ghost use Rattle.std.specs.Arc.{arc_value};
+ghost use Rattle.mp_seqpool.specs.Command.{Submit};
+ghost use Rattle.mp_seqpool.specs.Inside.Command.{command_of};
+ghost use Rattle.mp_seqpool.specs.Prepared.{Prepares};
+ghost use Rattle.mp_seqpool.specs.SlowPool.{answer, next, AreSigned, IsRefused};
+ghost use Rattle.mp_driver.specs.AnswerText.{answer_text};
+ghost use Rattle.mp_serve.specs.ServedPool.{accepted_by};
+ghost use Rattle.mp_serve.specs.Request.{counted_anew};
+ghost use Rattle.mp_serve.specs.Inside.Pool.{IsReady};
+
+use crate::signatures::Signatures;
+use crate::texts::Text;
+use mp_driver::{answer_line, reply_line};
+use mp_memory::{Memory, NoMemory};
+use mp_names::Names;
+use mp_seqpool::{Command, Prepared, Refusal, SeqPool};
+use mp_tx::Tx;
+use std::sync::Arc;
+
+fn prepare(
+    signatures: Signatures,
+    pool: &mut SeqPool,
+    command: &Command,
+) -> Result<Prepared, Refusal>
+    requires { AreSigned (accepted_by signatures) pool.old.pool }
+    ensures same { pool.new.pool ≡ pool.old.pool }
+    ensures ready { IfOk result
+        (Prepares (accepted_by signatures) pool.new (command_of command.now)) }
+    ensures refused { IfErr result
+        (IsRefused (accepted_by signatures) pool.old.pool (command_of command.now)) }
+{
+    match command {
+        Command::Submit(tx) => pool.prepare_submit(tx, None, &signatures),
+        Command::Remove(ids) => pool.prepare_remove(ids, &signatures),
+        Command::Sync(ledger) => pool.prepare_sync(ledger, &signatures),
+    }
+}
+
+// Counts the changes anew, where no more may be made.
+fn count_anew(pool: &mut SeqPool)
+    requires least { 1 ≤ pool.old.pool.limit }
+    requires most { pool.old.pool.limit ≤ 2 ^ 32 }
+    ensures { pool.new.pool ≡ counted_anew pool.old.pool }
+{
+    let limit = pool.config().limit;
+    if limit <= pool.changes() {
+        pool.renew(limit);
+    }
+}
+
+/// Does what is asked. The line is there before it is done, so that there is nothing to undo.
+pub fn obey(
+    memory: Memory,
+    names: &Names,
+    signatures: Signatures,
+    pool: &mut SeqPool,
+    command: &Command,
+) -> Result<Text, NoMemory>
+    requires { IsReady (accepted_by signatures) pool.old.pool }
+    ensures pool { OnOk result (pool.new.pool
+        ≡ counted_anew (next (accepted_by signatures) pool.old.pool (command_of command.now))) }
+    ensures text { IfOk result (λ text. text.items ≡ answer_text names.now
+        (answer (accepted_by signatures) pool.old.pool (command_of command.now))) }
+    ensures err { OnErr result (pool.new.pool ≡ pool.old.pool) }
+    ensures ready { IsReady (accepted_by signatures) pool.new.pool }
+{
+    match prepare(signatures, pool, command) {
+        Ok(prepared) => {
+            let text = reply_line(memory, prepared.reply())?;
+            let _ = pool.finish(prepared);
+            count_anew(pool);
+            Ok(text)
+        }
+        Err(refusal) => match refusal {
+            Refusal::NoMemory => Err(NoMemory),
+            other => answer_line(memory, names, &Err(other)),
+        },
+    }
+}
+
+/// What the submit would be answered.
+pub fn check(
+    memory: Memory,
+    names: &Names,
+    signatures: Signatures,
+    pool: &mut SeqPool,
+    tx: &Arc<Tx, Memory>,
+) -> Result<Text, NoMemory>
+    ensures pool { pool.new.pool ≡ pool.old.pool }
+    ensures text { IfOk result (λ text. text.items ≡ answer_text names.now
+        (answer (accepted_by signatures) pool.old.pool (Submit (arc_value tx.now)))) }
+{
+    match pool.prepare_submit(tx, None, &signatures) {
+        Ok(prepared) => reply_line(memory, prepared.reply()),
+        Err(Refusal::NoMemory) => Err(NoMemory),
+        Err(refusal) => answer_line(memory, names, &Err(refusal)),
+    }
+}
