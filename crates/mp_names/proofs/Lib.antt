@@ -3,3 +3,4 @@ pub mod Parts
 pub mod Entries
 pub mod Apart
 pub mod Placing
+pub mod Forgetting

@@ -1,5 +1,6 @@
 -- What the names of a scenario stand for.
-use Rattle.std.specs.Prelude.{ℕ, ◌&&◌, ◌++◌, Bool, false, not, nat_eq, List, [], ◌∷◌, find, codes, is_none, Option, None, Some, option_map, option_and_then, unwrap_or, replicate, if◌then◌else◌}
+use Rattle.std.specs.Prelude.{ℕ, ◌&&◌, ◌++◌, Bool, false, not, nat_eq, List, [], ◌∷◌, find, filter, codes, is_none, Option, None, Some, option_map, option_and_then, unwrap_or, replicate, if◌then◌else◌}
+use Rattle.std.specs.List.{list_any}
 use Rattle.std.specs.Cmp.Lexicographic.{pointwise}
 use Rattle.sha2.specs.Sha256.{sha256}
 use Rattle.mp_text.specs.Names.{is_name}
@@ -56,6 +57,14 @@ first_names = record {
 
 abbrev pub with_binding : Names → NamedBinding → Names
 with_binding names named = record names { bindings = names.bindings ++ named ∷ [] }
+
+-- whether the name is one of these
+abbrev pub is_among : List (List ℕ) → List ℕ → Bool
+is_among names name = list_any (λ n. pointwise nat_eq name n) names
+
+-- without the outputs and transactions that have these names; the others stay in their order
+abbrev pub without_bindings : Names → List (List ℕ) → Names
+without_bindings names goes = record names { bindings = filter (λ n. not (is_among goes n.name)) names.bindings }
 
 abbrev pub with_script : Names → NamedScript → Names
 with_script names named = record names { scripts = names.scripts ++ named ∷ [] }

@@ -1,12 +1,13 @@
 //! Bindings in the order in which they were declared, found by name or by id without a walk.
 
-ghost use Rattle.std.specs.Prelude.{◌≡◌, ◌<◌, slice_get, option_and_then, option_copied, option_map, vec_len, vec_capacity, Some, [], ◌∷◌, ◌++◌, length, IfOk, OnOk};
+ghost use Rattle.std.specs.Prelude.{◌≡◌, ◌<◌, ◌+◌, nat_eq, slice_get, option_and_then, option_copied, option_map, vec_len, vec_capacity, Some, [], ◌∷◌, ◌++◌, length, IfOk, OnOk};
+ghost use Rattle.std.specs.Cmp.Lexicographic.{pointwise};
 ghost use Rattle.indexmap.specs.IndexMap.{spare};
-ghost use Rattle.mp_names.specs.Inside.BindingTable.{bound_id};
-ghost use Rattle.mp_names.specs.Inside.PlaceTable.{Notes};
+ghost use Rattle.mp_names.specs.Inside.BindingTable.{has_name, has_tx_id, bound_id, left_by};
+ghost use Rattle.mp_names.specs.Inside.PlaceTable.{Notes, ArePlaced};
 
-use crate::names::{Binding, NamedBinding};
-use crate::place_table::{PlaceTable, no_places, note, note_if_any, place_under};
+use crate::names::{Binding, Name, NamedBinding};
+use crate::place_table::{PlaceTable, is_noted, no_places, note, note_if_any, place_under};
 use mp_memory::{Memory, NoMemory};
 use mp_tx::TxId;
 use std::marker::Model;
@@ -124,10 +125,81 @@ fn enter(
     bindings.push_reserved(named);
 }
 
+// Notes the place under the name, unless a place is noted there.
+fn note_name(places: &mut PlaceTable, name: &Name, place: usize) -> Result<(), NoMemory>
+    ensures { OnOk result (Notes places.old.entries (Some name.now) place places.new.entries) }
+{
+    places.reserve(1)?;
+    let word = name.to_bytes()?;
+    note(places, word, place);
+    Ok(())
+}
+
+// Notes the place under the transaction's id, if it is one, unless a place is noted there.
+fn note_id(
+    memory: Memory,
+    places: &mut PlaceTable,
+    binding: &Binding,
+    place: usize,
+) -> Result<(), NoMemory>
+    ensures { OnOk result (Notes places.old.entries (bound_id binding.now) place
+        places.new.entries) }
+{
+    places.reserve(1)?;
+    let id = id_bytes(memory, binding)?;
+    note_if_any(places, id, place);
+    Ok(())
+}
+
+// The names in a table, so that none is looked for by a walk over them.
+fn places_of(memory: Memory, names: &[Name]) -> Result<PlaceTable, NoMemory>
+    ensures { IfOk result (λ places. ArePlaced (pointwise nat_eq) places.entries names.now) }
+{
+    let mut places = no_places(memory);
+    for (place, name) in names.iter().enumerate() {
+        note_name(&mut places, name, place)?;
+    }
+    Ok(places)
+}
+
+// Where the first binding with a name, and the first with an id, stand among those whose names aren't noted.
+fn places_left(
+    memory: Memory,
+    bindings: &[NamedBinding],
+    goes: &PlaceTable,
+) -> Result<(PlaceTable, PlaceTable), NoMemory>
+    ensures names { IfOk result (λ places. ArePlaced has_name places.0.entries
+        (left_by goes.now.entries bindings.now)) }
+    ensures ids { IfOk result (λ places. ArePlaced has_tx_id places.1.entries
+        (left_by goes.now.entries bindings.now)) }
+{
+    let mut names = no_places(memory);
+    let mut ids = no_places(memory);
+    let mut place = 0;
+    for named in bindings {
+        if !is_noted(goes, named.name.as_bytes()) {
+            note_name(&mut names, &named.name, place)?;
+            note_id(memory, &mut ids, &named.binding, place)?;
+            place += 1;
+        }
+    }
+    Ok((names, ids))
+}
+
+// Takes out those whose names are noted. Gives how many.
+fn take_out(bindings: &mut Vec<NamedBinding, Memory>, goes: &PlaceTable) -> usize
+    ensures left { bindings.new.items ≡ left_by goes.now.entries bindings.old.items }
+    ensures count { result + length bindings.new.items ≡ length bindings.old.items }
+{
+    let before = bindings.len();
+    bindings.retain(|named| !is_noted(goes, named.name.as_bytes()));
+    before - bindings.len()
+}
+
 impl BindingTable {
-    ghost use Rattle.std.specs.Prelude.{◌≡◌, [], ◌∷◌, ◌++◌, find, nat_eq, option_copied, OnOk, OnErr};
+    ghost use Rattle.std.specs.Prelude.{◌≡◌, ◌+◌, [], ◌∷◌, ◌++◌, length, find, filter, not, nat_eq, option_copied, IfOk, OnOk, OnErr};
     ghost use Rattle.std.specs.Cmp.Lexicographic.{pointwise};
-    ghost use Rattle.mp_names.specs.Names.{has_id};
+    ghost use Rattle.mp_names.specs.Names.{has_id, is_among};
 
     /// No binding.
     pub fn new(memory: Memory) -> BindingTable
@@ -168,5 +240,20 @@ impl BindingTable {
             named,
         );
         Ok(())
+    }
+    /// Takes out the bindings with these names; the others stay in their order. Gives how many went. After an `Err` the table
+    /// is as it was.
+    pub fn forget(&mut self, goes: &[Name]) -> Result<usize, NoMemory>
+        ensures ok { OnOk result (self.new ≡ filter (λ n. not (is_among goes.now n.name)) self.old) }
+        ensures count { IfOk result (λ n. n + length self.new ≡ length self.old) }
+        ensures err { OnErr result (self.new ≡ self.old) }
+    {
+        let memory = *self.bindings.allocator();
+        let noted = places_of(memory, goes)?;
+        let (names, ids) = places_left(memory, &self.bindings, &noted)?;
+        let count = take_out(&mut self.bindings, &noted);
+        self.names = names;
+        self.ids = ids;
+        Ok(count)
     }
 }

@@ -200,9 +200,9 @@ pub fn refused_name(word: &[u8]) -> Reason<'_> {
 }
 
 impl Names {
-    ghost use Rattle.std.specs.Prelude.{◌≡◌, [], ◌∷◌, ◌++◌, IfOk, OnOk, OnErr, option_copied, option_map};
+    ghost use Rattle.std.specs.Prelude.{◌≡◌, ◌+◌, [], ◌∷◌, ◌++◌, length, IfOk, OnOk, OnErr, option_copied, option_map};
     ghost use Rattle.std.specs.Result.{result_ok};
-    ghost use Rattle.mp_names.specs.Names.{first_names, binding_named, script_named, datum_named, tx_named, is_new_binding, is_new_script, is_new_datum, name_of, policy_name, with_binding, with_script, with_datum};
+    ghost use Rattle.mp_names.specs.Names.{first_names, binding_named, script_named, datum_named, tx_named, is_new_binding, is_new_script, is_new_datum, name_of, policy_name, with_binding, with_script, with_datum, without_bindings};
 
     /// The names that are declared beforehand.
     pub fn new(memory: Memory) -> Result<Names, NoMemory>
@@ -225,6 +225,17 @@ impl Names {
         ensures err { OnErr result (self.new ≡ self.old) }
     {
         self.bindings.push(NamedBinding { name, binding })
+    }
+
+    /// From now on these names stand for no output and no transaction, and may be declared anew. Gives how many went; a name
+    /// that isn't declared counts nothing. It is one pass over all names. After an `Err` the names are as they were.
+    pub fn forget(&mut self, goes: &[Name]) -> Result<usize, NoMemory>
+        ensures ok { OnOk result (self.new ≡ without_bindings self.old goes.now) }
+        ensures count { IfOk result (λ n. n + length self.new.bindings
+            ≡ length self.old.bindings) }
+        ensures err { OnErr result (self.new ≡ self.old) }
+    {
+        self.bindings.forget(goes)
     }
 
     /// From now on the name stands for the script. After an `Err` the names are as they were.

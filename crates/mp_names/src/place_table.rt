@@ -1,6 +1,6 @@
 //! Where items of a list stand, found by bytes without a walk.
 
-ghost use Rattle.std.specs.Prelude.{◌≡◌, ◌<◌, [], Some, option_map};
+ghost use Rattle.std.specs.Prelude.{◌≡◌, ◌<◌, [], Some, option_map, is_some};
 ghost use Rattle.indexmap.specs.IndexMap.{spare};
 ghost use Rattle.mp_names.specs.Inside.PlaceTable.{noted_at, Notes};
 
@@ -26,6 +26,13 @@ pub fn place_under(places: &PlaceTable, key: &[u8]) -> Option<usize>
     ensures { result ≡ noted_at places.now.entries key.now }
 {
     places.get(key).copied()
+}
+
+/// Whether a place is noted under the key.
+pub fn is_noted(places: &PlaceTable, key: &[u8]) -> bool
+    ensures { result ≡ is_some (noted_at places.now.entries key.now) }
+{
+    places.contains_key(key)
 }
 
 /// Notes the place under the key, unless a place is noted there.

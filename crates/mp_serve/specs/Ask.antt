@@ -5,7 +5,7 @@ use Rattle.mp_text.specs.Lines.{is_clean}
 use Rattle.mp_text.specs.Numbers.{number_of}
 use Rattle.mp_text.specs.Words.{words_of}
 use Rattle.mp_tx.specs.Transaction.{Transaction}
-use Rattle.mp_names.specs.Names.{Names, tx_named, is_new_binding}
+use Rattle.mp_names.specs.Names.{Names, tx_named, is_new_binding, is_among}
 use Rattle.mp_lines.specs.Words.{no_word, one_word, two_words}
 use Rattle.mp_lines.specs.Ledgers.{LedgerHead, head_of}
 use Rattle.mp_lines.specs.Lines.{Line, bytes_of, line_of}
@@ -31,6 +31,8 @@ pub data Ask : Type 0 where
   Extends : NewBlock → Ask
   -- to adopt the ledger state of so many ago
   Returns : ℕ → Ask
+  -- to let these names go
+  Forgets : List (List ℕ) → Ask
 
 -- bytes NAME HEX
 abbrev pub bytes_by : Names → List ℕ × List ℕ → Option Ask
@@ -62,11 +64,22 @@ adopt_ask names words = option_and_then (block_behind names) (head_of words)
 abbrev pub back_ask : List (List ℕ) → Option Ask
 back_ask words = option_map Returns (option_and_then number_of (one_word words))
 
--- adopt, back, and else the lines of scenarios
+-- the names, behind these, of which none stands twice
+abbrev pub put_names : List (List ℕ) → List (List ℕ) → Option (List (List ℕ))
+put_names names [] = Some names
+put_names names (word ∷ words) = if is_among names word then None else put_names (names ++ word ∷ []) words
+
+-- forget NAME .., one at least
+abbrev pub forget_ask : List (List ℕ) → Option Ask
+forget_ask [] = None
+forget_ask (word ∷ words) = option_map Forgets (put_names [] (word ∷ words))
+
+-- adopt, back, forget, and else the lines of scenarios
 abbrev pub ledger_ask : Names → List ℕ → List ℕ → List (List ℕ) → Option Ask
 ledger_ask names line word words =
     if pointwise nat_eq word (codes "adopt") then adopt_ask names words
     else if pointwise nat_eq word (codes "back") then back_ask words
+    else if pointwise nat_eq word (codes "forget") then forget_ask words
     else option_map Does (line_of names line)
 
 -- by the first word: show TX, check TX, stats, and else those

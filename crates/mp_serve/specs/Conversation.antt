@@ -10,15 +10,15 @@ use Rattle.mp_serve.specs.declared.conversation.Conversation.{Conversation}
 use Rattle.mp_serve.specs.Talk.{Talk}
 
 abbrev pub stage_of : Stage → told.Stage
-stage_of (stages.Before signatures openings) = Before openings
+stage_of (stages.Before beginning) = Before beginning.openings
 stage_of (stages.Open p) = Open p.pool
 
 abbrev pub signatures_of : Stage → Signatures
-signatures_of (stages.Before signatures openings) = signatures
+signatures_of (stages.Before beginning) = beginning.signatures
 signatures_of (stages.Open p) = p.signatures
 
 abbrev pub former_of : Stage → List LedgerState
-former_of (stages.Before signatures openings) = []
+former_of (stages.Before beginning) = []
 former_of (stages.Open p) = p.former
 
 abbrev pub scene_of : Conversation → Scene

@@ -1,21 +1,24 @@
 -- What a conversation has come to, and what a line makes of it.
-use Rattle.std.specs.Prelude.{ℕ, List, [], Option, Some, option_map, option_and_then, unwrap_or, Result, Ok, Err}
+use Rattle.std.specs.Prelude.{ℕ, Bool, not, true, false, List, [], filter, length, Option, Some, None, is_some, option_map, option_and_then, unwrap_or, Result, Ok, Err}
 use Rattle.mp_tx.specs.Transaction.{Transaction}
 use Rattle.mp_tx.specs.Ledger.{LedgerState}
 use Rattle.mp_tx.specs.declared.fault.TxFault.{TxFault}
 use Rattle.mp_tx.specs.Reading.{transaction_of}
+use Rattle.mp_tx.specs.Spelling.{id_of}
 use Rattle.mp_seqpool.specs.Command as commands
-use Rattle.mp_names.specs.Names.{Names, with_binding}
-use Rattle.mp_names.specs.declared.names.Binding.TheVariants.{Made}
+use Rattle.mp_seqpool.specs.SlowPool.{ticket_of}
+use Rattle.mp_names.specs.declared.names.Binding.{Binding}
+use Rattle.mp_names.specs.declared.names.Binding.TheVariants.{Opening, Made}
+use Rattle.mp_names.specs.Names.{Names, binding_named, with_binding, without_bindings}
 use Rattle.mp_lines.specs.Lines.{Line, Submit, Remove, Sync, For, Asks}
 use Rattle.mp_driver.specs.Settings.{block_bytes_of}
-use Rattle.mp_driver.specs.Scene.{Scene, empty_scene, pool_at, with_cursor, ledger_at}
+use Rattle.mp_driver.specs.Scene.{Scene, Stage, Before, Open, empty_scene, pool_at, with_cursor, ledger_at}
 use Rattle.mp_driver.specs.Scene as scenarios
 use Rattle.mp_serve.specs.declared.signatures.Signatures.{Signatures}
-use Rattle.mp_serve.specs.Ask.{Ask, NewBlock, Does, Reads, Shows, Checks, Counts, Extends, Returns, ask_of}
+use Rattle.mp_serve.specs.Ask.{Ask, NewBlock, Does, Reads, Shows, Checks, Counts, Extends, Returns, Forgets, ask_of}
 use Rattle.mp_serve.specs.ServedPool.{ServedPool}
 use Rattle.mp_serve.specs.Request.{Block, Request, Response, Do, Adopt, Extend, Return, Read, Try, Check, Count, respond}
-use Rattle.mp_serve.specs.Texts.{ok_text, bytes_text, show_text}
+use Rattle.mp_serve.specs.Texts.{ok_text, bytes_text, show_text, forgotten_text}
 
 pub record Talk : Type 0 where
   -- what its lines come to as a scenario's
@@ -72,6 +75,28 @@ with_names t names = record t { scene = record t.scene { names = names } }
 abbrev pub read : Talk → List ℕ → Result Transaction TxFault → Talk × List ℕ
 read t name found = (with_names t (with_read t.scene.names name found), bytes_text found)
 
+-- whether the pool holds a transaction with this id
+abbrev pub is_held : Stage → List ℕ → Bool
+is_held (Before outputs) id = false
+is_held (Open p) id = is_some (ticket_of id p.items)
+
+-- whether the name of what is bound, if anything is, may be forgotten
+abbrev pub may_go : Stage → Option Binding → Bool
+may_go stage None = false
+may_go stage (Some (Opening r p)) = true
+may_go stage (Some (Made d)) = not (is_held stage (id_of d.tx))
+
+-- those of the names that may be forgotten
+abbrev pub names_to_go : Names → Stage → List (List ℕ) → List (List ℕ)
+names_to_go names stage listed = filter (λ name. may_go stage (binding_named name names)) listed
+
+abbrev pub without : Talk → List (List ℕ) → Talk × List ℕ
+without t goes = (with_names t (without_bindings t.scene.names goes), forgotten_text (length goes))
+
+-- the names are let go, but those of transactions that the pool holds
+abbrev pub forget : Talk → List (List ℕ) → Talk × List ℕ
+forget t names = without t (names_to_go t.scene.names t.scene.stage names)
+
 abbrev pub take : Talk → Ask → Step
 take t (Does line) = does t line
 take t (Reads name bytes) = Some (read t name (transaction_of bytes))
@@ -80,6 +105,7 @@ take t (Checks tx) = Some (ask t (Check tx))
 take t Counts = Some (ask t Count)
 take t (Extends block) = Some (ask t (Extend (block_at t block)))
 take t (Returns count) = Some (ask t (Return count))
+take t (Forgets names) = Some (forget t names)
 
 -- what comes of a line, unless it is bad
 unfoldable pub line_step : Talk → List ℕ → Step

@@ -69,3 +69,7 @@ block_refused_text names txs place fault =
 -- so many former ledger states are kept, and no more
 unfoldable pub back_refused_text : ℕ → List ℕ
 back_refused_text kept = (codes "refused back" ++ number_text kept) ++ 10 ∷ []
+
+-- so many names were let go
+unfoldable pub forgotten_text : ℕ → List ℕ
+forgotten_text count = (codes "forgotten" ++ number_text count) ++ 10 ∷ []

@@ -1,12 +1,13 @@
 //! What a line asks.
 
-ghost use Rattle.std.specs.Prelude.{◌≡◌, Some, None, map, option_map, OnOk};
+ghost use Rattle.std.specs.Prelude.{◌≡◌, [], Some, None, map, option_map, OnOk};
 ghost use Rattle.std.specs.Arc.{arc_value};
 ghost use Rattle.mp_text.specs.Words.{words_of};
 ghost use Rattle.mp_lines.specs.Lines.{line_of};
 ghost use Rattle.mp_lines.specs.Inside.LedgerHead.{to_head};
 ghost use Rattle.mp_names.specs.Fault.{Gives, IsBad};
-ghost use Rattle.mp_serve.specs.Ask.{Does, Shows, Checks, Extends, bytes_by, bytes_ask, one_tx, put_txs, block_behind, adopt_ask, back_ask, ledger_ask, clean_ask, words_ask, long_ask};
+ghost use Rattle.mp_names.specs.Names.{is_among};
+ghost use Rattle.mp_serve.specs.Ask.{Does, Shows, Checks, Forgets, bytes_by, bytes_ask, one_tx, put_txs, block_behind, adopt_ask, back_ask, put_names, forget_ask, ledger_ask, clean_ask, words_ask, long_ask};
 ghost use Rattle.mp_serve.specs.Inside.Ask.{to_ask};
 
 use crate::block::{NewBlock, Txs};
@@ -14,7 +15,7 @@ use mp_lines::{
     Form, LedgerHead, Line, bytes_of, no_word, one_word, read_head, two_words, unclean,
 };
 use mp_memory::Memory;
-use mp_names::{LineFault, Name, Names, any_number, refused_name};
+use mp_names::{LineFault, Name, Names, Reason, any_number, refused_name};
 use mp_text::{first_word, is_clean};
 use mp_tx::Tx;
 use std::sync::Arc;
@@ -36,6 +37,8 @@ pub enum Ask {
     Extends(NewBlock),
     /// To adopt the ledger state of so many ago.
     Returns(u64),
+    /// To let these names go.
+    Forgets(Vec<Name, Memory>),
 }
 
 const BYTES: Form = Form {
@@ -66,6 +69,11 @@ const ADOPT: Form = Form {
 const BACK: Form = Form {
     word: b"back",
     text: b"back COUNT",
+};
+
+const FORGET: Form = Form {
+    word: b"forget",
+    text: b"forget NAME ..",
 };
 
 fn bytes_by<'a>(
@@ -170,6 +178,48 @@ fn back_ask<'a>(words: &'a [u8]) -> Result<Ask, LineFault<'a>>
     Ok(Ask::Returns(any_number(word)?))
 }
 
+fn is_among(names: &[Name], word: &[u8]) -> bool
+    ensures { result ≡ is_among names.now word.now }
+{
+    names.iter().any(|name| word == name.as_bytes())
+}
+
+// Puts in the names, of which none stands twice.
+fn put_names<'a>(
+    names: &mut Vec<Name, Memory>,
+    memory: Memory,
+    words: &'a [u8],
+) -> Result<(), LineFault<'a>>
+    ensures ok { OnOk result
+        (put_names names.old.items (words_of words.now) ≡ Some names.new.items) }
+    ensures bad { IsBad result → put_names names.old.items (words_of words.now) ≡ None }
+{
+    let mut rest = words;
+    while let Some((word, others)) = first_word(rest) {
+        if is_among(names, word) {
+            return Err(LineFault::Bad(Reason::Repeats {
+                later: word,
+                earlier: word,
+            }));
+        }
+        names.push(Name::of(memory, word)?)?;
+        rest = others;
+    }
+    Ok(())
+}
+
+// forget NAME ..
+fn forget_ask<'a>(memory: Memory, words: &'a [u8]) -> Result<Ask, LineFault<'a>>
+    ensures { Gives to_ask (forget_ask (words_of words.now)) result }
+{
+    if first_word(words).is_none() {
+        return Err(LineFault::Bad(Reason::FewWords(FORGET.text)));
+    }
+    let mut names = Vec::new(memory);
+    put_names(&mut names, memory, words)?;
+    Ok(Ask::Forgets(names))
+}
+
 // A line of scenarios.
 fn scenario_ask<'a>(memory: Memory, names: &Names, line: &'a [u8]) -> Result<Ask, LineFault<'a>>
     ensures { Gives to_ask (option_map Does (line_of names.now line.now)) result }
@@ -190,6 +240,8 @@ fn ledger_ask<'a>(
         adopt_ask(memory, names, words)
     } else if word == BACK.word {
         back_ask(words)
+    } else if word == FORGET.word {
+        forget_ask(memory, words)
     } else {
         scenario_ask(memory, names, line)
     }

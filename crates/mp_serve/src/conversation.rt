@@ -14,10 +14,11 @@ ghost use Rattle.mp_serve.specs.Inside.Request.{to_request};
 
 use crate::ask::Ask;
 use crate::block::Block;
+use crate::forgetting::names_to_go;
 use crate::pool::ServedPool;
 use crate::request::Request;
 use crate::signatures::Signatures;
-use crate::texts::{Text, ok_line, read_line, show_line, undecodable_line};
+use crate::texts::{Text, forgotten_line, ok_line, read_line, show_line, undecodable_line};
 use mp_driver::{Openings, Settings, ledger_at};
 use mp_lines::{Line, MAX_OUTPUTS};
 use mp_memory::{Memory, NoMemory};
@@ -26,11 +27,20 @@ use mp_seqpool::{Command, Ids};
 use mp_tx::{Tx, TxFault, TxId};
 use std::sync::Arc;
 
+/// What a pool is to open with.
+#[derive(Drop)]
+pub struct Beginning {
+    /// Which signatures it will accept.
+    pub signatures: Signatures,
+    /// The opening outputs so far.
+    pub openings: Openings,
+}
+
 /// How far a conversation is.
 #[derive(Drop)]
 pub enum Stage {
-    /// Nothing was asked of the pool: which signatures it will accept, and the opening outputs so far.
-    Before(Signatures, Openings),
+    /// Nothing was asked of the pool.
+    Before(Beginning),
     /// From the first request on: the pool.
     Open(ServedPool),
 }
@@ -52,22 +62,21 @@ type Opened = (ServedPool, (Text, u64));
 fn open_for(
     memory: Memory,
     names: &Names,
-    signatures: Signatures,
     settings: &Settings,
-    openings: &Openings,
+    beginning: &Beginning,
     cursor: u64,
     request: &Request,
 ) -> Result<Opened, NoMemory>
     ensures { IfOk result (λ r. respond names.now cursor
         (record {
-            pool = pool_at settings.now (Before openings.now);
-            signatures = signatures;
+            pool = pool_at settings.now (Before beginning.now.openings);
+            signatures = beginning.now.signatures;
             former = [];
         })
         (to_request request.now)
         ≡ record { served = r.0; cursor = r.1.1; text = r.1.0.items }) }
 {
-    let mut pool = ServedPool::open(memory, signatures, settings, openings)?;
+    let mut pool = ServedPool::open(memory, beginning.signatures, settings, &beginning.openings)?;
     let response = pool.respond(memory, names, cursor, request)?;
     Ok((pool, response))
 }
@@ -115,7 +124,7 @@ impl Conversation {
     ghost use Rattle.mp_lines.specs.Inside.Line.{to_line};
     ghost use Rattle.mp_driver.specs.Scene.{set_at, output_at};
     ghost use Rattle.mp_tx.specs.Reading.{transaction_of};
-    ghost use Rattle.mp_serve.specs.Talk.{empty_talk, ask, does, read, take, line_step};
+    ghost use Rattle.mp_serve.specs.Talk.{empty_talk, ask, does, read, forget, take, line_step};
     ghost use Rattle.mp_serve.specs.Inside.Ask.{to_ask};
     ghost use Rattle.mp_serve.specs.Inside.Request.{to_request};
     ghost use Rattle.mp_serve.specs.Conversation.{stage_of, signatures_of, former_of, scene_of, talk_of};
@@ -128,7 +137,10 @@ impl Conversation {
             names: Names::new(memory)?,
             settings: Settings::new(),
             cursor: 0,
-            stage: Stage::Before(signatures, Openings::new(memory)),
+            stage: Stage::Before(Beginning {
+                signatures,
+                openings: Openings::new(memory),
+            }),
         })
     }
 
@@ -140,13 +152,12 @@ impl Conversation {
     {
         let (text, cursor) = match &mut self.stage {
             Stage::Open(pool) => pool.respond(memory, &self.names, self.cursor, request)?,
-            Stage::Before(signatures, openings) => {
+            Stage::Before(beginning) => {
                 let (pool, response) = open_for(
                     memory,
                     &self.names,
-                    *signatures,
                     &self.settings,
-                    openings,
+                    beginning,
                     self.cursor,
                     request,
                 )?;
@@ -169,7 +180,7 @@ impl Conversation {
         ensures err { OnErr result (talk_of self.new ≡ talk_of self.old) }
     {
         match &self.stage {
-            Stage::Before(_, _) => self.settings.set(setting),
+            Stage::Before(_) => self.settings.set(setting),
             Stage::Open(_) => Err(LineFault::Bad(Reason::LateSetting)),
         }
     }
@@ -187,7 +198,9 @@ impl Conversation {
     {
         match &mut self.stage {
             Stage::Open(_) => Err(LineFault::Bad(Reason::LateOutput)),
-            Stage::Before(_, openings) => put_opening(&mut self.names, openings, name, payment),
+            Stage::Before(beginning) => {
+                put_opening(&mut self.names, &mut beginning.openings, name, payment)
+            }
         }
     }
 
@@ -244,6 +257,18 @@ impl Conversation {
         }
     }
 
+    // Lets the names go, but those of transactions that the pool holds.
+    fn forget(&mut self, memory: Memory, listed: Vec<Name, Memory>) -> Result<Text, NoMemory>
+        ensures ok { IfOk result (λ text.
+            forget (talk_of self.old) listed.items ≡ (talk_of self.new, text.items)) }
+        ensures err { OnErr result (talk_of self.new ≡ talk_of self.old) }
+    {
+        let goes = names_to_go(memory, &self.names, &self.stage, listed)?;
+        let text = forgotten_line(memory, goes.len() as u64)?;
+        let _ = self.names.forget(&goes)?;
+        Ok(text)
+    }
+
     /// Does what is asked, and gives the line that answers it.
     ///
     /// # Errors
@@ -266,6 +291,7 @@ impl Conversation {
                 Ok(self.ask(memory, &Request::Extend(block))?)
             }
             Ask::Returns(count) => Ok(self.ask(memory, &Request::Return(count))?),
+            Ask::Forgets(names) => Ok(self.forget(memory, names)?),
         }
     }
 

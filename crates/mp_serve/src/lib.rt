@@ -8,6 +8,7 @@ mod block;
 mod conversation;
 mod extending;
 mod fault;
+mod forgetting;
 mod obeying;
 mod pool;
 mod reading;

@@ -4,7 +4,7 @@ ghost use Rattle.std.specs.Prelude.{◌≡◌, ◌++◌, ◌∷◌, [], ℕ, Lis
 ghost use Rattle.hex.specs.Hex.{encode_lower};
 ghost use Rattle.std.specs.Prelude.{slice_get, map};
 ghost use Rattle.std.specs.Arc.{arc_value};
-ghost use Rattle.mp_serve.specs.Texts.{ok_text, bad_text, fault_name, tx_words, bytes_text, show_text, stats_text, name_if_any, block_refused_text, back_refused_text};
+ghost use Rattle.mp_serve.specs.Texts.{ok_text, bad_text, fault_name, tx_words, bytes_text, show_text, stats_text, name_if_any, block_refused_text, back_refused_text, forgotten_text};
 
 use mp_driver::{put_number, put_refusal, put_word};
 use mp_memory::{Memory, NoMemory};
@@ -169,6 +169,18 @@ pub fn back_refused_line(memory: Memory, kept: u64) -> Result<Text, NoMemory>
     let mut text = Vec::new(memory);
     put_word(&mut text, b"refused back")?;
     put_number(memory, &mut text, kept)?;
+    text.push(b'\n')?;
+    Ok(text)
+}
+
+/// The line of so many names that were let go.
+#[tactic(auto, unfolding(crate::specs::Texts::forgotten_text))]
+pub fn forgotten_line(memory: Memory, count: u64) -> Result<Text, NoMemory>
+    ensures { IfOk result (λ text. text.items ≡ forgotten_text count) }
+{
+    let mut text = Vec::new(memory);
+    put_word(&mut text, b"forgotten")?;
+    put_number(memory, &mut text, count)?;
     text.push(b'\n')?;
     Ok(text)
 }

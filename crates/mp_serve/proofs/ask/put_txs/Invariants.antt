@@ -1,0 +1,12 @@
+use Rattle.std.proofs.Common.{◌≡◌, length, map}
+use Rattle.std.specs.Arc.{arc_value}
+use Rattle.mp_text.specs.Words.{words_of}
+use Rattle.mp_serve.specs.Ask.{put_txs}
+use Rattle.mp_serve.proofs.ask.put_txs.Given as goal
+
+-- the rest makes of those so far what all make of the first ones
+abbrev pub invariant-loop-word : goal.invariant-loop-word
+invariant-loop-word l = put_txs l.names (map arc_value l.txs.items) (words_of l.rest) ≡ put_txs l.names (map arc_value l.fn.txs.items) (words_of l.words)
+
+abbrev pub decreases-loop-word : goal.decreases-loop-word
+decreases-loop-word l = length l.rest

@@ -1,0 +1,62 @@
+//! Which names may be let go.
+
+ghost use Rattle.std.specs.Prelude.{◌≡◌, ◌++◌, [], ◌∷◌, if◌then◌else◌, IfOk, OnOk};
+ghost use Rattle.mp_names.specs.Names.{binding_named};
+ghost use Rattle.mp_serve.specs.Conversation.{stage_of};
+ghost use Rattle.mp_serve.specs.Talk.{is_held, may_go, names_to_go};
+
+use crate::conversation::Stage;
+use mp_memory::{Memory, NoMemory};
+use mp_names::{Binding, Name, Names};
+use mp_tx::TxId;
+
+fn is_held(stage: &Stage, id: &TxId) -> bool
+    ensures { result ≡ is_held (stage_of stage.now) id.now }
+{
+    match stage {
+        Stage::Before(_) => false,
+        Stage::Open(pool) => pool.holds(id),
+    }
+}
+
+fn may_go(names: &Names, stage: &Stage, name: &Name) -> bool
+    ensures { result ≡ may_go (stage_of stage.now) (binding_named name.now names.now) }
+{
+    match names.binding(name.as_bytes()) {
+        None => false,
+        Some(Binding::Opening(_, _)) => true,
+        Some(Binding::Made(declared)) => !is_held(stage, declared.tx().id()),
+    }
+}
+
+fn put_if_it_goes(
+    goes: &mut Vec<Name, Memory>,
+    names: &Names,
+    stage: &Stage,
+    name: Name,
+) -> Result<(), NoMemory>
+    ensures { OnOk result (goes.new.items ≡ goes.old.items
+        ++ (if may_go (stage_of stage.now) (binding_named name names.now) then name ∷ [] else [])) }
+{
+    if may_go(names, stage, &name) {
+        goes.push(name)?;
+    }
+    Ok(())
+}
+
+/// Those of the names that may be forgotten.
+pub fn names_to_go(
+    memory: Memory,
+    names: &Names,
+    stage: &Stage,
+    listed: Vec<Name, Memory>,
+) -> Result<Vec<Name, Memory>, NoMemory>
+    ensures { IfOk result
+        (λ goes. goes.items ≡ names_to_go names.now (stage_of stage.now) listed.items) }
+{
+    let mut goes = Vec::new(memory);
+    for name in listed {
+        put_if_it_goes(&mut goes, names, stage, name)?;
+    }
+    Ok(goes)
+}
