@@ -69,9 +69,18 @@ def offer_and_forge(pool: Pool) -> None:
     print(f"{stats.transactions} transaction of {stats.size} bytes, {stats.free} bytes are free, {stats.changes} changes")
 
 
+def adopt_and_go_back(pool: Pool) -> None:
+    """Adopts a block of a transaction that the pool holds, goes back before it, and lets a name go."""
+    kept, dropped = pool.adopt(2, ["spend"])
+    print(f"after a block of spend {kept} are kept and {dropped} dropped")
+    kept, dropped = pool.back(1)
+    print(f"before it {kept} are kept; spend is taken in again under {pool.submit('spend')}")
+    print(f"names that went: {pool.forget('heard', 'spend')}")
+
+
 def send_ahead(pool: Pool) -> None:
     """Sends lines before it reads their answers."""
-    lines = ["snapshot", "lookup 1", "submit heard", "remove spend", "has spend"]
+    lines = ["snapshot", "lookup 1", "submit pay", "remove spend", "has spend"]
     for line, answer in zip(lines, pool.send(lines)):
         print(f"{line}: {answer}")
 
@@ -85,6 +94,7 @@ def main() -> int:
         hear_bytes(pool)
         submit(pool)
         offer_and_forge(pool)
+        adopt_and_go_back(pool)
         send_ahead(pool)
     print(f"the program has ended with status {pool.status}")
     return pool.status or 0

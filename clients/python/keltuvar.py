@@ -25,17 +25,6 @@ class BadLine(Exception):
         self.number, self.why = number, why
 
 
-class NoMemory(Exception):
-    """Memory was wanting for the answer. Nothing has changed."""
-
-
-class Ended(Exception):
-    """The program has ended, with this status, without an answer to this line."""
-
-    def __init__(self, status: int) -> None:
-        self.status = status
-
-
 Tx = NamedTuple("Tx", [("size", int), ("id", str)])
 Shown = NamedTuple("Shown", [("size", int), ("id", str), ("octets", Octets)])
 Item = NamedTuple("Item", [("ticket", int), ("name", str)])
@@ -45,7 +34,7 @@ Stats = NamedTuple("Stats", [("transactions", int), ("size", int), ("free", int)
 
 
 def checked(answer: str) -> str:
-    """Gives the answer back, or raises what it says is wrong."""
+    """Gives the answer back, or raises what it says is wrong; a MemoryError where it found no memory, and then nothing has changed."""
     first, *words = answer.split(" ")
     if first in ("refused", "undecodable"):
         name, *behind = words if first == "refused" else [first, *words]
@@ -54,7 +43,7 @@ def checked(answer: str) -> str:
         number, why = " ".join(words).split(": ", 1)
         raise BadLine(int(number), why)
     if first == "fault:":
-        raise NoMemory
+        raise MemoryError(answer)
     return answer
 
 
@@ -81,17 +70,16 @@ def read_block(words: list[str]) -> Block:
     return Block(int(words[0]), int(words[1]), read_items(words[2:]))
 
 
-class Pool:
-    """A pool that the program at the path holds as long as the conversation lasts, for one thread at a time."""
+class Pool(contextlib.AbstractContextManager):
+    """A pool that the program at the path holds as long as the conversation lasts, for one thread at a time. With `verified` it accepts all
+    signatures, which the host has verified."""
 
-    def __init__(self, path: str) -> None:
-        self._child = subprocess.Popen([path, "serve"], stdin=subprocess.PIPE, stdout=subprocess.PIPE)
+    def __init__(self, path: str, verified: bool = False) -> None:
+        words = [path, "serve", *["--signatures", "checked"] * verified]
+        self._child = subprocess.Popen(words, stdin=subprocess.PIPE, stdout=subprocess.PIPE)
         assert self._child.stdin and self._child.stdout
         self._lines, self._answers = self._child.stdin, self._child.stdout
         self.status: int | None = None
-
-    def __enter__(self) -> Pool:
-        return self
 
     def __exit__(self, *error: object) -> None:
         self.close()
@@ -113,10 +101,10 @@ class Pool:
             self._lines.flush()
 
     def _read(self) -> str:
-        """Reads an answer, without its line feed."""
+        """Reads an answer, without its line feed. Where the program has ended, it raises an EOFError, and `status` is there."""
         answer = b"" if self._answers.closed else self._answers.readline()
         if not answer.endswith(b"\n"):
-            raise Ended(self.close())
+            raise EOFError(f"the program has ended with status {self.close()}")
         return answer[:-1].decode()
 
     def ask(self, line: str) -> str:
@@ -162,8 +150,19 @@ class Pool:
 
     def sync(self, tick: int, refs: Iterable[str], block: int | None = None) -> tuple[list[int], list[int]]:
         """Has the pool adopt the ledger state of these outputs: the tickets of what it kept, and of what it dropped."""
-        told = [] if block is None else [f"block={block}"]
-        return read_lists(self._words("sync", tick, *told, *refs))
+        return read_lists(self._words("sync", tick, *[f"block={block}"] * (block is not None), *refs))
+
+    def adopt(self, tick: int, txs: Iterable[str], block: int | None = None) -> tuple[list[int], list[int]]:
+        """Has the pool adopt the ledger state after a block of these transactions: the tickets of what it kept, and of what it dropped."""
+        return read_lists(self._words("adopt", tick, *[f"block={block}"] * (block is not None), *txs))
+
+    def back(self, count: int) -> tuple[list[int], list[int]]:
+        """Has the pool go back by so many ledger states: the tickets of what it kept, and of what it dropped."""
+        return read_lists(self._words("back", count))
+
+    def forget(self, *names: str) -> int:
+        """Lets names go but those of transactions that the pool holds, and gives how many went."""
+        return int(self._words("forget", *names)[0])
 
     def snapshot(self) -> Snapshot:
         """Gives what the pool holds."""
