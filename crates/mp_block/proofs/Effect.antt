@@ -1,6 +1,6 @@
 -- What a transaction does to a ledger state is what it does to the outputs that may be spent.
-use Rattle.std.proofs.Common.{◌≡◌, ℕ, ◌<◌, List, length, ap, ◌∙◌}
-use Rattle.std.specs.Prelude.{None, IsSome, All}
+use Rattle.std.proofs.Common.{◌≡◌, ℕ, ◌<◌, length, ap, ◌∙◌}
+use Rattle.std.specs.Prelude.{None}
 use Rattle.std.specs.Option.{option_or}
 use Rattle.std.specs.FinMap.{get}
 use Rattle.mp_tx.specs.declared.reference.OutRef.{OutRef}

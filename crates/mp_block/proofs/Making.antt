@@ -1,5 +1,5 @@
 -- What a valid transaction makes is new, and its outputs stand under references that differ.
-use Rattle.std.proofs.Common.{◌≡◌, ◌≢◌, ℕ, zero, suc, ◌+◌, ◌<◌, ◌≤◌, Bool, true, false, ◌&&◌, nat_eq, ◌==◌, List, [], ◌∷◌, length, get_or, take, cond, if◌then◌else◌, refl, sym, ap, ◌∙◌, arith}
+use Rattle.std.proofs.Common.{◌≡◌, ◌≢◌, ℕ, zero, suc, ◌+◌, ◌<◌, ◌≤◌, Bool, true, false, ◌&&◌, nat_eq, ◌==◌, List, [], ◌∷◌, length, get_or, take, cond, refl, sym, ap, ◌∙◌, arith}
 use Rattle.std.specs.Prelude.{Option, Some, None, is_some, slice_get}
 use Rattle.std.specs.Option.{option_or}
 use Rattle.std.specs.Cmp.Lexicographic.{pointwise}
@@ -39,9 +39,6 @@ apart t j k differ =
       | true ↦ λ e. absurd (differ (sym (ap (λ r. r.index) ((tied-Decides (own_ref t j) (own_ref t k)).0 e))))
       | false ↦ λ e. refl
     ] refl
-
-AreNew : Utxo → Transaction → ℕ → ℕ → Type 0
-AreNew u t low high = (j : ℕ) → low ≤ j → j < high → get u (own_ref t j) ≡ None
 
 still_new : (u : Utxo) (t : Transaction) (k : ℕ) (o : Output) (j : ℕ) → k < j → get u (own_ref t j) ≡ None → get (insert u (own_ref t k) o) (own_ref t j) ≡ None
 still_new u t k o j lt none =
@@ -110,7 +107,7 @@ get-made_from t k [] u r = none_made (pointwise nat_eq r.id (id_of t)) (get u r)
 get-made_from t k (o ∷ os) u r =
     get-made_from t (k + 1) os (insert u (own_ref t k) o) r
     ∙ ap (option_or (cond (pointwise nat_eq r.id (id_of t)) (found (k + 1) os r.index) None))
-        (get-insert ref_total u (own_ref t k) o r ∙ ap (λ b. cond b (Some o) (get u r)) (sym (same-ties r (own_ref t k))))
+    (get-insert ref_total u (own_ref t k) o r ∙ ap (λ b. cond b (Some o) (get u r)) (sym (same-ties r (own_ref t k))))
     ∙ one_more (pointwise nat_eq r.id (id_of t)) (r.index == k) o (found (k + 1) os r.index) (get u r) (λ e. found_before (k + 1) os r.index (let at = (unsigned_Decides r.index k).0 e in omega arith))
 
 pub get-made : (t : Transaction) (u : Utxo) (r : OutRef) → get (with_outputs u (made_by t)) r ≡ option_or (output_made t r) (get u r)

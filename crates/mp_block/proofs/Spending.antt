@@ -6,11 +6,12 @@ use Rattle.std.specs.Ordering.{is_lt, is_eq, eq_by_cmp, ordering_reverse}
 use Rattle.std.specs.declared.cmp.Ordering.{Ordering}
 use Rattle.std.specs.declared.cmp.Ordering.TheVariants.{Less, Equal, Greater}
 use Rattle.std.specs.FinMap.{get, remove, get-remove}
+use Rattle.std.proofs.lemmas.Bool.{and_parts, and_from}
 use Rattle.std.proofs.lemmas.List.Elements.{All-map, recursion_from_All}
 use Rattle.mp_tx.specs.declared.reference.OutRef.{OutRef}
 use Rattle.mp_tx.specs.declared.input.Input.{Input}
 use Rattle.mp_tx.specs.declared.output.Output.{Output}
-use Rattle.mp_tx.specs.Reference.{ref_cmp, same_ref}
+use Rattle.mp_tx.specs.Reference.{ref_cmp}
 use Rattle.mp_tx.specs.Rising.{rises, rises_after}
 use Rattle.mp_tx.specs.Transaction.{spent_refs, spends}
 use Rattle.mp_tx.specs.Ledger.{Utxo, without, AreThere, IsFirstMissing}
@@ -37,27 +38,15 @@ is_less Less e = refl
 is_less Equal e = Prim.cc
 is_less Greater e = Prim.cc
 
-left_true : (a b : Bool) → (a && b) ≡ true → a ≡ true
-left_true true b e = refl
-left_true false b e = e
-
-right_true : (a b : Bool) → (a && b) ≡ true → b ≡ true
-right_true true b e = e
-right_true false b e = Prim.cc
-
-both_true : (a b : Bool) → a ≡ true → b ≡ true → (a && b) ≡ true
-both_true true b e f = f
-both_true false b e f = e
-
 -- what rises behind a reference rises behind a lesser one
 lower : (p r : OutRef) (rs : List OutRef) → ref_cmp p r ≡ Less → rises_after ref_cmp (Some r) rs ≡ true → rises_after ref_cmp (Some p) rs ≡ true
 lower p r [] less rise = refl
 lower p r (q ∷ qs) less rise =
-    both_true _ _ (ap is_lt (ref_total.trans p r q less (is_less _ (left_true _ _ rise)))) (right_true _ _ rise)
+    and_from _ _ (ap is_lt (ref_total.trans p r q less (is_less _ (and_parts _ _ rise).0))) (and_parts _ _ rise).1
 
 from_first : (r : OutRef) (rs : List OutRef) → rises_after ref_cmp (Some r) rs ≡ true → rises ref_cmp rs ≡ true
 from_first r [] rise = refl
-from_first r (q ∷ qs) rise = right_true _ _ rise
+from_first r (q ∷ qs) rise = (and_parts _ _ rise).1
 
 -- a greater reference is there when this one is spent
 stays : (u : Utxo) (r q : OutRef) → ref_cmp r q ≡ Less → IsSome (get u q) → IsSome (get (remove u r) q)
@@ -67,8 +56,8 @@ stays u r q less there =
 all_stay : (u : Utxo) (r : OutRef) (rs : List OutRef) → rises_after ref_cmp (Some r) rs ≡ true → AllByRecursion (λ q. IsSome (get u q)) rs → AllByRecursion (λ q. IsSome (get (remove u r) q)) rs
 all_stay u r [] rise there = tt
 all_stay u r (q ∷ qs) rise there =
-    let less = is_less _ (left_true _ _ rise) in
-    (stays u r q less there.0, all_stay u r qs (lower r q qs less (right_true _ _ rise)) there.1)
+    let less = is_less _ (and_parts _ _ rise).0 in
+    (stays u r q less there.0, all_stay u r qs (lower r q qs less (and_parts _ _ rise).1) there.1)
 
 all_there : (u : Utxo) (rs : List OutRef) → rises ref_cmp rs ≡ true → AllByRecursion (λ r. IsSome (get u r)) rs → AreThere u rs
 all_there u [] rise there = tt

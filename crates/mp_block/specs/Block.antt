@@ -11,11 +11,11 @@ use Rattle.mp_rules.specs.declared.invalid.Invalid.{Invalid}
 use Rattle.mp_rules.specs.Verifier.{Accepts}
 use Rattle.mp_rules.specs.FirstFault.{first_fault}
 
--- outputs under the transaction's references from this place on
+-- these outputs of the transaction, the first of which is its output k, under their references
 abbrev pub made_from : Transaction → ℕ → List Output → List (OutRef × Output)
 made_from t k outputs = map (λ p. (own_ref t p.0, p.1)) (enumerate_from k outputs)
 
--- the transaction's outputs under their references, in order
+-- a transaction's outputs under their references: output k under its id and k, in order
 abbrev pub made_by : Transaction → List (OutRef × Output)
 made_by t = made_from t 0 t.outputs
 

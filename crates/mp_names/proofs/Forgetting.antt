@@ -1,10 +1,10 @@
 -- What is left where names go.
-use Rattle.std.proofs.Common.{◌≡◌, ℕ, ◌+◌, ◌<◌, Bool, true, false, not, cond, List, [], ◌∷◌, ◌++◌, length, take, get_or, nat_eq, Option, Some, None, refl, sym, ap, subst, ◌∙◌}
+use Rattle.std.proofs.Common.{◌≡◌, ℕ, ◌+◌, ◌<◌, Bool, true, false, not, cond, List, [], ◌∷◌, ◌++◌, length, take, get_or, nat_eq, Option, Some, None, refl, sym, ap, ◌∙◌}
 use Rattle.std.specs.Prelude.{option_map, is_some}
 use Rattle.std.specs.List.{filter, list_any}
 use Rattle.std.specs.Option.{option_map_or}
 use Rattle.std.specs.Cmp.Lexicographic.{pointwise}
-use Rattle.std.proofs.lemmas.List.{append-nil}
+use Rattle.std.proofs.lemmas.List.{append-nil, length_push}
 use Rattle.std.proofs.lemmas.List.Elements.{filter_more, filter_agree}
 use Rattle.mp_names.specs.declared.names.NamedBinding.{NamedBinding}
 use Rattle.mp_names.specs.Names.{is_among}
@@ -45,6 +45,9 @@ module _ {X : Type 0} (test : X → Bool) (xs : List X) (i : ℕ) (x : X) (lt : 
       → Notes old key place new → ArePlaced has old (filter test (take i xs)) → ArePlaced has new (filter test (take (i + 1) xs))
   placed-stays has old new key place is at stays notes placed =
       placed-noted has old old new (filter test (take i xs)) (filter test (take (i + 1) xs)) x key place is at (one_more true stays) refl notes placed
+
+  pub count-stays : test x ≡ true → length (filter test (take (i + 1) xs)) ≡ length (filter test (take i xs)) + 1
+  count-stays stays = ap length (one_more true stays) ∙ length_push (filter test (take i xs)) x
 
   -- and one that doesn't changes nothing
   pub filter-goes : test x ≡ false → filter test (take (i + 1) xs) ≡ filter test (take i xs)

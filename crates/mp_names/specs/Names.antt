@@ -58,6 +58,12 @@ first_names = record {
 abbrev pub with_binding : Names → NamedBinding → Names
 with_binding names named = record names { bindings = names.bindings ++ named ∷ [] }
 
+abbrev pub with_script : Names → NamedScript → Names
+with_script names named = record names { scripts = names.scripts ++ named ∷ [] }
+
+abbrev pub with_datum : Names → NamedDatum → Names
+with_datum names named = record names { datums = names.datums ++ named ∷ [] }
+
 -- whether the name is one of these
 abbrev pub is_among : List (List ℕ) → List ℕ → Bool
 is_among names name = list_any (λ n. pointwise nat_eq name n) names
@@ -65,12 +71,6 @@ is_among names name = list_any (λ n. pointwise nat_eq name n) names
 -- without the outputs and transactions that have these names; the others stay in their order
 abbrev pub without_bindings : Names → List (List ℕ) → Names
 without_bindings names goes = record names { bindings = filter (λ n. not (is_among goes n.name)) names.bindings }
-
-abbrev pub with_script : Names → NamedScript → Names
-with_script names named = record names { scripts = names.scripts ++ named ∷ [] }
-
-abbrev pub with_datum : Names → NamedDatum → Names
-with_datum names named = record names { datums = names.datums ++ named ∷ [] }
 
 abbrev pub has_id : List ℕ → Binding → Bool
 has_id id (Opening r p) = false

@@ -241,10 +241,12 @@ impl BindingTable {
         );
         Ok(())
     }
+
     /// Takes out the bindings with these names; the others stay in their order. Gives how many went. After an `Err` the table
     /// is as it was.
     pub fn forget(&mut self, goes: &[Name]) -> Result<usize, NoMemory>
-        ensures ok { OnOk result (self.new ≡ filter (λ n. not (is_among goes.now n.name)) self.old) }
+        ensures ok { OnOk result (self.new
+            ≡ filter (λ n. not (is_among goes.now n.name)) self.old) }
         ensures count { IfOk result (λ n. n + length self.new ≡ length self.old) }
         ensures err { OnErr result (self.new ≡ self.old) }
     {

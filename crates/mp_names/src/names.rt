@@ -87,7 +87,7 @@ pub struct NamedDatum {
     pub datum: Data,
 }
 
-/// What was declared so far: outputs and transactions, scripts, and data. The scripts `yes` and `no` and the datum `unit` are
+/// What is declared so far: outputs and transactions, scripts, and data. The scripts `yes` and `no` and the datum `unit` are
 /// declared beforehand.
 #[derive(Drop)]
 pub struct Names {

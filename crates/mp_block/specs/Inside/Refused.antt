@@ -21,8 +21,8 @@ IsRefusedAt accepts l t place NoMemory = Unit {0}
 IsRefusedAt accepts l t place BadBlockBytes = ⊥
 IsRefusedAt accepts l t place (Invalid at fault) = (at ≡ place) × (first_fault accepts (get l.utxo) l.tick t ≡ Some fault)
 
--- of a block that can be spent and made nothing is refused but its block bytes
+-- where all that is spent is there and all that is made is new, only the block bytes may be bad; memory may be wanting for any
 abbrev pub HasBadBytes : ℕ → BlockRefusal → Type 0
 HasBadBytes block_bytes NoMemory = Unit {0}
-HasBadBytes block_bytes BadBlockBytes = HasBlockBytes block_bytes → ⊥
+HasBadBytes block_bytes BadBlockBytes = ¬ HasBlockBytes block_bytes
 HasBadBytes block_bytes (Invalid at fault) = ⊥
