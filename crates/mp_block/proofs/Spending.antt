@@ -1,5 +1,5 @@
 -- What the inputs of a valid transaction spend is there, each once.
-use Rattle.std.proofs.Common.{◌≡◌, ℕ, zero, suc, ◌<◌, Bool, true, false, ◌&&◌, ◌||◌, List, [], ◌∷◌, length, get_or, take, cond, if◌then◌else◌, refl, sym, ap, ◌∙◌, arith}
+use Rattle.std.proofs.Common.{◌≡◌, ℕ, zero, suc, ◌<◌, Bool, true, false, ◌||◌, List, [], ◌∷◌, length, get_or, take, cond, if◌then◌else◌, refl, sym, ap, ◌∙◌, arith}
 use Rattle.std.specs.Prelude.{Option, Some, None, is_some, IsSome, All}
 use Rattle.std.specs.List.{AllByRecursion}
 use Rattle.std.specs.Ordering.{is_lt, is_eq, eq_by_cmp, ordering_reverse}
@@ -69,7 +69,7 @@ inputs_there u inputs rise there =
 
 -- ---- what is left
 
-neither : (b : Bool) → cond b None None ≡ (let n : Option Output = None in n)
+neither : (b : Bool) → cond {A = Option Output} b None None ≡ None
 neither true = refl
 neither false = refl
 

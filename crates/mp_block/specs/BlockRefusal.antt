@@ -11,4 +11,5 @@ use Rattle.mp_block.specs.Block.{apply_block}
 abbrev pub IsBlockRefusal : Accepts → LedgerState → ℕ → ℕ → List Transaction → BlockRefusal → Type 0
 IsBlockRefusal accepts l tick block_bytes ts NoMemory = Unit {0}
 IsBlockRefusal accepts l tick block_bytes ts BadBlockBytes = ¬ HasBlockBytes block_bytes
-IsBlockRefusal accepts l tick block_bytes ts (Invalid place fault) = apply_block accepts l tick block_bytes ts ≡ Err (place, fault)
+IsBlockRefusal accepts l tick block_bytes ts (Invalid place fault) =
+    HasBlockBytes block_bytes × (apply_block accepts l tick block_bytes ts ≡ Err (place, fault))

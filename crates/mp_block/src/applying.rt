@@ -7,7 +7,7 @@ ghost use Rattle.mp_tx.specs.Ledger.{HasBlockBytes, ledger_after, without, AreTh
 ghost use Rattle.mp_utxo.specs.Apply.{own_ref};
 ghost use Rattle.mp_rules.specs.FirstFault.{first_fault};
 ghost use Rattle.mp_block.specs.Block.{made_by, apply_tx};
-ghost use Rattle.mp_block.specs.Inside.Refused.{HasBadBytes, IsRefusedAt};
+ghost use Rattle.mp_block.specs.Inside.Refused.{HasBadBytes, IsInvalidAt};
 
 use crate::block_refusal::BlockRefusal;
 use mp_memory::{Memory, NoMemory};
@@ -96,7 +96,7 @@ pub fn after_tx<V: Verifier>(
         (first_fault (V.accepts verifier.now) (get ledger.now.utxo) ledger.now.tick tx.now ≡ None) }
     ensures applied { IfOk result (λ l. l ≡ apply_tx ledger.now tx.now) }
     ensures refused { IfErr result
-        (IsRefusedAt (V.accepts verifier.now) ledger.now tx.now place) }
+        (IsInvalidAt (V.accepts verifier.now) ledger.now tx.now place) }
 {
     if let Err(fault) = check(memory, tx, ledger, ledger.tick(), verifier) {
         return Err(BlockRefusal::at(place, fault));

@@ -16,10 +16,10 @@ refusal_at place rules.NoMemory = NoMemory
 refusal_at place fault = Invalid place fault
 
 -- the refusal tells the place and the rule that the transaction breaks first; memory may be wanting for any
-abbrev pub IsRefusedAt : Accepts → LedgerState → Transaction → ℕ → BlockRefusal → Type 0
-IsRefusedAt accepts l t place NoMemory = Unit {0}
-IsRefusedAt accepts l t place BadBlockBytes = ⊥
-IsRefusedAt accepts l t place (Invalid at fault) = (at ≡ place) × (first_fault accepts (get l.utxo) l.tick t ≡ Some fault)
+abbrev pub IsInvalidAt : Accepts → LedgerState → Transaction → ℕ → BlockRefusal → Type 0
+IsInvalidAt accepts l t place NoMemory = Unit {0}
+IsInvalidAt accepts l t place BadBlockBytes = ⊥
+IsInvalidAt accepts l t place (Invalid at fault) = (at ≡ place) × (first_fault accepts (get l.utxo) l.tick t ≡ Some fault)
 
 -- where all that is spent is there and all that is made is new, only the block bytes may be bad; memory may be wanting for any
 abbrev pub HasBadBytes : ℕ → BlockRefusal → Type 0
