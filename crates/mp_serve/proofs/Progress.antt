@@ -9,7 +9,8 @@ use Rattle.mp_text.specs.Output.{AppendsFront}
 use Rattle.mp_driver.proofs.Progress.{Appends-nothing}
 use Rattle.mp_serve.specs.declared.signatures.Signatures.{Signatures}
 use Rattle.mp_serve.specs.declared.fault.Fault.TheVariants.{ReadFault, WriteFault}
-use Rattle.mp_serve.specs.Talk.{Talk, empty_talk}
+use Rattle.mp_serve.specs.declared.conversation.Conversation.{Conversation}
+use Rattle.mp_serve.specs.Talk.{new_conversation}
 use Rattle.mp_serve.specs.Served.{IsAnswer, AreAnswers, WereAnswered, WasCut, Ended}
 use Rattle.mp_serve.proofs.Lines.{first_through}
 
@@ -19,7 +20,7 @@ Appends-more (Some a) None c xs ys p q = absurd p
 Appends-more (Some a) (Some b) None xs ys p q = absurd q
 Appends-more (Some a) (Some b) (Some c) xs ys p q = q ∙ ap (λ z. z ++ ys) p ∙ append_assoc a xs ys
 
-pub answers-more : (n : ℕ) (s : Talk) (lines : List (List ℕ)) (text : List ℕ) (t : Talk) (line answer : List ℕ) (u : Talk)
+pub answers-more : (n : ℕ) (s : Conversation) (lines : List (List ℕ)) (text : List ℕ) (t : Conversation) (line answer : List ℕ) (u : Conversation)
     → AreAnswers n s lines text t → IsAnswer (n + length lines) t line answer u → AreAnswers n s (lines ++ line ∷ []) (text ++ answer) u
 answers-more n s [] text t line answer u (none, same) is = (
   answer,
@@ -39,25 +40,25 @@ answers-more n s (l ∷ ls) text t line answer u (first, rest, v, whole, told, m
 )
 
 -- The lines that are done were answered, and the answers are what the writer got.
-pub record Progress (g : Signatures) (old now : Option (List ℕ)) (all rest : List (List ℕ)) (s : Talk) (n : ℕ) : Type 0 where
+pub record Progress (g : Signatures) (old now : Option (List ℕ)) (all rest : List (List ℕ)) (s : Conversation) (n : ℕ) : Type 0 where
   pub lines : List (List ℕ)
   pub text : List ℕ
   pub whole : all ≡ lines ++ rest
-  pub told : AreAnswers 1 (empty_talk g) lines text s
+  pub told : AreAnswers 1 (new_conversation g) lines text s
   pub wrote : Appends old now text
   pub count : n ≡ length lines + 1
 
-pub begins : (g : Signatures) (o : Option (List ℕ)) (all : List (List ℕ)) (s : Talk) (n : ℕ) → s ≡ empty_talk g → n ≡ 1 → Progress g o o all all s n
+pub begins : (g : Signatures) (o : Option (List ℕ)) (all : List (List ℕ)) (s : Conversation) (n : ℕ) → s ≡ new_conversation g → n ≡ 1 → Progress g o o all all s n
 begins g o all s n e one = record { lines = []; text = []; whole = refl; told = (refl, e); wrote = Appends-nothing o; count = one }
 
-module _ (g : Signatures) (old now : Option (List ℕ)) (all rest : List (List ℕ)) (s : Talk) (n : ℕ) where
+module _ (g : Signatures) (old now : Option (List ℕ)) (all rest : List (List ℕ)) (s : Conversation) (n : ℕ) where
   -- one more line
-  pub goes_on : (new : Option (List ℕ)) (u : Talk) (line answer : List ℕ) → Progress g old now all (line ∷ rest) s n → IsAnswer n s line answer u → Appends now new answer → Progress g old new all rest u (n + 1)
+  pub goes_on : (new : Option (List ℕ)) (u : Conversation) (line answer : List ℕ) → Progress g old now all (line ∷ rest) s n → IsAnswer n s line answer u → Appends now new answer → Progress g old new all rest u (n + 1)
   goes_on new u line answer p is w = record {
     lines = p.lines ++ line ∷ [];
     text = p.text ++ answer;
     whole = p.whole ∙ sym (append_assoc p.lines (line ∷ []) rest);
-    told = answers-more 1 (empty_talk g) p.lines p.text s line answer u p.told (subst (λ m. IsAnswer m s line answer u) (let c = p.count in let e : n ≡ 1 + length p.lines = omega (arith, c) in e) is);
+    told = answers-more 1 (new_conversation g) p.lines p.text s line answer u p.told (subst (λ m. IsAnswer m s line answer u) (let c = p.count in let e : n ≡ 1 + length p.lines = omega (arith, c) in e) is);
     wrote = Appends-more old now new p.text answer p.wrote w;
     count = let c = p.count in let l = length-append p.lines (line ∷ []) in omega (arith, c, l);
   }
@@ -66,19 +67,19 @@ module _ (g : Signatures) (old now : Option (List ℕ)) (all rest : List (List �
   pub stops : Progress g old now all rest s n → (k : ℕ) × WereAnswered g old now (take k all)
   stops p =
       let front : take (length p.lines) all ≡ p.lines = ap (take (length p.lines)) p.whole ∙ take-append_seam p.lines rest in
-      (length p.lines, (p.text, s, subst (λ l. AreAnswers 1 (empty_talk g) l p.text s) (sym front) p.told, p.wrote))
+      (length p.lines, (p.text, s, subst (λ l. AreAnswers 1 (new_conversation g) l p.text s) (sym front) p.told, p.wrote))
 
   -- a front of an answer was written
-  pub is_cut : (new : Option (List ℕ)) (u : Talk) (line answer : List ℕ) → Progress g old now all (line ∷ rest) s n → IsAnswer n s line answer u → AppendsFront now new answer → WasCut g old new all
+  pub is_cut : (new : Option (List ℕ)) (u : Conversation) (line answer : List ℕ) → Progress g old now all (line ∷ rest) s n → IsAnswer n s line answer u → AppendsFront now new answer → WasCut g old new all
   is_cut new u line answer p is (taken, lt, w) =
       let done : List (List ℕ) = p.lines ++ line ∷ [] in
       let front : take (length done) all ≡ done = ap (take (length done)) (p.whole ∙ sym (append_assoc p.lines (line ∷ []) rest)) ∙ take-append_seam done rest in
-      let told : AreAnswers 1 (empty_talk g) done (p.text ++ answer) u =
-      answers-more 1 (empty_talk g) p.lines p.text s line answer u p.told (subst (λ m. IsAnswer m s line answer u) (let c = p.count in let e : n ≡ 1 + length p.lines = omega (arith, c) in e) is) in (
+      let told : AreAnswers 1 (new_conversation g) done (p.text ++ answer) u =
+      answers-more 1 (new_conversation g) p.lines p.text s line answer u p.told (subst (λ m. IsAnswer m s line answer u) (let c = p.count in let e : n ≡ 1 + length p.lines = omega (arith, c) in e) is) in (
         length done,
         p.text ++ answer,
         u,
-        subst (λ l. AreAnswers 1 (empty_talk g) l (p.text ++ answer) u) (sym front) told,
+        subst (λ l. AreAnswers 1 (new_conversation g) l (p.text ++ answer) u) (sym front) told,
         (
           length p.text + taken,
           omega (arith, length-append p.text answer, lt),
@@ -87,22 +88,22 @@ module _ (g : Signatures) (old now : Option (List ℕ)) (all rest : List (List �
       )
 
 -- The lines that were read from known bytes were answered, and those of the bytes that are left weren't read.
-abbrev pub Stands : Signatures → Option (List ℕ) → Option (List ℕ) → Option (List ℕ) → Option (List ℕ) → Talk → ℕ → Type 0
+abbrev pub Stands : Signatures → Option (List ℕ) → Option (List ℕ) → Option (List ℕ) → Option (List ℕ) → Conversation → ℕ → Type 0
 Stands g all left old now s n =
     IfSome all (λ bytes. (rest : List ℕ) × (left ≡ Some rest) × Progress g old now (lines_of bytes) (lines_of rest) s n)
 
-pub stands-first : (g : Signatures) (all old : Option (List ℕ)) (s : Talk) (n : ℕ) → s ≡ empty_talk g → n ≡ 1 → Stands g all all old old s n
+pub stands-first : (g : Signatures) (all old : Option (List ℕ)) (s : Conversation) (n : ℕ) → s ≡ new_conversation g → n ≡ 1 → Stands g all all old old s n
 stands-first g None old s n e one = tt
 stands-first g (Some bytes) old s n e one = (bytes, refl, begins g old (lines_of bytes) s n e one)
 
-module _ (g : Signatures) (old now : Option (List ℕ)) (s : Talk) (n : ℕ) where
+module _ (g : Signatures) (old now : Option (List ℕ)) (s : Conversation) (n : ℕ) where
   -- at the end of the input
   pub ends : (all left : Option (List ℕ)) → Stands g all left old now s n → IsAtEnd left → IfSome all (λ bytes. Ended g bytes old now (Ok tt))
   ends None left i end = tt
   ends (Some bytes) left (rest, is, p) end =
       let none : rest ≡ [] = subst IsAtEnd is end in
       let done : lines_of bytes ≡ p.lines = p.whole ∙ ap (λ l. p.lines ++ lines_of l) none ∙ append-nil p.lines in
-      (p.text, s, subst (λ l. AreAnswers 1 (empty_talk g) l p.text s) (sym done) p.told, p.wrote)
+      (p.text, s, subst (λ l. AreAnswers 1 (new_conversation g) l p.text s) (sym done) p.told, p.wrote)
 
   -- where a read fails
   pub fails : (all left : Option (List ℕ)) → Stands g all left old now s n → IfSome all (λ bytes. Ended g bytes old now (Err ReadFault))
@@ -115,7 +116,7 @@ module _ (g : Signatures) (old now : Option (List ℕ)) (s : Talk) (n : ℕ) whe
   first_read all (x ∷ xs) buffer is some p =
       subst (λ l. Progress g old now all l s n) (first_through x xs ∙ ap (λ l. strip_last 10 l ∷ lines_of (drop_through 10 (x ∷ xs))) (sym is)) p
 
-  module _ (left after new : Option (List ℕ)) (u : Talk) (buffer answer : List ℕ) (read : IfSome left (λ xs. buffer ≡ take_through 10 xs))
+  module _ (left after new : Option (List ℕ)) (u : Conversation) (buffer answer : List ℕ) (read : IfSome left (λ xs. buffer ≡ take_through 10 xs))
       (dropped : DropsThrough left after 10) (some : length buffer ≡ 0 → ⊥) (answered : IsAnswer n s (strip_last 10 buffer) answer u) where
     -- a line that is read and answered
     pub stands-more : (all : Option (List ℕ)) → Stands g all left old now s n → Appends now new answer → Stands g all after old new u (n + 1)

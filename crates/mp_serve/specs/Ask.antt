@@ -4,11 +4,14 @@ use Rattle.std.specs.Cmp.Lexicographic.{pointwise}
 use Rattle.mp_text.specs.Lines.{is_clean}
 use Rattle.mp_text.specs.Numbers.{number_of}
 use Rattle.mp_text.specs.Words.{words_of}
+use Rattle.mp_tx.specs.declared.reference.OutRef.{OutRef}
+use Rattle.mp_tx.specs.declared.output.Output.{Output}
 use Rattle.mp_tx.specs.Transaction.{Transaction}
 use Rattle.mp_names.specs.Names.{Names, tx_named, is_new_binding, is_among}
 use Rattle.mp_lines.specs.Words.{no_word, one_word, two_words}
 use Rattle.mp_lines.specs.Ledgers.{LedgerHead, head_of}
 use Rattle.mp_lines.specs.Lines.{Line, bytes_of, line_of}
+use Rattle.mp_serve.specs.Output.{output_in, ref_in}
 
 -- a block's transactions, with the tick, and the bytes of a block where the line tells them
 pub record NewBlock : Type 0 where
@@ -27,6 +30,8 @@ pub data Ask : Type 0 where
   Checks : Transaction → Ask
   -- the pool's numbers
   Counts : Ask
+  -- that the output is among the opening ones
+  Holds : OutRef → Output → Ask
   -- to adopt the ledger state after the block
   Extends : NewBlock → Ask
   -- to adopt the ledger state of so many ago
@@ -44,6 +49,13 @@ bytes_ask names words = option_and_then (bytes_by names) (two_words words)
 -- the transaction that is the line's one word
 abbrev pub one_tx : Names → List (List ℕ) → Option Transaction
 one_tx names words = option_map (λ t. t.tx) (option_and_then (λ w. tx_named w names) (one_word words))
+
+-- utxo ID#INDEX HEX
+abbrev pub utxo_by : List ℕ × List ℕ → Option Ask
+utxo_by words = option_and_then (λ r. option_map (Holds r) (option_and_then output_in (bytes_of words.1))) (ref_in words.0)
+
+abbrev pub utxo_ask : List (List ℕ) → Option Ask
+utxo_ask words = option_and_then utxo_by (two_words words)
 
 -- the transactions named, behind these
 abbrev pub put_txs : Names → List Transaction → List (List ℕ) → Option (List Transaction)
@@ -74,10 +86,11 @@ abbrev pub forget_ask : List (List ℕ) → Option Ask
 forget_ask [] = None
 forget_ask (word ∷ words) = option_map Forgets (put_names [] (word ∷ words))
 
--- adopt, back, forget, and else the lines of scenarios
+-- utxo, adopt, back, forget, and else the lines of scenarios
 abbrev pub ledger_ask : Names → List ℕ → List ℕ → List (List ℕ) → Option Ask
 ledger_ask names line word words =
-    if pointwise nat_eq word (codes "adopt") then adopt_ask names words
+    if pointwise nat_eq word (codes "utxo") then utxo_ask words
+    else if pointwise nat_eq word (codes "adopt") then adopt_ask names words
     else if pointwise nat_eq word (codes "back") then back_ask words
     else if pointwise nat_eq word (codes "forget") then forget_ask words
     else option_map Does (line_of names line)
@@ -95,10 +108,16 @@ abbrev pub words_ask : Names → List ℕ → List (List ℕ) → Option Ask
 words_ask names line [] = option_map Does (line_of names line)
 words_ask names line (word ∷ words) = clean_ask names line word words
 
--- a line of bytes may be longer than others
+-- a line of bytes, or of an output, may be longer than others
+abbrev pub hex_ask : Names → List ℕ → List (List ℕ) → Option Ask
+hex_ask names word words =
+    if pointwise nat_eq word (codes "bytes") then bytes_ask names words
+    else if pointwise nat_eq word (codes "utxo") then utxo_ask words
+    else None
+
 abbrev pub long_ask : Names → List (List ℕ) → Option Ask
 long_ask names [] = None
-long_ask names (word ∷ words) = if pointwise nat_eq word (codes "bytes") then bytes_ask names words else None
+long_ask names (word ∷ words) = hex_ask names word words
 
 -- what the line asks, if it is one of the language
 unfoldable pub ask_of : Names → List ℕ → Option Ask

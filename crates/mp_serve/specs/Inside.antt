@@ -5,3 +5,4 @@ pub mod Block
 pub mod Pool
 pub mod ServedPool
 pub mod Extended
+pub mod Stage

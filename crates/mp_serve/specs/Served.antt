@@ -5,34 +5,35 @@ use Rattle.mp_text.specs.Lines.{lines_of}
 use Rattle.mp_text.specs.Output.{AppendsFront}
 use Rattle.mp_serve.specs.Texts.{no_memory_text, bad_text}
 use Rattle.mp_serve.specs.declared.signatures.Signatures.{Signatures}
-use Rattle.mp_serve.specs.Talk.{Talk, Step, empty_talk, line_step}
+use Rattle.mp_serve.specs.declared.conversation.Conversation.{Conversation}
+use Rattle.mp_serve.specs.Talk.{Step, new_conversation, line_step}
 use Rattle.mp_serve.specs.declared.fault.Fault.{Fault}
 use Rattle.mp_serve.specs.declared.fault.Fault.TheVariants.{NoMemory, ReadFault, WriteFault}
 
 -- as the line asks; a bad one is told with its number and why, and nothing has changed
-abbrev pub IsTold : ℕ → Talk → Step → List ℕ → Talk → Type 0
+abbrev pub IsTold : ℕ → Conversation → Step → List ℕ → Conversation → Type 0
 IsTold n t None text u = ((why : List ℕ) × (text ≡ bad_text n ++ why ++ 10 ∷ [])) × (u ≡ t)
 IsTold n t (Some r) text u = (text ≡ r.1) × (u ≡ r.0)
 
 -- Memory may be wanting for any answer, and then nothing has changed.
-abbrev pub IsAnswer : ℕ → Talk → List ℕ → List ℕ → Talk → Type 0
+abbrev pub IsAnswer : ℕ → Conversation → List ℕ → List ℕ → Conversation → Type 0
 IsAnswer n t line text u = IsTold n t (line_step t line) text u ⊎ ((text ≡ no_memory_text) × (u ≡ t))
 
 -- the text is the answers to the lines, one after the other, of which the first has this number, and u is what it comes to
-abbrev pub AreAnswers : ℕ → Talk → List (List ℕ) → List ℕ → Talk → Type 0
+abbrev pub AreAnswers : ℕ → Conversation → List (List ℕ) → List ℕ → Conversation → Type 0
 AreAnswers n t [] text u = (text ≡ []) × (u ≡ t)
 AreAnswers n t (line ∷ lines) text u =
-    (first rest : List ℕ) × (v : Talk) × (text ≡ first ++ rest) × IsAnswer n t line first v × AreAnswers (n + 1) v lines rest u
+    (first rest : List ℕ) × (v : Conversation) × (text ≡ first ++ rest) × IsAnswer n t line first v × AreAnswers (n + 1) v lines rest u
 
 -- these lines were answered from the first on
 abbrev pub WereAnswered : Signatures → Option (List ℕ) → Option (List ℕ) → List (List ℕ) → Type 0
 WereAnswered signatures old new lines =
-    (text : List ℕ) × (t : Talk) × AreAnswers 1 (empty_talk signatures) lines text t × Appends old new text
+    (text : List ℕ) × (t : Conversation) × AreAnswers 1 (new_conversation signatures) lines text t × Appends old new text
 
 -- some first lines were answered, and of the answer to the next a front was written
 abbrev pub WasCut : Signatures → Option (List ℕ) → Option (List ℕ) → List (List ℕ) → Type 0
 WasCut signatures old new lines =
-    (k : ℕ) × (text : List ℕ) × (t : Talk) × AreAnswers 1 (empty_talk signatures) (take k lines) text t × AppendsFront old new text
+    (k : ℕ) × (text : List ℕ) × (t : Conversation) × AreAnswers 1 (new_conversation signatures) (take k lines) text t × AppendsFront old new text
 
 -- how a conversation ends: at the end of the input, where a device fails, or before it begins
 abbrev pub Ended : Signatures → List ℕ → Option (List ℕ) → Option (List ℕ) → Result (Unit {0}) Fault → Type 0

@@ -1,84 +1,112 @@
--- What a conversation has come to, and what a line makes of it.
-use Rattle.std.specs.Prelude.{ℕ, Bool, not, true, false, List, [], filter, length, Option, Some, None, is_some, option_map, option_and_then, unwrap_or, Result, Ok, Err}
+-- What a line makes of what a conversation has come to: its names, its settings, the peer's cursor, and the pool, or what that is to
+-- open with.
+use Rattle.std.specs.Prelude.{ℕ, ◌+◌, ◌^◌, nat_lt, Bool, not, true, false, List, [], ◌∷◌, filter, length, Option, Some, None, is_some, is_none, option_map, option_and_then, unwrap_or, if◌then◌else◌, Result, Ok, Err}
+use Rattle.std.specs.FinMap.{get}
+use Rattle.mp_tx.specs.declared.reference.OutRef.{OutRef}
+use Rattle.mp_tx.specs.declared.output.Output.{Output}
 use Rattle.mp_tx.specs.Transaction.{Transaction}
-use Rattle.mp_tx.specs.Ledger.{LedgerState}
+use Rattle.mp_tx.specs.Ledger.{LedgerState, ledger_of, ledger_after}
 use Rattle.mp_tx.specs.declared.fault.TxFault.{TxFault}
 use Rattle.mp_tx.specs.Reading.{transaction_of}
 use Rattle.mp_tx.specs.Spelling.{id_of}
+use Rattle.mp_block.specs.Block.{at_tick}
 use Rattle.mp_seqpool.specs.Command as commands
-use Rattle.mp_seqpool.specs.SlowPool.{ticket_of}
+use Rattle.mp_seqpool.specs.SlowPool.{empty_pool, ticket_of}
 use Rattle.mp_names.specs.declared.names.Binding.{Binding}
 use Rattle.mp_names.specs.declared.names.Binding.TheVariants.{Opening, Made}
-use Rattle.mp_names.specs.Names.{Names, binding_named, with_binding, without_bindings}
-use Rattle.mp_lines.specs.Lines.{Line, Submit, Remove, Sync, For, Asks}
-use Rattle.mp_driver.specs.Settings.{block_bytes_of}
-use Rattle.mp_driver.specs.Scene.{Scene, Stage, Before, Open, empty_scene, pool_at, with_cursor, ledger_at}
-use Rattle.mp_driver.specs.Scene as scenarios
+use Rattle.mp_names.specs.declared.payment.Payment.{Payment}
+use Rattle.mp_names.specs.declared.settings.Setting.{Setting}
+use Rattle.mp_names.specs.Names.{Names, first_names, binding_named, with_binding, with_script, with_datum, without_bindings}
+use Rattle.mp_names.specs.Payments.{output_of}
+use Rattle.mp_names.specs.References.{opening_ref}
+use Rattle.mp_lines.specs.Lines.{Line, Blank, Sets, Script, Data, Out, Tx, Submit, Remove, Sync, For, Asks}
+use Rattle.mp_driver.specs.declared.settings.Settings.{Settings}
+use Rattle.mp_driver.specs.Settings.{no_settings, with_setting, block_bytes_of, limit_of, last_of, tick_of}
+use Rattle.mp_driver.specs.Scene.{ledger_at}
 use Rattle.mp_serve.specs.declared.signatures.Signatures.{Signatures}
-use Rattle.mp_serve.specs.Ask.{Ask, NewBlock, Does, Reads, Shows, Checks, Counts, Extends, Returns, Forgets, ask_of}
+use Rattle.mp_serve.specs.declared.beginning.Beginning.{Beginning}
+use Rattle.mp_serve.specs.declared.conversation.Stage.{Stage}
+use Rattle.mp_serve.specs.declared.conversation.Stage.TheVariants.{Before, Open}
+use Rattle.mp_serve.specs.declared.conversation.Conversation.{Conversation}
+use Rattle.mp_serve.specs.Ask.{Ask, NewBlock, Does, Reads, Shows, Checks, Counts, Holds, Extends, Returns, Forgets, ask_of}
 use Rattle.mp_serve.specs.ServedPool.{ServedPool}
 use Rattle.mp_serve.specs.Request.{Block, Request, Response, Do, Adopt, Extend, Return, Read, Try, Check, Count, respond}
 use Rattle.mp_serve.specs.Texts.{ok_text, bytes_text, show_text, forgotten_text}
 
-pub record Talk : Type 0 where
-  -- what its lines come to as a scenario's
-  pub scene : Scene
-  -- which signatures the pool accepts
-  pub signatures : Signatures
-  -- the ledger states before the pool's, the oldest first
-  pub former : List LedgerState
+-- before the first line
+abbrev pub begun : Signatures → Beginning
+begun signatures = record { signatures = signatures; outs = 0; ledger = ledger_of 0 500000 [] }
 
-abbrev pub empty_talk : Signatures → Talk
-empty_talk signatures = record { scene = empty_scene; signatures = signatures; former = [] }
+abbrev pub new_conversation : Signatures → Conversation
+new_conversation signatures = record { names = first_names; settings = no_settings; cursor = 0; stage = Before (begun signatures) }
 
 -- the state after a line, and what is answered
 abbrev pub Step : Type 0
-Step = Option (Talk × List ℕ)
+Step = Option (Conversation × List ℕ)
 
--- the pool opens with the first request
-abbrev pub served_at : Talk → ServedPool
-served_at t = record { pool = pool_at t.scene.settings t.scene.stage; signatures = t.signatures; former = t.former }
+-- ---- the pool
 
-abbrev pub with_response : Talk → Response → Talk × List ℕ
-with_response t r = (record t { scene = with_cursor t.scene r.cursor r.served.pool; former = r.served.former }, r.text)
+-- the empty pool upon the opening outputs
+abbrev pub opened : Settings → Beginning → ServedPool
+opened g b = record {
+  pool = empty_pool (limit_of g) (last_of g) (at_tick b.ledger (tick_of g) (block_bytes_of g));
+  signatures = b.signatures;
+  former = [];
+}
+
+-- it opens with the first request
+abbrev pub served_at : Settings → Stage → ServedPool
+served_at g (Before b) = opened g b
+served_at g (Open p) = p
+
+abbrev pub with_response : Conversation → Response → Conversation × List ℕ
+with_response c r = (record c { cursor = r.cursor; stage = Open r.served }, r.text)
 
 -- the pool responds
-abbrev pub ask : Talk → Request → Talk × List ℕ
-ask t request = with_response t (respond t.scene.names t.scene.cursor (served_at t) request)
+abbrev pub ask : Conversation → Request → Conversation × List ℕ
+ask c request = with_response c (respond c.names c.cursor (served_at c.settings c.stage) request)
 
--- a line that declares or sets something, as in a scenario, where it writes nothing
-abbrev pub declare : Talk → Line → Step
-declare t line = option_map (λ r. (record t { scene = r.0 }, ok_text)) (scenarios.take t.scene line)
+-- ---- settings, outputs and names
 
--- a scenario's line
-abbrev pub does : Talk → Line → Step
-does t (Submit tx) = Some (ask t (Do (commands.Submit tx)))
-does t (Remove ids) = Some (ask t (Do (commands.Remove ids)))
-does t (Sync l) = Some (ask t (Adopt (ledger_at t.scene.settings l)))
-does t (For l) = Some (ask t (Try (ledger_at t.scene.settings l)))
-does t (Asks query) = Some (ask t (Read query))
-does t line = declare t line
+-- a setting stands before the first request
+abbrev pub set_at : Conversation → Setting → Stage → Step
+set_at c setting (Before b) = option_map (λ g. (record c { settings = g }, ok_text)) (with_setting c.settings setting)
+set_at c setting (Open p) = None
 
--- where the line tells no bytes of a block, the setting holds
-abbrev pub block_at : Talk → NewBlock → Block
-block_at t b = record { tick = b.tick; block_bytes = unwrap_or b.block_bytes (block_bytes_of t.scene.settings); txs = b.txs }
+-- an output more, unless its reference is taken
+abbrev pub put_in : LedgerState → OutRef → Output → Option LedgerState
+put_in l r o = if is_none (get l.utxo r) then Some (ledger_after l l.tick l.block_bytes [] ((r, o) ∷ [])) else None
 
--- from now on the name stands for the transaction, if there is one; what its outputs hash isn't known
-abbrev pub with_read : Names → List ℕ → Result Transaction TxFault → Names
-with_read names name (Ok t) = with_binding names (record { name = name; binding = Made (record { tx = t; payments = [] }) })
-with_read names name (Err fault) = names
+abbrev pub with_ledger : Conversation → Beginning → LedgerState → Conversation × List ℕ
+with_ledger c b l = (record c { stage = Before (record b { ledger = l }) }, ok_text)
 
--- with these names
-abbrev pub with_names : Talk → Names → Talk
-with_names t names = record t { scene = record t.scene { names = names } }
+-- an output with its reference, before the first request
+abbrev pub hold_at : Conversation → OutRef → Output → Stage → Step
+hold_at c r o (Before b) = option_map (with_ledger c b) (put_in b.ledger r o)
+hold_at c r o (Open p) = None
 
-abbrev pub read : Talk → List ℕ → Result Transaction TxFault → Talk × List ℕ
-read t name found = (with_names t (with_read t.scene.names name found), bytes_text found)
+abbrev pub with_out : Conversation → Beginning → List ℕ → Payment → LedgerState → Conversation × List ℕ
+with_out c b name p l = (
+  record c {
+    names = with_binding c.names (record { name = name; binding = Opening (opening_ref b.outs) p });
+    stage = Before (record b { outs = b.outs + 1; ledger = l });
+  },
+  ok_text,
+)
+
+-- a named output under the next reference, before the first request, at most 65,536 times
+abbrev pub output_at : Conversation → List ℕ → Payment → Stage → Step
+output_at c name p (Before b) =
+    if nat_lt b.outs (2 ^ 16) then option_map (with_out c b name p) (put_in b.ledger (opening_ref b.outs) (output_of p)) else None
+output_at c name p (Open q) = None
+
+abbrev pub with_names : Conversation → Names → Conversation
+with_names c names = record c { names = names }
 
 -- whether the pool holds a transaction with this id
 abbrev pub is_held : Stage → List ℕ → Bool
-is_held (Before outputs) id = false
-is_held (Open p) id = is_some (ticket_of id p.items)
+is_held (Before b) id = false
+is_held (Open p) id = is_some (ticket_of id p.pool.items)
 
 -- whether the name of what is bound, if anything is, may be forgotten
 abbrev pub may_go : Stage → Option Binding → Bool
@@ -90,23 +118,52 @@ may_go stage (Some (Made d)) = not (is_held stage (id_of d.tx))
 abbrev pub names_to_go : Names → Stage → List (List ℕ) → List (List ℕ)
 names_to_go names stage listed = filter (λ name. may_go stage (binding_named name names)) listed
 
-abbrev pub without : Talk → List (List ℕ) → Talk × List ℕ
-without t goes = (with_names t (without_bindings t.scene.names goes), forgotten_text (length goes))
+abbrev pub without : Conversation → List (List ℕ) → Conversation × List ℕ
+without c goes = (with_names c (without_bindings c.names goes), forgotten_text (length goes))
 
 -- the names are let go, but those of transactions that the pool holds
-abbrev pub forget : Talk → List (List ℕ) → Talk × List ℕ
-forget t names = without t (names_to_go t.scene.names t.scene.stage names)
+abbrev pub forget : Conversation → List (List ℕ) → Conversation × List ℕ
+forget c names = without c (names_to_go c.names c.stage names)
 
-abbrev pub take : Talk → Ask → Step
-take t (Does line) = does t line
-take t (Reads name bytes) = Some (read t name (transaction_of bytes))
-take t (Shows tx) = Some (t, show_text tx)
-take t (Checks tx) = Some (ask t (Check tx))
-take t Counts = Some (ask t Count)
-take t (Extends block) = Some (ask t (Extend (block_at t block)))
-take t (Returns count) = Some (ask t (Return count))
-take t (Forgets names) = Some (forget t names)
+-- from now on the name stands for the transaction, if there is one; what its outputs hash isn't known
+abbrev pub with_read : Names → List ℕ → Result Transaction TxFault → Names
+with_read names name (Ok t) = with_binding names (record { name = name; binding = Made (record { tx = t; payments = [] }) })
+with_read names name (Err fault) = names
+
+abbrev pub read : Conversation → List ℕ → Result Transaction TxFault → Conversation × List ℕ
+read c name found = (with_names c (with_read c.names name found), bytes_text found)
+
+-- ---- lines
+
+-- a scenario's line
+abbrev pub does : Conversation → Line → Step
+does c Blank = Some (c, ok_text)
+does c (Sets setting) = set_at c setting c.stage
+does c (Script named) = Some (with_names c (with_script c.names named), ok_text)
+does c (Data named) = Some (with_names c (with_datum c.names named), ok_text)
+does c (Out name p) = output_at c name p c.stage
+does c (Tx name d) = Some (with_names c (with_binding c.names (record { name = name; binding = Made d })), ok_text)
+does c (Submit t) = Some (ask c (Do (commands.Submit t)))
+does c (Remove ids) = Some (ask c (Do (commands.Remove ids)))
+does c (Sync l) = Some (ask c (Adopt (ledger_at c.settings l)))
+does c (For l) = Some (ask c (Try (ledger_at c.settings l)))
+does c (Asks query) = Some (ask c (Read query))
+
+-- where the line tells no bytes of a block, the setting holds
+abbrev pub block_at : Settings → NewBlock → Block
+block_at g b = record { tick = b.tick; block_bytes = unwrap_or b.block_bytes (block_bytes_of g); txs = b.txs }
+
+abbrev pub take : Conversation → Ask → Step
+take c (Does line) = does c line
+take c (Reads name bytes) = Some (read c name (transaction_of bytes))
+take c (Shows t) = Some (c, show_text t)
+take c (Checks t) = Some (ask c (Check t))
+take c Counts = Some (ask c Count)
+take c (Holds r o) = hold_at c r o c.stage
+take c (Extends block) = Some (ask c (Extend (block_at c.settings block)))
+take c (Returns count) = Some (ask c (Return count))
+take c (Forgets names) = Some (forget c names)
 
 -- what comes of a line, unless it is bad
-unfoldable pub line_step : Talk → List ℕ → Step
-line_step t line = option_and_then (take t) (ask_of t.scene.names line)
+unfoldable pub line_step : Conversation → List ℕ → Step
+line_step c line = option_and_then (take c) (ask_of c.names line)

@@ -5,7 +5,6 @@ ghost use Rattle.std.specs.Io.KnownBytes.{Appends};
 ghost use Rattle.mp_text.specs.Output.{AppendsFront};
 ghost use Rattle.mp_serve.specs.Texts.{no_memory_text};
 ghost use Rattle.mp_serve.specs.Served.{IsAnswer};
-ghost use Rattle.mp_serve.specs.Conversation.{talk_of};
 
 use crate::conversation::Conversation;
 use crate::texts::{NO_MEMORY, Text, bad_line};
@@ -21,9 +20,9 @@ pub fn answer(
     number: u64,
     line: &[u8],
 ) -> Option<Text>
-    ensures { IsAnswer number (talk_of conversation.old) line.now
+    ensures { IsAnswer number conversation.old line.now
         (unwrap_or (option_map (λ text. text.items) result) no_memory_text)
-        (talk_of conversation.new) }
+        conversation.new }
 {
     match conversation.hear(memory, line) {
         Ok(text) => Some(text),

@@ -7,17 +7,18 @@ ghost use Rattle.mp_lines.specs.Lines.{line_of};
 ghost use Rattle.mp_lines.specs.Inside.LedgerHead.{to_head};
 ghost use Rattle.mp_names.specs.Fault.{Gives, IsBad};
 ghost use Rattle.mp_names.specs.Names.{is_among};
-ghost use Rattle.mp_serve.specs.Ask.{Does, Shows, Checks, Forgets, bytes_by, bytes_ask, one_tx, put_txs, block_behind, adopt_ask, back_ask, put_names, forget_ask, ledger_ask, clean_ask, words_ask, long_ask};
+ghost use Rattle.mp_serve.specs.Ask.{Does, Shows, Checks, Forgets, bytes_by, bytes_ask, one_tx, utxo_by, utxo_ask, put_txs, block_behind, adopt_ask, back_ask, put_names, forget_ask, ledger_ask, clean_ask, words_ask, hex_ask, long_ask};
 ghost use Rattle.mp_serve.specs.Inside.Ask.{to_ask};
 
 use crate::block::{NewBlock, Txs};
+use crate::output::{output_in, ref_in};
 use mp_lines::{
     Form, LedgerHead, Line, bytes_of, no_word, one_word, read_head, two_words, unclean,
 };
 use mp_memory::Memory;
 use mp_names::{LineFault, Name, Names, Reason, any_number, refused_name};
 use mp_text::{first_word, is_clean};
-use mp_tx::Tx;
+use mp_tx::{OutRef, Output, Tx};
 use std::sync::Arc;
 
 /// What a line asks.
@@ -33,6 +34,8 @@ pub enum Ask {
     Checks(Arc<Tx, Memory>),
     /// The pool's numbers.
     Counts,
+    /// That the output is among the opening ones.
+    Holds(OutRef, Output),
     /// To adopt the ledger state after the block.
     Extends(NewBlock),
     /// To adopt the ledger state of so many ago.
@@ -59,6 +62,11 @@ const CHECK: Form = Form {
 const STATS: Form = Form {
     word: b"stats",
     text: b"stats",
+};
+
+const UTXO: Form = Form {
+    word: b"utxo",
+    text: b"utxo ID#INDEX HEX",
 };
 
 const ADOPT: Form = Form {
@@ -122,6 +130,29 @@ fn check_ask<'a>(names: &Names, words: &'a [u8]) -> Result<Ask, LineFault<'a>>
     ensures { Gives to_ask (option_map Checks (one_tx names.now (words_of words.now))) result }
 {
     Ok(Ask::Checks(one_tx(names, CHECK.text, words)?))
+}
+
+fn utxo_by<'a>(
+    memory: Memory,
+    word: &'a [u8],
+    digits: &'a [u8],
+) -> Result<Ask, LineFault<'a>>
+    ensures { Gives to_ask (utxo_by (word.now, digits.now)) result }
+{
+    let reference = ref_in(memory, word)?;
+    let bytes = bytes_of(memory, digits)?;
+    match output_in(memory, &bytes)? {
+        Some(output) => Ok(Ask::Holds(reference, output)),
+        None => Err(LineFault::Bad(Reason::NoOutput(digits))),
+    }
+}
+
+// utxo ID#INDEX HEX
+fn utxo_ask<'a>(memory: Memory, words: &'a [u8]) -> Result<Ask, LineFault<'a>>
+    ensures { Gives to_ask (utxo_ask (words_of words.now)) result }
+{
+    let (word, digits) = two_words(UTXO.text, words)?;
+    utxo_by(memory, word, digits)
 }
 
 // Puts in the transactions named.
@@ -236,7 +267,9 @@ fn ledger_ask<'a>(
 ) -> Result<Ask, LineFault<'a>>
     ensures { Gives to_ask (ledger_ask names.now line.now word.now (words_of words.now)) result }
 {
-    if word == ADOPT.word {
+    if word == UTXO.word {
+        utxo_ask(memory, words)
+    } else if word == ADOPT.word {
         adopt_ask(memory, names, words)
     } else if word == BACK.word {
         back_ask(words)
@@ -279,16 +312,35 @@ fn words_ask<'a>(memory: Memory, names: &Names, line: &'a [u8]) -> Result<Ask, L
     }
 }
 
+// A line of bytes, or of an output.
+fn hex_ask<'a>(
+    memory: Memory,
+    names: &Names,
+    line: &'a [u8],
+    word: &'a [u8],
+    words: &'a [u8],
+) -> Result<Ask, LineFault<'a>>
+    ensures { Gives to_ask (hex_ask names.now word.now (words_of words.now)) result }
+{
+    if word == BYTES.word {
+        bytes_ask(memory, names, words)
+    } else if word == UTXO.word {
+        utxo_ask(memory, words)
+    } else {
+        Err(LineFault::Bad(unclean(line)))
+    }
+}
+
 // A line that is longer than others, or has other bytes.
 fn long_ask<'a>(memory: Memory, names: &Names, line: &'a [u8]) -> Result<Ask, LineFault<'a>>
     ensures { Gives to_ask (long_ask names.now (words_of line.now)) result }
 {
     match first_word(line) {
-        Some((word, words)) if word == BYTES.word => match bytes_ask(memory, names, words) {
+        Some((word, words)) => match hex_ask(memory, names, line, word, words) {
             Err(LineFault::Bad(_)) => Err(LineFault::Bad(unclean(line))),
             answer => answer,
         },
-        _ => Err(LineFault::Bad(unclean(line))),
+        None => Err(LineFault::Bad(unclean(line))),
     }
 }
 

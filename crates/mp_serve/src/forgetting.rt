@@ -2,7 +2,6 @@
 
 ghost use Rattle.std.specs.Prelude.{◌≡◌, ◌++◌, [], ◌∷◌, if◌then◌else◌, IfOk, OnOk};
 ghost use Rattle.mp_names.specs.Names.{binding_named};
-ghost use Rattle.mp_serve.specs.Conversation.{stage_of};
 ghost use Rattle.mp_serve.specs.Talk.{is_held, may_go, names_to_go};
 
 use crate::conversation::Stage;
@@ -11,7 +10,7 @@ use mp_names::{Binding, Name, Names};
 use mp_tx::TxId;
 
 fn is_held(stage: &Stage, id: &TxId) -> bool
-    ensures { result ≡ is_held (stage_of stage.now) id.now }
+    ensures { result ≡ is_held stage.now id.now }
 {
     match stage {
         Stage::Before(_) => false,
@@ -20,7 +19,7 @@ fn is_held(stage: &Stage, id: &TxId) -> bool
 }
 
 fn may_go(names: &Names, stage: &Stage, name: &Name) -> bool
-    ensures { result ≡ may_go (stage_of stage.now) (binding_named name.now names.now) }
+    ensures { result ≡ may_go stage.now (binding_named name.now names.now) }
 {
     match names.binding(name.as_bytes()) {
         None => false,
@@ -36,7 +35,7 @@ fn put_if_it_goes(
     name: Name,
 ) -> Result<(), NoMemory>
     ensures { OnOk result (goes.new.items ≡ goes.old.items
-        ++ (if may_go (stage_of stage.now) (binding_named name names.now) then name ∷ [] else [])) }
+        ++ (if may_go stage.now (binding_named name names.now) then name ∷ [] else [])) }
 {
     if may_go(names, stage, &name) {
         goes.push(name)?;
@@ -52,7 +51,7 @@ pub fn names_to_go(
     listed: Vec<Name, Memory>,
 ) -> Result<Vec<Name, Memory>, NoMemory>
     ensures { IfOk result
-        (λ goes. goes.items ≡ names_to_go names.now (stage_of stage.now) listed.items) }
+        (λ goes. goes.items ≡ names_to_go names.now stage.now listed.items) }
 {
     let mut goes = Vec::new(memory);
     for name in listed {

@@ -4,12 +4,14 @@
 mod adopting;
 mod answering;
 mod ask;
+mod beginning;
 mod block;
 mod conversation;
 mod extending;
 mod fault;
 mod forgetting;
 mod obeying;
+mod output;
 mod pool;
 mod reading;
 mod request;

@@ -1,20 +1,18 @@
 //! The pool of a conversation.
 
-ghost use Rattle.std.specs.Prelude.{◌≡◌, IfOk};
-ghost use Rattle.mp_driver.specs.Scene.{opening_ledger};
-
 use crate::adopting::{States, go_back, go_on, state_back};
+use crate::beginning::{Beginning, at_tick};
 use crate::extending::{Extended, extend};
 use crate::obeying::{check, obey};
 use crate::reading::{kept_line, query_line};
 use crate::request::Request;
 use crate::signatures::Signatures;
 use crate::texts::{Text, back_refused_line, stats_line};
-use mp_driver::{Openings, Settings, make_ledger};
+use mp_driver::Settings;
 use mp_memory::{Memory, NoMemory};
 use mp_names::Names;
 use mp_seqpool::{Config, SeqPool};
-use mp_tx::{Ledger, OutRef, Output, TxId};
+use mp_tx::TxId;
 use std::marker::Model;
 
 /// The pool of a conversation, which one thread has, with the ledger states that it had before, at most 2,160. When it has made as
@@ -43,52 +41,23 @@ impl Model for ServedPool {
     ghost invariant = { λ p. IsServed (served_of p) };
 }
 
-// The same outputs, which share the entries of their bundles.
-fn share_outputs(
-    memory: Memory,
-    outputs: &[(OutRef, Output)],
-) -> Result<Vec<(OutRef, Output), Memory>, NoMemory>
-    ensures { IfOk result (λ v. v.items ≡ outputs.now) }
-{
-    let mut shares = Vec::with_capacity(memory, outputs.len())?;
-    for (reference, output) in outputs {
-        shares.push((*reference, output.share()?))?;
-    }
-    Ok(shares)
-}
-
-fn opening_ledger(
-    memory: Memory,
-    settings: &Settings,
-    openings: &Openings,
-) -> Result<Ledger, NoMemory>
-    ensures { IfOk result (λ l. l ≡ opening_ledger settings.now openings.now) }
-{
-    let outputs = share_outputs(memory, openings.as_slice())?;
-    make_ledger(memory, settings.tick(), settings.block_bytes(), outputs)
-}
-
 impl ServedPool {
-    ghost use Rattle.std.specs.Prelude.{◌≡◌, [], IfOk, OnErr, is_some};
-    ghost use Rattle.mp_driver.specs.Scene.{Before, pool_at};
+    ghost use Rattle.std.specs.Prelude.{◌≡◌, IfOk, OnErr, is_some};
     ghost use Rattle.mp_seqpool.specs.SlowPool.{ticket_of};
+    ghost use Rattle.mp_serve.specs.Talk.{opened};
     ghost use Rattle.mp_serve.specs.Request.{respond};
     ghost use Rattle.mp_serve.specs.Inside.Request.{to_request};
 
     /// The empty pool upon the opening outputs, which stay as they are.
     pub fn open(
         memory: Memory,
-        signatures: Signatures,
         settings: &Settings,
-        openings: &Openings,
+        beginning: &Beginning,
     ) -> Result<ServedPool, NoMemory>
-        ensures { IfOk result (λ p. p ≡ record {
-            pool = pool_at settings.now (Before openings.now);
-            signatures = signatures;
-            former = [];
-        }) }
+        ensures { IfOk result (λ p. p ≡ opened settings.now beginning.now) }
     {
-        let ledger = opening_ledger(memory, settings, openings)?;
+        let ledger = &beginning.ledger;
+        let ledger = at_tick(memory, ledger, settings.tick(), settings.block_bytes())?;
         let settings = settings.config();
         let config = Config {
             limit: settings.limit,
@@ -96,7 +65,7 @@ impl ServedPool {
         };
         Ok(ServedPool {
             pool: SeqPool::start(memory, config, &ledger)?,
-            signatures,
+            signatures: beginning.signatures,
             former: Vec::new(memory),
         })
     }

@@ -2,8 +2,8 @@
 
 ghost use Rattle.std.specs.Prelude.{◌≡◌, IfSome};
 ghost use Rattle.mp_serve.specs.Served.{Ended};
-ghost use Rattle.mp_serve.specs.Talk.{empty_talk};
-ghost use Rattle.mp_serve.specs.Conversation.{signatures_of, talk_of};
+ghost use Rattle.mp_serve.specs.Talk.{new_conversation};
+ghost use Rattle.mp_serve.specs.Inside.Stage.{signatures_of};
 ghost use Rattle.std.specs.Io.BufRead.{strip_last};
 
 use crate::answering::{answer, write_answer};
@@ -33,11 +33,10 @@ fn answer_all<R: BufRead, W: Write>(
     reader: &mut R,
     writer: &mut W,
 ) -> Result<(), Fault>
-    requires empty { talk_of conversation.old
-        ≡ empty_talk (signatures_of conversation.old.stage) }
-    ensures { IfSome (R.remaining reader.old) (λ bytes. Ended
-        (signatures_of conversation.old.stage) bytes
-        (W.contents writer.old) (W.contents writer.new) result) }
+    requires { conversation.old ≡ new_conversation (signatures_of conversation.old.stage) }
+    ensures { IfSome (R.remaining reader.old)
+        (λ bytes. Ended (signatures_of conversation.old.stage) bytes
+            (W.contents writer.old) (W.contents writer.new) result) }
 {
     for number in 1..u64::MAX {
         line.clear();

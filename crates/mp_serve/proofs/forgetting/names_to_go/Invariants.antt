@@ -1,10 +1,9 @@
 use Rattle.std.proofs.Common.{◌≡◌, ◌++◌}
 use Rattle.std.specs.Vec.Iter.{into_iter_items}
-use Rattle.mp_serve.specs.Conversation.{stage_of}
 use Rattle.mp_serve.specs.Talk.{names_to_go}
 use Rattle.mp_serve.proofs.forgetting.names_to_go.Given as goal
 
 -- with those of the names that are left they are all
 abbrev pub invariant-loop-name : goal.invariant-loop-name
 invariant-loop-name l =
-    l.goes.items ++ names_to_go l.names (stage_of l.stage) (into_iter_items l.name-iterator) ≡ names_to_go l.names (stage_of l.stage) l.listed.items
+    l.goes.items ++ names_to_go l.names l.stage (into_iter_items l.name-iterator) ≡ names_to_go l.names l.stage l.listed.items

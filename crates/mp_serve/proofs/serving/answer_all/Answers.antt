@@ -2,26 +2,26 @@ use Rattle.std.proofs.Common.{◌≡◌, ℕ, List, length, ◌++◌, ap, subst,
 use Rattle.std.specs.Prelude.{Option, IfSome, option_map, unwrap_or}
 use Rattle.std.specs.Io.BufRead.{take_through, strip_last}
 use Rattle.mp_serve.specs.Texts.{no_memory_text}
-use Rattle.mp_serve.specs.Talk.{Talk}
+use Rattle.mp_serve.specs.declared.conversation.Conversation.{Conversation}
 use Rattle.mp_serve.specs.Served.{IsAnswer}
-use Rattle.mp_serve.specs.Conversation.{signatures_of, talk_of}
+use Rattle.mp_serve.specs.Inside.Stage.{signatures_of}
 use Rattle.mp_serve.proofs.Progress.{fails, stands-more, stands-cut}
 use Rattle.mp_serve.proofs.serving.answer_all.Goals as goal
 
 pub returns-in-Err : goal.returns-in-Err
 returns-in-Err g c =
-    fails (signatures_of c.args.conversation.now.stage) (g.W.Write.contents c.args.writer.now) (g.W.Write.contents c.loop-number.writer) (talk_of c.loop-number.conversation) c.loop-number.number
+    fails (signatures_of c.args.conversation.now.stage) (g.W.Write.contents c.args.writer.now) (g.W.Write.contents c.loop-number.writer) c.loop-number.conversation c.loop-number.number
     (g.R.Read.remaining c.args.reader.now) (g.R.Read.remaining c.loop-number.reader) c.loop-number.invariant
 
 pub returns : goal.returns
 returns g c =
-    fails (signatures_of c.args.conversation.now.stage) (g.W.Write.contents c.args.writer.now) (g.W.Write.contents c.loop-number.writer) (talk_of c.loop-number.conversation) c.loop-number.number
+    fails (signatures_of c.args.conversation.now.stage) (g.W.Write.contents c.args.writer.now) (g.W.Write.contents c.loop-number.writer) c.loop-number.conversation c.loop-number.number
     (g.R.Read.remaining c.args.reader.now) (g.R.Read.remaining c.loop-number.reader) c.loop-number.invariant
 
 pub returns-in-Err-write_answer : goal.returns-in-Err-write_answer
 returns-in-Err-write_answer g c =
-    let s : Talk = talk_of c.loop-number.conversation in
-    let u : Talk = talk_of c.answer-answer.new.conversation in
+    let s : Conversation = c.loop-number.conversation in
+    let u : Conversation = c.answer-answer.new.conversation in
     let left : Option (List ℕ) = g.R.Read.remaining c.loop-number.reader in
     let buffer : List ℕ = c.read_until.new.buf.items in
     let text : List ℕ = unwrap_or (option_map (λ text. text.items) c.answer-answer.result) no_memory_text in
@@ -33,8 +33,8 @@ returns-in-Err-write_answer g c =
 
 pub loop-number-preserved : goal.loop-number-preserved
 loop-number-preserved g c =
-    let s : Talk = talk_of c.loop-number.conversation in
-    let u : Talk = talk_of c.answer-answer.new.conversation in
+    let s : Conversation = c.loop-number.conversation in
+    let u : Conversation = c.answer-answer.new.conversation in
     let left : Option (List ℕ) = g.R.Read.remaining c.loop-number.reader in
     let buffer : List ℕ = c.read_until.new.buf.items in
     let text : List ℕ = unwrap_or (option_map (λ text. text.items) c.answer-answer.result) no_memory_text in

@@ -7,15 +7,15 @@ use Rattle.mp_names.specs.declared.payment.Payment.{Payment}
 use Rattle.mp_names.specs.DeclaredTx.{DeclaredTx}
 use Rattle.mp_names.specs.Names.{Names, with_binding}
 use Rattle.mp_serve.specs.Texts.{bytes_text}
-use Rattle.mp_serve.specs.Talk.{Talk, read, with_names}
-use Rattle.mp_serve.specs.Conversation.{talk_of}
+use Rattle.mp_serve.specs.declared.conversation.Conversation.{Conversation}
+use Rattle.mp_serve.specs.Talk.{read, with_names}
 use Rattle.mp_serve.proofs.conversation.Conversation.read.Goals as goal
 
 pub returns-in-Ok-clause-ok : goal.returns-in-Ok-clause-ok
 returns-in-Ok-clause-ok c =
-    let before : Talk = talk_of c.args.self.now in
+    let before : Conversation = c.args.self.now in
     let t : Transaction = c.in-Ok.tx in
-    let bound : DeclaredTx → Names = λ d. with_binding before.scene.names (record { name = c.args.name; binding = Made d }) in
+    let bound : DeclaredTx → Names = λ d. with_binding before.names (record { name = c.args.name; binding = Made d }) in
     let declared : c.of-declared.result ≡ record { tx = t; payments = [] } =
     c.of-declared.ensures ∙ ap (λ (x : Transaction). record { tx = x; payments = c.new-in-Ok.result.items }) c.in_ok-new-in-Ok.ensures.ok
     ∙ ap (λ (p : List Payment). record { tx = t; payments = p }) c.new-in-Ok.ensures.items in
