@@ -177,7 +177,7 @@ fn block_behind<'a>(
     names: &Names,
     head: LedgerHead<'a>,
 ) -> Result<Ask, LineFault<'a>>
-    ensures { Gives to_ask (block_behind names.now (to_head head)) result }
+    ensures { Gives to_ask (block_behind names.now (to_head head.entry)) result }
 {
     let LedgerHead {
         tick,

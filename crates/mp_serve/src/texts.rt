@@ -2,7 +2,7 @@
 
 ghost use Rattle.std.specs.Prelude.{◌≡◌, ◌++◌, ◌∷◌, [], ℕ, List, Ok, Err, IfOk, OnOk};
 ghost use Rattle.hex.specs.Hex.{encode_lower};
-ghost use Rattle.std.specs.Prelude.{slice_get, map};
+ghost use Rattle.std.specs.Prelude.{map, option_copied, option_map};
 ghost use Rattle.std.specs.Arc.{arc_value};
 ghost use Rattle.mp_serve.specs.Texts.{ok_text, bad_text, fault_name, tx_words, bytes_text, show_text, stats_text, name_if_any, block_refused_text, back_refused_text, forgotten_text};
 
