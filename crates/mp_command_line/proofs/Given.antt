@@ -189,20 +189,35 @@ module _ (id : Text) (parser : ValueParser) (written : reading_of parser ≡ AsW
       let is : row_text r ≡ Some h.0 = rw (h.3, h.1) refl in
       subst (λ o. IsSomeAnd o (Accepts false parser)) (sym is) (accepts-Accepts false parser h.0 h.2)
 
-  -- its text, where it has one, passes the parser
-  pub if_given : (s : Shape) → Each IsApart s.rules → (words : List Text)
+  first_passes : (r : Row) → IsRead r.reading r.values → IsSomeAnd (slice_get r.values 0) (Accepts false parser)
+  first_passes r h = subst (λ o. IsSomeAnd o (Accepts false parser)) (sym h.1) (accepts-Accepts false parser h.0 h.2)
+
+  if_read : (text : Row → Option Text) → ((r : Row) → IsRead r.reading r.values → IsSomeAnd (text r) (Accepts false parser))
+      → (s : Shape) → Each IsApart s.rules → (words : List Text)
       → level_fault s [] nothing_held words false [] ≡ []
-      → IfSome (one_of id (rows_after s.rules [] words)) (Accepts false parser)
-  if_given s apart words none = go (find (λ r. bytes_eq r.id id) rows) refl
+      → IfSome (option_and_then text (find (λ r. bytes_eq r.id id) (rows_after s.rules [] words))) (Accepts false parser)
+  if_read text passes s apart words none = go (find (λ r. bytes_eq r.id id) rows) refl
     where
       rows : List Row
       rows = rows_after s.rules [] words
 
       go : (o : Option Row) → find (λ r. bytes_eq r.id id) rows ≡ o
-          → IfSome (option_and_then row_text o) (Accepts false parser)
+          → IfSome (option_and_then text o) (Accepts false parser)
       go None is = tt
       go (Some r) is =
-          if_so (Accepts false parser) (row_text r) (text_passes r (row_read rows r (level_good s apart words none).0 is))
+          if_so (Accepts false parser) (text r) (passes r (row_read rows r (level_good s apart words none).0 is))
+
+  -- its text, where it has one, passes the parser
+  pub if_given : (s : Shape) → Each IsApart s.rules → (words : List Text)
+      → level_fault s [] nothing_held words false [] ≡ []
+      → IfSome (one_of id (rows_after s.rules [] words)) (Accepts false parser)
+  if_given = if_read row_text text_passes
+
+  -- and so does its first value
+  pub if_first : (s : Shape) → Each IsApart s.rules → (words : List Text)
+      → level_fault s [] nothing_held words false [] ≡ []
+      → IfSome (first_of id (rows_after s.rules [] words)) (Accepts false parser)
+  if_first = if_read (λ r. slice_get r.values 0) first_passes
 
   -- and it has one where it was given
   pub where_given : (s : Shape) → Each IsApart s.rules → (words : List Text)

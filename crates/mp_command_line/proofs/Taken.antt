@@ -1,23 +1,22 @@
 -- Words that the program takes name a run, a race with its numbers in their ranges, an audit of two files, or a conversation.
-use Rattle.std.proofs.Common.{◌≡◌, ◌||◌, Bool, cond, not, true, false, true≢false, refl, sym, inl, inr, List, [], ◌∷◌}
-use Rattle.std.proofs.Common.{Option, Some, None, is_some, codes}
+use Rattle.std.proofs.Common.{◌≡◌, ◌⊎◌, ◌||◌, Bool, cond, not, true, false, true≢false, refl, sym, inl, inr, List, [], ◌∷◌}
+use Rattle.std.proofs.Common.{Option, Some, None, IfSome, is_some, codes}
 use Rattle.std.specs.Option.{option_map, option_map_or}
 use Rattle.std.specs.Str.{bytes_eq}
-use Rattle.clap.specs.Walk.{Row, Text, finished, has_row, nothing_held, rows_after, settled, walk, walk_from}
-use Rattle.clap.specs.Simple.{App, Shape, argument_words, built, built_leaf, entered, inherited, marked_built, names_of, rows_at}
-use Rattle.clap.specs.Simple.{subcommand_of, with_leaf_noted}
+use Rattle.std.proofs.lemmas.Slice.Eq.{bytes_eq-Decides}
+use Rattle.clap.specs.Values.{Accepts}
+use Rattle.clap.specs.Walk.{Row, Text, finished, first_of, one_of, nothing_held, rows_after, settled, walk, walk_from}
+use Rattle.clap.specs.Simple.{Shape, argument_words, built, entered, names_of, rows_at, subcommand_of}
 use Rattle.clap.specs.Takes.{is_given}
 use Rattle.clap.specs.Faults.{check_fault, defaults_fault, entered_fault, fault_of, level_fault, settle_fault, walk_fault}
+use Rattle.clap.specs.declared.builder.value_parser.ValueParser.{ValueParser}
 use Rattle.clap.specs.declared.builder.value_parser.ValueParser.TheVariants as vp
 use Rattle.clap.specs.declared.error.kind.ErrorKind.TheVariants.{MissingRequiredArgument}
-use Rattle.mp_command_line.specs.CommandLine.{audit_command, program, race_command, run_command, serve_command}
-use Rattle.mp_command_line.specs.Inside.Taken.{IsAudit, IsRace, IsTaken}
-use Rattle.mp_command_line.proofs.Given.{if_given, where_given}
-use Rattle.mp_command_line.proofs.Kept.{both_none, level_keeps, not_none}
-
--- a command of the program's, as it is built
-abbrev leaf : App → Shape
-leaf command = built_leaf (inherited (with_leaf_noted (marked_built program.top)) command.top)
+use Rattle.mp_command_line.specs.CommandLine.{IsSignatures, audit_command, lent, program, race_command, run_command, serve_command}
+use Rattle.mp_command_line.specs.Inside.Taken.{IsAudit, IsRace, IsServe, IsTaken}
+use Rattle.mp_command_line.proofs.Given.{if_first, if_given, where_given}
+use Rattle.mp_command_line.proofs.Kept.{both_none, not_none}
+use Rattle.mp_command_line.proofs.Places.{leaf, which}
 
 -- ---- the arguments of a race
 
@@ -67,17 +66,38 @@ audit_taken words none = record {
 -- ---- a conversation
 
 abbrev serve : Shape
-serve = leaf serve_command
+serve = leaf (serve_command which)
 
--- the flag of the help gives nothing, and there is no other argument
-serve_taken : (words : List Text) → level_fault serve [] nothing_held words false [] ≡ [] → rows_after serve.rules [] words ≡ []
-serve_taken words none =
-    (level_keeps serve (λ rows. rows ≡ []) ((λ values rows n h. h), tt)
-    ((λ rows n h. no_default (has_row (codes "help") rows) rows h), tt) refl words none).0
+either : {A B : Type 0} (x y : Bool) → (x ≡ true → A) → (y ≡ true → B) → (x || (y || false)) ≡ true → A ⊎ B
+either true y a b is = inl (a refl)
+either false true a b is = inr (b refl)
+either false false a b is = absurd (true≢false (sym is))
+
+known : (o : Option Text) → IfSome o (Accepts false (vp.Names which)) → IfSome o IsSignatures
+known None h = tt
+known (Some name) h = either (bytes_eq (codes "scenarios") name) (bytes_eq (codes "checked") name)
+    (λ e. sym ((bytes_eq-Decides (codes "scenarios") name).0 e)) (λ e. sym ((bytes_eq-Decides (codes "checked") name).0 e)) h
+
+-- no value passes this parser, so an id of no argument, whose values pass any parser, has none
+abbrev never : ValueParser
+never = vp.Names (lent [])
+
+not_given : (o : Option Text) → IfSome o (Accepts false never) → o ≡ None
+not_given None h = refl
+not_given (Some t) h = absurd (true≢false (sym h))
+
+serve_taken : (words : List Text) → level_fault serve [] nothing_held words false [] ≡ [] → IsServe (rows_after serve.rules [] words)
+serve_taken words none = record {
+  signatures = known (first_of (codes "signatures") rows)
+      (if_first (codes "signatures") (vp.Names which) refl serve (inr refl, (inl refl, tt)) words none);
+  file = not_given (first_of (codes "FILE") rows)
+      (if_first (codes "FILE") never refl serve (inl refl, (inl refl, tt)) words none);
+  explain = not_given (one_of (codes "explain") rows)
+      (if_given (codes "explain") never refl serve (inl refl, (inl refl, tt)) words none);
+}
   where
-    no_default : (b : Bool) (rows : List Row) → rows ≡ [] → cond b rows rows ≡ []
-    no_default true rows h = h
-    no_default false rows h = h
+    rows : List Row
+    rows = rows_after serve.rules [] words
 
 -- ---- the program
 

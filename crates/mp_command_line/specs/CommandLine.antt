@@ -1,13 +1,13 @@
 -- The command lines that the program takes: `keltuvar run [--explain] [FILE]`,
 -- `keltuvar race --workers N [--history FILE] [--svg FILE] [--verify-us MICROSECONDS] [--explain] [FILE]`,
--- `keltuvar audit [--explain] SCENARIO HISTORY`, `keltuvar serve`, `--help` and `--version`.
-use Rattle.std.specs.Prelude.{◌≡◌, ◌≤◌, ⊤, ℕ, Bool, true, false, List, Option, None, Some, codes, option_and_then, option_map}
-use Rattle.std.specs.Prelude.{unwrap_or}
+-- `keltuvar audit [--explain] SCENARIO HISTORY`, `keltuvar serve [--signatures WHICH]`, `--help` and `--version`.
+use Rattle.std.specs.Prelude.{◌≡◌, ◌≤◌, ◌⊎◌, ⊤, ℕ, Bool, true, false, List, [], ◌∷◌, map, Option, None, Some, IfSome, codes}
+use Rattle.std.specs.Prelude.{option_and_then, option_map, unwrap_or}
 use Rattle.std.specs.Borrow.{Bor}
 use Rattle.std.specs.Str.Parse.{digits_value, without_leading_plus}
 use Rattle.clap.specs.Simple.{on_top}
 use Rattle.clap.specs.declared.builder.action.ArgAction.TheVariants.{SetTrue}
-use Rattle.clap.specs.declared.builder.value_parser.ValueParser.TheVariants.{Unsigned}
+use Rattle.clap.specs.declared.builder.value_parser.ValueParser.TheVariants.{Names, Unsigned}
 use Rattle.clap.specs.Words.{App, Row, Rule, Text, first_of, one_of, new_app, new_rule, subcommand_of, with_rule}
 use Rattle.clap.specs.Words.{with_subcommand}
 use Rattle.mp_command_line.specs.declared.asked.Asked.{Asked}
@@ -34,6 +34,14 @@ verify_us_rule = record (new_rule (codes "verify-us")) {
   long = Some (codes "verify-us");
   value_names = 1;
   parser = Some (Unsigned 0 1000000);
+}
+
+-- one of these names
+abbrev pub signatures_rule : Bor (List (Bor Text)) → Rule
+signatures_rule names = record (new_rule (codes "signatures")) {
+  long = Some (codes "signatures");
+  value_names = 1;
+  parser = Some (Names names);
 }
 
 -- an option with a file
@@ -63,19 +71,36 @@ abbrev pub audit_command : App
 audit_command = with_rule (with_rule (with_rule (new_app (codes "audit"))
     explain_rule) (input_rule (codes "FILE"))) (input_rule (codes "history"))
 
--- `serve`, with no argument
-abbrev pub serve_command : App
-serve_command = new_app (codes "serve")
+-- `serve`, with one of these names or none
+abbrev pub serve_command : Bor (List (Bor Text)) → App
+serve_command names = with_rule (new_app (codes "serve")) (signatures_rule names)
 
--- a command has to be named, and there is none but `run`, `race`, `audit` and `serve`
-abbrev pub program : App
-program = with_subcommand (with_subcommand (with_subcommand (with_subcommand
-    (on_top (λ s. record s { has_version = true; disable_help_subcommand = true; subcommand_required = true })
-    (new_app (codes "keltuvar")))
+-- the program but for its commands, of which one has to be named
+abbrev pub bare_program : App
+bare_program = on_top (λ s. record s { has_version = true; disable_help_subcommand = true; subcommand_required = true })
+    (new_app (codes "keltuvar"))
+
+-- there is none but `run`, `race`, `audit` and `serve`
+abbrev pub program_with : Bor (List (Bor Text)) → App
+program_with names = with_subcommand (with_subcommand (with_subcommand (with_subcommand bare_program
     run_command.top)
     race_command.top)
     audit_command.top)
-    serve_command.top
+    (serve_command names).top
+
+-- the signatures that are accepted: those of scenarios, or every one, as checked by the host
+abbrev pub signature_names : List Text
+signature_names = codes "scenarios" ∷ codes "checked" ∷ []
+
+abbrev pub IsSignatures : Text → Type 0
+IsSignatures name = (name ≡ codes "scenarios") ⊎ (name ≡ codes "checked")
+
+-- a value behind a reference; where it lies in memory counts nothing
+abbrev pub lent : {X : Type 0} → X → Bor X
+lent x = record { ref_ptr = (0, 0); now = x }
+
+abbrev pub program : App
+program = program_with (lent (map lent signature_names))
 
 -- the command that these words name, the program's name first, with what they give to it
 abbrev pub met_in : List Text → Option (Text × List Row)
@@ -121,11 +146,22 @@ workers_of command = option_map number_of (text_of (codes "workers") command)
 abbrev pub verify_us_of : Option (Text × List Row) → Option ℕ
 verify_us_of command = option_map number_of (text_of (codes "verify-us") command)
 
+-- the name of the signatures that are accepted
+abbrev pub signatures_of : Option (Text × List Row) → Option Text
+signatures_of = value_of (codes "signatures")
+
 -- what the text of a flag says
 pub record IsFlag (text : Option Text) (set : Bool) : Type 0 where
   pub none : text ≡ None → set ≡ false
   pub true_text : text ≡ Some (codes "true") → set ≡ true
   pub false_text : text ≡ Some (codes "false") → set ≡ false
+
+-- what that name says, which is one of the two
+pub record IsChoice (name : Option Text) (all : Bool) : Type 0 where
+  pub none : name ≡ None → all ≡ false
+  pub scenarios : name ≡ Some (codes "scenarios") → all ≡ false
+  pub checked : name ≡ Some (codes "checked") → all ≡ true
+  pub known : IfSome name IsSignatures
 
 -- ---- what is asked for
 
@@ -133,7 +169,7 @@ abbrev pub name_of : Asked → Text
 name_of (Run input) = codes "run"
 name_of (Race input workers wishes) = codes "race"
 name_of (Audit scenario history explains) = codes "audit"
-name_of Serve = codes "serve"
+name_of (Serve accepts_all) = codes "serve"
 
 abbrev pub file_text : Option (Bor Text) → Option Text
 file_text = option_map (λ s. s.now)
@@ -143,13 +179,13 @@ abbrev pub scenario_of : Asked → Option Text
 scenario_of (Run input) = file_text input.file
 scenario_of (Race input workers wishes) = file_text input.file
 scenario_of (Audit scenario history explains) = Some scenario.now
-scenario_of Serve = None
+scenario_of (Serve accepts_all) = None
 
 abbrev pub explains_of : Asked → Bool
 explains_of (Run input) = input.explains
 explains_of (Race input workers wishes) = input.explains
 explains_of (Audit scenario history explains) = explains
-explains_of Serve = false
+explains_of (Serve accepts_all) = false
 
 -- a race is of as many workers as are given, from 1 to 64
 abbrev pub HasWorkers : Option ℕ → Asked → Type 0
@@ -161,7 +197,7 @@ abbrev pub HasHistory : Option Text → Asked → Type 0
 HasHistory given (Run input) = ⊤
 HasHistory given (Race input workers wishes) = file_text wishes.history ≡ given
 HasHistory given (Audit scenario history explains) = Some history.now ≡ given
-HasHistory given Serve = ⊤
+HasHistory given (Serve accepts_all) = ⊤
 
 -- the file for a race's picture is the one that is given, or none
 abbrev pub HasPicture : Option Text → Asked → Type 0
@@ -172,3 +208,8 @@ HasPicture given asked = ⊤
 abbrev pub HasDelay : Option ℕ → Asked → Type 0
 HasDelay given (Race input workers wishes) = (wishes.verify_us ≡ unwrap_or given 0) × (wishes.verify_us ≤ 1000000)
 HasDelay given asked = ⊤
+
+-- a conversation accepts the signatures that are named, or else those of scenarios
+abbrev pub HasSignatures : Option Text → Asked → Type 0
+HasSignatures given (Serve accepts_all) = IsChoice given accepts_all
+HasSignatures given asked = ⊤

@@ -1,7 +1,7 @@
 //! What the words of a command line ask for.
 
-ghost use Rattle.std.specs.Prelude.{◌≡◌, IfErr, IfOk, IsSomeAnd, Some, codes, is_some};
-ghost use Rattle.std.specs.Prelude.{map, option_map, true, unwrap_or};
+ghost use Rattle.std.specs.Prelude.{◌≡◌, IfErr, IfOk, IfSome, IsSomeAnd, Some, codes};
+ghost use Rattle.std.specs.Prelude.{is_some, map, option_map, true, unwrap_or};
 ghost use Rattle.clap.specs.Values.{IsUnsignedIn};
 ghost use Rattle.clap.specs.Faults.{fault_of};
 ghost use Rattle.clap.specs.Kinds.{FailsBy};
@@ -37,7 +37,10 @@ pub enum Asked<'a> {
         explains: bool,
     },
     /// A conversation over standard input and output.
-    Serve,
+    Serve {
+        /// Whether every signature is accepted, since the host has verified them.
+        accepts_all: bool,
+    },
 }
 
 /// The scenario, and how its faults are told.
@@ -81,6 +84,8 @@ pub fn parse_words<'a, S: AsStr>(alloc: Global, words: &'a [S]) -> Result<Asked<
         (spec.HasPicture (spec.picture_of (spec.met_in (map S.text words.now)))) }
     ensures verify_us { IfOk result
         (spec.HasDelay (spec.verify_us_of (spec.met_in (map S.text words.now)))) }
+    ensures signatures { IfOk result
+        (spec.HasSignatures (spec.signatures_of (spec.met_in (map S.text words.now)))) }
     ensures passes { IfErr result (λ e. takes spec.program (map S.text words.now) ≡ true
         → kind_of e ≡ ErrorKind.OutOfMemory) }
 {
@@ -101,6 +106,8 @@ fn read_matches<'a>(matches: &ArgMatches<'a>) -> Asked<'a>
     ensures history { spec.HasHistory (spec.history_of (subcommand_rows_of matches.now)) result }
     ensures picture { spec.HasPicture (spec.picture_of (subcommand_rows_of matches.now)) result }
     ensures verify_us { spec.HasDelay (spec.verify_us_of (subcommand_rows_of matches.now)) result }
+    ensures signatures { spec.HasSignatures (spec.signatures_of (subcommand_rows_of matches.now))
+        result }
 {
     match matches.subcommand() {
         Some((name, given)) => {
@@ -117,7 +124,9 @@ fn read_matches<'a>(matches: &ArgMatches<'a>) -> Asked<'a>
                     explains: explains_of(given),
                 }
             } else if name == "serve" {
-                Asked::Serve
+                Asked::Serve {
+                    accepts_all: accepts_all(given),
+                }
             } else {
                 Asked::Run {
                     input: input_of(given),
@@ -188,6 +197,17 @@ fn explains_of(given: &ArgMatches<'_>) -> bool
     ensures { spec.IsFlag (one_of (codes "explain") (rows_of (found_of given.now))) result }
 {
     given.get_flag("explain")
+}
+
+fn accepts_all(given: &ArgMatches<'_>) -> bool
+    requires taken { IfSome (first_of (codes "signatures") (rows_of (found_of given.now)))
+        spec.IsSignatures }
+    ensures { spec.IsChoice (first_of (codes "signatures") (rows_of (found_of given.now))) result }
+{
+    match given.get_str("signatures") {
+        Some(name) => name == "checked",
+        None => false,
+    }
 }
 
 fn number_of(given: &ArgMatches<'_>, id: &str) -> Option<u32>

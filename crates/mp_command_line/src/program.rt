@@ -4,11 +4,15 @@ ghost use Rattle.std.specs.Prelude.{◌≡◌, IfOk, codes, false};
 ghost use Rattle.clap.specs.declared.builder.command.Command.TheViews.{out-Command as fields_of};
 ghost use Rattle.clap.specs.Words.{app_of, rule_of};
 ghost use Rattle.mp_command_line.specs.CommandLine as spec;
+ghost use Rattle.mp_command_line.specs.Inside.Alike.{IsAlike};
 
+use clap::builder::ValueParser;
 use clap::{Arg, ArgAction, Command, value_parser};
 use std::alloc::{AllocError, Global};
 
 const VERSION: &str = "0.1.0";
+
+const SIGNATURES: &[&str] = &["scenarios", "checked"];
 
 const EXAMPLES: &str = "\
 Examples:
@@ -24,26 +28,33 @@ Examples:
   keltuvar audit scenario.scn race.log
                                     whether that history is legal over the scenario
   keltuvar serve                    a conversation: each line of standard input is answered at once
+  keltuvar serve --signatures checked
+                                    the same, with every signature accepted, as checked by the host
 
 The status is 0, or 1 at a fault, as a scenario's bad line or a history that isn't legal, or 2
 where the command line is refused.";
 
 /// The program, with the four commands that it has.
 pub(crate) fn program<'a>(alloc: Global) -> Result<Command<'a>, AllocError>
-    ensures { IfOk result (λ c. app_of c ≡ spec.program) }
+    ensures { IfOk result (λ c. IsAlike (app_of c) spec.program) }
 {
-    let command = Command::new(alloc, "keltuvar")
+    bare_program(alloc)?
+        .subcommand(run_command(alloc)?)?
+        .subcommand(race_command(alloc)?)?
+        .subcommand(audit_command(alloc)?)?
+        .subcommand(serve_command(alloc, SIGNATURES)?)
+}
+
+fn bare_program<'a>(alloc: Global) -> Result<Command<'a>, AllocError>
+    ensures { IfOk result (λ c. app_of c ≡ spec.bare_program) }
+{
+    Command::new(alloc, "keltuvar")
         .version(VERSION)
         .about("A transaction pool whose every answer is proved correct")
         .after_help(EXAMPLES)
         .disable_help_subcommand(true)
-        .subcommand_required(true);
-    command
-        .bin_name("keltuvar")?
-        .subcommand(run_command(alloc)?)?
-        .subcommand(race_command(alloc)?)?
-        .subcommand(audit_command(alloc)?)?
-        .subcommand(serve_command(alloc))
+        .subcommand_required(true)
+        .bin_name("keltuvar")
 }
 
 fn run_command<'a>(alloc: Global) -> Result<Command<'a>, AllocError>
@@ -95,13 +106,15 @@ fn audit_command<'a>(alloc: Global) -> Result<Command<'a>, AllocError>
         ))
 }
 
-fn serve_command<'a>(alloc: Global) -> Command<'a>
-    ensures shape { app_of result ≡ spec.serve_command }
-    ensures local { (fields_of result).has_globals ≡ false }
+fn serve_command<'a>(alloc: Global, names: &'a [&'a str]) -> Result<Command<'a>, AllocError>
+    ensures shape { IfOk result (λ c. app_of c ≡ spec.serve_command names.entry) }
+    ensures local { IfOk result (λ c. (fields_of c).has_globals ≡ false) }
 {
-    Command::new(alloc, "serve").about(
-        "Holds a conversation with a pool: answers each line of standard input on standard output",
-    )
+    let about =
+        "Holds a conversation with a pool: answers each line of standard input on standard output";
+    Command::new(alloc, "serve")
+        .about(about)
+        .arg(signatures_option(alloc, names))
 }
 
 fn workers_option<'a>(alloc: Global) -> Arg<'a>
@@ -125,6 +138,17 @@ fn verify_us_option<'a>(alloc: Global) -> Arg<'a>
         .value_name("MICROSECONDS")
         .value_parser(value_parser!(u64).range(0..=1_000_000))
         .help("For measuring: how long each look at a signature takes, from 0 to 1000000")
+}
+
+fn signatures_option<'a>(alloc: Global, names: &'a [&'a str]) -> Arg<'a>
+    ensures rule { rule_of result ≡ spec.signatures_rule names.entry }
+    ensures local { result.global ≡ false }
+{
+    Arg::new(alloc, "signatures")
+        .long("signatures")
+        .value_name("WHICH")
+        .value_parser(ValueParser::Names(names))
+        .help("Which signatures to accept: those of scenarios, or all, as checked by the host")
 }
 
 fn output_option<'a>(alloc: Global, name: &'a str, help: &'a str) -> Arg<'a>

@@ -1,7 +1,7 @@
 //! The program: `keltuvar run [--explain] [FILE]` reads a scenario and writes its answers to standard output, and
 //! `keltuvar race --workers N [--explain] [FILE]` has so many threads race over it and writes the report, and on wish the history and a
-//! picture of it; `keltuvar audit SCENARIO HISTORY` says whether such a history is legal; `keltuvar serve` holds a conversation.
-//! It ends with status 0, with 1 at a fault, and with 2 where the command line is refused.
+//! picture of it; `keltuvar audit SCENARIO HISTORY` says whether such a history is legal; `keltuvar serve [--signatures WHICH]` holds a
+//! conversation. It ends with status 0, with 1 at a fault, and with 2 where the command line is refused.
 #![tactic(auto)]
 
 ghost use Rattle.std.specs.Prelude.{◌≡◌, ◌≤◌, length};
@@ -48,7 +48,7 @@ fn main(rt: HostRuntime) -> ExitCode {
                     explains,
                 },
             ) => audit_files(&rt, scenario, history, explains),
-            Ok(Asked::Serve) => converse(&rt),
+            Ok(Asked::Serve { accepts_all }) => converse(&rt, accepts_all),
             Err(error) => end_unparsed(&rt, error),
         },
         Err(error) => end_unworded(&rt, error),

@@ -1,7 +1,8 @@
 -- What was given to a command of which the program took the words.
-use Rattle.std.specs.Prelude.{◌≡◌, ◌⊎◌, IfSome, IsSomeAnd, List, [], Option, None, Some, codes, is_some, true}
+use Rattle.std.specs.Prelude.{◌≡◌, ◌⊎◌, IfSome, IsSomeAnd, List, Option, None, Some, codes, is_some, true}
 use Rattle.clap.specs.Values.{IsUnsignedIn}
 use Rattle.clap.specs.Words.{Row, Text, first_of, one_of}
+use Rattle.mp_command_line.specs.CommandLine.{IsSignatures}
 
 -- the text of an option, where it is given, is a number that a `u32` holds
 abbrev pub IsSmall : Option Text → Type 0
@@ -17,10 +18,16 @@ pub record IsAudit (rows : List Row) : Type 0 where
   pub scenario : is_some (first_of (codes "FILE") rows) ≡ true
   pub history : is_some (first_of (codes "history") rows) ≡ true
 
--- a run, a race, an audit or a conversation, to which nothing is given
+-- the name of the signatures or none, no file and no flag
+pub record IsServe (rows : List Row) : Type 0 where
+  pub signatures : IfSome (first_of (codes "signatures") rows) IsSignatures
+  pub file : first_of (codes "FILE") rows ≡ None
+  pub explain : one_of (codes "explain") rows ≡ None
+
+-- a run, a race, an audit or a conversation
 abbrev pub IsTaken : Option (Text × List Row) → Type 0
 IsTaken None = ⊥
 IsTaken (Some command) = (command.0 ≡ codes "run")
     ⊎ ((command.0 ≡ codes "race") × IsRace command.1)
     ⊎ ((command.0 ≡ codes "audit") × IsAudit command.1)
-    ⊎ ((command.0 ≡ codes "serve") × (command.1 ≡ []))
+    ⊎ ((command.0 ≡ codes "serve") × IsServe command.1)
