@@ -85,8 +85,8 @@ module _ (accepts : Accepts) where
   -- whether it obeyed or had no memory for it
   pub served_either : {X E : Type 0} (r : Result X E) (old new : Pool) (c : Command)
       → OnOk r (new ≡ counted_anew (next accepts old c)) → OnErr r (new ≡ old) → IsReady accepts old → IsReady accepts new
-  served_either (Ok x) old new c done same s = subst IsReady accepts (sym done) (served-next old c s)
-  served_either (Err e) old new c done same s = subst IsReady accepts (sym same) s
+  served_either (Ok x) old new c done same s = subst (IsReady accepts) (sym done) (served-next old c s)
+  served_either (Err e) old new c done same s = subst (IsReady accepts) (sym same) s
 
   -- a command that is refused changes nothing
   pub refused_same : (p : Pool) (c : Command) (f : Refusal) → p.changes < p.limit → answer accepts p c ≡ Err f → p ≡ counted_anew (next accepts p c)

@@ -69,11 +69,7 @@ pub fn go_on(
 }
 
 /// The ledger state of so many ago, where it is kept.
-pub fn state_back(
-    former: &[Ledger],
-    now: &Ledger,
-    count: usize,
-) -> Result<Option<Ledger>, NoMemory>
+pub fn state_back(former: &[Ledger], now: &Ledger, count: usize) -> Result<Option<Ledger>, NoMemory>
     ensures { IfOk result (λ l. l ≡ state_back former.now now.now count) }
 {
     if count > former.len() {

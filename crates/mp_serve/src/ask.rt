@@ -132,11 +132,7 @@ fn check_ask<'a>(names: &Names, words: &'a [u8]) -> Result<Ask, LineFault<'a>>
     Ok(Ask::Checks(one_tx(names, CHECK.text, words)?))
 }
 
-fn utxo_by<'a>(
-    memory: Memory,
-    word: &'a [u8],
-    digits: &'a [u8],
-) -> Result<Ask, LineFault<'a>>
+fn utxo_by<'a>(memory: Memory, word: &'a [u8], digits: &'a [u8]) -> Result<Ask, LineFault<'a>>
     ensures { Gives to_ask (utxo_by (word.now, digits.now)) result }
 {
     let reference = ref_in(memory, word)?;

@@ -93,12 +93,12 @@ pub fn put_out<'a>(
 ) -> Result<(), LineFault<'a>>
     ensures ok { OnOk result (
         (put_in beginning.old.ledger (opening_ref beginning.old.outs) (output_of payment)
-            ≡ Some beginning.new.ledger)
+        ≡ Some beginning.new.ledger)
         × (beginning.new.outs ≡ beginning.old.outs + 1)
         × (beginning.new.signatures ≡ beginning.old.signatures)) }
     ensures names { OnOk result (names.new ≡ with_binding names.old (record {
-        name = name;
-        binding = Opening (opening_ref beginning.old.outs) payment;
+      name = name;
+      binding = Opening (opening_ref beginning.old.outs) payment;
     })) }
     ensures few { OnOk result (nat_lt beginning.old.outs (2 ^ 16) ≡ true) }
     ensures bad { IsBad result → nat_lt beginning.old.outs (2 ^ 16) ≡ true

@@ -53,9 +53,9 @@ impl Block {
     /// The block that a line tells. The setting holds where it tells no bytes of a block.
     pub fn at(settings: &Settings, block: NewBlock) -> Block
         ensures { result ≡ record {
-            tick = block.tick;
-            block_bytes = unwrap_or block.block_bytes (block_bytes_of settings.now);
-            txs = (to_block block).txs;
+          tick = block.tick;
+          block_bytes = unwrap_or block.block_bytes (block_bytes_of settings.now);
+          txs = (to_block block).txs;
         } }
     {
         let NewBlock {

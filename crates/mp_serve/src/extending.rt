@@ -32,7 +32,7 @@ pub fn extend(
 ) -> Result<Extended, NoMemory>
     ensures { IfOk result (IsExtended names.now block.now.txs
         (apply_block (accepted_by signatures) ledger.now block.now.tick block.now.block_bytes
-            block.now.txs)) }
+        block.now.txs)) }
 {
     match apply_block(
         memory,

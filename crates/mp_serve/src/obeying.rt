@@ -51,7 +51,36 @@ fn count_anew(pool: &mut SeqPool)
     }
 }
 
-/// Does what is asked. The line is there before it is done, so that there is nothing to undo.
+// Does what is asked. The line is there before it is done, so that there is nothing to undo.
+fn carry_out(
+    memory: Memory,
+    names: &Names,
+    signatures: Signatures,
+    pool: &mut SeqPool,
+    command: &Command,
+) -> Result<Text, NoMemory>
+    requires { IsReady (accepted_by signatures) pool.old.pool }
+    ensures pool { OnOk result (pool.new.pool
+        ≡ counted_anew (next (accepted_by signatures) pool.old.pool (command_of command.now))) }
+    ensures text { IfOk result (λ text. text.items ≡ answer_text names.now
+        (answer (accepted_by signatures) pool.old.pool (command_of command.now))) }
+    ensures err { OnErr result (pool.new.pool ≡ pool.old.pool) }
+{
+    match prepare(signatures, pool, command) {
+        Ok(prepared) => {
+            let text = reply_line(memory, prepared.reply())?;
+            let _ = pool.finish(prepared);
+            count_anew(pool);
+            Ok(text)
+        }
+        Err(refusal) => match refusal {
+            Refusal::NoMemory => Err(NoMemory),
+            other => answer_line(memory, names, &Err(other)),
+        },
+    }
+}
+
+/// Does what is asked, and gives the line of its answer. After an `Err` nothing has changed.
 pub fn obey(
     memory: Memory,
     names: &Names,
@@ -67,18 +96,7 @@ pub fn obey(
     ensures err { OnErr result (pool.new.pool ≡ pool.old.pool) }
     ensures ready { IsReady (accepted_by signatures) pool.new.pool }
 {
-    match prepare(signatures, pool, command) {
-        Ok(prepared) => {
-            let text = reply_line(memory, prepared.reply())?;
-            let _ = pool.finish(prepared);
-            count_anew(pool);
-            Ok(text)
-        }
-        Err(refusal) => match refusal {
-            Refusal::NoMemory => Err(NoMemory),
-            other => answer_line(memory, names, &Err(other)),
-        },
-    }
+    carry_out(memory, names, signatures, pool, command)
 }
 
 /// What the submit would be answered.

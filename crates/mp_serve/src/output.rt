@@ -12,6 +12,7 @@ use mp_tx::{OutRef, Output, Tx, TxFault, TxId};
 
 // What stands before and behind the bytes of the one output of a transaction of format 1, which has nothing else.
 const BEFORE: [u8; 5] = [1, 0, 0, 0, 1];
+
 const BEHIND: [u8; 22] = [
     0, 0, 0, 0, 0, 0, 0, 0, 255, 255, 255, 255, 255, 255, 255, 255, 0, 0, 0, 0, 0, 0,
 ];

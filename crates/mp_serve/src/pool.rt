@@ -98,12 +98,26 @@ impl ServedPool {
             Request::Do(command) => obey(memory, names, signatures, &mut self.pool, command)?,
             Request::Adopt(ledger) => {
                 let ledger = ledger.share()?;
-                go_on(memory, names, signatures, &mut self.pool, &mut self.former, ledger)?
+                go_on(
+                    memory,
+                    names,
+                    signatures,
+                    &mut self.pool,
+                    &mut self.former,
+                    ledger,
+                )?
             }
             Request::Extend(block) => {
                 match extend(memory, names, signatures, self.pool.ledger(), block)? {
                     Extended::To(ledger) => {
-                        go_on(memory, names, signatures, &mut self.pool, &mut self.former, ledger)?
+                        go_on(
+                            memory,
+                            names,
+                            signatures,
+                            &mut self.pool,
+                            &mut self.former,
+                            ledger,
+                        )?
                     }
                     Extended::Refused(text) => text,
                 }

@@ -36,7 +36,7 @@ fn answer_all<R: BufRead, W: Write>(
     requires { conversation.old ≡ new_conversation (signatures_of conversation.old.stage) }
     ensures { IfSome (R.remaining reader.old)
         (λ bytes. Ended (signatures_of conversation.old.stage) bytes
-            (W.contents writer.old) (W.contents writer.new) result) }
+        (W.contents writer.old) (W.contents writer.new) result) }
 {
     for number in 1..u64::MAX {
         line.clear();

@@ -2,7 +2,7 @@
 
 ghost use Rattle.std.specs.Prelude.{◌≡◌, ◌++◌, ◌∷◌, [], ℕ, List, Ok, Err, IfOk, OnOk};
 ghost use Rattle.hex.specs.Hex.{encode_lower};
-ghost use Rattle.std.specs.Prelude.{map, option_copied, option_map};
+ghost use Rattle.std.specs.Prelude.{map, option_copied, option_map, slice_get};
 ghost use Rattle.std.specs.Arc.{arc_value};
 ghost use Rattle.mp_serve.specs.Texts.{ok_text, bad_text, fault_name, tx_words, bytes_text, show_text, stats_text, name_if_any, block_refused_text, back_refused_text, forgotten_text};
 
@@ -132,12 +132,25 @@ pub fn stats_line(memory: Memory, pool: &SeqPool) -> Result<Text, NoMemory>
 }
 
 fn name_if_any<'a>(names: &'a Names, tx: Option<&Arc<Tx, Memory>>) -> &'a [u8]
-    ensures { result.now ≡ name_if_any names.now (option_map arc_value (option_copied tx)) }
+    ensures { result.now ≡ name_if_any names.now (option_map arc_value (option_copied tx.entry)) }
 {
     match tx {
         Some(tx) => names.name_of(tx.id()),
         None => &[],
     }
+}
+
+fn tx_at(txs: &[Arc<Tx, Memory>], place: usize) -> Option<&Arc<Tx, Memory>>
+    ensures { option_copied result ≡ slice_get txs.now place }
+{
+    txs.get(place)
+}
+
+// The name of the transaction at the place, if there is one.
+fn name_at<'a>(names: &'a Names, txs: &[Arc<Tx, Memory>], place: usize) -> &'a [u8]
+    ensures { result.now ≡ name_if_any names.now (slice_get (map arc_value txs.now) place) }
+{
+    name_if_any(names, tx_at(txs, place))
 }
 
 /// The line of a block of which the transaction at this place isn't valid after those before it.
@@ -154,7 +167,7 @@ pub fn block_refused_line(
 {
     let mut text = Vec::new(memory);
     put_word(&mut text, b"refused adopt ")?;
-    put_word(&mut text, name_if_any(names, txs.get(place)))?;
+    put_word(&mut text, name_at(names, txs, place))?;
     put_word(&mut text, b" ")?;
     put_refusal(memory, &mut text, names, &Refusal::Invalid(fault))?;
     text.push(b'\n')?;

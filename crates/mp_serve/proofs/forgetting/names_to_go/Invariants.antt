@@ -6,4 +6,4 @@ use Rattle.mp_serve.proofs.forgetting.names_to_go.Given as goal
 -- with those of the names that are left they are all
 abbrev pub invariant-loop-name : goal.invariant-loop-name
 invariant-loop-name l =
-    l.goes.items ++ names_to_go l.names l.stage (into_iter_items l.name-iterator) ≡ names_to_go l.names l.stage l.listed.items
+    l.goes.items ++ names_to_go l.names l.stage (into_iter_items l.name-iterator) ≡ names_to_go l.names l.stage l.fn.listed.items

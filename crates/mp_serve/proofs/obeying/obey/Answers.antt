@@ -1,22 +1,9 @@
-use Rattle.std.proofs.Common.{◌≡◌, sym, subst, ◌∙◌}
-use Rattle.std.specs.Prelude.{IfOk}
 use Rattle.mp_seqpool.specs.Inside.Command.{command_of}
-use Rattle.mp_seqpool.proofs.Histories.{signed, told}
-use Rattle.mp_driver.specs.AnswerText.{answer_text}
 use Rattle.mp_serve.specs.ServedPool.{accepted_by}
-use Rattle.mp_serve.proofs.Pools.{on_ok, on_err, refused_same}
+use Rattle.mp_serve.proofs.Pools.{served_either}
 use Rattle.mp_serve.proofs.obeying.obey.Goals as goal
 
-pub prepare-requires : goal.prepare-requires
-prepare-requires c = signed (accepted_by c.args.signatures) c.args.pool.now.pool c.requires.lawful
-
-pub returns-in_default : goal.returns-in_default
-returns-in_default c =
-    let p = c.args.pool.now.pool in
-    let command = command_of c.args.command.now in
-    let is = told (accepted_by c.args.signatures) p command c.in-Err.refusal c.in-Err.ensures.refused c.in_default.not-NoMemory in
-    record {
-      pool = on_ok c.answer_line.result _ (c.in-Err.ensures.same ∙ refused_same (accepted_by c.args.signatures) p command c.in-Err.refusal c.requires.change is);
-      text = subst (λ a. IfOk c.answer_line.result (λ text. text.items ≡ answer_text c.args.names.now a)) (sym is) c.answer_line.ensures;
-      err = on_err c.answer_line.result _ c.in-Err.ensures.same;
-    }
+pub returns-clause-ready : goal.returns-clause-ready
+returns-clause-ready c =
+    served_either (accepted_by c.args.signatures) c.carry_out.result c.args.pool.now.pool c.carry_out.new.pool.pool (command_of c.args.command.now) c.carry_out.ensures.pool
+    c.carry_out.ensures.err c.requires
