@@ -135,14 +135,18 @@ read c name found = (with_names c (with_read c.names name found), bytes_text fou
 
 -- ---- lines
 
+-- a line that declares a name
+abbrev pub declare : Conversation → Names → Conversation × List ℕ
+declare c names = (with_names c names, ok_text)
+
 -- a scenario's line
 abbrev pub does : Conversation → Line → Step
 does c Blank = Some (c, ok_text)
 does c (Sets setting) = set_at c setting c.stage
-does c (Script named) = Some (with_names c (with_script c.names named), ok_text)
-does c (Data named) = Some (with_names c (with_datum c.names named), ok_text)
+does c (Script named) = Some (declare c (with_script c.names named))
+does c (Data named) = Some (declare c (with_datum c.names named))
 does c (Out name p) = output_at c name p c.stage
-does c (Tx name d) = Some (with_names c (with_binding c.names (record { name = name; binding = Made d })), ok_text)
+does c (Tx name d) = Some (declare c (with_binding c.names (record { name = name; binding = Made d })))
 does c (Submit t) = Some (ask c (Do (commands.Submit t)))
 does c (Remove ids) = Some (ask c (Do (commands.Remove ids)))
 does c (Sync l) = Some (ask c (Adopt (ledger_at c.settings l)))

@@ -18,7 +18,10 @@ use crate::texts::{Text, forgotten_line, ok_line, read_line, show_line, undecoda
 use mp_driver::{Settings, ledger_at, make_ledger};
 use mp_lines::Line;
 use mp_memory::{Memory, NoMemory};
-use mp_names::{Binding, DeclaredTx, LineFault, Name, Names, Payment, Reason, Setting};
+use mp_names::{
+    Binding, DeclaredTx, LineFault, Name, NamedDatum, NamedScript, Names, NewLedger, Payment,
+    Reason, Setting,
+};
 use mp_seqpool::{Command, Ids};
 use mp_tx::{OutRef, Output, Tx, TxFault, TxId};
 use std::sync::Arc;
@@ -74,8 +77,11 @@ impl Conversation {
     ghost use Rattle.mp_names.specs.Fault as lines;
     ghost use Rattle.mp_lines.specs.Inside.Line.{to_line};
     ghost use Rattle.mp_tx.specs.Reading.{transaction_of};
-    ghost use Rattle.mp_serve.specs.Texts.{ok_text};
-    ghost use Rattle.mp_serve.specs.Talk.{new_conversation, ask, set_at, output_at, hold_at, does, read, forget, take, line_step};
+    ghost use Rattle.mp_names.specs.declared.names.Binding.TheVariants.{Made};
+    ghost use Rattle.mp_names.specs.Names.{with_binding, with_script, with_datum};
+    ghost use Rattle.mp_driver.specs.Scene.{ledger_at};
+    ghost use Rattle.mp_serve.specs.Request.{Do, Adopt, Try};
+    ghost use Rattle.mp_serve.specs.Talk.{new_conversation, ask, declare, set_at, output_at, hold_at, does, read, forget, take, line_step};
     ghost use Rattle.mp_serve.specs.Inside.Ask.{to_ask};
     ghost use Rattle.mp_serve.specs.Inside.Request.{to_request};
 
@@ -123,16 +129,18 @@ impl Conversation {
     }
 
     // A setting stands before the first request.
-    fn set<'a>(&mut self, setting: Setting) -> Result<(), LineFault<'a>>
-        ensures ok { OnOk result
-            (set_at self.old setting self.old.stage ≡ Some (self.new, ok_text)) }
+    fn set<'a>(&mut self, memory: Memory, setting: Setting) -> Result<Text, LineFault<'a>>
+        ensures ok { IfOk result (λ text.
+            set_at self.old setting self.old.stage ≡ Some (self.new, text.items)) }
         ensures bad { lines.IsBad result → set_at self.old setting self.old.stage ≡ None }
         ensures err { OnErr result (self.new ≡ self.old) }
     {
+        let ok = ok_line(memory)?;
         match &self.stage {
-            Stage::Before(_) => self.settings.set(setting),
-            Stage::Open(_) => Err(LineFault::Bad(Reason::LateSetting)),
+            Stage::Before(_) => self.settings.set(setting)?,
+            Stage::Open(_) => return Err(LineFault::Bad(Reason::LateSetting)),
         }
+        Ok(ok)
     }
 
     // An output stands before the first request.
@@ -141,18 +149,20 @@ impl Conversation {
         memory: Memory,
         name: Name,
         payment: Payment,
-    ) -> Result<(), LineFault<'a>>
-        ensures ok { OnOk result
-            (output_at self.old name payment self.old.stage ≡ Some (self.new, ok_text)) }
+    ) -> Result<Text, LineFault<'a>>
+        ensures ok { IfOk result (λ text.
+            output_at self.old name payment self.old.stage ≡ Some (self.new, text.items)) }
         ensures bad { lines.IsBad result → output_at self.old name payment self.old.stage ≡ None }
         ensures err { OnErr result (self.new ≡ self.old) }
     {
+        let ok = ok_line(memory)?;
         match &mut self.stage {
             Stage::Before(beginning) => {
-                put_out(memory, &mut self.names, beginning, name, payment)
+                put_out(memory, &mut self.names, beginning, name, payment)?
             }
-            Stage::Open(_) => Err(LineFault::Bad(Reason::LateOutput)),
+            Stage::Open(_) => return Err(LineFault::Bad(Reason::LateOutput)),
         }
+        Ok(ok)
     }
 
     // So does one with its reference.
@@ -175,6 +185,69 @@ impl Conversation {
         Ok(ok)
     }
 
+    fn name_script(&mut self, memory: Memory, named: NamedScript) -> Result<Text, NoMemory>
+        ensures ok { IfOk result (λ text. declare self.old (with_script self.old.names named)
+            ≡ (self.new, text.items)) }
+        ensures err { OnErr result (self.new ≡ self.old) }
+    {
+        let ok = ok_line(memory)?;
+        self.names.declare_script(named)?;
+        Ok(ok)
+    }
+
+    fn name_datum(&mut self, memory: Memory, named: NamedDatum) -> Result<Text, NoMemory>
+        ensures ok { IfOk result (λ text. declare self.old (with_datum self.old.names named)
+            ≡ (self.new, text.items)) }
+        ensures err { OnErr result (self.new ≡ self.old) }
+    {
+        let ok = ok_line(memory)?;
+        self.names.declare_datum(named)?;
+        Ok(ok)
+    }
+
+    fn name_tx(
+        &mut self,
+        memory: Memory,
+        name: Name,
+        declared: DeclaredTx,
+    ) -> Result<Text, NoMemory>
+        ensures ok { IfOk result (λ text. declare self.old
+            (with_binding self.old.names (record { name = name; binding = Made declared }))
+            ≡ (self.new, text.items)) }
+        ensures err { OnErr result (self.new ≡ self.old) }
+    {
+        let ok = ok_line(memory)?;
+        self.names.declare(name, Binding::Made(declared))?;
+        Ok(ok)
+    }
+
+    fn remove(&mut self, memory: Memory, ids: Vec<TxId, Memory>) -> Result<Text, NoMemory>
+        ensures ok { IfOk result (λ text. ask self.old (Do (Remove ids.items))
+            ≡ (self.new, text.items)) }
+        ensures err { OnErr result (self.new ≡ self.old) }
+    {
+        let command = remove_command(memory, ids)?;
+        self.ask(memory, &Request::Do(command))
+    }
+
+    fn sync(&mut self, memory: Memory, ledger: NewLedger) -> Result<Text, NoMemory>
+        ensures ok { IfOk result (λ text. ask self.old (Adopt (ledger_at self.old.settings ledger))
+            ≡ (self.new, text.items)) }
+        ensures err { OnErr result (self.new ≡ self.old) }
+    {
+        let ledger = ledger_at(memory, &self.settings, ledger)?;
+        self.ask(memory, &Request::Adopt(ledger))
+    }
+
+    fn try_ledger(&mut self, memory: Memory, ledger: NewLedger) -> Result<Text, NoMemory>
+        ensures ok { IfOk result (λ text. ask self.old (Try (ledger_at self.old.settings ledger))
+            ≡ (self.new, text.items)) }
+        ensures err { OnErr result (self.new ≡ self.old) }
+    {
+        let ledger = ledger_at(memory, &self.settings, ledger)?;
+        self.ask(memory, &Request::Try(ledger))
+    }
+
     // What a line of a scenario asks.
     fn does<'a>(&mut self, memory: Memory, line: Line) -> Result<Text, LineFault<'a>>
         ensures ok { IfOk result (λ text.
@@ -182,32 +255,19 @@ impl Conversation {
         ensures bad { lines.IsBad result → does self.old (to_line line) ≡ None }
         ensures err { OnErr result (self.new ≡ self.old) }
     {
-        let ok = ok_line(memory)?;
         match line {
-            Line::Blank => {}
-            Line::Sets(setting) => self.set(setting)?,
-            Line::Script(named) => self.names.declare_script(named)?,
-            Line::Data(named) => self.names.declare_datum(named)?,
-            Line::Out(name, payment) => self.put_out(memory, name, payment)?,
-            Line::Tx(name, declared) => self.names.declare(name, Binding::Made(declared))?,
-            Line::Submit(tx) => {
-                return Ok(self.ask(memory, &Request::Do(Command::Submit(tx)))?);
-            }
-            Line::Remove(ids) => {
-                let command = remove_command(memory, ids)?;
-                return Ok(self.ask(memory, &Request::Do(command))?);
-            }
-            Line::Sync(ledger) => {
-                let ledger = ledger_at(memory, &self.settings, ledger)?;
-                return Ok(self.ask(memory, &Request::Adopt(ledger))?);
-            }
-            Line::For(ledger) => {
-                let ledger = ledger_at(memory, &self.settings, ledger)?;
-                return Ok(self.ask(memory, &Request::Try(ledger))?);
-            }
-            Line::Asks(query) => return Ok(self.ask(memory, &Request::Read(query))?),
+            Line::Blank => Ok(ok_line(memory)?),
+            Line::Sets(setting) => self.set(memory, setting),
+            Line::Script(named) => Ok(self.name_script(memory, named)?),
+            Line::Data(named) => Ok(self.name_datum(memory, named)?),
+            Line::Out(name, payment) => self.put_out(memory, name, payment),
+            Line::Tx(name, declared) => Ok(self.name_tx(memory, name, declared)?),
+            Line::Submit(tx) => Ok(self.ask(memory, &Request::Do(Command::Submit(tx)))?),
+            Line::Remove(ids) => Ok(self.remove(memory, ids)?),
+            Line::Sync(ledger) => Ok(self.sync(memory, ledger)?),
+            Line::For(ledger) => Ok(self.try_ledger(memory, ledger)?),
+            Line::Asks(query) => Ok(self.ask(memory, &Request::Read(query))?),
         }
-        Ok(ok)
     }
 
     // Reads a transaction from the bytes, for the name.

@@ -5,8 +5,13 @@ use Rattle.mp_serve.specs.Texts.{no_memory_text}
 use Rattle.mp_serve.specs.declared.conversation.Conversation.{Conversation}
 use Rattle.mp_serve.specs.Served.{IsAnswer}
 use Rattle.mp_serve.specs.Inside.Stage.{signatures_of}
-use Rattle.mp_serve.proofs.Progress.{fails, stands-more, stands-cut}
+use Rattle.mp_serve.proofs.Progress.{ends, fails, stands-more, stands-cut}
 use Rattle.mp_serve.proofs.serving.answer_all.Goals as goal
+
+pub returns-in-Ok-eq0 : goal.returns-in-Ok-eq0
+returns-in-Ok-eq0 g c =
+    ends (signatures_of c.args.conversation.now.stage) (g.W.Write.contents c.args.writer.now) (g.W.Write.contents c.loop-number.writer) c.loop-number.conversation
+    c.loop-number.number (g.R.Read.remaining c.args.reader.now) (g.R.Read.remaining c.loop-number.reader) c.loop-number.invariant (search rules)
 
 pub returns-in-Err : goal.returns-in-Err
 returns-in-Err g c =
