@@ -73,6 +73,10 @@ const BLOCKS: Talk = Talk {
     name: "blocks in a conversation at refused growths",
     lines: &[
         b"block 400",
+        b"utxo 1111111111111111111111111111111111111111111111111111111111111111#0 \
+            4bf5122f344554c53bde2ebb8cd2b7e3d1600ad631c385a5d7cce23c7785459a3e4479e6b5a0a3bed1440325ca4bb093\
+            27a1dfb39c28bdd59de53a687ade01050001000000000000000000000000000000000000000000000000000000000000\
+            0000000000000000000009",
         b"out g0 100",
         b"out g1 7",
         b"tx a in=g0 out=100",
@@ -89,7 +93,7 @@ const BLOCKS: Talk = Talk {
         b"submit b",
         b"stats",
     ],
-    answers: b"ok\nok\nok\nok\nok\nok\naccepted 1\naccepted 2\nrefused adopt b missing 0\nkept 2 dropped 1\n\
+    answers: b"ok\nok\nok\nok\nok\nok\nok\naccepted 1\naccepted 2\nrefused adopt b missing 0\nkept 2 dropped 1\n\
         refused back 1\nkept 2 dropped\naccepted 3\nforgotten 1\nbad\nstats 2 362 438 3 5\n",
 };
 
