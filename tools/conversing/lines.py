@@ -535,7 +535,7 @@ class RandomTalk:
         words = [self.rng.choice(names) if names and self.chance(0.9) else self.rng.choice(["nobody", "yes", "unit"])]
         while self.chance(0.5):
             words.append(self.rng.choice([*names, *words]))
-        return f"forget {' '.join(words)}"
+        return f"forget {' '.join(words if self.chance(0.1) else dict.fromkeys(words))}"
 
     def say_forget(self) -> None:
         before = set(self.names.others)

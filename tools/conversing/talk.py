@@ -227,6 +227,8 @@ class Talk:
         return f"tx {tx.size} {tx.id.hex()} {tx.octets.hex()}"
 
     def _forget(self, *words: str) -> str:
+        if len(set(words)) < len(words):
+            raise Bad
         gone = 0
         for word in map(name, words):
             found = self.names.others.get(word)
