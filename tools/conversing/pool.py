@@ -1,0 +1,171 @@
+"""The pool: what it holds, what changes it, and the ledger states that it may go back to."""
+
+from __future__ import annotations
+
+from collections.abc import Iterable
+from typing import NamedTuple
+
+from .rules import Broken, Unspent, Verifier, applied, first_broken
+from .transactions import Output, Ref, Tx
+
+LAST_TICKET = 2**64 - 1
+MOST_FORMER = 2160
+
+
+class LedgerState(NamedTuple):
+    tick: int
+    block_bytes: int
+    outputs: dict[Ref, Output]
+
+
+class Item(NamedTuple):
+    ticket: int
+    tx: Tx
+
+
+class Refused(Exception):
+    """Why nothing has changed: a word, and what stands behind it."""
+
+    def __init__(self, broken: Broken) -> None:
+        self.broken = broken
+
+
+class Block(NamedTuple):
+    items: list[Item]
+    size: int
+
+
+def size_of(items: Iterable[Item]) -> int:
+    return sum(item.tx.size for item in items)
+
+
+class Pool:
+    """A pool with one peer."""
+
+    def __init__(self, ledger: LedgerState, limit: int, last: int, verifier: Verifier) -> None:
+        self.ledger, self.limit, self.last, self.verifier = ledger, limit, last, verifier
+        self.items: list[Item] = []
+        self.changes = 0
+        self.former: list[LedgerState] = []
+        self.offered = 0
+
+    def unspent(self) -> Unspent:
+        """Gives what may be spent after all that the pool holds."""
+        return self._after(self.ledger.outputs, [item.tx for item in self.items])
+
+    @staticmethod
+    def _after(unspent: Unspent, txs: Iterable[Tx]) -> Unspent:
+        for tx in txs:
+            unspent = applied(tx, unspent)
+        return unspent
+
+    def free(self) -> int:
+        return max(0, 2 * self.ledger.block_bytes - size_of(self.items))
+
+    def ticket_of(self, tx: Tx) -> int | None:
+        return next((item.ticket for item in self.items if item.tx.id == tx.id), None)
+
+    def check(self, tx: Tx) -> int:
+        """Gives the ticket that a submit of the transaction would be given."""
+        if self.last == LAST_TICKET:
+            raise Refused(("tickets",))
+        ticket = self.ticket_of(tx)
+        if ticket is not None:
+            raise Refused(("already", ticket))
+        if tx.size > self.free():
+            raise Refused(("full", tx.size, self.free()))
+        broken = first_broken(tx, self.ledger.tick, self.unspent(), self.verifier)
+        if broken:
+            raise Refused(broken)
+        return self.last + 1
+
+    def submit(self, tx: Tx) -> int:
+        self.last = self.check(tx)
+        self.items.append(Item(self.last, tx))
+        self._count_change()
+        return self.last
+
+    def remove(self, ids: set[bytes]) -> tuple[list[Item], list[Item]]:
+        """Gives what was taken out, and what was dropped with it."""
+        removed = [item for item in self.items if item.tx.id in ids]
+        _, dropped = self._look_anew(self.ledger, [item for item in self.items if item.tx.id not in ids])
+        self._count_change()
+        return removed, dropped
+
+    def sync(self, ledger: LedgerState) -> tuple[list[Item], list[Item]]:
+        """Adopts a ledger state, and gives what was kept and what was dropped."""
+        self.former = [*self.former, self.ledger][-MOST_FORMER:]
+        return self._move_to(ledger)
+
+    def adopt(self, tick: int, block_bytes: int, txs: list[Tx]) -> tuple[list[Item], list[Item]]:
+        """Adopts the ledger state after a block. A refusal has the transaction that isn't valid, and then why."""
+        unspent: Unspent = self.ledger.outputs
+        for place, tx in enumerate(txs):
+            broken = first_broken(tx, tick, unspent, self.verifier)
+            if broken:
+                raise Refused(("adopt", place, *broken))
+            unspent = applied(tx, unspent)
+        return self.sync(LedgerState(tick, block_bytes, dict(unspent)))
+
+    def back(self, count: int) -> tuple[list[Item], list[Item]]:
+        """Goes back to the ledger state before so many others were adopted."""
+        kept = len(self.former)
+        if count > kept:
+            raise Refused(("back", kept))
+        ledger = self.former[kept - count] if count else self.ledger
+        del self.former[kept - count :]
+        return self._move_to(ledger)
+
+    def stays(self, ledger: LedgerState) -> list[Item]:
+        """Gives what would stay upon a ledger state."""
+        unspent: Unspent = ledger.outputs
+        stays = []
+        for item in self.items:
+            if first_broken(item.tx, ledger.tick, unspent, self.verifier) is None:
+                stays.append(item)
+                unspent = applied(item.tx, unspent)
+        return stays
+
+    def _move_to(self, ledger: LedgerState) -> tuple[list[Item], list[Item]]:
+        kept, dropped = self._look_anew(ledger, self.items)
+        self._count_change()
+        return kept, dropped
+
+    def _look_anew(self, ledger: LedgerState, items: list[Item]) -> tuple[list[Item], list[Item]]:
+        """Leaves of the items those that are valid upon the ledger state, which the pool has from then on."""
+        self.ledger, self.items = ledger, items
+        self.items = self.stays(ledger)
+        kept = {item.ticket for item in self.items}
+        return self.items, [item for item in items if item.ticket not in kept]
+
+    def _count_change(self) -> None:
+        """Counts a change, anew where as many were made as the limit says."""
+        self.changes = 1 if self.changes == self.limit else self.changes + 1
+
+    def after(self, ticket: int) -> list[Item]:
+        return [item for item in self.items if item.ticket > ticket]
+
+    def lookup(self, ticket: int) -> Item | None:
+        return next((item for item in self.items if item.ticket == ticket), None)
+
+    def take(self, most_bytes: int) -> Block:
+        """Gives the oldest items in a row that have at most so many bytes."""
+        return self._beginning(self.items, len(self.items), most_bytes)
+
+    def offer(self, most: int, most_bytes: int) -> list[Item]:
+        """Gives the peer what comes after what it was offered last."""
+        items = self._beginning(self.after(self.offered), most, most_bytes).items
+        if items:
+            self.offered = items[-1].ticket
+        return items
+
+    @staticmethod
+    def _beginning(items: list[Item], most: int, most_bytes: int) -> Block:
+        chosen: list[Item] = []
+        size = 0
+        for item in items[:most]:
+            if size + item.tx.size > most_bytes:
+                break
+            chosen.append(item)
+            size += item.tx.size
+        return Block(chosen, size)

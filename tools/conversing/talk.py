@@ -1,0 +1,374 @@
+"""A conversation: the answer to each line."""
+
+from __future__ import annotations
+
+from collections.abc import Callable
+
+from .bundles import Bundle
+from .pool import Item, LedgerState, Pool, Refused, size_of
+from .rules import Broken, Verifier
+from .transactions import (
+    LAST_TICK,
+    Fault,
+    Input,
+    NoTransaction,
+    Output,
+    Parts,
+    Ref,
+    Tx,
+    decode,
+    in_order,
+    of_parts,
+    sign,
+)
+from .words import (
+    MOST,
+    MOST_BLOCK_BYTES,
+    MOST_CHANGES,
+    MOST_PLACES,
+    Bad,
+    Declared,
+    Names,
+    Opening,
+    Payment,
+    name,
+    number,
+    octets,
+)
+from . import data, scripts
+
+LONGEST_LINE = 4096
+OPEN = "?"  # Stands in an answer for what the documents don't say.
+
+
+class Draft:
+    """A transaction that a line declares."""
+
+    def __init__(self, names: Names) -> None:
+        self.names = names
+        self.parts = Parts(inputs=[], references=[], outputs=[], policies=[], signatures=[])
+        self.payments: list[Payment] = []
+        self.signs: list[tuple[bytes, bool]] = []
+        self.once: dict[str, int | Bundle] = {}
+
+    def take(self, item: str) -> None:
+        before, equals, behind = item.partition("=")
+        take = self.TAKES.get(before)
+        if not equals or take is None:
+            raise Bad
+        take(self, before, behind)
+
+    def tx(self) -> Tx:
+        once = self.once
+        ends = {"start": once.get("from", 0), "end": once.get("to", LAST_TICK), "forged": once.get("forge", {})}
+        parts = in_order(self.parts._replace(**ends))
+        signatures = [sign(parts, key, good) for key, good in self.signs]
+        try:
+            return of_parts(in_order(parts._replace(signatures=signatures)))
+        except NoTransaction:
+            raise Bad from None
+
+    def _take_input(self, _: str, word: str) -> None:
+        before, colon, behind = word.partition(":")
+        ref, payment = self.names.reference(before)
+        payment = payment or Payment({}, scripts.YES, data.UNIT)
+        validator, datum, redeemer = payment.script, payment.datum, data.UNIT
+        if colon:
+            first, *more = behind.split("/")
+            validator = self.names.script(first)
+            if len(more) > 2:
+                raise Bad
+            if more:
+                datum = self.names.datum(more[0])
+            if len(more) == 2:
+                redeemer = self.names.datum(more[1])
+        self.parts.inputs.append(Input(ref, validator, datum, redeemer))
+
+    def _take_reference(self, _: str, word: str) -> None:
+        self.parts.references.append(self.names.reference(word)[0])
+
+    def _take_output(self, _: str, word: str) -> None:
+        payment = self.names.payment(word)
+        self.payments.append(payment)
+        self.parts.outputs.append(payment.output())
+
+    def _take_policy(self, _: str, word: str) -> None:
+        self.parts.policies.append(self.names.script(word))
+
+    def _take_sign(self, item: str, word: str) -> None:
+        self.signs.append((bytes([number(word, most=255)]) * 32, item == "sign"))
+
+    def _take_once(self, item: str, word: str) -> None:
+        if item in self.once:
+            raise Bad
+        self.once[item] = self.names.bundle(word) if item == "forge" else number(word)
+
+    TAKES: dict[str, Callable[[Draft, str, str], None]] = {
+        "in": _take_input,
+        "ref": _take_reference,
+        "out": _take_output,
+        "policy": _take_policy,
+        "sign": _take_sign,
+        "badsign": _take_sign,
+        "from": _take_once,
+        "to": _take_once,
+        "forge": _take_once,
+    }
+
+
+class Talk:
+    """A conversation, as far as it has come."""
+
+    SETTINGS = {
+        "block": (1, MOST_BLOCK_BYTES, 500_000),
+        "limit": (1, MOST_CHANGES, 1_000_000),
+        "last": (0, MOST, 0),
+        "tick": (0, MOST, 0),
+    }
+
+    def __init__(self, verifier: Verifier) -> None:
+        self.verifier = verifier
+        self.names = Names()
+        self.settings: dict[str, int] = {}
+        self.opening: list[tuple[Ref, Output]] = []
+        self.pool: Pool | None = None
+        self.lines = 0
+
+    def hear(self, line: bytes) -> str:
+        """Gives the answer to a line. Of a bad one that is how it begins."""
+        self.lines += 1
+        try:
+            return self._answer(line)
+        except Bad:
+            return f"bad {self.lines}: "
+        except Refused as refused:
+            return "refused " + self._tell_refusal(refused.broken)
+
+    def _answer(self, line: bytes) -> str:
+        if any(not 0x20 <= byte <= 0x7E for byte in line):
+            raise Bad
+        first, *words = line.decode().split() or [""]
+        if len(line) > LONGEST_LINE and first != "bytes":
+            raise Bad
+        if not first or first.startswith("#"):
+            return "ok"
+        if first in self.SETTINGS:
+            return self._set(first, *words)
+        if first not in self.LINES:
+            raise Bad
+        take, least, most = self.LINES[first]
+        if len(words) < least or (most is not None and len(words) > most):
+            raise Bad
+        return take(self, *words)
+
+    def setting(self, word: str) -> int:
+        return self.settings.get(word, self.SETTINGS[word][2])
+
+    def _set(self, first: str, *words: str) -> str:
+        if len(words) != 1 or self.pool or first in self.settings:
+            raise Bad
+        least, most, _ = self.SETTINGS[first]
+        self.settings[first] = number(*words, least, most)
+        return "ok"
+
+    def _opened(self) -> Pool:
+        """Gives the pool, which is opened where it isn't yet."""
+        if self.pool is None:
+            ledger = LedgerState(self.setting("tick"), self.setting("block"), dict(self.opening))
+            self.pool = Pool(ledger, self.setting("limit"), self.setting("last"), self.verifier)
+        return self.pool
+
+    def _script(self, word: str, digits: str) -> str:
+        self.names.new(word, self.names.scripts | {"coin": scripts.YES})
+        try:
+            self.names.scripts[word] = scripts.decode(octets(digits))
+        except scripts.NoScript:
+            raise Bad from None
+        return "ok"
+
+    def _data(self, word: str, digits: str) -> str:
+        self.names.new(word, self.names.data)
+        try:
+            self.names.data[word] = data.decode(octets(digits))
+        except data.NoDatum:
+            raise Bad from None
+        return "ok"
+
+    def _out(self, word: str, pay: str) -> str:
+        self.names.new(word, self.names.others)
+        payment = self.names.payment(pay)
+        if self.pool or len(self.opening) == MOST_PLACES:
+            raise Bad
+        ref = Ref(bytes(32), len(self.opening))
+        self.opening.append((ref, payment.output()))
+        self.names.others[word] = Opening(ref, payment)
+        return "ok"
+
+    def _tx(self, word: str, *items: str) -> str:
+        self.names.new(word, self.names.others)
+        draft = Draft(self.names)
+        for item in items:
+            draft.take(item)
+        self.names.others[word] = Declared(draft.tx(), draft.payments)
+        return "ok"
+
+    def _bytes(self, word: str, digits: str) -> str:
+        self.names.new(word, self.names.others)
+        spelled = octets(digits)
+        try:
+            tx = decode(spelled)
+        except Fault as fault:
+            return f"undecodable {fault.name}"
+        self.names.others[word] = Declared(tx, [])
+        return f"tx {tx.size} {tx.id.hex()}"
+
+    def _show(self, word: str) -> str:
+        tx = self.names.tx(word)
+        return f"tx {tx.size} {tx.id.hex()} {tx.octets.hex()}"
+
+    def _forget(self, *words: str) -> str:
+        if len(set(words)) < len(words):
+            raise Bad
+        gone = 0
+        for word in map(name, words):
+            found = self.names.others.get(word)
+            held = self.pool and isinstance(found, Declared) and self.pool.ticket_of(found.tx)
+            if found and not held:
+                del self.names.others[word]
+                gone += 1
+        return f"forgotten {gone}"
+
+    def _check(self, word: str) -> str:
+        tx = self.names.tx(word)
+        return f"accepted {self._opened().check(tx)}"
+
+    def _submit(self, word: str) -> str:
+        tx = self.names.tx(word)
+        return f"accepted {self._opened().submit(tx)}"
+
+    def _remove(self, *words: str) -> str:
+        ids = {self.names.tx(word).id for word in words}
+        return tell_two("removed", *self._opened().remove(ids))
+
+    def _adopt(self, word: str, *words: str) -> str:
+        tick, block_bytes, words = self._state_words(word, words)
+        txs = [self.names.tx(word) for word in words]
+        try:
+            return tell_two("kept", *self._opened().adopt(tick, block_bytes, txs))
+        except Refused as refused:
+            _, place, *broken = refused.broken
+            return f"refused adopt {words[place]} {self._tell_refusal(tuple(broken))}"
+
+    def _back(self, word: str) -> str:
+        count = number(word)
+        return tell_two("kept", *self._opened().back(count))
+
+    def _sync(self, word: str, *words: str) -> str:
+        ledger = self._ledger_state(word, words)
+        return tell_two("kept", *self._opened().sync(ledger))
+
+    def _for(self, word: str, *words: str) -> str:
+        ledger = self._ledger_state(word, words)
+        return "for" + self._tell_items(self._opened().stays(ledger))
+
+    def _state_words(self, word: str, words: tuple[str, ...]) -> tuple[int, int, tuple[str, ...]]:
+        """Reads a tick and the block bytes, and gives what follows them too."""
+        tick, block_bytes = number(word), self.setting("block")
+        if words and words[0].startswith("block="):
+            block_bytes, words = number(words[0][len("block=") :], 1, MOST_BLOCK_BYTES), words[1:]
+        return tick, block_bytes, words
+
+    def _ledger_state(self, word: str, words: tuple[str, ...]) -> LedgerState:
+        tick, block_bytes, words = self._state_words(word, words)
+        outputs: dict[Ref, Output] = {}
+        for ref, output in map(self.names.there, words):
+            if ref in outputs:
+                raise Bad
+            outputs[ref] = output
+        return LedgerState(tick, block_bytes, outputs)
+
+    def _snapshot(self) -> str:
+        pool = self._opened()
+        return f"snapshot {len(pool.items)} {size_of(pool.items)} {pool.last}" + self._tell_items(pool.items)
+
+    def _stats(self) -> str:
+        pool = self._opened()
+        return f"stats {len(pool.items)} {size_of(pool.items)} {pool.free()} {pool.last} {pool.changes}"
+
+    def _after(self, word: str) -> str:
+        ticket = number(word)
+        return "after" + self._tell_items(self._opened().after(ticket))
+
+    def _lookup(self, word: str) -> str:
+        ticket = number(word)
+        item = self._opened().lookup(ticket)
+        return "lookup " + (self.names.name_of_tx(item.tx.id) if item else "none")
+
+    def _has(self, word: str) -> str:
+        tx = self.names.tx(word)
+        return "has yes" if self._opened().ticket_of(tx) else "has no"
+
+    def _take(self, word: str) -> str:
+        return self._tell_block("take", number(word))
+
+    def _forge(self, word: str) -> str:
+        return self._tell_block("block", number(word))
+
+    def _offer(self, first: str, second: str) -> str:
+        most, most_bytes = number(first), number(second)
+        return "offer" + self._tell_items(self._opened().offer(most, most_bytes))
+
+    def _tell_block(self, first: str, most_bytes: int) -> str:
+        block = self._opened().take(most_bytes)
+        return f"{first} {len(block.items)} {block.size}" + self._tell_items(block.items)
+
+    def _tell_items(self, items: list[Item]) -> str:
+        return "".join(f" {item.ticket}:{self.names.name_of_tx(item.tx.id)}" for item in items)
+
+    def _tell_refusal(self, broken: Broken) -> str:
+        word, *behind = broken
+        if word == "no-policy":
+            behind = [self.names.name_of_policy(*behind) or OPEN]
+        elif word == "unbalanced":
+            behind = [self._tell_token(*behind)]
+        return " ".join(map(str, [word, *behind]))
+
+    def _tell_token(self, token: tuple[bytes, bytes]) -> str:
+        policy, ending = token
+        told = self.names.name_of_policy(policy) or OPEN
+        if not ending:
+            return told
+        is_word = ending.isalnum() and ending == ending.lower()
+        return f"{told}.{ending.decode() if is_word else OPEN}"
+
+    # What takes a line of each first word, and how many words may follow that: at least, and at most.
+    LINES: dict[str, tuple[Callable[..., str], int, int | None]] = {
+        "script": (_script, 2, 2),
+        "data": (_data, 2, 2),
+        "out": (_out, 2, 2),
+        "tx": (_tx, 2, None),
+        "bytes": (_bytes, 2, 2),
+        "show": (_show, 1, 1),
+        "forget": (_forget, 1, None),
+        "check": (_check, 1, 1),
+        "submit": (_submit, 1, 1),
+        "remove": (_remove, 1, None),
+        "adopt": (_adopt, 1, None),
+        "back": (_back, 1, 1),
+        "sync": (_sync, 1, None),
+        "for": (_for, 1, None),
+        "snapshot": (_snapshot, 0, 0),
+        "stats": (_stats, 0, 0),
+        "after": (_after, 1, 1),
+        "lookup": (_lookup, 1, 1),
+        "has": (_has, 1, 1),
+        "take": (_take, 1, 1),
+        "forge": (_forge, 1, 1),
+        "offer": (_offer, 2, 2),
+    }
+
+
+def tell_two(first: str, items: list[Item], dropped: list[Item]) -> str:
+    """Tells of two lists of items their tickets."""
+    tickets = [first, *(item.ticket for item in items), "dropped", *(item.ticket for item in dropped)]
+    return " ".join(map(str, tickets))
