@@ -17,11 +17,18 @@ NUMBERS = [
     "18446744073709551616", "00000000000000000001", "000000000000000000001", "0000000000000000001", "1e3", "0x1",
 ]  # fmt: skip
 FIRST_WORDS = [
-    "block", "limit", "last", "tick", "out", "script", "data", "tx", "bytes", "show", "check", "submit", "remove", "sync",
+    "block", "limit", "last", "tick", "out", "utxo", "script", "data", "tx", "bytes", "show", "check", "submit", "remove",
+    "sync",
     "adopt", "back", "forget", "snapshot", "stats", "after", "lookup", "has", "take", "forge", "offer", "for", "Submit",
     "submits", "end", "help", "exit",
 ]  # fmt: skip
 DIGITS = ["0", "01", "0G", "00", "010", "030000", "03 0000", "0x01", "01,", "0A", "0a", "Ab", "030000030000"]
+REFS = [
+    "0" * 64 + "#9", "a" * 64 + "#0", "A" * 64 + "#0", "a" * 63 + "#0", "a" * 65 + "#0", "a" * 64, "a" * 64 + "#", "#0",
+    "a" * 64 + "#65535", "a" * 64 + "#65536", "a" * 64 + "#007", "a" * 64 + "#0#0", "a" * 64 + "#-1", "a" * 64 + "#1.0",
+    "g" * 64 + "#0", "a" * 66 + "#0", "a" * 64 + ".0", "a" * 62 + "#0",
+]  # fmt: skip
+OUTPUTS = ["0a" * 64 + "0000", "0A" * 64 + "0000", "0a" * 64 + "000", "0a" * 64, "0a" * 64 + "000000", "0a" * 64 + "0001"]
 SHOWN = ["", "yes", "no", "unit", "yes/", "yes/unit", "yes/unit/", "yes/unit/unit", "yes//unit", "yes/unit/unit/unit"]
 ITEMS = [
     "in=", "out=", "ref=", "policy=", "policy=coin", "sign=", "sign=256", "badsign=256", "from=", "to=", "forge=", "forge=-",
@@ -44,6 +51,13 @@ def spoilt_bytes(rng: Random, parts: Parts) -> bytes:
         rng.choice(FIELDS)(rng, fields)
     octets = b"".join(field.octets for field in fields)
     return rng.choice(OCTETS)(rng, octets) if rng.random() < 0.3 else octets
+
+
+def spoilt_output(rng: Random, fields: list[Field]) -> bytes:
+    """Spells an output with something wrong, most times."""
+    rng.choice([_other_count, _other_entry, _other_entry, _second_entry, _gone_or_again])(rng, fields)
+    octets = b"".join(field.octets for field in fields)
+    return (rng.choice(OCTETS)(rng, octets) if rng.random() < 0.3 else octets) or b"\x00"
 
 
 def _twice(rng: Random, parts: Parts) -> Parts:
@@ -168,7 +182,7 @@ def _second_entry(rng: Random, fields: list[Field]) -> None:
         fields[place + 4 : place + 4] = again
         before = max(one for one in _places(fields, "count") if one < place)
         if rng.random() < 0.85:
-            fields[before] = of_number("count", int.from_bytes(fields[before].octets, "big") + 1)
+            fields[before] = of_number("count", (int.from_bytes(fields[before].octets, "big") + 1) % 2**16)
 
 
 def _gone_or_again(rng: Random, fields: list[Field]) -> None:
@@ -222,6 +236,8 @@ def odd_line(rng: Random, name: str, output: str) -> str:
             f"script {name} {rng.choice(DIGITS + [spoilt_script(rng).hex()])}",
             f"data {name} {rng.choice(DIGITS + [spoilt_datum(rng).hex()])}",
             f"bytes {name} {rng.choice(DIGITS)}",
+            f"utxo {rng.choice(REFS)} {rng.choice(OUTPUTS)}",
+            f"utxo {rng.choice(REFS)} {rng.choice(OUTPUTS)}",
             f"{first} {number}",
             f"{first} {number} {rng.choice(NUMBERS)}",
             f"{first} 1 block={number}",

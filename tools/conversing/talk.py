@@ -17,6 +17,7 @@ from .transactions import (
     Ref,
     Tx,
     decode,
+    decode_output,
     in_order,
     of_parts,
     sign,
@@ -126,11 +127,14 @@ class Talk:
         "tick": (0, MOST, 0),
     }
 
+    LONGER = ("bytes", "utxo")  # The first words of lines that may have any length.
+
     def __init__(self, verifier: Verifier) -> None:
         self.verifier = verifier
         self.names = Names()
         self.settings: dict[str, int] = {}
-        self.opening: list[tuple[Ref, Output]] = []
+        self.opening: dict[Ref, Output] = {}
+        self.outs = 0
         self.pool: Pool | None = None
         self.lines = 0
 
@@ -148,7 +152,7 @@ class Talk:
         if any(not 0x20 <= byte <= 0x7E for byte in line):
             raise Bad
         first, *words = line.decode().split() or [""]
-        if len(line) > LONGEST_LINE and first != "bytes":
+        if len(line) > LONGEST_LINE and first not in self.LONGER:
             raise Bad
         if not first or first.startswith("#"):
             return "ok"
@@ -174,7 +178,7 @@ class Talk:
     def _opened(self) -> Pool:
         """Gives the pool, which is opened where it isn't yet."""
         if self.pool is None:
-            ledger = LedgerState(self.setting("tick"), self.setting("block"), dict(self.opening))
+            ledger = LedgerState(self.setting("tick"), self.setting("block"), self.opening)
             self.pool = Pool(ledger, self.setting("limit"), self.setting("last"), self.verifier)
         return self.pool
 
@@ -197,11 +201,23 @@ class Talk:
     def _out(self, word: str, pay: str) -> str:
         self.names.new(word, self.names.others)
         payment = self.names.payment(pay)
-        if self.pool or len(self.opening) == MOST_PLACES:
+        ref = Ref(bytes(32), self.outs)
+        if self.pool or self.outs == MOST_PLACES or ref in self.opening:
             raise Bad
-        ref = Ref(bytes(32), len(self.opening))
-        self.opening.append((ref, payment.output()))
+        self.outs += 1
+        self.opening[ref] = payment.output()
         self.names.others[word] = Opening(ref, payment)
+        return "ok"
+
+    def _utxo(self, word: str, digits: str) -> str:
+        before, _, behind = word.partition("#")
+        ref = Ref(octets(before), number(behind, most=MOST_PLACES - 1))
+        if len(ref.id) != 32 or self.pool or ref in self.opening:
+            raise Bad
+        try:
+            self.opening[ref] = decode_output(octets(digits))
+        except Fault:
+            raise Bad from None
         return "ok"
 
     def _tx(self, word: str, *items: str) -> str:
@@ -346,6 +362,7 @@ class Talk:
         "script": (_script, 2, 2),
         "data": (_data, 2, 2),
         "out": (_out, 2, 2),
+        "utxo": (_utxo, 2, 2),
         "tx": (_tx, 2, None),
         "bytes": (_bytes, 2, 2),
         "show": (_show, 1, 1),
