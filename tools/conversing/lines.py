@@ -8,8 +8,8 @@ from random import Random
 from . import data, expressions, rules, scripts
 from .bundles import COIN, GREATEST
 from .expressions import Expressions, Mentioned
-from .large import large_line
-from .plans import KEYS, NAMES, ODD_NAMES, Hint, Known, NoWords, Plan, Planner, Speller
+from .large import large_line, large_utxo
+from .plans import KEYS, NAMES, ODD_TOKENS, Hint, Known, NoWords, Plan, Planner, Speller
 from .pool import MOST_FORMER, size_of
 from .rules import Unspent, applied, first_broken
 from .scripts import Own, View
@@ -225,9 +225,11 @@ class RandomTalk:
     def utxo_line(self) -> str:
         """Has an output under an id that something may have, or nothing."""
         rng = self.rng
+        if self.chance(0.05):
+            return large_utxo(rng)
         ids = [self.names.tx(name).id for name in self.tx_names()] * 3
         id = rng.choice([*ids, bytes(32), rng.choice(KEYS), rng.randbytes(32)])
-        token = (rng.choice([*self.known.scripts, rng.randbytes(32)]), rng.choice([*NAMES, *ODD_NAMES]))
+        token = (rng.choice([*self.known.scripts, rng.randbytes(32)]), rng.choice([*NAMES, *ODD_TOKENS]))
         value = {COIN: rng.choice([7, 100, 100, GREATEST])} | ({token: 5} if self.chance(0.5) else {})
         address = rng.choice([scripts.YES.hash, *self.known.scripts])
         fields = list(spell_output(Output(address, rng.choice(list(self.known.data)), value)))
@@ -374,7 +376,7 @@ class RandomTalk:
         octets = self.rng.choice([b"\x01\x10\x10", b"\x01\x01\x12", b"\x00"])
         self.known.add_script(octets)
         script = scripts.decode(octets)
-        token = (script.hash, self.rng.choice([b"\x00", b"Z", b"gold", b"", b"\xff" * 32]))
+        token = (script.hash, self.rng.choice([b"gold", b"", *ODD_TOKENS]))
         outputs = list(parts.outputs)
         if outputs:
             outputs[0] = outputs[0]._replace(value=outputs[0].value | {token: 5})
@@ -475,7 +477,7 @@ class RandomTalk:
     def adopt_line(self) -> str:
         tick = self.other_tick()
         txs = self.held_block() if self.chance(0.6) else self.found_block(int(tick))
-        if self.chance(0.15):
+        if self.chance(0.3):
             txs.insert(self.rng.randint(0, len(txs)), self.any_tx())
         return " ".join(["adopt", tick, *self.block_bytes(), *txs])
 

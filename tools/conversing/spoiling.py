@@ -42,6 +42,11 @@ ITEMS = [
 ]  # fmt: skip
 
 
+def wrapped(name: str, number: int, length: int = 2) -> Field:
+    """Spells a number that may be past what so many bytes hold."""
+    return of_number(name, number % 256**length, length)
+
+
 def spoilt_bytes(rng: Random, parts: Parts) -> bytes:
     """Spells the parts with something wrong, most times."""
     for _ in range(rng.choice([0, 1, 1, 2])):
@@ -110,13 +115,13 @@ def _other_count(rng: Random, fields: list[Field]) -> None:
     length = len(fields[place].octets)
     count = int.from_bytes(fields[place].octets, "big")
     count = rng.choice([count + 1, count + 1, max(0, count - 1), *EDGES_OF_COUNTS])
-    fields[place] = of_number("count", count % 256**length, length)
+    fields[place] = wrapped("count", count, length)
 
 
 def _other_length(rng: Random, fields: list[Field]) -> None:
     for place in rng.sample(_places(fields, "length"), min(1, len(_places(fields, "length")))):
         length = int.from_bytes(fields[place].octets, "big")
-        fields[place] = of_number("length", rng.choice([length + 1, max(0, length - 1), 0, 65535]))
+        fields[place] = wrapped("length", rng.choice([length + 1, max(0, length - 1), 0, 65535]))
 
 
 def _other_version(rng: Random, fields: list[Field]) -> None:
@@ -125,7 +130,7 @@ def _other_version(rng: Random, fields: list[Field]) -> None:
 
 def _other_reference_count(rng: Random, fields: list[Field]) -> None:
     """Makes it one of format 2 that has no references, or another number of them than it says."""
-    count = of_number("reference count", rng.choice([0, 0, 1, 257]))
+    count = wrapped("reference count", rng.choice([0, 0, 1, 257]))
     places = _places(fields, "reference count") or _places(fields, "count")[1:2]
     for place in places:
         fields[place : place + (fields[place].name == count.name)] = [count]
@@ -139,7 +144,7 @@ def _other_words(rng: Random, fields: list[Field]) -> None:
         make = spoilt_script if fields[place].name == "script" else spoilt_datum
         fields[place] = Field(fields[place].name, make(rng))
         if rng.random() < 0.9:
-            fields[place - 1] = of_number("length", len(fields[place].octets))
+            fields[place - 1] = wrapped("length", len(fields[place].octets))
 
 
 def spoilt_script(rng: Random) -> bytes:
@@ -161,12 +166,12 @@ def _other_entry(rng: Random, fields: list[Field]) -> None:
         name = fields[place].name
         if name == "quantity":
             quantity = rng.choice([0, 0, 2**63, 2**63 + 1, 1])
-            fields[place] = of_number(name, quantity, 8)
+            fields[place] = wrapped(name, quantity, 8)
         elif name == "name length":
-            fields[place] = of_number(name, rng.choice([0, 1, 32, 33, 255]), 1)
+            fields[place] = wrapped(name, rng.choice([0, 1, 32, 33, 255]), 1)
         elif name == "name":
             fields[place] = Field(name, bytes(rng.choice([0, 1, 32, 33])))
-            fields[place - 1] = of_number("name length", len(fields[place].octets), 1)
+            fields[place - 1] = wrapped("name length", len(fields[place].octets), 1)
         else:
             fields[place] = Field(name, bytes([rng.choice([0, 255])]) * 32)
 
@@ -178,11 +183,11 @@ def _second_entry(rng: Random, fields: list[Field]) -> None:
         again = fields[place : place + 4]
         if rng.random() < 0.6:
             again[2] = Field("name", again[2].octets[:-1] if rng.random() < 0.3 else (again[2].octets + b"a")[:32])
-            again[1] = of_number("name length", len(again[2].octets), 1)
+            again[1] = wrapped("name length", len(again[2].octets), 1)
         fields[place + 4 : place + 4] = again
         before = max(one for one in _places(fields, "count") if one < place)
         if rng.random() < 0.85:
-            fields[before] = of_number("count", (int.from_bytes(fields[before].octets, "big") + 1) % 2**16)
+            fields[before] = wrapped("count", int.from_bytes(fields[before].octets, "big") + 1)
 
 
 def _gone_or_again(rng: Random, fields: list[Field]) -> None:

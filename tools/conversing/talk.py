@@ -9,6 +9,7 @@ from .pool import Item, LedgerState, Pool, Refused, size_of
 from .rules import Broken, Verifier
 from .transactions import (
     LAST_TICK,
+    MOST_BYTES,
     Fault,
     Input,
     NoTransaction,
@@ -32,7 +33,6 @@ from .words import (
     Names,
     Opening,
     Payment,
-    name,
     number,
     octets,
 )
@@ -214,8 +214,11 @@ class Talk:
         ref = Ref(octets(before), number(behind, most=MOST_PLACES - 1))
         if len(ref.id) != 32 or self.pool or ref in self.opening:
             raise Bad
+        spelled = octets(digits)
+        if len(spelled) > MOST_BYTES - len(of_parts(Parts()).octets):
+            raise Bad
         try:
-            self.opening[ref] = decode_output(octets(digits))
+            self.opening[ref] = decode_output(spelled)
         except Fault:
             raise Bad from None
         return "ok"
@@ -246,7 +249,7 @@ class Talk:
         if len(set(words)) < len(words):
             raise Bad
         gone = 0
-        for word in map(name, words):
+        for word in words:
             found = self.names.others.get(word)
             held = self.pool and isinstance(found, Declared) and self.pool.ticket_of(found.tx)
             if found and not held:
@@ -273,7 +276,9 @@ class Talk:
             return tell_two("kept", *self._opened().adopt(tick, block_bytes, txs))
         except Refused as refused:
             _, place, *broken = refused.broken
-            return f"refused adopt {words[place]} {self._tell_refusal(tuple(broken))}"
+            first = self.names.name_of_tx(txs[place].id)
+            told = first if words[place] == first else OPEN
+            return f"refused adopt {told} {self._tell_refusal(tuple(broken))}"
 
     def _back(self, word: str) -> str:
         count = number(word)
