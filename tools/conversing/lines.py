@@ -6,19 +6,19 @@ from collections.abc import Callable
 from random import Random
 
 from . import data, expressions, rules, scripts
-from .bundles import GREATEST
+from .bundles import COIN, GREATEST
 from .expressions import Expressions, Mentioned
-from .large import large_line
-from .plans import KEYS, NAMES, Hint, Known, NoWords, Plan, Planner, Speller
+from .large import large_line, large_utxo
+from .plans import KEYS, NAMES, ODD_TOKENS, Hint, Known, NoWords, Plan, Planner, Speller
 from .pool import MOST_FORMER, size_of
 from .rules import Unspent, applied, first_broken
 from .scripts import Own, View
-from .spoiling import odd_line, spoilt_bytes, spoilt_datum, spoilt_line, spoilt_script
+from .spoiling import odd_line, spoilt_bytes, spoilt_datum, spoilt_line, spoilt_output, spoilt_script
 from .talk import Talk
-from .transactions import LAST_TICK, NoTransaction, Parts, Ref, Tx, id_of, spell
+from .transactions import LAST_TICK, NoTransaction, Output, Parts, Ref, Tx, id_of, join, spell, spell_output
 from .words import MOST, Bad, Declared, Names, Opening
 
-ODD_NAMES = ["submit", "none", "coin", "out", "unit", "yes", "tx", "a", "a234567890123456", "a2345678901234567", "A", "1"]
+WORDS_AS_NAMES = ["submit", "none", "coin", "out", "unit", "yes", "tx", "a", "a" * 16, "b" * 17, "A", "1"]
 COMMENTS = [b"#", b"# submit a", b"  #a comment", b"", b"   ", b"#bytes", b"####"]
 STRANGE_COMMENTS = [b"#\t", b"# \x1f", b"#~", b"#\x7f", b"#\x80", b"\r", b"\x00", b"\t"]
 
@@ -71,10 +71,10 @@ class RandomTalk:
         return self.talk.pool.ledger.tick if self.talk.pool else self.talk.setting("tick")
 
     def unspent(self) -> Unspent:
-        return self.talk.pool.unspent() if self.talk.pool else dict(self.talk.opening)
+        return self.talk.pool.unspent() if self.talk.pool else self.talk.opening
 
     def ledger(self) -> Unspent:
-        return self.talk.pool.ledger.outputs if self.talk.pool else dict(self.talk.opening)
+        return self.talk.pool.ledger.outputs if self.talk.pool else self.talk.opening
 
     def tx_names(self) -> list[str]:
         return [name for name, one in self.names.others.items() if isinstance(one, Declared)]
@@ -103,7 +103,7 @@ class RandomTalk:
         if odd < 0.12 and self.forgotten:
             return self.rng.choice(self.forgotten)
         if odd > 0.97:
-            return self.rng.choice(ODD_NAMES)
+            return self.rng.choice(WORDS_AS_NAMES)
         self.named += 1
         return f"{letter}{self.named}"
 
@@ -121,6 +121,10 @@ class RandomTalk:
             say()
         for _ in range(self.rng.randint(1, 6)):
             self.say_out()
+        if self.chance(0.3):
+            self.say_unasked()
+        for _ in range(self.rng.choice([0, 0, 0, 1, 2, 3])):
+            self.say(self.utxo_line())
 
     def setting_line(self) -> str:
         rng = self.rng
@@ -210,6 +214,31 @@ class RandomTalk:
             if self.chance(0.4):
                 word += "/" + rng.choice(list(self.names.data))
         return f"out {self.new_name('g')} {word}"
+
+    def say_unasked(self) -> None:
+        """Declares a transaction, and doesn't ask for it."""
+        try:
+            self.say(self.tx_line(self.new_plan()))
+        except NoWords:
+            pass
+
+    def utxo_line(self) -> str:
+        """Has an output under an id that something may have, or nothing."""
+        rng = self.rng
+        if self.chance(0.05):
+            return large_utxo(rng)
+        ids = [self.names.tx(name).id for name in self.tx_names()] * 3
+        id = rng.choice([*ids, bytes(32), rng.choice(KEYS), rng.randbytes(32)])
+        token = (rng.choice([*self.known.scripts, rng.randbytes(32)]), rng.choice([*NAMES, *ODD_TOKENS]))
+        value = {COIN: rng.choice([7, 100, 100, GREATEST])} | ({token: 5} if self.chance(0.5) else {})
+        address = rng.choice([scripts.YES.hash, *self.known.scripts])
+        fields = list(spell_output(Output(address, rng.choice(list(self.known.data)), value)))
+        octets = join(fields) if self.chance(0.85) else spoilt_output(rng, fields)
+        place = rng.choice([0, 0, 1, 2, len(self.talk.opening), 65535])
+        return f"utxo {id.hex()}#{self.number(place)} {octets.hex()}"
+
+    def say_utxo(self) -> None:
+        self.say(self.utxo_line())
 
     def any_policy(self) -> str:
         return self.rng.choice([*self.names.scripts, *self.names.scripts, "coin"])
@@ -347,7 +376,7 @@ class RandomTalk:
         octets = self.rng.choice([b"\x01\x10\x10", b"\x01\x01\x12", b"\x00"])
         self.known.add_script(octets)
         script = scripts.decode(octets)
-        token = (script.hash, self.rng.choice([b"\x00", b"Z", b"gold", b"", b"\xff" * 32]))
+        token = (script.hash, self.rng.choice([b"gold", b"", *ODD_TOKENS]))
         outputs = list(parts.outputs)
         if outputs:
             outputs[0] = outputs[0]._replace(value=outputs[0].value | {token: 5})
@@ -448,7 +477,7 @@ class RandomTalk:
     def adopt_line(self) -> str:
         tick = self.other_tick()
         txs = self.held_block() if self.chance(0.6) else self.found_block(int(tick))
-        if self.chance(0.15):
+        if self.chance(0.3):
             txs.insert(self.rng.randint(0, len(txs)), self.any_tx())
         return " ".join(["adopt", tick, *self.block_bytes(), *txs])
 
@@ -551,6 +580,7 @@ class RandomTalk:
             [
                 self.setting_line,
                 self.out_line,
+                self.utxo_line,
                 lambda: f"script {self.new_name('s')} 0101",
                 lambda: f"script {self.new_name('s')} {self.new_script()[0].hex()}",
                 lambda: f"data {self.new_name('d')} {self.new_datum(2).hex()}",
@@ -602,6 +632,7 @@ class RandomTalk:
         (say_script, 0.5),
         (say_datum, 0.3),
         (say_out, 0.2),
+        (say_utxo, 0.2),
         (say_setting, 0.2),
         (say_large, 0.15),
     ]

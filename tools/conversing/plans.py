@@ -16,7 +16,7 @@ from .transactions import LAST_TICK, Input, Output, Parts, Ref, Tx, in_order, of
 from .words import Bad, Declared, Names, Opening
 
 NAMES = [b"", b"", b"gold", b"gold", b"a", b"9", b"z" * 32]
-ODD_NAMES = [b"\x00", b"G", b"a.b", b"\xff" * 32, b" "]
+ODD_TOKENS = [b"\x00", b"G", b"a.b", b"\xff" * 32, b" ", b"a\nok"]
 KEYS = [bytes([key]) * 32 for key in (0, 3, 7, 255)]
 
 
@@ -122,7 +122,7 @@ class Planner:
             if held and self.chance(0.5):
                 token, quantity = self.rng.choice(held), -self.rng.choice([1, 1, 2, 3])
             else:
-                token = (self._script().hash, self.rng.choice(NAMES if self.chance(0.9) else ODD_NAMES))
+                token = (self._script().hash, self.rng.choice(NAMES if self.chance(0.9) else ODD_TOKENS))
                 quantity = self.rng.choice([1, 2, 5, 5, 9, GREATEST])
             forged[token] = quantity
         policies = {policy: self.known.scripts[policy] for policy, _ in forged}

@@ -139,8 +139,8 @@ class Pool:
         return self.items, [item for item in items if item.ticket not in kept]
 
     def _count_change(self) -> None:
-        """Counts a change, anew where as many were made as the limit says."""
-        self.changes = 1 if self.changes == self.limit else self.changes + 1
+        """Counts a change, and begins anew where as many were made as the limit says."""
+        self.changes = (self.changes + 1) % self.limit
 
     def after(self, ticket: int) -> list[Item]:
         return [item for item in self.items if item.ticket > ticket]

@@ -17,11 +17,18 @@ NUMBERS = [
     "18446744073709551616", "00000000000000000001", "000000000000000000001", "0000000000000000001", "1e3", "0x1",
 ]  # fmt: skip
 FIRST_WORDS = [
-    "block", "limit", "last", "tick", "out", "script", "data", "tx", "bytes", "show", "check", "submit", "remove", "sync",
+    "block", "limit", "last", "tick", "out", "utxo", "script", "data", "tx", "bytes", "show", "check", "submit", "remove",
+    "sync",
     "adopt", "back", "forget", "snapshot", "stats", "after", "lookup", "has", "take", "forge", "offer", "for", "Submit",
     "submits", "end", "help", "exit",
 ]  # fmt: skip
 DIGITS = ["0", "01", "0G", "00", "010", "030000", "03 0000", "0x01", "01,", "0A", "0a", "Ab", "030000030000"]
+REFS = [
+    "0" * 64 + "#9", "a" * 64 + "#0", "A" * 64 + "#0", "a" * 63 + "#0", "a" * 65 + "#0", "a" * 64, "a" * 64 + "#", "#0",
+    "a" * 64 + "#65535", "a" * 64 + "#65536", "a" * 64 + "#007", "a" * 64 + "#0#0", "a" * 64 + "#-1", "a" * 64 + "#1.0",
+    "g" * 64 + "#0", "a" * 66 + "#0", "a" * 64 + ".0", "a" * 62 + "#0",
+]  # fmt: skip
+OUTPUTS = ["0a" * 64 + "0000", "0A" * 64 + "0000", "0a" * 64 + "000", "0a" * 64, "0a" * 64 + "000000", "0a" * 64 + "0001"]
 SHOWN = ["", "yes", "no", "unit", "yes/", "yes/unit", "yes/unit/", "yes/unit/unit", "yes//unit", "yes/unit/unit/unit"]
 ITEMS = [
     "in=", "out=", "ref=", "policy=", "policy=coin", "sign=", "sign=256", "badsign=256", "from=", "to=", "forge=", "forge=-",
@@ -35,6 +42,11 @@ ITEMS = [
 ]  # fmt: skip
 
 
+def wrapped(name: str, number: int, length: int = 2) -> Field:
+    """Spells a number that may be past what so many bytes hold."""
+    return of_number(name, number % 256**length, length)
+
+
 def spoilt_bytes(rng: Random, parts: Parts) -> bytes:
     """Spells the parts with something wrong, most times."""
     for _ in range(rng.choice([0, 1, 1, 2])):
@@ -44,6 +56,13 @@ def spoilt_bytes(rng: Random, parts: Parts) -> bytes:
         rng.choice(FIELDS)(rng, fields)
     octets = b"".join(field.octets for field in fields)
     return rng.choice(OCTETS)(rng, octets) if rng.random() < 0.3 else octets
+
+
+def spoilt_output(rng: Random, fields: list[Field]) -> bytes:
+    """Spells an output with something wrong, most times."""
+    rng.choice([_other_count, _other_entry, _other_entry, _second_entry, _gone_or_again])(rng, fields)
+    octets = b"".join(field.octets for field in fields)
+    return (rng.choice(OCTETS)(rng, octets) if rng.random() < 0.3 else octets) or b"\x00"
 
 
 def _twice(rng: Random, parts: Parts) -> Parts:
@@ -96,13 +115,13 @@ def _other_count(rng: Random, fields: list[Field]) -> None:
     length = len(fields[place].octets)
     count = int.from_bytes(fields[place].octets, "big")
     count = rng.choice([count + 1, count + 1, max(0, count - 1), *EDGES_OF_COUNTS])
-    fields[place] = of_number("count", count % 256**length, length)
+    fields[place] = wrapped("count", count, length)
 
 
 def _other_length(rng: Random, fields: list[Field]) -> None:
     for place in rng.sample(_places(fields, "length"), min(1, len(_places(fields, "length")))):
         length = int.from_bytes(fields[place].octets, "big")
-        fields[place] = of_number("length", rng.choice([length + 1, max(0, length - 1), 0, 65535]))
+        fields[place] = wrapped("length", rng.choice([length + 1, max(0, length - 1), 0, 65535]))
 
 
 def _other_version(rng: Random, fields: list[Field]) -> None:
@@ -111,7 +130,7 @@ def _other_version(rng: Random, fields: list[Field]) -> None:
 
 def _other_reference_count(rng: Random, fields: list[Field]) -> None:
     """Makes it one of format 2 that has no references, or another number of them than it says."""
-    count = of_number("reference count", rng.choice([0, 0, 1, 257]))
+    count = wrapped("reference count", rng.choice([0, 0, 1, 257]))
     places = _places(fields, "reference count") or _places(fields, "count")[1:2]
     for place in places:
         fields[place : place + (fields[place].name == count.name)] = [count]
@@ -125,7 +144,7 @@ def _other_words(rng: Random, fields: list[Field]) -> None:
         make = spoilt_script if fields[place].name == "script" else spoilt_datum
         fields[place] = Field(fields[place].name, make(rng))
         if rng.random() < 0.9:
-            fields[place - 1] = of_number("length", len(fields[place].octets))
+            fields[place - 1] = wrapped("length", len(fields[place].octets))
 
 
 def spoilt_script(rng: Random) -> bytes:
@@ -147,12 +166,12 @@ def _other_entry(rng: Random, fields: list[Field]) -> None:
         name = fields[place].name
         if name == "quantity":
             quantity = rng.choice([0, 0, 2**63, 2**63 + 1, 1])
-            fields[place] = of_number(name, quantity, 8)
+            fields[place] = wrapped(name, quantity, 8)
         elif name == "name length":
-            fields[place] = of_number(name, rng.choice([0, 1, 32, 33, 255]), 1)
+            fields[place] = wrapped(name, rng.choice([0, 1, 32, 33, 255]), 1)
         elif name == "name":
             fields[place] = Field(name, bytes(rng.choice([0, 1, 32, 33])))
-            fields[place - 1] = of_number("name length", len(fields[place].octets), 1)
+            fields[place - 1] = wrapped("name length", len(fields[place].octets), 1)
         else:
             fields[place] = Field(name, bytes([rng.choice([0, 255])]) * 32)
 
@@ -164,11 +183,11 @@ def _second_entry(rng: Random, fields: list[Field]) -> None:
         again = fields[place : place + 4]
         if rng.random() < 0.6:
             again[2] = Field("name", again[2].octets[:-1] if rng.random() < 0.3 else (again[2].octets + b"a")[:32])
-            again[1] = of_number("name length", len(again[2].octets), 1)
+            again[1] = wrapped("name length", len(again[2].octets), 1)
         fields[place + 4 : place + 4] = again
         before = max(one for one in _places(fields, "count") if one < place)
         if rng.random() < 0.85:
-            fields[before] = of_number("count", int.from_bytes(fields[before].octets, "big") + 1)
+            fields[before] = wrapped("count", int.from_bytes(fields[before].octets, "big") + 1)
 
 
 def _gone_or_again(rng: Random, fields: list[Field]) -> None:
@@ -222,6 +241,8 @@ def odd_line(rng: Random, name: str, output: str) -> str:
             f"script {name} {rng.choice(DIGITS + [spoilt_script(rng).hex()])}",
             f"data {name} {rng.choice(DIGITS + [spoilt_datum(rng).hex()])}",
             f"bytes {name} {rng.choice(DIGITS)}",
+            f"utxo {rng.choice(REFS)} {rng.choice(OUTPUTS)}",
+            f"utxo {rng.choice(REFS)} {rng.choice(OUTPUTS)}",
             f"{first} {number}",
             f"{first} {number} {rng.choice(NUMBERS)}",
             f"{first} 1 block={number}",

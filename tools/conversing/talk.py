@@ -9,6 +9,7 @@ from .pool import Item, LedgerState, Pool, Refused, size_of
 from .rules import Broken, Verifier
 from .transactions import (
     LAST_TICK,
+    MOST_BYTES,
     Fault,
     Input,
     NoTransaction,
@@ -17,6 +18,7 @@ from .transactions import (
     Ref,
     Tx,
     decode,
+    decode_output,
     in_order,
     of_parts,
     sign,
@@ -31,7 +33,6 @@ from .words import (
     Names,
     Opening,
     Payment,
-    name,
     number,
     octets,
 )
@@ -126,11 +127,14 @@ class Talk:
         "tick": (0, MOST, 0),
     }
 
+    LONGER = ("bytes", "utxo")  # The first words of lines that may have any length.
+
     def __init__(self, verifier: Verifier) -> None:
         self.verifier = verifier
         self.names = Names()
         self.settings: dict[str, int] = {}
-        self.opening: list[tuple[Ref, Output]] = []
+        self.opening: dict[Ref, Output] = {}
+        self.outs = 0
         self.pool: Pool | None = None
         self.lines = 0
 
@@ -148,7 +152,7 @@ class Talk:
         if any(not 0x20 <= byte <= 0x7E for byte in line):
             raise Bad
         first, *words = line.decode().split() or [""]
-        if len(line) > LONGEST_LINE and first != "bytes":
+        if len(line) > LONGEST_LINE and first not in self.LONGER:
             raise Bad
         if not first or first.startswith("#"):
             return "ok"
@@ -174,7 +178,7 @@ class Talk:
     def _opened(self) -> Pool:
         """Gives the pool, which is opened where it isn't yet."""
         if self.pool is None:
-            ledger = LedgerState(self.setting("tick"), self.setting("block"), dict(self.opening))
+            ledger = LedgerState(self.setting("tick"), self.setting("block"), self.opening)
             self.pool = Pool(ledger, self.setting("limit"), self.setting("last"), self.verifier)
         return self.pool
 
@@ -197,11 +201,26 @@ class Talk:
     def _out(self, word: str, pay: str) -> str:
         self.names.new(word, self.names.others)
         payment = self.names.payment(pay)
-        if self.pool or len(self.opening) == MOST_PLACES:
+        ref = Ref(bytes(32), self.outs)
+        if self.pool or self.outs == MOST_PLACES or ref in self.opening:
             raise Bad
-        ref = Ref(bytes(32), len(self.opening))
-        self.opening.append((ref, payment.output()))
+        self.outs += 1
+        self.opening[ref] = payment.output()
         self.names.others[word] = Opening(ref, payment)
+        return "ok"
+
+    def _utxo(self, word: str, digits: str) -> str:
+        before, _, behind = word.partition("#")
+        ref = Ref(octets(before), number(behind, most=MOST_PLACES - 1))
+        if len(ref.id) != 32 or self.pool or ref in self.opening:
+            raise Bad
+        spelled = octets(digits)
+        if len(spelled) > MOST_BYTES - len(of_parts(Parts()).octets):
+            raise Bad
+        try:
+            self.opening[ref] = decode_output(spelled)
+        except Fault:
+            raise Bad from None
         return "ok"
 
     def _tx(self, word: str, *items: str) -> str:
@@ -230,7 +249,7 @@ class Talk:
         if len(set(words)) < len(words):
             raise Bad
         gone = 0
-        for word in map(name, words):
+        for word in words:
             found = self.names.others.get(word)
             held = self.pool and isinstance(found, Declared) and self.pool.ticket_of(found.tx)
             if found and not held:
@@ -257,7 +276,9 @@ class Talk:
             return tell_two("kept", *self._opened().adopt(tick, block_bytes, txs))
         except Refused as refused:
             _, place, *broken = refused.broken
-            return f"refused adopt {words[place]} {self._tell_refusal(tuple(broken))}"
+            first = self.names.name_of_tx(txs[place].id)
+            told = first if words[place] == first else OPEN
+            return f"refused adopt {told} {self._tell_refusal(tuple(broken))}"
 
     def _back(self, word: str) -> str:
         count = number(word)
@@ -346,6 +367,7 @@ class Talk:
         "script": (_script, 2, 2),
         "data": (_data, 2, 2),
         "out": (_out, 2, 2),
+        "utxo": (_utxo, 2, 2),
         "tx": (_tx, 2, None),
         "bytes": (_bytes, 2, 2),
         "show": (_show, 1, 1),

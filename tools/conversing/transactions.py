@@ -105,6 +105,12 @@ def spell_ref(ref: Ref) -> Iterator[Field]:
     yield of_number("place", ref.place)
 
 
+def spell_output(output: Output) -> Iterator[Field]:
+    yield Field("hash", output.address)
+    yield Field("hash", output.datum_hash)
+    yield from spell_bundle(output.value)
+
+
 def spell_body(parts: Parts) -> Iterator[Field]:
     """Spells all but the signatures, in the order in which the parts stand."""
     yield of_number("version", 2 if parts.references else 1, 1)
@@ -120,9 +126,7 @@ def spell_body(parts: Parts) -> Iterator[Field]:
             yield from spell_ref(ref)
     yield of_number("count", len(parts.outputs))
     for output in parts.outputs:
-        yield Field("hash", output.address)
-        yield Field("hash", output.datum_hash)
-        yield from spell_bundle(output.value)
+        yield from spell_output(output)
     yield of_number("tick", parts.start, 8)
     yield of_number("tick", parts.end, 8)
     yield from spell_bundle(parts.forged)
@@ -259,8 +263,15 @@ class Reader:
             bundle[token], before = quantity, token
         return bundle
 
+    def output(self) -> Output:
+        return Output(self.run(32), self.run(32), self.bundle())
+
     def outputs(self) -> list[Output]:
-        return [Output(self.run(32), self.run(32), self.bundle()) for _ in range(self.count(MOST_PARTS))]
+        return [self.output() for _ in range(self.count(MOST_PARTS))]
+
+    def end(self) -> None:
+        if self.at != len(self.octets):
+            raise Fault("trailing")
 
     def interval(self) -> tuple[int, int]:
         start, end = self.number(8), self.number(8)
@@ -302,7 +313,14 @@ def decode(octets: bytes) -> Tx:
     forged, policies = reader.bundle(), reader.policies()
     body = octets[: reader.at]
     signatures = reader.signatures()
-    if reader.at != len(octets):
-        raise Fault("trailing")
+    reader.end()
     parts = Parts(inputs, references, outputs, start, end, forged, policies, signatures)
     return Tx(parts, octets, sha256(body).digest())
+
+
+def decode_output(octets: bytes) -> Output:
+    """Reads the output that all of the bytes spell."""
+    reader = Reader(octets)
+    output = reader.output()
+    reader.end()
+    return output
