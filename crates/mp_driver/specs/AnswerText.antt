@@ -1,5 +1,8 @@
 -- The line that a command writes.
-use Rattle.std.specs.Prelude.{ℕ, List, [], ◌∷◌, ◌++◌, length, flat_map, slice_index, decimal, codes, Result, Ok, Err}
+use Rattle.std.specs.Prelude.{ℕ, List, [], ◌∷◌, ◌++◌, length, flat_map, slice_index, decimal, codes, if◌then◌else◌, Result, Ok, Err}
+use Rattle.std.specs.List.{list_all}
+use Rattle.hex.specs.Hex.{encode_lower}
+use Rattle.mp_text.specs.Names.{is_letter_or_digit}
 use Rattle.mp_tx.specs.Transaction.{Transaction}
 use Rattle.mp_tx.specs.Spelling.{id_of}
 use Rattle.mp_rules.specs.declared.invalid.Invalid.{Invalid}
@@ -16,10 +19,26 @@ use Rattle.mp_names.specs.Names.{Names, name_of, policy_name}
 abbrev pub number_text : ℕ → List ℕ
 number_text n = 32 ∷ decimal n
 
+-- bytes that have no name: a number sign and their digits
+abbrev pub hex_text : List ℕ → List ℕ
+hex_text bytes = 35 ∷ encode_lower bytes
+
+abbrev pub name_or_hex : List ℕ → List ℕ → List ℕ
+name_or_hex [] bytes = hex_text bytes
+name_or_hex (first ∷ others) bytes = first ∷ others
+
+-- the name of a policy, if it has one
+abbrev pub policy_text : Names → List ℕ → List ℕ
+policy_text names policy = name_or_hex (policy_name policy names) policy
+
+-- a token's name, where it is of lower-case letters and digits
+abbrev pub token_name_text : List ℕ → List ℕ
+token_name_text name = if list_all is_letter_or_digit name then name else hex_text name
+
 -- the policy, and then a dot and the name, where it isn't empty
 abbrev pub token_text : Names → List ℕ → List ℕ → List ℕ
-token_text names policy [] = policy_name policy names
-token_text names policy (byte ∷ bytes) = policy_name policy names ++ 46 ∷ byte ∷ bytes
+token_text names policy [] = policy_text names policy
+token_text names policy (byte ∷ bytes) = policy_text names policy ++ 46 ∷ token_name_text (byte ∷ bytes)
 
 -- a key is told by its first byte
 abbrev pub invalid_text : Names → Invalid → List ℕ
@@ -32,7 +51,7 @@ invalid_text names (rules.ReferenceMissing place) = codes "reference" ++ number_
 invalid_text names (rules.AddressMismatch place) = codes "address" ++ number_text place
 invalid_text names (rules.DatumMismatch place) = codes "datum" ++ number_text place
 invalid_text names (rules.OutputTaken place) = codes "taken" ++ number_text place
-invalid_text names (rules.ForgeWithoutPolicy policy) = codes "no-policy " ++ policy_name policy names
+invalid_text names (rules.ForgeWithoutPolicy policy) = codes "no-policy " ++ policy_text names policy
 invalid_text names (rules.Unbalanced policy name taken paid) = codes "unbalanced " ++ token_text names policy name
 invalid_text names (rules.BadSignature key) = codes "signature" ++ number_text (slice_index key 0)
 invalid_text names (rules.ValidatorRefused place) = codes "validator" ++ number_text place

@@ -1,8 +1,9 @@
 //! The names of refusals, and what is told with them.
 
 ghost use Rattle.std.specs.Prelude.{◌≡◌, ◌++◌, OnOk, codes};
-ghost use Rattle.mp_names.specs.Names.{policy_name};
-ghost use Rattle.mp_driver.specs.AnswerText.{number_text, token_text, invalid_text, refusal_text};
+ghost use Rattle.std.specs.List.{list_all};
+ghost use Rattle.mp_text.specs.Names.{is_letter_or_digit};
+ghost use Rattle.mp_driver.specs.AnswerText.{number_text, hex_text, token_name_text, policy_text, token_text, invalid_text, refusal_text};
 
 use mp_bundle::{PolicyId, TokenName};
 use mp_memory::{Memory, NoMemory};
@@ -37,15 +38,57 @@ fn put_place(memory: Memory, text: &mut Text, word: &[u8], place: usize) -> Resu
     put_number(memory, text, place as u64)
 }
 
-fn put_policy(text: &mut Text, names: &Names, policy: &PolicyId) -> Result<(), NoMemory>
-    ensures { OnOk result
-        (text.new.items ≡ text.old.items ++ policy_name policy.now names.now) }
+fn is_letter_or_digit(byte: u8) -> bool
+    ensures { result ≡ is_letter_or_digit byte }
 {
-    text.extend_from_slice(names.policy_name(policy))?;
-    Ok(())
+    byte.is_ascii_lowercase() || byte.is_ascii_digit()
+}
+
+fn are_letters_or_digits(bytes: &[u8]) -> bool
+    ensures { result ≡ list_all is_letter_or_digit bytes.now }
+{
+    bytes.iter().all(|&byte| is_letter_or_digit(byte))
+}
+
+// A number sign and the digits of the bytes.
+fn put_hex(memory: Memory, text: &mut Text, bytes: &[u8]) -> Result<(), NoMemory>
+    ensures { OnOk result (text.new.items ≡ text.old.items ++ hex_text bytes.now) }
+{
+    text.push(b'#')?;
+    let digits = hex::encode(memory, bytes)?;
+    put_word(text, digits.as_bytes())
+}
+
+// Whoever makes a token names it as he likes, also with a line feed.
+fn put_token_name(memory: Memory, text: &mut Text, name: &[u8]) -> Result<(), NoMemory>
+    ensures { OnOk result (text.new.items ≡ text.old.items ++ token_name_text name.now) }
+{
+    if are_letters_or_digits(name) {
+        put_word(text, name)
+    } else {
+        put_hex(memory, text, name)
+    }
+}
+
+fn put_policy(
+    memory: Memory,
+    text: &mut Text,
+    names: &Names,
+    policy: &PolicyId,
+) -> Result<(), NoMemory>
+    ensures { OnOk result
+        (text.new.items ≡ text.old.items ++ policy_text names.now policy.now) }
+{
+    let name = names.policy_name(policy);
+    if name.is_empty() {
+        put_hex(memory, text, policy)
+    } else {
+        put_word(text, name)
+    }
 }
 
 fn put_token(
+    memory: Memory,
     text: &mut Text,
     names: &Names,
     policy: &PolicyId,
@@ -54,25 +97,31 @@ fn put_token(
     ensures { OnOk result (text.new.items
         ≡ text.old.items ++ token_text names.now policy.now name.now) }
 {
-    put_policy(text, names, policy)?;
+    put_policy(memory, text, names, policy)?;
     let name = name.as_slice();
     if !name.is_empty() {
         text.push(b'.')?;
-        text.extend_from_slice(name)?;
+        put_token_name(memory, text, name)?;
     }
     Ok(())
 }
 
 // A policy whose tokens are forged and whose script isn't there.
-fn put_no_policy(text: &mut Text, names: &Names, policy: &PolicyId) -> Result<(), NoMemory>
+fn put_no_policy(
+    memory: Memory,
+    text: &mut Text,
+    names: &Names,
+    policy: &PolicyId,
+) -> Result<(), NoMemory>
     ensures { OnOk result (text.new.items
-        ≡ text.old.items ++ (codes "no-policy " ++ policy_name policy.now names.now)) }
+        ≡ text.old.items ++ (codes "no-policy " ++ policy_text names.now policy.now)) }
 {
     put_word(text, b"no-policy ")?;
-    put_policy(text, names, policy)
+    put_policy(memory, text, names, policy)
 }
 
 fn put_unbalanced(
+    memory: Memory,
     text: &mut Text,
     names: &Names,
     policy: &PolicyId,
@@ -82,7 +131,7 @@ fn put_unbalanced(
         ≡ text.old.items ++ (codes "unbalanced " ++ token_text names.now policy.now name.now)) }
 {
     put_word(text, b"unbalanced ")?;
-    put_token(text, names, policy, name)
+    put_token(memory, text, names, policy, name)
 }
 
 fn put_invalid(
@@ -103,8 +152,10 @@ fn put_invalid(
         Invalid::AddressMismatch(place) => put_place(memory, text, b"address", *place),
         Invalid::DatumMismatch(place) => put_place(memory, text, b"datum", *place),
         Invalid::OutputTaken(place) => put_place(memory, text, b"taken", *place),
-        Invalid::ForgeWithoutPolicy(policy) => put_no_policy(text, names, policy),
-        Invalid::Unbalanced { policy, name, .. } => put_unbalanced(text, names, policy, name),
+        Invalid::ForgeWithoutPolicy(policy) => put_no_policy(memory, text, names, policy),
+        Invalid::Unbalanced { policy, name, .. } => {
+            put_unbalanced(memory, text, names, policy, name)
+        }
         Invalid::BadSignature(key) => put_place(memory, text, b"signature", key[0] as usize),
         Invalid::ValidatorRefused(place) => put_place(memory, text, b"validator", *place),
         Invalid::PolicyRefused(place) => put_place(memory, text, b"policy-script", *place),
