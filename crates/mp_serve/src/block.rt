@@ -70,13 +70,14 @@ impl Block {
         }
     }
 
+    /// The tick of the ledger state after it.
     pub fn tick(&self) -> u64
         ensures { result ≡ self.now.tick }
     {
         self.tick
     }
 
-    /// 1 to 2^39.
+    /// The bytes that a block may have upon the ledger state after it, 1 to 2^39.
     pub fn block_bytes(&self) -> u64
         ensures same { result ≡ self.now.block_bytes }
         ensures range { HasBlockBytes result }
@@ -84,6 +85,7 @@ impl Block {
         self.block_bytes
     }
 
+    /// Its transactions, in their order.
     pub fn txs(&self) -> &[Arc<Tx, Memory>]
         ensures { map arc_value result.now ≡ self.now.txs }
     {
