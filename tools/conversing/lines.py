@@ -384,7 +384,7 @@ class RandomTalk:
 
     def odd_parts(self, parts: Parts) -> Parts:
         """Puts in what no line can say: a script without a name, and tokens of odd names."""
-        if self.chance(0.7):
+        if self.chance(0.5):
             return parts
         octets = self.rng.choice([b"\x01\x10\x10", b"\x01\x01\x12", b"\x00"])
         self.known.add_script(octets)
