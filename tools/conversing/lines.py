@@ -12,7 +12,7 @@ from .large import large_line, large_utxo
 from .plans import KEYS, NAMES, ODD_TOKENS, Hint, Known, NoWords, Plan, Planner, Speller
 from .pool import MOST_FORMER, size_of
 from .rules import Unspent, applied, first_broken
-from .scripts import Own, View
+from .scripts import Own, Paid, View
 from .spoiling import odd_line, spoilt_bytes, spoilt_datum, spoilt_line, spoilt_output, spoilt_script
 from .talk import Talk
 from .transactions import LAST_TICK, NoTransaction, Output, Parts, Ref, Tx, id_of, join, spell, spell_output
@@ -49,12 +49,14 @@ class RandomTalk:
         """Says what is declared first, and then line after line."""
         length = self.rng.randint(10, 120)
         self.set_up()
-        if self.chance(0.004):
+        if self.chance(0.006):
             self.adopt_often()
         while len(self.lines) < length:
             kind = self.rng.choices([kind for kind, _ in self.KINDS], self.weights)[0]
             if not self.unspent() and self.chance(0.3):
                 self.say_sync()
+            elif self.talk.pool and self.talk.pool.free() < 150 and self.chance(0.2):
+                self.say_adopt()
             else:
                 kind(self)
 
@@ -120,6 +122,8 @@ class RandomTalk:
         for say in chosen:
             say()
         for _ in range(self.rng.randint(1, 6)):
+            if self.chance(0.08):
+                self.say(f"utxo {bytes(32).hex()}#{self.talk.outs + self.rng.choice([0, 1])} {'0a' * 64}0000")
             self.say_out()
         if self.chance(0.3):
             self.say_unasked()
@@ -172,6 +176,8 @@ class RandomTalk:
                 lambda: (self.expressions().of("truth", self.rng.randint(2, 5)), None),
                 lambda: (self.expressions().any(self.rng.randint(2, 5)) + b"\x01\x12", None),
                 lambda: (self.rng.choice(list(self.known.scripts.values())).octets, None),
+                lambda: (self.rng.choice(list(self.known.scripts.values())).octets, None),
+                lambda: (expressions.at_the_edge(self.rng), None),
                 lambda: (spoilt_script(self.rng) or b"\xff", None),
             ]
         )()
@@ -250,7 +256,12 @@ class RandomTalk:
         for one in (datum, redeemer):
             self.known.add_datum(one.octets)
         own = Own(datum, redeemer, {(bytes(32), b""): coins})
-        octets = self.pinned_script(View(0, LAST_TICK, frozenset(), {}, {}, [], [], own))
+        other = Paid(KEYS[0], KEYS[1], {COIN: 3})
+        views = [
+            View(0, LAST_TICK, frozenset(), {}, {}, [], [], own),
+            View(3, 9, frozenset(KEYS), {COIN: 1}, {COIN: 2}, [other] * 2, [other], own),
+        ]
+        octets = self.pinned_script(views, [1, 0, 1])
         script, word = self.new_name("s"), self.new_name("d")
         self.say(f"data {word} {datum.octets.hex()}")
         self.say(f"data {self.new_name('d')} {redeemer.octets.hex()}")
@@ -258,31 +269,33 @@ class RandomTalk:
             self.known.add_script(octets, Hint(redeemer=redeemer, datum=datum))
         self.say(f"out {self.new_name('g')} {coins}@{script}/{word}")
 
-    def pinned_script(self, view: View) -> bytes:
-        """Makes a script that accepts in the view, unless one of its expressions comes to nothing there."""
+    def pinned_script(self, views: list[View], weights: list[int]) -> bytes:
+        """Makes a script that accepts in the views, unless one of its expressions comes to nothing there."""
         make, pinned = self.expressions(), []
-        nothing_may_come = self.chance(0.4)
-        for _ in range(self.rng.choice([1, 4, 8])):
-            kinds = [lambda: make.any(self.rng.randint(2, 5)), lambda: make.reading(view), make.edge]
-            expression = self.rng.choice(kinds)()
+        nothing_may_come = self.chance(0.1 if views[0].own else 0.4)
+        kinds = [lambda: make.any(self.rng.randint(2, 5)), lambda: make.reading(views[0]), make.edge]
+        for _ in range(self.rng.choice([2, 6, 12])):
+            expression = self.rng.choices(kinds, weights)[0]()
             try:
-                value = scripts.value_of(scripts.decode(expression), view)
+                value, *others = [scripts.value_of(scripts.decode(expression), view) for view in views]
             except scripts.NoScript:
                 continue
             octets = expressions.pinned(expression, value)
-            if len(octets) < 200 and (value is not None or (nothing_may_come and self.chance(0.5))):
+            if len(octets) > 200 or any(other != value for other in others):
+                continue
+            if value is not None or nothing_may_come:
                 pinned.append(octets)
                 nothing_may_come &= value is not None
         return b"".join(pinned or [b"\x01"]) + b"\x11" * (len(pinned) - 1)
 
     # Transactions
 
-    def new_plan(self) -> Plan:
-        """Plans a transaction, now and then upon what the pool has spent; sometimes the first of four that is valid."""
+    def new_plan(self, tries: tuple[int, ...] = (0, 0, 3)) -> Plan:
+        """Plans a transaction, now and then upon what the pool has spent; with tries, the first that is valid."""
         unspent = self.unspent() if self.chance(0.88) else self.ledger()
         planner = Planner(self.rng, self.known, unspent, self.named_refs(), self.tick())
         plan = planner.plan()
-        for _ in range(self.rng.choice([0, 0, 3])):
+        for _ in range(self.rng.choice(tries)):
             parts = plan.signed()
             if first_broken(Tx(parts, b"", id_of(parts)), self.tick(), unspent, self.talk.verifier) is None:
                 break
@@ -290,7 +303,7 @@ class RandomTalk:
         return plan
 
     def say_tx(self) -> None:
-        self.declare(self.pinned_plan(self.new_plan()) if self.chance(0.35) else self.new_plan())
+        self.declare(self.pinned_plan(self.new_plan(tries=(6,))) if self.chance(0.35) else self.new_plan())
 
     def say_again(self) -> None:
         """Declares a transaction once more, mostly with other signatures."""
@@ -306,7 +319,7 @@ class RandomTalk:
         parts = plan.signed()
         if not all(ref in unspent for ref in [*(one.ref for one in parts.inputs), *parts.references]):
             return plan
-        octets = self.pinned_script(rules.view_of(Tx(parts, b"", b""), unspent))
+        octets = self.pinned_script([rules.view_of(Tx(parts, b"", b""), unspent)], [1, 2, 1])
         if self.chance(0.9):
             self.declare_script(octets, None)
         policies = [*plan.parts.policies, scripts.decode(octets)]
@@ -371,7 +384,7 @@ class RandomTalk:
 
     def odd_parts(self, parts: Parts) -> Parts:
         """Puts in what no line can say: a script without a name, and tokens of odd names."""
-        if self.chance(0.7):
+        if self.chance(0.5):
             return parts
         octets = self.rng.choice([b"\x01\x10\x10", b"\x01\x01\x12", b"\x00"])
         self.known.add_script(octets)
@@ -413,6 +426,12 @@ class RandomTalk:
     # Ledger states
 
     def other_tick(self) -> str:
+        """Gives a tick near to that of now, or one at which a transaction of the pool isn't valid any more."""
+        held = [item.tx.parts for item in self.talk.pool.items] if self.talk.pool else []
+        ends = [parts.end + 1 for parts in held if parts.end < LAST_TICK]
+        ends += [parts.start - 1 for parts in held if parts.start]
+        if ends and self.chance(0.3):
+            return self.number(self.rng.choice(ends))
         return self.number(self.tick() + self.rng.choice([-1, 0, 0, 0, 1, 1, 2, 3]))
 
     def block_bytes(self) -> list[str]:

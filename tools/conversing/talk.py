@@ -39,7 +39,6 @@ from .words import (
 from . import data, scripts
 
 LONGEST_LINE = 4096
-OPEN = "?"  # Stands in an answer for what the documents don't say.
 
 
 class Draft:
@@ -276,9 +275,7 @@ class Talk:
             return tell_two("kept", *self._opened().adopt(tick, block_bytes, txs))
         except Refused as refused:
             _, place, *broken = refused.broken
-            first = self.names.name_of_tx(txs[place].id)
-            told = first if words[place] == first else OPEN
-            return f"refused adopt {told} {self._tell_refusal(tuple(broken))}"
+            return f"refused adopt {self.names.name_of_tx(txs[place].id)} {self._tell_refusal(tuple(broken))}"
 
     def _back(self, word: str) -> str:
         count = number(word)
@@ -349,18 +346,20 @@ class Talk:
     def _tell_refusal(self, broken: Broken) -> str:
         word, *behind = broken
         if word == "no-policy":
-            behind = [self.names.name_of_policy(*behind) or OPEN]
+            behind = [self._tell_policy(*behind)]
         elif word == "unbalanced":
             behind = [self._tell_token(*behind)]
         return " ".join(map(str, [word, *behind]))
 
+    def _tell_policy(self, policy: bytes) -> str:
+        return self.names.name_of_policy(policy) or tell_digits(policy)
+
     def _tell_token(self, token: tuple[bytes, bytes]) -> str:
         policy, ending = token
-        told = self.names.name_of_policy(policy) or OPEN
         if not ending:
-            return told
+            return self._tell_policy(policy)
         is_word = ending.isalnum() and ending == ending.lower()
-        return f"{told}.{ending.decode() if is_word else OPEN}"
+        return f"{self._tell_policy(policy)}.{ending.decode() if is_word else tell_digits(ending)}"
 
     # What takes a line of each first word, and how many words may follow that: at least, and at most.
     LINES: dict[str, tuple[Callable[..., str], int, int | None]] = {
@@ -388,6 +387,11 @@ class Talk:
         "forge": (_forge, 1, 1),
         "offer": (_offer, 2, 2),
     }
+
+
+def tell_digits(octets: bytes) -> str:
+    """Tells what has no name."""
+    return "#" + octets.hex()
 
 
 def tell_two(first: str, items: list[Item], dropped: list[Item]) -> str:
