@@ -85,6 +85,18 @@ def send_ahead(pool: Pool) -> None:
         print(f"{line}: {answer}")
 
 
+def sign_badly(path: str) -> None:
+    """Submits a transaction with a signature that isn't good, to a pool that looks at it, and to one whose host says that it did."""
+    for verified in (False, True):
+        with Pool(path, verified) as pool:
+            pool.declare("out", "carol", 100)
+            pool.declare("tx", "forged", "in=carol", "out=100", "badsign=7")
+            try:
+                print(f"submit forged: {pool.submit('forged')}")
+            except Refused as refused:
+                tell_refusal("submit forged", refused)
+
+
 def main() -> int:
     if len(sys.argv) != 2:
         print(__doc__, file=sys.stderr)
@@ -97,6 +109,7 @@ def main() -> int:
         adopt_and_go_back(pool)
         send_ahead(pool)
     print(f"the program has ended with status {pool.status}")
+    sign_badly(sys.argv[1])
     return pool.status or 0
 
 
