@@ -2,6 +2,7 @@
 
 use crate::adopting::{States, go_back, go_on, state_back};
 use crate::beginning::{Beginning, at_tick};
+use crate::block::Block;
 use crate::extending::{Extended, extend};
 use crate::obeying::{check, obey};
 use crate::reading::{kept_line, query_line};
@@ -42,10 +43,10 @@ impl Model for ServedPool {
 }
 
 impl ServedPool {
-    ghost use Rattle.std.specs.Prelude.{◌≡◌, IfOk, OnErr, is_some};
+    ghost use Rattle.std.specs.Prelude.{◌≡◌, ℕ, IfOk, OnErr, is_some};
     ghost use Rattle.mp_seqpool.specs.SlowPool.{ticket_of};
     ghost use Rattle.mp_serve.specs.Talk.{opened};
-    ghost use Rattle.mp_serve.specs.Request.{respond};
+    ghost use Rattle.mp_serve.specs.Request.{Extend, Return, respond};
     ghost use Rattle.mp_serve.specs.Inside.Request.{to_request};
 
     /// The empty pool upon the opening outputs, which stay as they are.
@@ -75,6 +76,56 @@ impl ServedPool {
         ensures { result ≡ is_some (ticket_of id.now self.now.pool.items) }
     {
         self.pool.ticket_of(id).is_some()
+    }
+
+    // The ledger state after the block, or which of its transactions isn't valid after those before it.
+    fn adopt_block(
+        &mut self,
+        memory: Memory,
+        names: &Names,
+        block: &Block,
+    ) -> Result<Text, NoMemory>
+        ensures ok { IfOk result (λ text. (cursor : ℕ)
+            → respond names.now cursor self.old (Extend block.now)
+            ≡ record { served = self.new; cursor = cursor; text = text.items }) }
+        ensures err { OnErr result (self.new ≡ self.old) }
+    {
+        let signatures = self.signatures;
+        match extend(memory, names, signatures, self.pool.ledger(), block)? {
+            Extended::To(ledger) => {
+                go_on(
+                    memory,
+                    names,
+                    signatures,
+                    &mut self.pool,
+                    &mut self.former,
+                    ledger,
+                )
+            }
+            Extended::Refused(text) => Ok(text),
+        }
+    }
+
+    // The ledger state of so many ago, or how many are kept.
+    fn return_by(&mut self, memory: Memory, names: &Names, count: u64) -> Result<Text, NoMemory>
+        ensures ok { IfOk result (λ text. (cursor : ℕ)
+            → respond names.now cursor self.old (Return count)
+            ≡ record { served = self.new; cursor = cursor; text = text.items }) }
+        ensures err { OnErr result (self.new ≡ self.old) }
+    {
+        let count = count as usize;
+        match state_back(&self.former, self.pool.ledger(), count)? {
+            Some(ledger) => go_back(
+                memory,
+                names,
+                self.signatures,
+                &mut self.pool,
+                &mut self.former,
+                count,
+                ledger,
+            ),
+            None => back_refused_line(memory, self.former.len() as u64),
+        }
     }
 
     /// Responds, and gives the line and where the peer's cursor is then.
@@ -107,35 +158,8 @@ impl ServedPool {
                     ledger,
                 )?
             }
-            Request::Extend(block) => {
-                match extend(memory, names, signatures, self.pool.ledger(), block)? {
-                    Extended::To(ledger) => {
-                        go_on(
-                            memory,
-                            names,
-                            signatures,
-                            &mut self.pool,
-                            &mut self.former,
-                            ledger,
-                        )?
-                    }
-                    Extended::Refused(text) => text,
-                }
-            }
-            Request::Return(count) => {
-                match state_back(&self.former, self.pool.ledger(), *count as usize)? {
-                    Some(ledger) => go_back(
-                        memory,
-                        names,
-                        signatures,
-                        &mut self.pool,
-                        &mut self.former,
-                        *count as usize,
-                        ledger,
-                    )?,
-                    None => back_refused_line(memory, self.former.len() as u64)?,
-                }
-            }
+            Request::Extend(block) => self.adopt_block(memory, names, block)?,
+            Request::Return(count) => self.return_by(memory, names, *count)?,
             Request::Read(query) => {
                 return query_line(memory, names, cursor, &self.pool, *query);
             }
