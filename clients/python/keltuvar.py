@@ -30,7 +30,8 @@ Shown = NamedTuple("Shown", [("size", int), ("id", str), ("octets", Octets)])
 Item = NamedTuple("Item", [("ticket", int), ("name", str)])
 Snapshot = NamedTuple("Snapshot", [("transactions", int), ("size", int), ("last", int), ("items", list[Item])])
 Block = NamedTuple("Block", [("transactions", int), ("size", int), ("items", list[Item])])
-Stats = NamedTuple("Stats", [("transactions", int), ("size", int), ("free", int), ("last", int), ("changes", int)])
+Numbers = [("transactions", int), ("size", int), ("free", int), ("last", int), ("changes", int)]
+Stats = NamedTuple("Stats", [*Numbers, ("refused", dict[str, int])])
 
 
 def checked(answer: str) -> str:
@@ -71,8 +72,7 @@ def read_block(words: list[str]) -> Block:
 
 
 class Pool(contextlib.AbstractContextManager):
-    """A pool that the program at the path holds as long as the conversation lasts, for one thread at a time. With `verified` it accepts all
-    signatures, which the host has verified."""
+    """A pool that the program at the path holds, for one thread at a time. With `verified` it accepts all signatures, as checked."""
 
     def __init__(self, path: str, verified: bool = False) -> None:
         words = [path, "serve", *["--signatures", "checked"] * verified]
@@ -195,5 +195,6 @@ class Pool(contextlib.AbstractContextManager):
         return read_items(self._words("offer", count, size))
 
     def stats(self) -> Stats:
-        """Gives the pool's numbers."""
-        return Stats(*map(int, self._words("stats")))
+        """Gives the pool's numbers, and how often each refusal was answered that was."""
+        words = self._words("stats")
+        return Stats(*map(int, words[:5]), dict(zip(words[5::2], map(int, words[6::2]))))

@@ -2,6 +2,7 @@
 
 from __future__ import annotations
 
+from collections import Counter
 from collections.abc import Callable
 
 from .bundles import Bundle
@@ -39,6 +40,10 @@ from .words import (
 from . import data, scripts
 
 LONGEST_LINE = 4096
+REFUSALS = (
+    "tickets", "already", "full", "no-inputs", "interval", "negative", "missing", "address", "datum", "taken", "no-policy", "unbalanced",
+    "signature", "validator", "policy-script", "reference", "adopt", "back",
+)  # fmt: skip
 
 
 class Draft:
@@ -135,17 +140,21 @@ class Talk:
         self.opening: dict[Ref, Output] = {}
         self.outs = 0
         self.pool: Pool | None = None
+        self.refused: Counter[str] = Counter()
         self.lines = 0
 
     def hear(self, line: bytes) -> str:
         """Gives the answer to a line. Of a bad one that is how it begins."""
         self.lines += 1
         try:
-            return self._answer(line)
+            answer = self._answer(line)
         except Bad:
-            return f"bad {self.lines}: "
+            answer = f"bad {self.lines}: "
         except Refused as refused:
-            return "refused " + self._tell_refusal(refused.broken)
+            answer = "refused " + self._tell_refusal(refused.broken)
+        if answer.startswith("refused ") and line.split()[0] != b"check":
+            self.refused[answer.split(" ")[1]] += 1
+        return answer
 
     def _answer(self, line: bytes) -> str:
         if any(not 0x20 <= byte <= 0x7E for byte in line):
@@ -311,7 +320,8 @@ class Talk:
 
     def _stats(self) -> str:
         pool = self._opened()
-        return f"stats {len(pool.items)} {size_of(pool.items)} {pool.free()} {pool.last} {pool.changes}"
+        refused = "".join(f" {word} {self.refused[word]}" for word in REFUSALS if self.refused[word])
+        return f"stats {len(pool.items)} {size_of(pool.items)} {pool.free()} {pool.last} {pool.changes}{refused}"
 
     def _after(self, word: str) -> str:
         ticket = number(word)

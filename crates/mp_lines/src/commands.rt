@@ -9,7 +9,7 @@ ghost use Rattle.mp_lines.specs.Inside.Line.{to_line};
 use crate::forms::{FOR, REMOVE, SUBMIT, SYNC};
 use crate::ledgers::read_ledger;
 use crate::line::Line;
-use crate::queries::read_query;
+use crate::query::read_query;
 use crate::words::one_word;
 use mp_memory::Memory;
 use mp_names::{LineFault, Names, Reason};

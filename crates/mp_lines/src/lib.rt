@@ -9,7 +9,6 @@ mod fields;
 mod forms;
 mod ledgers;
 mod line;
-mod queries;
 mod query;
 mod settings;
 mod signing;

@@ -39,7 +39,7 @@ const CHANGES: Talk = Talk {
         b"snapshot",
     ],
     answers: b"ok\nok\nok\nok\nok\nok\nok\nok\naccepted 1\naccepted 1\nrefused already 1\n\
-        accepted 2\nremoved 2 dropped\nkept 1 dropped\naccepted 3\nstats 2 379 221 3 1\n\
+        accepted 2\nremoved 2 dropped\nkept 1 dropped\naccepted 3\nstats 2 379 221 3 1 already 1\n\
         snapshot 2 379 3 1:a 3:b\n",
 };
 
@@ -94,7 +94,7 @@ const BLOCKS: Talk = Talk {
         b"stats",
     ],
     answers: b"ok\nok\nok\nok\nok\nok\nok\naccepted 1\naccepted 2\nrefused adopt b missing 0\nkept 2 dropped 1\n\
-        refused back 1\nkept 2 dropped\naccepted 3\nforgotten 1\nbad\nstats 2 362 438 3 5\n",
+        refused back 1\nkept 2 dropped\naccepted 3\nforgotten 1\nbad\nstats 2 362 438 3 5 adopt 1 back 1\n",
 };
 
 const TALKS: [Talk; 3] = [CHANGES, READS, BLOCKS];

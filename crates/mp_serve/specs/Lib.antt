@@ -1,6 +1,7 @@
 pub mod Output
 pub mod Ask
 pub mod Texts
+pub mod Refused
 pub mod ServedPool
 pub mod Request
 pub mod Talk

@@ -1,10 +1,13 @@
 -- What is asked of the pool, and what it answers.
 use Rattle.std.specs.Prelude.{ℕ, ◌-◌, List, [], ◌∷◌, ◌++◌, length, take, Option, None, Some, Result, Ok, Err, if◌then◌else◌}
+use Rattle.std.specs.Result.{result_err}
 use Rattle.mp_tx.specs.Transaction.{Transaction}
 use Rattle.mp_tx.specs.Ledger.{LedgerState}
 use Rattle.mp_rules.specs.declared.invalid.Invalid.{Invalid}
 use Rattle.mp_block.specs.Block.{apply_block}
 use Rattle.mp_resync.specs.Keep.{keep}
+use Rattle.mp_seqpool.specs.declared.refusal.Refusal.{Refusal}
+use Rattle.mp_seqpool.specs.declared.command.Reply.{Reply}
 use Rattle.mp_seqpool.specs.Command.{Command}
 use Rattle.mp_seqpool.specs.Command as commands
 use Rattle.mp_seqpool.specs.Config.{renewed}
@@ -15,6 +18,7 @@ use Rattle.mp_lines.specs.declared.query.Query.{Query}
 use Rattle.mp_driver.specs.AnswerText.{answer_text}
 use Rattle.mp_driver.specs.QueryText.{query_text, for_text, cursor_after}
 use Rattle.mp_serve.specs.ServedPool.{ServedPool, accepted_by, latest, state_back}
+use Rattle.mp_serve.specs.Refused.{counted, counted_if}
 use Rattle.mp_serve.specs.Texts.{stats_text, block_refused_text, back_refused_text}
 
 -- a block's transactions, and where it leads to
@@ -56,12 +60,19 @@ abbrev pub obeyed : ServedPool → Command → Pool
 obeyed p c = counted_anew (next (accepted_by p.signatures) p.pool c)
 
 -- what is answered to a command
+abbrev pub answer_to : ServedPool → Command → Result Reply Refusal
+answer_to p c = answer (accepted_by p.signatures) p.pool c
+
 abbrev pub answered : Names → ServedPool → Command → List ℕ
-answered names p c = answer_text names (answer (accepted_by p.signatures) p.pool c)
+answered names p c = answer_text names (answer_to p c)
 
 -- the pool as it was, and the text
 abbrev pub unchanged : ℕ → ServedPool → List ℕ → Response
 unchanged cursor p text = record { served = p; cursor = cursor; text = text }
+
+-- the pool as it was but for one refusal more, counted at this place, and the text
+abbrev pub refused_at : ℕ → ℕ → ServedPool → List ℕ → Response
+refused_at place cursor p text = record { served = record p { refused = counted p.refused place }; cursor = cursor; text = text }
 
 -- the pool is synced with the ledger state, before which it has had these
 abbrev pub adopt : Names → ℕ → ServedPool → LedgerState → List LedgerState → Response
@@ -78,15 +89,19 @@ go_on names cursor p l = adopt names cursor p l (latest (p.former ++ p.pool.ledg
 -- the ledger state after the block, or that one of its transactions isn't valid after those before it
 abbrev pub extend : Names → ℕ → ServedPool → List Transaction → Result LedgerState (ℕ × Invalid) → Response
 extend names cursor p txs (Ok l) = go_on names cursor p l
-extend names cursor p txs (Err refused) = unchanged cursor p (block_refused_text names txs refused.0 refused.1)
+extend names cursor p txs (Err refused) = refused_at 18 cursor p (block_refused_text names txs refused.0 refused.1)
 
 -- a former ledger state, with those before it
 abbrev pub go_back : Names → ℕ → ServedPool → ℕ → Option LedgerState → Response
-go_back names cursor p count None = unchanged cursor p (back_refused_text (length p.former))
+go_back names cursor p count None = refused_at 19 cursor p (back_refused_text (length p.former))
 go_back names cursor p count (Some l) = adopt names cursor p l (take (length p.former - count) p.former)
 
 abbrev pub respond : Names → ℕ → ServedPool → Request → Response
-respond names cursor p (Do c) = record { served = record p { pool = obeyed p c }; cursor = cursor; text = answered names p c }
+respond names cursor p (Do c) = record {
+  served = record p { pool = obeyed p c; refused = counted_if p.refused (result_err (answer_to p c)) };
+  cursor = cursor;
+  text = answered names p c;
+}
 respond names cursor p (Adopt l) = go_on names cursor p l
 respond names cursor p (Extend block) =
     extend names cursor p block.txs (apply_block (accepted_by p.signatures) p.pool.ledger block.tick block.block_bytes block.txs)
@@ -98,4 +113,4 @@ respond names cursor p (Read query) = record {
 }
 respond names cursor p (Try l) = unchanged cursor p (for_text names (keep (accepted_by p.signatures) l p.pool.items))
 respond names cursor p (Check t) = unchanged cursor p (answered names p (commands.Submit t))
-respond names cursor p Count = unchanged cursor p (stats_text p.pool)
+respond names cursor p Count = unchanged cursor p (stats_text p.pool p.refused)

@@ -18,6 +18,8 @@ pub record ServedPool : Type 0 where
   pub signatures : Signatures
   -- the ledger states before the pool's, the oldest first
   pub former : List LedgerState
+  -- how often each kind of refusal was answered
+  pub refused : List ℕ
 
 -- the last 2,160
 abbrev pub latest : List LedgerState → List LedgerState

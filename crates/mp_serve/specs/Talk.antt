@@ -29,6 +29,7 @@ use Rattle.mp_serve.specs.declared.conversation.Stage.{Stage}
 use Rattle.mp_serve.specs.declared.conversation.Stage.TheVariants.{Before, Open}
 use Rattle.mp_serve.specs.declared.conversation.Conversation.{Conversation}
 use Rattle.mp_serve.specs.Ask.{Ask, NewBlock, Does, Reads, Shows, Checks, Counts, Holds, Extends, Returns, Forgets, ask_of}
+use Rattle.mp_serve.specs.Refused.{none_counted}
 use Rattle.mp_serve.specs.ServedPool.{ServedPool}
 use Rattle.mp_serve.specs.Request.{Block, Request, Response, Do, Adopt, Extend, Return, Read, Try, Check, Count, respond}
 use Rattle.mp_serve.specs.Texts.{ok_text, bytes_text, show_text, forgotten_text}
@@ -52,6 +53,7 @@ opened g b = record {
   pool = empty_pool (limit_of g) (last_of g) (at_tick b.ledger (tick_of g) (block_bytes_of g));
   signatures = b.signatures;
   former = [];
+  refused = none_counted;
 }
 
 -- it opens with the first request

@@ -10,6 +10,7 @@ use Rattle.mp_seqpool.specs.Pool.{Pool}
 use Rattle.mp_seqpool.specs.SlowPool.{bytes_held, free_bytes}
 use Rattle.mp_names.specs.Names.{Names, name_of}
 use Rattle.mp_driver.specs.AnswerText.{number_text, invalid_text}
+use Rattle.mp_serve.specs.Refused.{counts_text}
 
 -- what is answered where there is nothing to tell
 abbrev pub ok_text : List ℕ
@@ -52,9 +53,13 @@ unfoldable pub show_text : Transaction → List ℕ
 show_text t = (tx_words t ++ 32 ∷ encode_lower (spelling t)) ++ 10 ∷ []
 
 -- how many transactions, their bytes, the free bytes, the last ticket, and the changes since they were last counted anew
-unfoldable pub stats_text : Pool → List ℕ
-stats_text p =
-    (codes "stats" ++ number_text (length p.items) ++ number_text (bytes_held p) ++ number_text (free_bytes p) ++ number_text p.last ++ number_text p.changes) ++ 10 ∷ []
+abbrev pub pool_numbers : Pool → List ℕ
+pool_numbers p =
+    codes "stats" ++ number_text (length p.items) ++ number_text (bytes_held p) ++ number_text (free_bytes p) ++ number_text p.last ++ number_text p.changes
+
+-- and how often each kind of refusal was answered
+unfoldable pub stats_text : Pool → List ℕ → List ℕ
+stats_text p refused = (pool_numbers p ++ counts_text refused) ++ 10 ∷ []
 
 -- the name of the transaction, if there is one
 abbrev pub name_if_any : Names → Option Transaction → List ℕ

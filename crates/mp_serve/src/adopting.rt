@@ -57,7 +57,7 @@ pub fn go_on(
 {
     former.push(pool.ledger().share()?)?;
     match obey(memory, names, signatures, pool, &Command::Sync(ledger)) {
-        Ok(text) => {
+        Ok((text, _)) => {
             keep_latest(former);
             Ok(text)
         }
@@ -102,7 +102,7 @@ pub fn go_back(
         ((pool.new.pool ≡ pool.old.pool) × (former.new.items ≡ former.old.items)) }
     ensures ready { IsReady (accepted_by signatures) pool.new.pool }
 {
-    let text = obey(memory, names, signatures, pool, &Command::Sync(ledger))?;
+    let (text, _) = obey(memory, names, signatures, pool, &Command::Sync(ledger))?;
     former.truncate(former.len().saturating_sub(count));
     Ok(text)
 }

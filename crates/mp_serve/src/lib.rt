@@ -14,6 +14,7 @@ mod obeying;
 mod output;
 mod pool;
 mod reading;
+mod refused;
 mod request;
 mod serving;
 mod signatures;

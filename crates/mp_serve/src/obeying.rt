@@ -1,6 +1,7 @@
 //! What a pool does when it is told to.
 
-ghost use Rattle.std.specs.Prelude.{◌≡◌, ◌≤◌, ◌^◌, IfOk, IfErr, OnOk, OnErr};
+ghost use Rattle.std.specs.Prelude.{◌≡◌, ◌≤◌, ◌^◌, Some, Err, IfOk, IfErr, OnOk, OnErr};
+ghost use Rattle.std.specs.Result.{result_err};
 ghost use Rattle.std.specs.Arc.{arc_value};
 ghost use Rattle.mp_seqpool.specs.Command.{Submit};
 ghost use Rattle.mp_seqpool.specs.Inside.Command.{command_of};
@@ -51,6 +52,17 @@ fn count_anew(pool: &mut SeqPool)
     }
 }
 
+/// The line that answers a command, and why it is refused, if it is.
+pub type Answered = (Text, Option<Refusal>);
+
+fn refused(memory: Memory, names: &Names, refusal: Refusal) -> Result<Answered, NoMemory>
+    ensures text { IfOk result (λ r. r.0.items ≡ answer_text names.now (Err refusal)) }
+    ensures refusal { IfOk result (λ r. r.1 ≡ Some refusal) }
+{
+    let text = answer_line(memory, names, &Err(refusal))?;
+    Ok((text, Some(refusal)))
+}
+
 // Does what is asked. The line is there before it is done, so that there is nothing to undo.
 fn carry_out(
     memory: Memory,
@@ -58,12 +70,14 @@ fn carry_out(
     signatures: Signatures,
     pool: &mut SeqPool,
     command: &Command,
-) -> Result<Text, NoMemory>
+) -> Result<Answered, NoMemory>
     requires { IsReady (accepted_by signatures) pool.old.pool }
     ensures pool { OnOk result (pool.new.pool
         ≡ counted_anew (next (accepted_by signatures) pool.old.pool (command_of command.now))) }
-    ensures text { IfOk result (λ text. text.items ≡ answer_text names.now
+    ensures text { IfOk result (λ r. r.0.items ≡ answer_text names.now
         (answer (accepted_by signatures) pool.old.pool (command_of command.now))) }
+    ensures refusal { IfOk result (λ r. r.1
+        ≡ result_err (answer (accepted_by signatures) pool.old.pool (command_of command.now))) }
     ensures err { OnErr result (pool.new.pool ≡ pool.old.pool) }
 {
     match prepare(signatures, pool, command) {
@@ -71,28 +85,30 @@ fn carry_out(
             let text = reply_line(memory, prepared.reply())?;
             let _ = pool.finish(prepared);
             count_anew(pool);
-            Ok(text)
+            Ok((text, None))
         }
         Err(refusal) => match refusal {
             Refusal::NoMemory => Err(NoMemory),
-            other => answer_line(memory, names, &Err(other)),
+            other => refused(memory, names, other),
         },
     }
 }
 
-/// Does what is asked, and gives the line of its answer. After an `Err` nothing has changed.
+/// Does what is asked, and gives the line of its answer, and why it was refused, if it was. After an `Err` nothing has changed.
 pub fn obey(
     memory: Memory,
     names: &Names,
     signatures: Signatures,
     pool: &mut SeqPool,
     command: &Command,
-) -> Result<Text, NoMemory>
+) -> Result<Answered, NoMemory>
     requires { IsReady (accepted_by signatures) pool.old.pool }
     ensures pool { OnOk result (pool.new.pool
         ≡ counted_anew (next (accepted_by signatures) pool.old.pool (command_of command.now))) }
-    ensures text { IfOk result (λ text. text.items ≡ answer_text names.now
+    ensures text { IfOk result (λ r. r.0.items ≡ answer_text names.now
         (answer (accepted_by signatures) pool.old.pool (command_of command.now))) }
+    ensures refusal { IfOk result (λ r. r.1
+        ≡ result_err (answer (accepted_by signatures) pool.old.pool (command_of command.now))) }
     ensures err { OnErr result (pool.new.pool ≡ pool.old.pool) }
     ensures ready { IsReady (accepted_by signatures) pool.new.pool }
 {

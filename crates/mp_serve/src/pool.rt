@@ -6,13 +6,14 @@ use crate::block::Block;
 use crate::extending::{Extended, extend};
 use crate::obeying::{check, obey};
 use crate::reading::{kept_line, query_line};
+use crate::refused::{ADOPT, BACK, Counts, count, count_if_refused};
 use crate::request::Request;
 use crate::signatures::Signatures;
 use crate::texts::{Text, back_refused_line, stats_line};
 use mp_driver::Settings;
 use mp_memory::{Memory, NoMemory};
 use mp_names::Names;
-use mp_seqpool::{Config, SeqPool};
+use mp_seqpool::{Command, Config, SeqPool};
 use mp_tx::TxId;
 use std::marker::Model;
 
@@ -23,6 +24,7 @@ pub struct ServedPool {
     pool: SeqPool,
     signatures: Signatures,
     former: States,
+    refused: Counts,
 }
 
 impl Model for ServedPool {
@@ -46,7 +48,8 @@ impl ServedPool {
     ghost use Rattle.std.specs.Prelude.{◌≡◌, ℕ, IfOk, OnErr, is_some};
     ghost use Rattle.mp_seqpool.specs.SlowPool.{ticket_of};
     ghost use Rattle.mp_serve.specs.Talk.{opened};
-    ghost use Rattle.mp_serve.specs.Request.{Extend, Return, respond};
+    ghost use Rattle.mp_seqpool.specs.Inside.Command.{command_of};
+    ghost use Rattle.mp_serve.specs.Request.{Do, Extend, Return, respond};
     ghost use Rattle.mp_serve.specs.Inside.Request.{to_request};
 
     /// The empty pool upon the opening outputs, which stay as they are.
@@ -68,6 +71,7 @@ impl ServedPool {
             pool: SeqPool::start(memory, config, &ledger)?,
             signatures: beginning.signatures,
             former: Vec::new(memory),
+            refused: [0; 20],
         })
     }
 
@@ -76,6 +80,18 @@ impl ServedPool {
         ensures { result ≡ is_some (ticket_of id.now self.now.pool.items) }
     {
         self.pool.ticket_of(id).is_some()
+    }
+
+    // Does what is asked. A refusal is counted.
+    fn obey(&mut self, memory: Memory, names: &Names, command: &Command) -> Result<Text, NoMemory>
+        ensures ok { IfOk result (λ text. (cursor : ℕ)
+            → respond names.now cursor self.old (Do (command_of command.now))
+            ≡ record { served = self.new; cursor = cursor; text = text.items }) }
+        ensures err { OnErr result (self.new ≡ self.old) }
+    {
+        let (text, refusal) = obey(memory, names, self.signatures, &mut self.pool, command)?;
+        count_if_refused(&mut self.refused, refusal);
+        Ok(text)
     }
 
     // The ledger state after the block, or which of its transactions isn't valid after those before it.
@@ -102,7 +118,10 @@ impl ServedPool {
                     ledger,
                 )
             }
-            Extended::Refused(text) => Ok(text),
+            Extended::Refused(text) => {
+                count(&mut self.refused, ADOPT);
+                Ok(text)
+            }
         }
     }
 
@@ -124,7 +143,11 @@ impl ServedPool {
                 count,
                 ledger,
             ),
-            None => back_refused_line(memory, self.former.len() as u64),
+            None => {
+                let text = back_refused_line(memory, self.former.len() as u64)?;
+                count(&mut self.refused, BACK);
+                Ok(text)
+            }
         }
     }
 
@@ -146,7 +169,7 @@ impl ServedPool {
     {
         let signatures = self.signatures;
         let text = match request {
-            Request::Do(command) => obey(memory, names, signatures, &mut self.pool, command)?,
+            Request::Do(command) => self.obey(memory, names, command)?,
             Request::Adopt(ledger) => {
                 let ledger = ledger.share()?;
                 go_on(
@@ -165,7 +188,7 @@ impl ServedPool {
             }
             Request::Try(ledger) => kept_line(memory, names, signatures, &self.pool, ledger)?,
             Request::Check(tx) => check(memory, names, signatures, &mut self.pool, tx)?,
-            Request::Count => stats_line(memory, &self.pool)?,
+            Request::Count => stats_line(memory, &self.pool, &self.refused)?,
         };
         Ok((text, cursor))
     }

@@ -4,8 +4,9 @@ ghost use Rattle.std.specs.Prelude.{◌≡◌, ◌++◌, ◌∷◌, [], ℕ, Lis
 ghost use Rattle.hex.specs.Hex.{encode_lower};
 ghost use Rattle.std.specs.Prelude.{map, option_copied, option_map, slice_get};
 ghost use Rattle.std.specs.Arc.{arc_value};
-ghost use Rattle.mp_serve.specs.Texts.{ok_text, bad_text, fault_name, tx_words, bytes_text, show_text, stats_text, name_if_any, block_refused_text, back_refused_text, forgotten_text};
+ghost use Rattle.mp_serve.specs.Texts.{ok_text, bad_text, fault_name, tx_words, bytes_text, show_text, pool_numbers, stats_text, name_if_any, block_refused_text, back_refused_text, forgotten_text};
 
+use crate::refused::{Counts, put_counts};
 use mp_driver::{put_number, put_refusal, put_word};
 use mp_memory::{Memory, NoMemory};
 use mp_names::{Names, Reason};
@@ -115,18 +116,25 @@ pub fn show_line(memory: Memory, tx: &Tx) -> Result<Text, NoMemory>
     Ok(text)
 }
 
-/// The line of a pool's numbers.
+fn put_pool_numbers(memory: Memory, text: &mut Text, pool: &SeqPool) -> Result<(), NoMemory>
+    ensures { OnOk result (text.new.items ≡ text.old.items ++ pool_numbers pool.now.pool) }
+{
+    put_word(text, b"stats")?;
+    put_number(memory, text, pool.len() as u64)?;
+    put_number(memory, text, pool.bytes())?;
+    put_number(memory, text, pool.free_bytes())?;
+    put_number(memory, text, pool.last_ticket())?;
+    put_number(memory, text, pool.changes())
+}
+
+/// The line of a pool's numbers, and of how often each kind of refusal was answered.
 #[tactic(auto, unfolding(crate::specs::Texts::stats_text))]
-pub fn stats_line(memory: Memory, pool: &SeqPool) -> Result<Text, NoMemory>
-    ensures { IfOk result (λ text. text.items ≡ stats_text pool.now.pool) }
+pub fn stats_line(memory: Memory, pool: &SeqPool, refused: &Counts) -> Result<Text, NoMemory>
+    ensures { IfOk result (λ text. text.items ≡ stats_text pool.now.pool refused.now) }
 {
     let mut text = Vec::new(memory);
-    put_word(&mut text, b"stats")?;
-    put_number(memory, &mut text, pool.len() as u64)?;
-    put_number(memory, &mut text, pool.bytes())?;
-    put_number(memory, &mut text, pool.free_bytes())?;
-    put_number(memory, &mut text, pool.last_ticket())?;
-    put_number(memory, &mut text, pool.changes())?;
+    put_pool_numbers(memory, &mut text, pool)?;
+    put_counts(memory, &mut text, refused)?;
     text.push(b'\n')?;
     Ok(text)
 }

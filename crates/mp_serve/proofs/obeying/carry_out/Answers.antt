@@ -1,5 +1,6 @@
 use Rattle.std.proofs.Common.{◌≡◌, sym, subst, ◌∙◌}
 use Rattle.std.specs.Prelude.{IfOk}
+use Rattle.std.specs.Result.{result_err}
 use Rattle.mp_seqpool.specs.Inside.Command.{command_of}
 use Rattle.mp_seqpool.proofs.Histories.{signed, told}
 use Rattle.mp_driver.specs.AnswerText.{answer_text}
@@ -16,7 +17,8 @@ returns-in_default c =
     let command = command_of c.args.command.now in
     let is = told (accepted_by c.args.signatures) p command c.in-Err.refusal c.in-Err.ensures.refused c.in_default.not-NoMemory in
     record {
-      pool = on_ok c.answer_line.result _ (c.in-Err.ensures.same ∙ refused_same (accepted_by c.args.signatures) p command c.in-Err.refusal c.requires.change is);
-      text = subst (λ a. IfOk c.answer_line.result (λ text. text.items ≡ answer_text c.args.names.now a)) (sym is) c.answer_line.ensures;
-      err = on_err c.answer_line.result _ c.in-Err.ensures.same;
+      pool = on_ok c.refused.result _ (c.in-Err.ensures.same ∙ refused_same (accepted_by c.args.signatures) p command c.in-Err.refusal c.requires.change is);
+      text = subst (λ a. IfOk c.refused.result (λ r. r.0.items ≡ answer_text c.args.names.now a)) (sym is) c.refused.ensures.text;
+      refusal = subst (λ a. IfOk c.refused.result (λ r. r.1 ≡ result_err a)) (sym is) c.refused.ensures.refusal;
+      err = on_err c.refused.result _ c.in-Err.ensures.same;
     }
