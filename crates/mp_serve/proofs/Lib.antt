@@ -1,4 +1,5 @@
 pub mod Firsts
 pub mod Pools
+pub mod Counts
 pub mod Lines
 pub mod Progress

@@ -66,6 +66,10 @@ answer_to p c = answer (accepted_by p.signatures) p.pool c
 abbrev pub answered : Names → ServedPool → Command → List ℕ
 answered names p c = answer_text names (answer_to p c)
 
+-- a refusal is counted
+abbrev pub after_command : ServedPool → Command → ServedPool
+after_command p c = record p { pool = obeyed p c; refused = counted_if p.refused (result_err (answer_to p c)) }
+
 -- the pool as it was, and the text
 abbrev pub unchanged : ℕ → ServedPool → List ℕ → Response
 unchanged cursor p text = record { served = p; cursor = cursor; text = text }
@@ -97,11 +101,7 @@ go_back names cursor p count None = refused_at 19 cursor p (back_refused_text (l
 go_back names cursor p count (Some l) = adopt names cursor p l (take (length p.former - count) p.former)
 
 abbrev pub respond : Names → ℕ → ServedPool → Request → Response
-respond names cursor p (Do c) = record {
-  served = record p { pool = obeyed p c; refused = counted_if p.refused (result_err (answer_to p c)) };
-  cursor = cursor;
-  text = answered names p c;
-}
+respond names cursor p (Do c) = record { served = after_command p c; cursor = cursor; text = answered names p c }
 respond names cursor p (Adopt l) = go_on names cursor p l
 respond names cursor p (Extend block) =
     extend names cursor p block.txs (apply_block (accepted_by p.signatures) p.pool.ledger block.tick block.block_bytes block.txs)

@@ -55,12 +55,12 @@ fn count_anew(pool: &mut SeqPool)
 /// The line that answers a command, and why it is refused, if it is.
 pub type Answered = (Text, Option<Refusal>);
 
-fn refused(memory: Memory, names: &Names, refusal: Refusal) -> Result<Answered, NoMemory>
-    ensures text { IfOk result (λ r. r.0.items ≡ answer_text names.now (Err refusal)) }
-    ensures refusal { IfOk result (λ r. r.1 ≡ Some refusal) }
+fn refused(memory: Memory, names: &Names, refusal: &Refusal) -> Result<Answered, NoMemory>
+    ensures text { IfOk result (λ r. r.0.items ≡ answer_text names.now (Err refusal.now)) }
+    ensures refusal { IfOk result (λ r. r.1 ≡ Some refusal.now) }
 {
-    let text = answer_line(memory, names, &Err(refusal))?;
-    Ok((text, Some(refusal)))
+    let text = answer_line(memory, names, &Err(*refusal))?;
+    Ok((text, Some(*refusal)))
 }
 
 // Does what is asked. The line is there before it is done, so that there is nothing to undo.
@@ -89,7 +89,7 @@ fn carry_out(
         }
         Err(refusal) => match refusal {
             Refusal::NoMemory => Err(NoMemory),
-            other => refused(memory, names, other),
+            other => refused(memory, names, &other),
         },
     }
 }

@@ -6,7 +6,7 @@ use crate::block::Block;
 use crate::extending::{Extended, extend};
 use crate::obeying::{check, obey};
 use crate::reading::{kept_line, query_line};
-use crate::refused::{ADOPT, BACK, Counts, count, count_if_refused};
+use crate::refused::{ADOPT, BACK, Counts, count_at, count_if_refused};
 use crate::request::Request;
 use crate::signatures::Signatures;
 use crate::texts::{Text, back_refused_line, stats_line};
@@ -45,11 +45,11 @@ impl Model for ServedPool {
 }
 
 impl ServedPool {
-    ghost use Rattle.std.specs.Prelude.{◌≡◌, ℕ, IfOk, OnErr, is_some};
+    ghost use Rattle.std.specs.Prelude.{◌≡◌, ℕ, IfOk, OnOk, OnErr, is_some};
     ghost use Rattle.mp_seqpool.specs.SlowPool.{ticket_of};
     ghost use Rattle.mp_serve.specs.Talk.{opened};
     ghost use Rattle.mp_seqpool.specs.Inside.Command.{command_of};
-    ghost use Rattle.mp_serve.specs.Request.{Do, Extend, Return, respond};
+    ghost use Rattle.mp_serve.specs.Request.{Extend, Return, after_command, answered, respond};
     ghost use Rattle.mp_serve.specs.Inside.Request.{to_request};
 
     /// The empty pool upon the opening outputs, which stay as they are.
@@ -84,9 +84,10 @@ impl ServedPool {
 
     // Does what is asked. A refusal is counted.
     fn obey(&mut self, memory: Memory, names: &Names, command: &Command) -> Result<Text, NoMemory>
-        ensures ok { IfOk result (λ text. (cursor : ℕ)
-            → respond names.now cursor self.old (Do (command_of command.now))
-            ≡ record { served = self.new; cursor = cursor; text = text.items }) }
+        ensures served { OnOk result
+            (self.new ≡ after_command self.old (command_of command.now)) }
+        ensures text { IfOk result (λ text.
+            text.items ≡ answered names.now self.old (command_of command.now)) }
         ensures err { OnErr result (self.new ≡ self.old) }
     {
         let (text, refusal) = obey(memory, names, self.signatures, &mut self.pool, command)?;
@@ -119,7 +120,7 @@ impl ServedPool {
                 )
             }
             Extended::Refused(text) => {
-                count(&mut self.refused, ADOPT);
+                count_at(&mut self.refused, ADOPT);
                 Ok(text)
             }
         }
@@ -145,7 +146,7 @@ impl ServedPool {
             ),
             None => {
                 let text = back_refused_line(memory, self.former.len() as u64)?;
-                count(&mut self.refused, BACK);
+                count_at(&mut self.refused, BACK);
                 Ok(text)
             }
         }

@@ -1,7 +1,7 @@
 //! How often each kind of refusal was answered.
 
-ghost use Rattle.std.specs.Prelude.{◌≡◌, ◌<◌, ◌++◌, length, OnOk};
-ghost use Rattle.mp_serve.specs.Refused.{place_of, counted, counted_if, count_text, counts_text};
+ghost use Rattle.std.specs.Prelude.{◌≡◌, ◌<◌, ◌≤◌, ◌++◌, length, map, OnOk};
+ghost use Rattle.mp_serve.specs.Refused.{place_of, counted, counted_if, count_text, texts, counts_text};
 
 use crate::texts::Text;
 use mp_driver::{put_number, put_word};
@@ -57,7 +57,7 @@ fn place_of(refusal: Refusal) -> usize
 }
 
 /// Counts one more at the place.
-pub fn count(counts: &mut Counts, place: usize)
+pub fn count_at(counts: &mut Counts, place: usize)
     requires { place < 20 }
     ensures { counts.new ≡ counted counts.old place }
 {
@@ -69,7 +69,7 @@ pub fn count_if_refused(counts: &mut Counts, refusal: Option<Refusal>)
     ensures { counts.new ≡ counted_if counts.old refusal }
 {
     if let Some(refusal) = refusal {
-        count(counts, place_of(refusal));
+        count_at(counts, place_of(refusal));
     }
 }
 
@@ -85,12 +85,26 @@ fn put_count(memory: Memory, text: &mut Text, word: &[u8], count: u64) -> Result
     put_number(memory, text, count)
 }
 
+// Each of these words with its count.
+fn put_each(
+    memory: Memory,
+    text: &mut Text,
+    words: &[&[u8]],
+    counts: &[u64],
+) -> Result<(), NoMemory>
+    requires { length words.now ≤ length counts.now }
+    ensures { OnOk result (text.new.items
+        ≡ text.old.items ++ texts (map (λ w. w.now) words.now) counts.now) }
+{
+    for (place, word) in words.iter().enumerate() {
+        put_count(memory, text, word, counts[place])?;
+    }
+    Ok(())
+}
+
 /// Each kind that was answered, and how often.
 pub fn put_counts(memory: Memory, text: &mut Text, counts: &Counts) -> Result<(), NoMemory>
     ensures { OnOk result (text.new.items ≡ text.old.items ++ counts_text counts.now) }
 {
-    for (place, word) in WORDS.iter().enumerate() {
-        put_count(memory, text, word, counts[place])?;
-    }
-    Ok(())
+    put_each(memory, text, &WORDS, counts)
 }

@@ -1,4 +1,4 @@
-use Rattle.std.proofs.Common.{◌≡◌, ℕ, List, sym, ap, subst, ◌∙◌}
+use Rattle.std.proofs.Common.{◌≡◌, sym, ap, subst, ◌∙◌}
 use Rattle.std.specs.Prelude.{IfOk, Ok}
 use Rattle.mp_tx.specs.Reading.{transaction_of}
 use Rattle.mp_tx.proofs.TxReading.{transaction_again}
