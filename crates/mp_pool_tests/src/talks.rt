@@ -50,13 +50,18 @@ const READS: Talk = Talk {
     lines: &[
         b"out g0 100",
         b"tx a in=g0 out=100",
+        b"show a",
+        b"bytes b 010001000000000000000000000000000000000000000000000000000000000000000000000001010003030000000303\
+            000000014bf5122f344554c53bde2ebb8cd2b7e3d1600ad631c385a5d7cce23c7785459a3e4479e6b5a0a3bed1440325\
+            ca4bb09327a1dfb39c28bdd59de53a687ade010500010000000000000000000000000000000000000000000000000000\
+            0000000000000000000000000000640000000000000000ffffffffffffffff000000000000",
         b"bytes x 00",
         b"bytes y",
         b"submit a",
         b"after 0",
         b"lookup 1",
         b"lookup 2",
-        b"has a",
+        b"has b",
         b"take 180",
         b"forge 181",
         b"offer 9 1000",
@@ -64,7 +69,13 @@ const READS: Talk = Talk {
         b"for 0 a.0",
         b"for 0 g0",
     ],
-    answers: b"ok\nok\nundecodable version\nbad\naccepted 1\nafter 1:a\nlookup a\nlookup none\nhas yes\ntake 0 0\n\
+    answers: b"ok\nok\ntx 181 f8f11283a19134b80b18f90f8ab47ef21a315808b705b442408dadb4fffe20b1 \
+        010001000000000000000000000000000000000000000000000000000000000000000000000001010003030000000303\
+        000000014bf5122f344554c53bde2ebb8cd2b7e3d1600ad631c385a5d7cce23c7785459a3e4479e6b5a0a3bed1440325\
+        ca4bb09327a1dfb39c28bdd59de53a687ade010500010000000000000000000000000000000000000000000000000000\
+        0000000000000000000000000000640000000000000000ffffffffffffffff000000000000\
+        \ntx 181 f8f11283a19134b80b18f90f8ab47ef21a315808b705b442408dadb4fffe20b1\n\
+        undecodable version\nbad\naccepted 1\nafter 1:a\nlookup a\nlookup none\nhas yes\ntake 0 0\n\
         block 1 181 1:a\noffer 1:a\noffer\nfor\nfor 1:a\n",
 };
 
