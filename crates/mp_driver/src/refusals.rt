@@ -1,14 +1,13 @@
 //! The names of refusals, and what is told with them.
 
 ghost use Rattle.std.specs.Prelude.{◌≡◌, ◌++◌, OnOk, codes};
-ghost use Rattle.std.specs.List.{list_all};
-ghost use Rattle.mp_text.specs.Names.{is_letter_or_digit};
 ghost use Rattle.mp_driver.specs.AnswerText.{number_text, hex_text, token_name_text, policy_text, token_text, invalid_text, refusal_text};
 
 use mp_bundle::{PolicyId, TokenName};
 use mp_memory::{Memory, NoMemory};
 use mp_names::Names;
 use mp_seqpool::{Invalid, Refusal};
+use mp_text::are_letters_or_digits;
 
 type Text = Vec<u8, Memory>;
 
@@ -36,18 +35,6 @@ fn put_place(memory: Memory, text: &mut Text, word: &[u8], place: usize) -> Resu
 {
     text.extend_from_slice(word)?;
     put_number(memory, text, place as u64)
-}
-
-fn is_letter_or_digit(byte: u8) -> bool
-    ensures { result ≡ is_letter_or_digit byte }
-{
-    byte.is_ascii_lowercase() || byte.is_ascii_digit()
-}
-
-fn are_letters_or_digits(bytes: &[u8]) -> bool
-    ensures { result ≡ list_all is_letter_or_digit bytes.now }
-{
-    bytes.iter().all(|&byte| is_letter_or_digit(byte))
 }
 
 // A number sign and the digits of the bytes.

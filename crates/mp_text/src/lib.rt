@@ -11,7 +11,7 @@ mod words;
 
 pub use input::{InputFault, MAX_BYTES, MAX_READS, read_all};
 pub use lines::{MAX_LINE_BYTES, first_line, is_clean};
-pub use names::is_name;
+pub use names::{are_letters_or_digits, is_name};
 pub use numbers::{number, quantity};
 pub use output::{WriteFault, write_all};
 pub use words::{first_word, is_comment_or_blank};

@@ -12,7 +12,8 @@ fn is_letter_or_digit(byte: u8) -> bool
     byte.is_ascii_lowercase() || byte.is_ascii_digit()
 }
 
-fn are_letters_or_digits(bytes: &[u8]) -> bool
+/// Whether all of the bytes are lower-case letters or digits.
+pub fn are_letters_or_digits(bytes: &[u8]) -> bool
     ensures { result ≡ list_all is_letter_or_digit bytes.now }
 {
     bytes.iter().all(|&byte| is_letter_or_digit(byte))
