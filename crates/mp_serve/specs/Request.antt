@@ -90,12 +90,12 @@ adopt names cursor p l former = record {
 abbrev pub go_on : Names → ℕ → ServedPool → LedgerState → Response
 go_on names cursor p l = adopt names cursor p l (latest (p.former ++ p.pool.ledger ∷ []))
 
--- the ledger state after the block, or that one of its transactions isn't valid after those before it
+-- the ledger state after the block, or that one of its transactions isn't valid after those before it, counted as `adopt`
 abbrev pub extend : Names → ℕ → ServedPool → List Transaction → Result LedgerState (ℕ × Invalid) → Response
 extend names cursor p txs (Ok l) = go_on names cursor p l
 extend names cursor p txs (Err refused) = refused_at 18 cursor p (block_refused_text names txs refused.0 refused.1)
 
--- a former ledger state, with those before it
+-- a former ledger state, with those before it, or that it isn't kept, counted as `back`
 abbrev pub go_back : Names → ℕ → ServedPool → ℕ → Option LedgerState → Response
 go_back names cursor p count None = refused_at 19 cursor p (back_refused_text (length p.former))
 go_back names cursor p count (Some l) = adopt names cursor p l (take (length p.former - count) p.former)
