@@ -1,5 +1,5 @@
 -- The line that a command writes.
-use Rattle.std.specs.Prelude.{ℕ, List, [], ◌∷◌, ◌++◌, length, flat_map, slice_index, decimal, codes, if◌then◌else◌, Result, Ok, Err}
+use Rattle.std.specs.Prelude.{ℕ, ◌+◌, List, [], ◌∷◌, ◌++◌, length, flat_map, slice_index, slice_index_or, decimal, codes, if◌then◌else◌, Result, Ok, Err}
 use Rattle.std.specs.List.{list_all}
 use Rattle.hex.specs.Hex.{encode_lower}
 use Rattle.mp_text.specs.Names.{is_letter_or_digit}
@@ -7,6 +7,7 @@ use Rattle.mp_tx.specs.Transaction.{Transaction}
 use Rattle.mp_tx.specs.Spelling.{id_of}
 use Rattle.mp_rules.specs.declared.invalid.Invalid.{Invalid}
 use Rattle.mp_rules.specs.declared.invalid.Invalid.TheVariants as rules
+use Rattle.mp_rules.specs.Invalid.{number}
 use Rattle.mp_seqpool.specs.declared.refusal.Refusal.{Refusal}
 use Rattle.mp_seqpool.specs.declared.refusal.Refusal.TheVariants as refusals
 use Rattle.mp_seqpool.specs.declared.command.Reply.{Reply}
@@ -40,30 +41,73 @@ abbrev pub token_text : Names → List ℕ → List ℕ → List ℕ
 token_text names policy [] = policy_text names policy
 token_text names policy (byte ∷ bytes) = policy_text names policy ++ 46 ∷ token_name_text (byte ∷ bytes)
 
--- a key is told by its first byte
-abbrev pub invalid_text : Names → Invalid → List ℕ
-invalid_text names rules.NoMemory = codes "memory"
-invalid_text names rules.NoInputs = codes "no-inputs"
-invalid_text names rules.OutsideInterval = codes "interval"
-invalid_text names (rules.NegativeOutput place) = codes "negative" ++ number_text place
-invalid_text names (rules.InputMissing place) = codes "missing" ++ number_text place
-invalid_text names (rules.ReferenceMissing place) = codes "reference" ++ number_text place
-invalid_text names (rules.AddressMismatch place) = codes "address" ++ number_text place
-invalid_text names (rules.DatumMismatch place) = codes "datum" ++ number_text place
-invalid_text names (rules.OutputTaken place) = codes "taken" ++ number_text place
-invalid_text names (rules.ForgeWithoutPolicy policy) = codes "no-policy " ++ policy_text names policy
-invalid_text names (rules.Unbalanced policy name taken paid) = codes "unbalanced " ++ token_text names policy name
-invalid_text names (rules.BadSignature key) = codes "signature" ++ number_text (slice_index key 0)
-invalid_text names (rules.ValidatorRefused place) = codes "validator" ++ number_text place
-invalid_text names (rules.PolicyRefused place) = codes "policy-script" ++ number_text place
+-- the words of refusals; those of rules stand in the order of the rules' numbers
+abbrev pub refusal_words : List (List ℕ)
+refusal_words =
+    codes "history"
+    ∷ codes "tickets"
+    ∷ codes "already"
+    ∷ codes "full"
+    ∷ codes "memory"
+    ∷ codes "no-inputs"
+    ∷ codes "interval"
+    ∷ codes "negative"
+    ∷ codes "missing"
+    ∷ codes "address"
+    ∷ codes "datum"
+    ∷ codes "taken"
+    ∷ codes "no-policy"
+    ∷ codes "unbalanced"
+    ∷ codes "signature"
+    ∷ codes "validator"
+    ∷ codes "policy-script"
+    ∷ codes "reference"
+    ∷ []
 
-abbrev pub refusal_text : Names → Refusal → List ℕ
-refusal_text names refusals.NoMemory = codes "memory"
-refusal_text names refusals.HistoryFull = codes "history"
-refusal_text names refusals.TicketsSpent = codes "tickets"
-refusal_text names (refusals.AlreadyInPool ticket) = codes "already" ++ number_text ticket
-refusal_text names (refusals.Full need free) = codes "full" ++ number_text need ++ number_text free
-refusal_text names (refusals.Invalid fault) = invalid_text names fault
+abbrev pub word_at : List (List ℕ) → ℕ → List ℕ
+word_at words place = slice_index_or words place []
+
+-- where the word of a rule stands among them
+abbrev pub rule_place : Invalid → ℕ
+rule_place fault = 3 + number fault
+
+-- where that of a refusal does
+abbrev pub refusal_place : Refusal → ℕ
+refusal_place refusals.HistoryFull = 0
+refusal_place refusals.TicketsSpent = 1
+refusal_place (refusals.AlreadyInPool ticket) = 2
+refusal_place (refusals.Full need free) = 3
+refusal_place refusals.NoMemory = 4
+refusal_place (refusals.Invalid fault) = rule_place fault
+
+-- what is told with the word; a key by its first byte
+abbrev pub told_of_fault : Names → Invalid → List ℕ
+told_of_fault names rules.NoMemory = []
+told_of_fault names rules.NoInputs = []
+told_of_fault names rules.OutsideInterval = []
+told_of_fault names (rules.NegativeOutput place) = number_text place
+told_of_fault names (rules.InputMissing place) = number_text place
+told_of_fault names (rules.ReferenceMissing place) = number_text place
+told_of_fault names (rules.AddressMismatch place) = number_text place
+told_of_fault names (rules.DatumMismatch place) = number_text place
+told_of_fault names (rules.OutputTaken place) = number_text place
+told_of_fault names (rules.ForgeWithoutPolicy policy) = 32 ∷ policy_text names policy
+told_of_fault names (rules.Unbalanced policy name taken paid) = 32 ∷ token_text names policy name
+told_of_fault names (rules.BadSignature key) = number_text (slice_index key 0)
+told_of_fault names (rules.ValidatorRefused place) = number_text place
+told_of_fault names (rules.PolicyRefused place) = number_text place
+
+abbrev pub told_of_refusal : Names → Refusal → List ℕ
+told_of_refusal names refusals.NoMemory = []
+told_of_refusal names refusals.HistoryFull = []
+told_of_refusal names refusals.TicketsSpent = []
+told_of_refusal names (refusals.AlreadyInPool ticket) = number_text ticket
+told_of_refusal names (refusals.Full need free) = number_text need ++ number_text free
+told_of_refusal names (refusals.Invalid fault) = told_of_fault names fault
+
+-- the word, and what is told with it
+unfoldable pub refusal_text : Names → Refusal → List ℕ
+refusal_text names refusal = word_at refusal_words (refusal_place refusal) ++ told_of_refusal names refusal
 
 -- each ticket after a space
 abbrev pub tickets_text : List ℕ → List ℕ

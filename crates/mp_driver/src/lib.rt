@@ -23,7 +23,7 @@ pub use ledgers::{block_bytes_at, ledger_at, make_ledger};
 pub use missing_entry::MissingEntry;
 pub use openings::Openings;
 pub use queries::{put_found, put_has, put_item, put_items, put_sized};
-pub use refusals::{put_number, put_refusal, put_word};
+pub use refusals::{REFUSAL_WORDS, REFUSALS, put_number, put_refusal, put_word, refusal_place};
 pub use running::{answer_text, run};
 pub use settings::Settings;
 pub use stop::Stop;

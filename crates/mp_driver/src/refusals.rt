@@ -1,7 +1,7 @@
 //! The names of refusals, and what is told with them.
 
-ghost use Rattle.std.specs.Prelude.{◌≡◌, ◌++◌, OnOk, codes};
-ghost use Rattle.mp_driver.specs.AnswerText.{number_text, hex_text, token_name_text, policy_text, token_text, invalid_text, refusal_text};
+ghost use Rattle.std.specs.Prelude.{◌≡◌, ◌<◌, ◌∷◌, ◌++◌, length, map, OnOk};
+ghost use Rattle.mp_driver.specs.AnswerText.{number_text, hex_text, token_name_text, policy_text, token_text, word_at, rule_place, refusal_place, told_of_fault, told_of_refusal, refusal_text};
 
 use mp_bundle::{PolicyId, TokenName};
 use mp_memory::{Memory, NoMemory};
@@ -10,6 +10,31 @@ use mp_seqpool::{Invalid, Refusal};
 use mp_text::are_letters_or_digits;
 
 type Text = Vec<u8, Memory>;
+
+/// How many kinds of refusals there are.
+pub const REFUSALS: usize = 18;
+
+/// The words of refusals. Those of rules stand in the order of the rules' numbers.
+pub const REFUSAL_WORDS: [&[u8]; REFUSALS] = [
+    b"history",
+    b"tickets",
+    b"already",
+    b"full",
+    b"memory",
+    b"no-inputs",
+    b"interval",
+    b"negative",
+    b"missing",
+    b"address",
+    b"datum",
+    b"taken",
+    b"no-policy",
+    b"unbalanced",
+    b"signature",
+    b"validator",
+    b"policy-script",
+    b"reference",
+];
 
 /// A space and the number.
 pub fn put_number(memory: Memory, text: &mut Text, number: u64) -> Result<(), NoMemory>
@@ -27,14 +52,6 @@ pub fn put_word(text: &mut Text, word: &[u8]) -> Result<(), NoMemory>
 {
     text.extend_from_slice(word)?;
     Ok(())
-}
-
-// The word and the place.
-fn put_place(memory: Memory, text: &mut Text, word: &[u8], place: usize) -> Result<(), NoMemory>
-    ensures { OnOk result (text.new.items ≡ text.old.items ++ (word.now ++ number_text place)) }
-{
-    text.extend_from_slice(word)?;
-    put_number(memory, text, place as u64)
 }
 
 // A number sign and the digits of the bytes.
@@ -93,21 +110,22 @@ fn put_token(
     Ok(())
 }
 
-// A policy whose tokens are forged and whose script isn't there.
-fn put_no_policy(
+// The policy, behind a space.
+fn put_policy_behind(
     memory: Memory,
     text: &mut Text,
     names: &Names,
     policy: &PolicyId,
 ) -> Result<(), NoMemory>
-    ensures { OnOk result (text.new.items
-        ≡ text.old.items ++ (codes "no-policy " ++ policy_text names.now policy.now)) }
+    ensures { OnOk result
+        (text.new.items ≡ text.old.items ++ 32 ∷ policy_text names.now policy.now) }
 {
-    put_word(text, b"no-policy ")?;
+    text.push(b' ')?;
     put_policy(memory, text, names, policy)
 }
 
-fn put_unbalanced(
+// The token, behind a space.
+fn put_token_behind(
     memory: Memory,
     text: &mut Text,
     names: &Names,
@@ -115,59 +133,105 @@ fn put_unbalanced(
     name: &TokenName,
 ) -> Result<(), NoMemory>
     ensures { OnOk result (text.new.items
-        ≡ text.old.items ++ (codes "unbalanced " ++ token_text names.now policy.now name.now)) }
+        ≡ text.old.items ++ 32 ∷ token_text names.now policy.now name.now) }
 {
-    put_word(text, b"unbalanced ")?;
+    text.push(b' ')?;
     put_token(memory, text, names, policy, name)
 }
 
-fn put_invalid(
+// Where the word of the rule stands.
+fn rule_place(fault: &Invalid) -> usize
+    ensures place { result ≡ rule_place fault.now }
+    ensures least { result < 18 }
+{
+    3 + fault.number() as usize
+}
+
+/// Where the word of the refusal stands among `REFUSAL_WORDS`.
+pub fn refusal_place(refusal: &Refusal) -> usize
+    ensures place { result ≡ refusal_place refusal.now }
+    ensures least { result < 18 }
+{
+    match refusal {
+        Refusal::HistoryFull => 0,
+        Refusal::TicketsSpent => 1,
+        Refusal::AlreadyInPool(_) => 2,
+        Refusal::Full { .. } => 3,
+        Refusal::NoMemory => 4,
+        Refusal::Invalid(fault) => rule_place(fault),
+    }
+}
+
+// A space and the place.
+fn put_place(memory: Memory, text: &mut Text, place: usize) -> Result<(), NoMemory>
+    ensures { OnOk result (text.new.items ≡ text.old.items ++ number_text place) }
+{
+    put_number(memory, text, place as u64)
+}
+
+fn put_told_of_fault(
     memory: Memory,
     text: &mut Text,
     names: &Names,
     fault: &Invalid,
 ) -> Result<(), NoMemory>
-    ensures { OnOk result (text.new.items ≡ text.old.items ++ invalid_text names.now fault.now) }
+    ensures { OnOk result (text.new.items ≡ text.old.items ++ told_of_fault names.now fault.now) }
 {
     match fault {
-        Invalid::NoMemory => put_word(text, b"memory"),
-        Invalid::NoInputs => put_word(text, b"no-inputs"),
-        Invalid::OutsideInterval => put_word(text, b"interval"),
-        Invalid::NegativeOutput(place) => put_place(memory, text, b"negative", *place),
-        Invalid::InputMissing(place) => put_place(memory, text, b"missing", *place),
-        Invalid::ReferenceMissing(place) => put_place(memory, text, b"reference", *place),
-        Invalid::AddressMismatch(place) => put_place(memory, text, b"address", *place),
-        Invalid::DatumMismatch(place) => put_place(memory, text, b"datum", *place),
-        Invalid::OutputTaken(place) => put_place(memory, text, b"taken", *place),
-        Invalid::ForgeWithoutPolicy(policy) => put_no_policy(memory, text, names, policy),
+        Invalid::NoMemory | Invalid::NoInputs | Invalid::OutsideInterval => Ok(()),
+        Invalid::NegativeOutput(place)
+        | Invalid::InputMissing(place)
+        | Invalid::ReferenceMissing(place)
+        | Invalid::AddressMismatch(place)
+        | Invalid::DatumMismatch(place)
+        | Invalid::OutputTaken(place)
+        | Invalid::ValidatorRefused(place)
+        | Invalid::PolicyRefused(place) => put_place(memory, text, *place),
+        Invalid::ForgeWithoutPolicy(policy) => put_policy_behind(memory, text, names, policy),
         Invalid::Unbalanced { policy, name, .. } => {
-            put_unbalanced(memory, text, names, policy, name)
+            put_token_behind(memory, text, names, policy, name)
         }
-        Invalid::BadSignature(key) => put_place(memory, text, b"signature", key[0] as usize),
-        Invalid::ValidatorRefused(place) => put_place(memory, text, b"validator", *place),
-        Invalid::PolicyRefused(place) => put_place(memory, text, b"policy-script", *place),
+        Invalid::BadSignature(key) => put_place(memory, text, key[0] as usize),
     }
 }
 
-fn put_already(memory: Memory, text: &mut Text, ticket: u64) -> Result<(), NoMemory>
-    ensures { OnOk result (text.new.items
-        ≡ text.old.items ++ (codes "already" ++ number_text ticket)) }
-{
-    put_word(text, b"already")?;
-    put_number(memory, text, ticket)
-}
-
 // The bytes that are wanted, and those that are free.
-fn put_full(memory: Memory, text: &mut Text, need: u64, free: u64) -> Result<(), NoMemory>
-    ensures { OnOk result (text.new.items
-        ≡ text.old.items ++ (codes "full" ++ number_text need ++ number_text free)) }
+fn put_bytes(memory: Memory, text: &mut Text, need: u64, free: u64) -> Result<(), NoMemory>
+    ensures { OnOk result
+        (text.new.items ≡ text.old.items ++ (number_text need ++ number_text free)) }
 {
-    put_word(text, b"full")?;
     put_number(memory, text, need)?;
     put_number(memory, text, free)
 }
 
-/// The name of the refusal, and what is told with it.
+// What is told with the word.
+fn put_told_of_refusal(
+    memory: Memory,
+    text: &mut Text,
+    names: &Names,
+    refusal: &Refusal,
+) -> Result<(), NoMemory>
+    ensures { OnOk result
+        (text.new.items ≡ text.old.items ++ told_of_refusal names.now refusal.now) }
+{
+    match refusal {
+        Refusal::NoMemory | Refusal::HistoryFull | Refusal::TicketsSpent => Ok(()),
+        Refusal::AlreadyInPool(ticket) => put_number(memory, text, *ticket),
+        Refusal::Full { need, free } => put_bytes(memory, text, *need, *free),
+        Refusal::Invalid(fault) => put_told_of_fault(memory, text, names, fault),
+    }
+}
+
+// The word at the place.
+fn put_word_at(text: &mut Text, words: &[&[u8]], place: usize) -> Result<(), NoMemory>
+    requires { place < length words.now }
+    ensures { OnOk result
+        (text.new.items ≡ text.old.items ++ word_at (map (λ w. w.now) words.now) place) }
+{
+    put_word(text, words[place])
+}
+
+/// The word of the refusal, and what is told with it.
 pub fn put_refusal(
     memory: Memory,
     text: &mut Text,
@@ -177,12 +241,6 @@ pub fn put_refusal(
     ensures { OnOk result
         (text.new.items ≡ text.old.items ++ refusal_text names.now refusal.now) }
 {
-    match refusal {
-        Refusal::NoMemory => put_word(text, b"memory"),
-        Refusal::HistoryFull => put_word(text, b"history"),
-        Refusal::TicketsSpent => put_word(text, b"tickets"),
-        Refusal::AlreadyInPool(ticket) => put_already(memory, text, *ticket),
-        Refusal::Full { need, free } => put_full(memory, text, *need, *free),
-        Refusal::Invalid(fault) => put_invalid(memory, text, names, fault),
-    }
+    put_word_at(text, &REFUSAL_WORDS, refusal_place(refusal))?;
+    put_told_of_refusal(memory, text, names, refusal)
 }

@@ -1,9 +1,9 @@
 //! Ticket lists: each item is handed back or dropped, once, whichever handle its node is from.
 use crate::rows::Row;
-use crate::tickets::{put, thirds};
+use crate::tickets::put;
 use mp_memory::Memory;
 use mp_testing::Seen;
-use mp_tickets::{TicketList, Tickets, make_node};
+use mp_tickets::{TicketList, make_node};
 use std::alloc::Global;
 use std::rc::Rc;
 
@@ -70,63 +70,8 @@ fn nodes(alloc: Global, memory: Memory) -> Option<[u64; 5]> {
     Some([with, without, with_item, value, owners(&counted)])
 }
 
-fn fill(memory: Memory, list: &mut Owners, counted: &Rc<u64>) {
-    for ticket in 1..=6000 {
-        put_owner(memory, list, ticket, counted);
-    }
-}
-
-// How many of the thirds stand in the list in their order.
-fn in_order(list: &Owners) -> u64 {
-    let [mut third, mut right] = [0u64; 2];
-    for (ticket, _owner) in list.iter() {
-        third = third.wrapping_add(3);
-        right = right.wrapping_add(u64::from(ticket == third));
-    }
-    right
-}
-
-// Of how many tickets the list has an item where they are thirds, and none where they are not.
-fn found(list: &Owners) -> u64 {
-    let mut found = 0u64;
-    for ticket in 1..=6000u64 {
-        if list.get(ticket).is_some() == (ticket % 3 == 0) {
-            found = found.wrapping_add(1);
-        }
-    }
-    found
-}
-
-// How many owners there are in a full list, and how many are kept; how many of these stand in order, and how many are found;
-// and how many owners there are once none is kept.
-fn keep(list: &mut Owners, kept: &Tickets, none: &Tickets, counted: &Rc<u64>) -> Seen {
-    let full = owners(counted);
-    list.keep_only(kept);
-    let [left, length] = [owners(counted), list.len() as u64];
-    let [right, found] = [in_order(list), found(list)];
-    list.keep_only(none);
-    let is_empty = list.is_empty();
-    [
-        full,
-        left,
-        length,
-        right,
-        found,
-        if is_empty { owners(counted) } else { 0 },
-    ]
-}
-
-// Two items in three go, and each bucket has some of either kind.
-fn kept(alloc: Global, memory: Memory) -> Option<Seen> {
-    let counted = Rc::new(alloc, 9u64).ok()?;
-    let kept = thirds(memory).ok()?;
-    let mut list = TicketList::new(memory).ok()?;
-    fill(memory, &mut list, &counted);
-    Some(keep(&mut list, &kept, &Tickets::new(memory), &counted))
-}
-
 /// How often items are dropped.
-pub fn drops(alloc: Global, memory: Memory, other: Memory) -> [Row; 3] {
+pub fn drops(alloc: Global, memory: Memory, other: Memory) -> [Row; 2] {
     [
         Row::seen(
             "items of two handles",
@@ -134,10 +79,5 @@ pub fn drops(alloc: Global, memory: Memory, other: Memory) -> [Row; 3] {
             [5, 5, 4, 4, 4, 1],
         ),
         Row::seen("items of nodes", nodes(alloc, memory), [2, 1, 2, 9, 1]),
-        Row::seen(
-            "items not kept",
-            kept(alloc, memory),
-            [6001, 2001, 2000, 2000, 6000, 1],
-        ),
     ]
 }

@@ -1,7 +1,7 @@
 //! Ticket lists: which of their calls take memory. A new list, a node, tickets that grow and a copy of them take one growth
 //! each.
 use crate::rows::{Row, without_growth};
-use mp_memory::{Memory, NoMemory};
+use mp_memory::Memory;
 use mp_testing::{Call, Seen, TrialFault, Trialled, under_each_refusal};
 use mp_tickets::{Node, TicketList, Tickets, make_node};
 
@@ -30,15 +30,6 @@ pub fn one_bucket(memory: Memory) -> Option<TicketList<u64>> {
     put(memory, &mut list, 1025, 102_500);
     put(memory, &mut list, 2049, 204_900);
     Some(list)
-}
-
-/// Every third ticket from 3 to 6,000.
-pub fn thirds(memory: Memory) -> Result<Tickets, NoMemory> {
-    let mut tickets = Tickets::new(memory);
-    for third in 1..2001u64 {
-        tickets.push(3 * third)?;
-    }
-    Ok(tickets)
 }
 
 // What takes memory.
@@ -70,11 +61,15 @@ fn new_node(memory: Memory) -> Option<Seen> {
     }
 }
 
+fn is_three(tickets: &Tickets) -> bool {
+    matches!(tickets.as_slice(), [3])
+}
+
 fn push_ticket(tickets: &mut Tickets) -> Option<Seen> {
     if tickets.as_slice().is_empty() {
         tickets.push(3).ok()?;
     }
-    Some([u64::from(tickets.contains(3)), 0, 0, 0, 0, 0])
+    Some([u64::from(is_three(tickets)), 0, 0, 0, 0, 0])
 }
 
 fn copy_tickets(tickets: &Tickets) -> Option<Seen> {
@@ -104,7 +99,7 @@ impl Call for Taken {
 
     fn look(&self, tickets: &Tickets) -> Seen {
         let length = tickets.as_slice().len() as u64;
-        [length, u64::from(tickets.contains(3)), 0, 0, 0, 0]
+        [length, u64::from(is_three(tickets)), 0, 0, 0, 0]
     }
 }
 
@@ -135,12 +130,6 @@ fn unlink(list: &mut TicketList<u64>) -> Seen {
     [found, unlinked, front, first, list.len() as u64, is_empty]
 }
 
-fn keep(list: &mut TicketList<u64>, kept: &Tickets) -> [u64; 3] {
-    list.keep_only(kept);
-    let [back, last] = pair(list.back());
-    [back, last, list.len() as u64]
-}
-
 // The first, the last and the second of a list to which a node was pushed.
 fn pushed(memory: Memory) -> Option<Seen> {
     let node = make_node(memory, 9).ok()?;
@@ -158,18 +147,8 @@ fn unlinked(memory: Memory) -> Option<Seen> {
     without_growth(memory, seen)
 }
 
-// The last and how many are left. The list is dropped too.
-fn kept(memory: Memory) -> Option<[u64; 3]> {
-    let kept = thirds(memory).ok()?;
-    let mut list = one_bucket(memory)?;
-    memory.refuse(1);
-    let seen = keep(&mut list, &kept);
-    drop(list);
-    without_growth(memory, seen)
-}
-
 /// What takes memory, and what takes none.
-pub fn growths(memory: Memory) -> [Row; 7] {
+pub fn growths(memory: Memory) -> [Row; 6] {
     [
         Row::tried("a new list", tried(memory, Taking::List), [1], 1),
         Row::tried("a node", tried(memory, Taking::Node), [7], 1),
@@ -185,6 +164,5 @@ pub fn growths(memory: Memory) -> [Row; 7] {
             unlinked(memory),
             [204_900, 102_500, 1, 100, 2, 0],
         ),
-        Row::seen("what is kept", kept(memory), [2049, 204_900, 1]),
     ]
 }

@@ -1,54 +1,26 @@
 -- How often each kind of refusal was answered.
-use Rattle.std.specs.Prelude.{ℕ, ◌+◌, ◌-◌, ◌^◌, min, nat_eq, List, [], ◌∷◌, ◌++◌, codes, slice_index, slice_set, Option, Some, None, if◌then◌else◌}
-use Rattle.mp_rules.specs.Invalid.{number}
+use Rattle.std.specs.Prelude.{ℕ, ◌+◌, ◌-◌, ◌^◌, min, nat_eq, List, [], ◌∷◌, ◌++◌, length, replicate, codes, slice_index, slice_set, Option, Some, None, if◌then◌else◌}
 use Rattle.mp_seqpool.specs.declared.refusal.Refusal.{Refusal}
-use Rattle.mp_seqpool.specs.declared.refusal.Refusal.TheVariants.{NoMemory, HistoryFull, TicketsSpent, AlreadyInPool, Full, Invalid}
-use Rattle.mp_driver.specs.AnswerText.{number_text}
+use Rattle.mp_driver.specs.AnswerText.{number_text, refusal_words, refusal_place}
+use Rattle.mp_serve.specs.declared.refused.Counts.{Counts}
 
--- the words that stand behind `refused`, in the order in which they are counted
-abbrev pub words : List (List ℕ)
-words =
-    codes "history"
-    ∷ codes "tickets"
-    ∷ codes "already"
-    ∷ codes "full"
-    ∷ codes "memory"
-    ∷ codes "no-inputs"
-    ∷ codes "interval"
-    ∷ codes "negative"
-    ∷ codes "missing"
-    ∷ codes "address"
-    ∷ codes "datum"
-    ∷ codes "taken"
-    ∷ codes "no-policy"
-    ∷ codes "unbalanced"
-    ∷ codes "signature"
-    ∷ codes "validator"
-    ∷ codes "policy-script"
-    ∷ codes "reference"
-    ∷ codes "adopt"
-    ∷ codes "back"
-    ∷ []
+abbrev pub none_counted : Counts
+none_counted = record { refusals = replicate (length refusal_words) 0; adopts = 0; backs = 0 }
 
--- where the word of a refusal stands among them; those of rules by the rules' numbers
-abbrev pub place_of : Refusal → ℕ
-place_of HistoryFull = 0
-place_of TicketsSpent = 1
-place_of (AlreadyInPool ticket) = 2
-place_of (Full need free) = 3
-place_of NoMemory = 4
-place_of (Invalid fault) = 3 + number fault
+-- a count ends at 2^64 - 1
+abbrev pub one_more : ℕ → ℕ
+one_more count = min (count + 1) (2 ^ 64 - 1)
 
-abbrev pub none_counted : List ℕ
-none_counted = 0 ∷ 0 ∷ 0 ∷ 0 ∷ 0 ∷ 0 ∷ 0 ∷ 0 ∷ 0 ∷ 0 ∷ 0 ∷ 0 ∷ 0 ∷ 0 ∷ 0 ∷ 0 ∷ 0 ∷ 0 ∷ 0 ∷ 0 ∷ []
+-- one more at this place
+abbrev pub counted_at : List ℕ → ℕ → List ℕ
+counted_at counts place = slice_set counts place (one_more (slice_index counts place))
 
--- one more at this place; a count ends at 2^64 - 1
-abbrev pub counted : List ℕ → ℕ → List ℕ
-counted counts place = slice_set counts place (min (slice_index counts place + 1) (2 ^ 64 - 1))
+abbrev pub counted : Counts → Refusal → Counts
+counted c refusal = record c { refusals = counted_at c.refusals (refusal_place refusal) }
 
-abbrev pub counted_if : List ℕ → Option Refusal → List ℕ
-counted_if counts None = counts
-counted_if counts (Some refusal) = counted counts (place_of refusal)
+abbrev pub counted_if : Counts → Option Refusal → Counts
+counted_if c None = c
+counted_if c (Some refusal) = counted c refusal
 
 -- what was never answered isn't told
 abbrev pub count_text : List ℕ → ℕ → List ℕ
@@ -60,5 +32,6 @@ texts [] counts = []
 texts (word ∷ others) [] = []
 texts (word ∷ others) (count ∷ counts) = count_text word count ++ texts others counts
 
-abbrev pub counts_text : List ℕ → List ℕ
-counts_text counts = texts words counts
+-- refused blocks as `adopt`, and ways back that were too long as `back`
+abbrev pub counts_text : Counts → List ℕ
+counts_text c = texts refusal_words c.refusals ++ count_text (codes "adopt") c.adopts ++ count_text (codes "back") c.backs

@@ -18,7 +18,8 @@ use Rattle.mp_lines.specs.declared.query.Query.{Query}
 use Rattle.mp_driver.specs.AnswerText.{answer_text}
 use Rattle.mp_driver.specs.QueryText.{query_text, for_text, cursor_after}
 use Rattle.mp_serve.specs.ServedPool.{ServedPool, accepted_by, latest, state_back}
-use Rattle.mp_serve.specs.Refused.{counted, counted_if}
+use Rattle.mp_serve.specs.declared.refused.Counts.{Counts}
+use Rattle.mp_serve.specs.Refused.{one_more, counted_if}
 use Rattle.mp_serve.specs.Texts.{stats_text, block_refused_text, back_refused_text}
 
 -- a block's transactions, and where it leads to
@@ -74,9 +75,15 @@ after_command p c = record p { pool = obeyed p c; refused = counted_if p.refused
 abbrev pub unchanged : ℕ → ServedPool → List ℕ → Response
 unchanged cursor p text = record { served = p; cursor = cursor; text = text }
 
--- the pool as it was but for one refusal more, counted at this place, and the text
-abbrev pub refused_at : ℕ → ℕ → ServedPool → List ℕ → Response
-refused_at place cursor p text = record { served = record p { refused = counted p.refused place }; cursor = cursor; text = text }
+-- the pool as it was, but that so much was refused, and the text
+abbrev pub refused_with : Counts → ℕ → ServedPool → List ℕ → Response
+refused_with counts cursor p text = record { served = record p { refused = counts }; cursor = cursor; text = text }
+
+abbrev pub one_adopt_more : Counts → Counts
+one_adopt_more c = record c { adopts = one_more c.adopts }
+
+abbrev pub one_back_more : Counts → Counts
+one_back_more c = record c { backs = one_more c.backs }
 
 -- the pool is synced with the ledger state, before which it has had these
 abbrev pub adopt : Names → ℕ → ServedPool → LedgerState → List LedgerState → Response
@@ -90,14 +97,14 @@ adopt names cursor p l former = record {
 abbrev pub go_on : Names → ℕ → ServedPool → LedgerState → Response
 go_on names cursor p l = adopt names cursor p l (latest (p.former ++ p.pool.ledger ∷ []))
 
--- the ledger state after the block, or that one of its transactions isn't valid after those before it, counted as `adopt`
+-- the ledger state after the block, or that one of its transactions isn't valid after those before it, which is counted
 abbrev pub extend : Names → ℕ → ServedPool → List Transaction → Result LedgerState (ℕ × Invalid) → Response
 extend names cursor p txs (Ok l) = go_on names cursor p l
-extend names cursor p txs (Err refused) = refused_at 18 cursor p (block_refused_text names txs refused.0 refused.1)
+extend names cursor p txs (Err refused) = refused_with (one_adopt_more p.refused) cursor p (block_refused_text names txs refused.0 refused.1)
 
--- a former ledger state, with those before it, or that it isn't kept, counted as `back`
+-- a former ledger state, with those before it, or that it isn't kept, which is counted
 abbrev pub go_back : Names → ℕ → ServedPool → ℕ → Option LedgerState → Response
-go_back names cursor p count None = refused_at 19 cursor p (back_refused_text (length p.former))
+go_back names cursor p count None = refused_with (one_back_more p.refused) cursor p (back_refused_text (length p.former))
 go_back names cursor p count (Some l) = adopt names cursor p l (take (length p.former - count) p.former)
 
 abbrev pub respond : Names → ℕ → ServedPool → Request → Response

@@ -4,6 +4,7 @@ use Rattle.mp_tx.specs.Ledger.{LedgerState}
 use Rattle.mp_rules.specs.Verifier.{Accepts}
 use Rattle.mp_seqpool.specs.Pool.{Pool}
 use Rattle.mp_driver.specs.Verifier.{is_key_and_id}
+use Rattle.mp_serve.specs.declared.refused.Counts.{Counts}
 use Rattle.mp_serve.specs.declared.signatures.Signatures.{Signatures}
 use Rattle.mp_serve.specs.declared.signatures.Signatures.TheVariants.{OfScenarios, Checked}
 
@@ -19,7 +20,7 @@ pub record ServedPool : Type 0 where
   -- the ledger states before the pool's, the oldest first
   pub former : List LedgerState
   -- how often each kind of refusal was answered
-  pub refused : List ℕ
+  pub refused : Counts
 
 -- the last 2,160
 abbrev pub latest : List LedgerState → List LedgerState

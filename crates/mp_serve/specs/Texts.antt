@@ -6,10 +6,12 @@ use Rattle.mp_tx.specs.Spelling.{id_of, size_of, spelling}
 use Rattle.mp_tx.specs.declared.fault.TxFault.{TxFault}
 use Rattle.mp_tx.specs.declared.fault.TxFault.TheVariants as faults
 use Rattle.mp_rules.specs.declared.invalid.Invalid.{Invalid}
+use Rattle.mp_seqpool.specs.declared.refusal.Refusal.TheVariants as refusals
 use Rattle.mp_seqpool.specs.Pool.{Pool}
 use Rattle.mp_seqpool.specs.SlowPool.{bytes_held, free_bytes}
 use Rattle.mp_names.specs.Names.{Names, name_of}
-use Rattle.mp_driver.specs.AnswerText.{number_text, invalid_text}
+use Rattle.mp_driver.specs.AnswerText.{number_text, refusal_text}
+use Rattle.mp_serve.specs.declared.refused.Counts.{Counts}
 use Rattle.mp_serve.specs.Refused.{counts_text}
 
 -- what is answered where there is nothing to tell
@@ -58,7 +60,7 @@ pool_numbers p =
     codes "stats" ++ number_text (length p.items) ++ number_text (bytes_held p) ++ number_text (free_bytes p) ++ number_text p.last ++ number_text p.changes
 
 -- and how often each kind of refusal was answered
-unfoldable pub stats_text : Pool → List ℕ → List ℕ
+unfoldable pub stats_text : Pool → Counts → List ℕ
 stats_text p refused = (pool_numbers p ++ counts_text refused) ++ 10 ∷ []
 
 -- the name of the transaction, if there is one
@@ -69,7 +71,7 @@ name_if_any names (Some t) = name_of (id_of t) names
 -- a block of which the transaction at this place isn't valid after those before it
 unfoldable pub block_refused_text : Names → List Transaction → ℕ → Invalid → List ℕ
 block_refused_text names txs place fault =
-    (codes "refused adopt " ++ name_if_any names (slice_get txs place) ++ 32 ∷ invalid_text names fault) ++ 10 ∷ []
+    (codes "refused adopt " ++ name_if_any names (slice_get txs place) ++ 32 ∷ refusal_text names (refusals.Invalid fault)) ++ 10 ∷ []
 
 -- so many former ledger states are kept, and no more
 unfoldable pub back_refused_text : ℕ → List ℕ

@@ -6,7 +6,7 @@ use crate::block::Block;
 use crate::extending::{Extended, extend};
 use crate::obeying::{check, obey};
 use crate::reading::{kept_line, query_line};
-use crate::refused::{ADOPT, BACK, Counts, count_at, count_if_refused};
+use crate::refused::{Counts, count_if_refused, count_one, none_counted};
 use crate::request::Request;
 use crate::signatures::Signatures;
 use crate::texts::{Text, back_refused_line, stats_line};
@@ -71,7 +71,7 @@ impl ServedPool {
             pool: SeqPool::start(memory, config, &ledger)?,
             signatures: beginning.signatures,
             former: Vec::new(memory),
-            refused: [0; 20],
+            refused: none_counted(),
         })
     }
 
@@ -91,7 +91,7 @@ impl ServedPool {
         ensures err { OnErr result (self.new ≡ self.old) }
     {
         let (text, refusal) = obey(memory, names, self.signatures, &mut self.pool, command)?;
-        count_if_refused(&mut self.refused, refusal);
+        count_if_refused(&mut self.refused, &refusal);
         Ok(text)
     }
 
@@ -120,7 +120,7 @@ impl ServedPool {
                 )
             }
             Extended::Refused(text) => {
-                count_at(&mut self.refused, ADOPT);
+                count_one(&mut self.refused.adopts);
                 Ok(text)
             }
         }
@@ -146,7 +146,7 @@ impl ServedPool {
             ),
             None => {
                 let text = back_refused_line(memory, self.former.len() as u64)?;
-                count_at(&mut self.refused, BACK);
+                count_one(&mut self.refused.backs);
                 Ok(text)
             }
         }

@@ -1,75 +1,54 @@
 //! How often each kind of refusal was answered.
 
 ghost use Rattle.std.specs.Prelude.{◌≡◌, ◌<◌, ◌≤◌, ◌++◌, length, map, OnOk};
-ghost use Rattle.mp_serve.specs.Refused.{place_of, counted, counted_if, count_text, texts, counts_text};
+ghost use Rattle.mp_serve.specs.Refused.{none_counted, one_more, counted, counted_if, count_text, texts, counts_text};
 
 use crate::texts::Text;
-use mp_driver::{put_number, put_word};
+use mp_driver::{REFUSAL_WORDS, REFUSALS, put_number, put_word, refusal_place};
 use mp_memory::{Memory, NoMemory};
 use mp_seqpool::Refusal;
 
-// The words that stand behind `refused`.
-const WORDS: [&[u8]; 20] = [
-    b"history",
-    b"tickets",
-    b"already",
-    b"full",
-    b"memory",
-    b"no-inputs",
-    b"interval",
-    b"negative",
-    b"missing",
-    b"address",
-    b"datum",
-    b"taken",
-    b"no-policy",
-    b"unbalanced",
-    b"signature",
-    b"validator",
-    b"policy-script",
-    b"reference",
-    b"adopt",
-    b"back",
-];
+/// How often each kind of refusal was answered. A count that has come to 2^64 - 1 stays there.
+#[derive(Clone, Copy)]
+pub struct Counts {
+    /// In the order of the refusals' words.
+    pub refusals: [u64; REFUSALS],
+    /// Blocks that were refused.
+    pub adopts: u64,
+    /// How often too few former ledger states were kept.
+    pub backs: u64,
+}
 
-/// How often each kind of refusal was answered, in the order of their words. A count that has come to 2^64 - 1 stays there.
-pub type Counts = [u64; 20];
-
-/// Where refused blocks are counted.
-pub const ADOPT: usize = 18;
-
-/// Where it is counted that too few former ledger states were kept.
-pub const BACK: usize = 19;
-
-// Where the refusal is counted.
-fn place_of(refusal: Refusal) -> usize
-    ensures place { result ≡ place_of refusal }
-    ensures least { result < 20 }
+/// Nothing is counted yet.
+pub fn none_counted() -> Counts
+    ensures { result ≡ none_counted }
 {
-    match refusal {
-        Refusal::HistoryFull => 0,
-        Refusal::TicketsSpent => 1,
-        Refusal::AlreadyInPool(_) => 2,
-        Refusal::Full { .. } => 3,
-        Refusal::NoMemory => 4,
-        Refusal::Invalid(fault) => 3 + fault.number() as usize,
+    Counts {
+        refusals: [0; REFUSALS],
+        adopts: 0,
+        backs: 0,
     }
 }
 
-/// Counts one more at the place.
-pub fn count_at(counts: &mut Counts, place: usize)
-    requires { place < 20 }
-    ensures { counts.new ≡ counted counts.old place }
+/// Counts one more.
+pub fn count_one(count: &mut u64)
+    ensures { count.new ≡ one_more count.old }
 {
-    counts[place] = counts[place].saturating_add(1);
+    *count = count.saturating_add(1);
+}
+
+fn count(counts: &mut Counts, refusal: &Refusal)
+    ensures { counts.new ≡ counted counts.old refusal.now }
+{
+    count_one(&mut counts.refusals[refusal_place(refusal)]);
 }
 
 /// Counts the refusal, if there is one.
-pub fn count_if_refused(counts: &mut Counts, refusal: Option<Refusal>)
-    ensures { counts.new ≡ counted_if counts.old refusal }
+pub fn count_if_refused(counts: &mut Counts, refusal: &Option<Refusal>)
+    ensures { counts.new ≡ counted_if counts.old refusal.now }
 {
     if let Some(refusal) = refusal {
-        count_at(counts, place_of(refusal));
+        count(counts, refusal);
     }
 }
 
@@ -106,5 +85,7 @@ fn put_each(
 pub fn put_counts(memory: Memory, text: &mut Text, counts: &Counts) -> Result<(), NoMemory>
     ensures { OnOk result (text.new.items ≡ text.old.items ++ counts_text counts.now) }
 {
-    put_each(memory, text, &WORDS, counts)
+    put_each(memory, text, &REFUSAL_WORDS, &counts.refusals)?;
+    put_count(memory, text, b"adopt", counts.adopts)?;
+    put_count(memory, text, b"back", counts.backs)
 }

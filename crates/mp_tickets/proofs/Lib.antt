@@ -12,4 +12,3 @@ pub mod Seeks
 pub mod Follows
 pub mod Listed
 pub mod Searched
-pub mod Kept

@@ -5,7 +5,7 @@ use Rattle.std.specs.List.{AllByRecursion}
 use Rattle.std.proofs.lemmas.Bool.{eq-eqb, ne_eqb, lt-ltb}
 use Rattle.std.proofs.lemmas.Bool.Decides.{nat_tests}
 use Rattle.std.proofs.lemmas.List.Elements.{filter-append}
-use Rattle.mp_tickets.specs.Tickets.{IsRisingFrom, has_ticket, item_at, without, after, among}
+use Rattle.mp_tickets.specs.Tickets.{IsRisingFrom, item_at, without, after}
 
 not_under : (a b : ℕ) → b ≤ a → nat_lt a b ≡ false
 not_under a b h = grind (arith, nat_tests)
@@ -38,13 +38,6 @@ module _ {T : Type 0} where
   pub rising_push : (low : ℕ) (xs : List (ℕ × T)) (e : ℕ × T) → IsRisingFrom low xs → AllByRecursion (λ x. x.0 < e.0) xs → low < e.0 → IsRisingFrom low (xs ++ e ∷ [])
   rising_push low [] e r a h = (h, tt)
   rising_push low (x ∷ xs) e r a h = (r.0, rising_push x.0 xs e r.1 a.1 a.0)
-
-  pub rising_among : (tickets : List ℕ) (low : ℕ) (xs : List (ℕ × T)) → IsRisingFrom low xs → IsRisingFrom low (among tickets xs)
-  rising_among tickets low [] r = tt
-  rising_among tickets low (x ∷ xs) r = let k = r.0 in let rest = rising_among tickets x.0 xs r.1 in elim (has_ticket tickets x.0) as (λ (b : Bool). IsRisingFrom low (cond b (x ∷ among tickets xs) (among tickets xs))) [
-    | true ↦ (k, rest)
-    | false ↦ rising_lower low x.0 (among tickets xs) (omega arith) rest
-  ]
 
   -- rising tickets below t are fewer than t
   pub few : (low : ℕ) (xs : List (ℕ × T)) (t : ℕ) → IsRisingFrom low xs → AllByRecursion (λ x. x.0 < t) xs → low < t → length xs + low < t

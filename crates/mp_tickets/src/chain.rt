@@ -1,7 +1,7 @@
 //! The chains through the nodes: one forward and one back over all of them, and one back through each bucket.
-ghost use Rattle.std.specs.Prelude.{◌≡◌, ℕ, ◌<◌, ◌%◌, ◌++◌, ◌∷◌, [], length, None, All, IfOk, MatchOption};
+ghost use Rattle.std.specs.Prelude.{◌≡◌, ℕ, ◌<◌, ◌%◌, ◌++◌, ◌∷◌, [], length, IfOk, MatchOption};
 ghost use Rattle.mp_tickets.specs.Inside.Cell.{AtCell};
-ghost use Rattle.mp_tickets.specs.Tickets.{IsRising, among};
+ghost use Rattle.mp_tickets.specs.Tickets.{IsRising};
 ghost use Rattle.mp_tickets.specs.Inside.Chain.{IsChained};
 ghost use Rattle.mp_tickets.specs.Inside.Found.{IsFound, IsFirstAfter, HasNone};
 ghost use Rattle.mp_tickets.specs.Inside.Relinks.{MayBeAt, SetsNext, SetsPrev, SetsBucketPrev};
@@ -10,9 +10,7 @@ ghost use Rattle.mp_tickets.specs.Inside.Links.{buckets, pairs};
 use crate::node::Link;
 use crate::node_store::{NodePtr, NodeStore};
 use crate::raw_box::RawBox;
-use crate::tickets::Tickets;
 use mp_memory::{Memory, NoMemory};
-use std::mem;
 
 const BUCKETS: u64 = 1024;
 
@@ -37,16 +35,6 @@ fn bucket_of(ticket: u64) -> usize
     ensures { result ≡ ticket % buckets }
 {
     (ticket % BUCKETS) as usize
-}
-
-// Makes each bucket one of no node.
-fn clear(bucket_backs: &mut Vec<Option<NodePtr>, Memory>)
-    ensures none { All (λ at. at ≡ None) bucket_backs.new.items }
-    ensures len { length bucket_backs.new.items ≡ length bucket_backs.old.items }
-{
-    for bucket in 0..bucket_backs.len() {
-        bucket_backs[bucket] = None;
-    }
 }
 
 impl<T> Chain<T> {
@@ -177,48 +165,6 @@ impl<T> Chain<T> {
             at = link.prev;
         }
         after
-    }
-
-    // Takes all nodes out, with a pointer to the first. Each still leads to the next.
-    fn take_all(&mut self) -> (NodeStore<Link<T>>, Option<NodePtr>)
-        requires { IsChained self.old }
-        ensures chained { IsChained self.new }
-        ensures empty { self.new.nodes.cells ≡ [] }
-        ensures taken { result.0.cells ≡ self.old.nodes.cells }
-        ensures front { result.1 ≡ self.old.front }
-    {
-        let nodes = mem::replace(&mut self.nodes, NodeStore::new());
-        let front = self.front;
-        self.front = None;
-        self.back = None;
-        clear(&mut self.bucket_backs);
-        (nodes, front)
-    }
-
-    /// Takes out and drops each item whose ticket isn't one of these. There are `len` items; it says how many are left.
-    pub(crate) fn keep_only(&mut self, kept: &Tickets, len: usize, memory: Memory) -> usize
-    where
-        T: Drop,
-        requires chained { IsChained self.old }
-        requires len { len ≡ length self.old.nodes.cells }
-        ensures chained { IsChained self.new }
-        ensures pairs { pairs self.new.nodes.cells ≡ among kept.now (pairs self.old.nodes.cells) }
-        ensures left { result ≡ length self.new.nodes.cells }
-    {
-        let (mut nodes, mut at) = self.take_all();
-        let mut left = len;
-        while let Some(ptr) = at {
-            let node = nodes.remove(ptr, memory).into_box();
-            at = node.next;
-            if kept.contains(node.ticket) {
-                self.push(node.ticket, node);
-            } else {
-                drop(node);
-                left -= 1;
-            }
-        }
-        nodes.end();
-        left
     }
 
     /// Drops each item and frees each node.

@@ -2,7 +2,6 @@
 use crate::chain::Chain;
 use crate::iter::Iter;
 use crate::node::Node;
-use crate::tickets::Tickets;
 use mp_memory::{Memory, NoMemory};
 use std::marker::Model;
 
@@ -34,7 +33,7 @@ impl<T> TicketList<T> {
     ghost use Rattle.std.specs.Prelude.{◌≡◌, ◌-◌, ◌<◌, ◌≤◌, ◌==◌, [], ◌∷◌, ◌++◌, length, option_map, option_copied, slice_get, MatchOption, IfOk};
     ghost use Rattle.std.specs.List.{All};
     ghost use Rattle.std.specs.Map.Iter.{ShowsInOrder};
-    ghost use Rattle.mp_tickets.specs.Tickets.{IsRising, item_at, without, after, among, shown};
+    ghost use Rattle.mp_tickets.specs.Tickets.{IsRising, item_at, without, after, shown};
 
     /// A list of no item. It takes the memory of its buckets, and never takes more. An `Err` says that there was none.
     pub fn new(memory: Memory) -> Result<TicketList<T>, NoMemory>
@@ -80,16 +79,6 @@ impl<T> TicketList<T> {
         let link = self.chain.take(found, self.memory).into_box();
         self.len -= 1;
         Some(Box::into_inner(link).into_item())
-    }
-
-    /// Takes out and drops each item whose ticket isn't one of these, in one walk over the list and the ends of the buckets. It
-    /// takes no memory and can't fail.
-    pub fn keep_only(&mut self, kept: &Tickets)
-    where
-        T: Drop,
-        ensures { self.new ≡ among kept.now self.old }
-    {
-        self.len = self.chain.keep_only(kept, self.len, self.memory);
     }
 
     /// The first ticket with its item, if there is one.
