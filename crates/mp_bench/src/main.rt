@@ -91,7 +91,7 @@ fn time_at<R: Clock + Threads + Wait + Sync>(
     best_upon(rt, memory, measurement, size, &ledger)
 }
 
-// Takes the measurement at each size. Of a remove or a sync the time for each transaction is told.
+// Takes the measurement at each size. Of a sync the time for each transaction is told.
 fn take<R: Clock + Threads + Wait + Print + Sync>(
     rt: &R,
     memory: Memory,
@@ -100,7 +100,7 @@ fn take<R: Clock + Threads + Wait + Print + Sync>(
     let (name, _, _, asked, _) = *measurement;
     for size in SIZES {
         let time = time_at(rt, memory, measurement, size).context("a round went wrong")?;
-        let steps = if matches!(asked, Asked::Remove | Asked::Sync | Asked::Stay) {
+        let steps = if matches!(asked, Asked::Sync | Asked::Stay) {
             size
         } else {
             STEPS

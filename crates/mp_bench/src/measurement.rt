@@ -36,7 +36,7 @@ pub enum Asked {
     Next,
     /// The same, where each is signed.
     Signed,
-    /// A remove of the first transaction.
+    /// Removes of the first thousand transactions, one by one.
     Remove,
     /// A sync with a ledger state upon which every other transaction is valid.
     Sync,
@@ -56,7 +56,7 @@ pub static MEASUREMENTS: [Measurement; 13] = [
     ("check", Work::Check, false, Asked::First, STEPS),
     ("ledger-block", Work::Blocks, false, Asked::Nothing, STEPS),
     ("pool-submit", Work::Pool, true, Asked::Next, STEPS),
-    ("pool-remove", Work::Pool, true, Asked::Remove, 1),
+    ("pool-remove", Work::Pool, true, Asked::Remove, STEPS),
     ("pool-sync", Work::Pool, true, Asked::Sync, 1),
     ("pool-sync-all", Work::Pool, true, Asked::Stay, 1),
     ("mempool-submit", Work::OneThread, true, Asked::Next, STEPS),

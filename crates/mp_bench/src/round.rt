@@ -47,11 +47,19 @@ pub struct Round<'a> {
     pub tally: &'a Tally,
 }
 
-fn push_first_remove(memory: Memory, commands: &mut Commands, before: &[Command]) -> Option<()> {
-    match before.first() {
-        Some(Command::Submit(tx)) => push_remove(memory, commands, &[*tx.id()]),
+fn push_remove_of(memory: Memory, commands: &mut Commands, submit: &Command) -> Option<()> {
+    match submit {
+        Command::Submit(tx) => push_remove(memory, commands, &[*tx.id()]),
         _ => None,
     }
+}
+
+// A remove each of the first thousand.
+fn push_removes(memory: Memory, commands: &mut Commands, before: &[Command]) -> Option<()> {
+    for submit in before.iter().take(STEPS as usize) {
+        push_remove_of(memory, commands, submit)?;
+    }
+    Some(())
 }
 
 fn push_asked(
@@ -66,7 +74,7 @@ fn push_asked(
         Asked::First => push_submits(memory, commands, 0, STEPS, false),
         Asked::Next => push_submits(memory, commands, size, last, false),
         Asked::Signed => push_submits(memory, commands, size, last, true),
-        Asked::Remove => push_first_remove(memory, commands, before),
+        Asked::Remove => push_removes(memory, commands, before),
         Asked::Sync => push_sync(memory, commands, 2, MANY, size),
         Asked::Stay => push_sync(memory, commands, 1, MANY, size),
         Asked::Nothing => Some(()),
@@ -155,7 +163,7 @@ fn take_steps(memory: Memory, round: &Round<'_>, pool: &mut SeqPool) -> u64 {
 // How many transactions the pool has after the steps.
 fn left(round: &Round<'_>) -> u64 {
     match round.asked {
-        Asked::Remove => round.size.saturating_sub(1),
+        Asked::Remove => round.size.saturating_sub(STEPS),
         Asked::Sync => round.size / 2,
         Asked::Stay => round.size,
         Asked::Next => round.size.saturating_add(STEPS),
