@@ -1,103 +1,141 @@
 -- What an overlay keeps when one more transaction is applied.
-use Rattle.std.proofs.Common.{◌≡◌, ℕ, zero, suc, ◌<◌, ◌≤◌, Bool, true, false, ◌&&◌, nat_eq, nat_lt, List, [], ◌∷◌, ◌++◌, length, if◌then◌else◌, refl, sym, ap, subst, ◌∙◌, arith}
-use Rattle.std.specs.Prelude.{Option, Some, None, slice_get}
-use Rattle.std.specs.Option.{option_or, option_and_then}
+use Rattle.std.proofs.Common.{◌≡◌, ℕ, Bool, true, false, ◌||◌, List, [], ◌∷◌, ◌++◌, length, get_or, if◌then◌else◌, refl, sym, ap, subst, ◌∙◌}
+use Rattle.std.specs.Prelude.{Option, Some, None, IsSome, All, AllPairs, slice_get}
+use Rattle.std.specs.List.{list_any}
+use Rattle.std.specs.Option.{option_or, option_map, option_and_then}
 use Rattle.std.specs.Arc.{arc_value}
-use Rattle.std.specs.Cmp.Lexicographic.{pointwise}
-use Rattle.std.proofs.lemmas.Option.{slice_get_past}
-use Rattle.std.proofs.lemmas.List.{length-append, length-map, map-append}
+use Rattle.std.proofs.lemmas.Bool.{false≢true}
+use Rattle.std.proofs.lemmas.List.{length-map, map-append}
+use Rattle.std.proofs.lemmas.List.Elements.{All-push, All-nil, All-cons}
+use Rattle.std.proofs.lemmas.List.Quantifiers.{all_pairs_push}
 use Rattle.mp_tx.specs.declared.reference.OutRef.{OutRef}
 use Rattle.mp_tx.specs.declared.output.Output.{Output}
 use Rattle.mp_tx.specs.Transaction.{Transaction, spends}
 use Rattle.mp_tx.specs.Spelling.{id_of}
 use Rattle.mp_utxo.specs.declared.changes.Change.{Change}
-use Rattle.mp_utxo.specs.declared.changes.Change.TheVariants.{Spent, Made}
-use Rattle.mp_utxo.specs.declared.overlay.Applied.{Applied}
-use Rattle.mp_utxo.specs.Apply.{Unspent, after}
-use Rattle.mp_utxo.specs.Inside.Changes.{Noted, last_change, Spends, Makes}
-use Rattle.mp_utxo.specs.Inside.Applied.{transactions, made_at}
-use Rattle.mp_utxo.specs.Inside.Overlay.{changed, IsOfFirst, AreKept}
-use Rattle.mp_utxo.proofs.After.{after-append}
+use Rattle.mp_utxo.specs.declared.changes.Change.TheVariants.{Spent, Made, MadeThenSpent}
+use Rattle.mp_utxo.specs.declared.applied.Applied.{Applied}
+use Rattle.mp_utxo.specs.Apply.{Unspent, apply, after, output_made}
+use Rattle.mp_utxo.specs.Leaf.{NoneMakes, LooksPast}
+use Rattle.mp_utxo.specs.Inside.Changes.{Noted, last_change, spent, is_made, is_own, Spends, Makes}
+use Rattle.mp_utxo.specs.Inside.Applied.{Places, places, those, transactions}
+use Rattle.mp_utxo.specs.Inside.Overlay.{changed, IsMadeSo, MakesAt, AreKept}
+use Rattle.mp_utxo.proofs.After.{after-append, apply-unmade}
+use Rattle.mp_utxo.proofs.Places.{those-append, standing-push, standing-last}
+use Rattle.mp_utxo.proofs.Makers.{own-made, makes-at, other-unmade}
 
--- ---- places
+-- ---- what was, with one more behind it
 
-slice_get-front : {X : Type 0} (xs : List X) (x : X) (k : ℕ) → k < length xs → slice_get (xs ++ x ∷ []) k ≡ slice_get xs k
-slice_get-front [] x k lt = absurd (omega arith)
-slice_get-front (y ∷ ys) x zero lt = refl
-slice_get-front (y ∷ ys) x (suc k) lt = slice_get-front ys x k (omega arith)
+-- a change says the same
+stays : (ps : Places) (t : Transaction) (u : Unspent) (r : OutRef) (o : Option Change) → IsMadeSo ps r o → changed (ps ++ Some t ∷ []) u r o ≡ changed ps u r o
+stays ps t u r None made = refl
+stays ps t u r (Some Spent) made = refl
+stays ps t u r (Some (Made place)) made =
+    ap (option_and_then (λ (x : Transaction). slice_get x.outputs r.index)) (standing-push ps (Some t) place made.maker made.stands ∙ sym made.stands)
+stays ps t u r (Some (MadeThenSpent place)) made = refl
 
-slice_get-last : {X : Type 0} (xs : List X) (x : X) → slice_get (xs ++ x ∷ []) (length xs) ≡ Some x
-slice_get-last [] x = refl
-slice_get-last (y ∷ ys) x = slice_get-last ys x
+still_at : (ps : Places) (t : Transaction) (r : OutRef) (place : ℕ) → MakesAt ps place r → MakesAt (ps ++ Some t ∷ []) place r
+still_at ps t r place made = record { maker = made.maker; stands = standing-push ps (Some t) place made.maker made.stands; makes = made.makes }
 
-made_at-last : (ts : List Transaction) (t : Transaction) (index : ℕ) → made_at (ts ++ t ∷ []) (length ts) index ≡ slice_get t.outputs index
-made_at-last ts t index = ap (option_and_then (λ (x : Transaction). slice_get x.outputs index)) (slice_get-last ts t)
+still_none : (ps : Places) (t : Transaction) (r : OutRef) → output_made t r ≡ None → NoneMakes (those ps) r → NoneMakes (those (ps ++ Some t ∷ [])) r
+still_none ps t r e none = subst (λ ts. NoneMakes ts r) (sym (those-append ps (Some t ∷ []))) (All-push (λ (x : Transaction). output_made x r ≡ None) (those ps) t none e)
 
--- a change among the transactions so far says the same with one more behind them
-stays : (ts : List Transaction) (t : Transaction) (u : Unspent) (r : OutRef) (o : Option Change) → IsOfFirst (length ts) o → changed (ts ++ t ∷ []) u r o ≡ changed ts u r o
-stays ts t u r None first = refl
-stays ts t u r (Some Spent) first = refl
-stays ts t u r (Some (Made place)) first = ap (option_and_then (λ (x : Transaction). slice_get x.outputs r.index)) (slice_get-front ts t place first)
+-- it was made so, where the transaction makes no output under the reference
+still : (ps : Places) (t : Transaction) (r : OutRef) (o : Option Change) → output_made t r ≡ None → IsMadeSo ps r o → IsMadeSo (ps ++ Some t ∷ []) r o
+still ps t r None e made = still_none ps t r e made
+still ps t r (Some Spent) e made = still_none ps t r e made
+still ps t r (Some (Made place)) e made = still_at ps t r place made
+still ps t r (Some (MadeThenSpent place)) e made = still_at ps t r place made
 
-later : (n m : ℕ) (o : Option Change) → n ≤ m → IsOfFirst n o → IsOfFirst m o
-later n m None le first = tt
-later n m (Some Spent) le first = tt
-later n m (Some (Made place)) le first = omega arith
+still_spent : (ps : Places) (t : Transaction) (r : OutRef) (o : Option Change) → output_made t r ≡ None → IsMadeSo ps r o → IsMadeSo (ps ++ Some t ∷ []) r (Some (spent o))
+still_spent ps t r None e made = still_none ps t r e made
+still_spent ps t r (Some Spent) e made = still_none ps t r e made
+still_spent ps t r (Some (Made place)) e made = still_at ps t r place made
+still_spent ps t r (Some (MadeThenSpent place)) e made = still_at ps t r place made
 
--- ---- one more transaction
+gone : (ps : Places) (u : Unspent) (r : OutRef) (o : Option Change) → changed ps u r (Some (spent o)) ≡ None
+gone ps u r None = refl
+gone ps u r (Some Spent) = refl
+gone ps u r (Some (Made place)) = refl
+gone ps u r (Some (MadeThenSpent place)) = refl
 
-one_longer : (ts : List Transaction) (t : Transaction) → length ts < length (ts ++ t ∷ [])
-one_longer ts t = let e = length-append ts (t ∷ []) in omega arith
+-- ---- what becomes of a reference
 
 -- what became of a reference after the transaction has spent and made
-abbrev after_both : Transaction → ℕ → OutRef → Option Change → Option Change
-after_both t place r o = if pointwise nat_eq r.id (id_of t) && nat_lt r.index (length t.outputs) then Some (Made place) else (if spends t.inputs r then Some Spent else o)
+abbrev both : Bool → Bool → ℕ → Option Change → Option Change
+both own spends place o = if own then Some (Made place) else (if spends then Some (spent o) else o)
 
-first-both : (place count : ℕ) (made spent : Bool) (o : Option Change) → place < count → IsOfFirst place o → IsOfFirst count (if made then Some (Made place) else (if spent then Some Spent else o))
-first-both place count true spent o lt first = lt
-first-both place count false true o lt first = tt
-first-both place count false false o lt first = later place count o (omega arith) first
+last-both : (t : Transaction) (place : ℕ) (old mid new : Noted) → Spends old t.inputs mid → Makes mid t place new → (r : OutRef)
+    → last_change new r ≡ both (is_own (id_of t) (length t.outputs) r) (spends t.inputs r) place (last_change old r)
+last-both t place old mid new spent made r = made r ∙ ap (λ o. if is_own (id_of t) (length t.outputs) r then Some (Made place) else o) (spent r)
 
-some_or : {X : Type 0} (xs : List X) (k : ℕ) (o : Option X) → k < length xs → option_or (slice_get xs k) o ≡ slice_get xs k
-some_or [] k o lt = absurd (omega arith)
-some_or (x ∷ xs) zero o lt = refl
-some_or (x ∷ xs) (suc k) o lt = some_or xs k o (omega arith)
+or_some : (m o : Option Output) → IsSome m → m ≡ option_or m o
+or_some None o h = absurd (false≢true h)
+or_some (Some x) o h = refl
 
-within : (k n : ℕ) → nat_lt k n ≡ true → k < n
-within k n lt = grind (arith)
+tells : (ps : Places) (t : Transaction) (u v : Unspent) (r : OutRef) (own sp : Bool) (o : Option Change) → is_own (id_of t) (length t.outputs) r ≡ own → spends t.inputs r ≡ sp → IsMadeSo ps r o → changed ps u r o ≡ v r
+    → changed (ps ++ Some t ∷ []) u r (both own sp (length ps) o) ≡ apply t v r
+tells ps t u v r true sp o own s made is =
+    ap (option_and_then (λ (x : Transaction). slice_get x.outputs r.index)) (standing-last ps t)
+    ∙ sym (makes-at t r (own-made t r own)) ∙ or_some (output_made t r) (if spends t.inputs r then None else v r) (own-made t r own)
+tells ps t u v r false true o own s made is = gone (ps ++ Some t ∷ []) u r o ∙ sym (apply-unmade t v r (other-unmade t r own) ∙ ap (λ b. if b then None else v r) s)
+tells ps t u v r false false o own s made is = stays ps t u r o made ∙ is ∙ sym (apply-unmade t v r (other-unmade t r own) ∙ ap (λ b. if b then None else v r) s)
 
-past : {X : Type 0} (xs : List X) (k : ℕ) → nat_lt k (length xs) ≡ false → slice_get xs k ≡ None
-past xs k ge = slice_get_past xs k (grind (arith))
-
--- what stands there where the transaction makes no output under the reference
-unmade : (ts : List Transaction) (t : Transaction) (u : Unspent) (r : OutRef) (spent : Bool) (o : Option Change) (before : Option Output) → IsOfFirst (length ts) o → changed ts u r o ≡ before → changed (ts ++ t ∷ []) u r (if spent then Some Spent else o) ≡ (if spent then None else before)
-unmade ts t u r true o before first is = refl
-unmade ts t u r false o before first is = stays ts t u r o first ∙ is
-
-tells-both : (ts : List Transaction) (t : Transaction) (u : Unspent) (r : OutRef) (own few spent : Bool) (o : Option Change) (before : Option Output) → nat_lt r.index (length t.outputs) ≡ few → IsOfFirst (length ts) o → changed ts u r o ≡ before
-    → changed (ts ++ t ∷ []) u r (if own && few then Some (Made (length ts)) else (if spent then Some Spent else o)) ≡ option_or (if own then slice_get t.outputs r.index else None) (if spent then None else before)
-tells-both ts t u r true true spent o before few first is = made_at-last ts t r.index ∙ sym (some_or t.outputs r.index (if spent then None else before) (within r.index (length t.outputs) few))
-tells-both ts t u r true false spent o before few first is = unmade ts t u r spent o before first is ∙ ap (λ m. option_or m (if spent then None else before)) (sym (past t.outputs r.index few))
-tells-both ts t u r false few spent o before is_few first is = unmade ts t u r spent o before first is
-
-last-both : (t : Transaction) (place : ℕ) (old mid new : Noted) → Spends old t.inputs mid → Makes mid t place new → (r : OutRef) → last_change new r ≡ after_both t place r (last_change old r)
-last-both t place old mid new spent made r = made r ∙ ap (λ o. if pointwise nat_eq r.id (id_of t) && nat_lt r.index (length t.outputs) then Some (Made place) else o) (spent r)
+made-both : (ps : Places) (t : Transaction) (r : OutRef) (own sp : Bool) (o : Option Change) → is_own (id_of t) (length t.outputs) r ≡ own → IsMadeSo ps r o → IsMadeSo (ps ++ Some t ∷ []) r (both own sp (length ps) o)
+made-both ps t r true sp o own made = record { maker = t; stands = standing-last ps t; makes = own-made t r own }
+made-both ps t r false true o own made = still_spent ps t r o (other-unmade t r own) made
+made-both ps t r false false o own made = still ps t r o (other-unmade t r own) made
 
 -- the changes tell what may be spent after the transaction too
-keeps : (ts : List Transaction) (t : Transaction) (u : Unspent) (old mid new : Noted) → Spends old t.inputs mid → Makes mid t (length ts) new → AreKept ts u old → AreKept (ts ++ t ∷ []) u new
-keeps ts t u old mid new spent made kept = record {
-  tell = λ r. ap (changed (ts ++ t ∷ []) u r) (last-both t (length ts) old mid new spent made r)
-      ∙ tells-both ts t u r (pointwise nat_eq r.id (id_of t)) (nat_lt r.index (length t.outputs)) (spends t.inputs r) (last_change old r) (after u ts r) refl (kept.first r) (kept.tell r)
-      ∙ ap (λ (v : Unspent). v r) (sym (after-append u ts t));
-  first = λ r. subst (IsOfFirst (length (ts ++ t ∷ []))) (sym (last-both t (length ts) old mid new spent made r))
-      (first-both (length ts) (length (ts ++ t ∷ [])) (pointwise nat_eq r.id (id_of t) && nat_lt r.index (length t.outputs)) (spends t.inputs r) (last_change old r) (one_longer ts t) (kept.first r));
+keeps : (ps : Places) (t : Transaction) (u : Unspent) (old mid new : Noted) → Spends old t.inputs mid → Makes mid t (length ps) new → AreKept ps u old → AreKept (ps ++ Some t ∷ []) u new
+keeps ps t u old mid new spent made kept = record {
+  tell = λ r. ap (changed (ps ++ Some t ∷ []) u r) (last-both t (length ps) old mid new spent made r)
+      ∙ tells ps t u (after u (those ps)) r (is_own (id_of t) (length t.outputs) r) (spends t.inputs r) (last_change old r) refl refl (kept.made r) (kept.tell r)
+      ∙ ap (λ (v : Unspent). v r) (sym (ap (after u) (those-append ps (Some t ∷ [])) ∙ after-append u (those ps) t));
+  made = λ r. subst (IsMadeSo (ps ++ Some t ∷ []) r) (sym (last-both t (length ps) old mid new spent made r))
+      (made-both ps t r (is_own (id_of t) (length t.outputs) r) (spends t.inputs r) (last_change old r) refl (kept.made r));
 }
+
+-- ---- what it looks at
+
+unmade : (ps : Places) (r : OutRef) (o : Option Change) → is_made o ≡ false → IsMadeSo ps r o → NoneMakes (those ps) r
+unmade ps r None e made = made
+unmade ps r (Some Spent) e made = made
+unmade ps r (Some (Made place)) e made = absurd (false≢true (sym e))
+unmade ps r (Some (MadeThenSpent place)) e made = absurd (false≢true (sym e))
+
+or_false : (a b : Bool) → a || b ≡ false → (a ≡ false) × (b ≡ false)
+or_false true b e = absurd (false≢true (sym e))
+or_false false b e = (refl, e)
+
+none-any : {X : Type 0} (test : X → Bool) (xs : List X) → list_any test xs ≡ false → All (λ x. test x ≡ false) xs
+none-any test [] e = All-nil (λ x. test x ≡ false)
+none-any test (x ∷ xs) e = let h = or_false (test x) (list_any test xs) e in All-cons (λ x. test x ≡ false) x xs h.0 (none-any test xs h.1)
+
+-- none looks at what one before it made, where the last one doesn't
+pub looks-past : (ps : Places) (t : Transaction) (u : Unspent) (noted : Noted) → AreKept ps u noted → list_any (λ r. is_made (last_change noted r)) t.references ≡ false → AllPairs LooksPast (those ps)
+    → AllPairs LooksPast (those (ps ++ Some t ∷ []))
+looks-past ps t u noted kept none apart =
+    subst (λ ts. AllPairs LooksPast ts) (sym (those-append ps (Some t ∷ [])))
+    (all_pairs_push LooksPast (those ps) t apart (λ k d lt j e within.
+    unmade ps (get_or t.references j e) (last_change noted (get_or t.references j e)) (none-any (λ r. is_made (last_change noted r)) t.references none j e within) (kept.made (get_or t.references j e)) k d lt))
 
 -- ---- as they are held
 
+pushed-places : (applied pushed : List Applied) (more : Applied) (t : Transaction) → pushed ≡ applied ++ more ∷ [] → option_map arc_value more.tx ≡ Some t → places pushed ≡ places applied ++ Some t ∷ []
+pushed-places applied pushed more t is held =
+    ap places is ∙ map-append (λ (a : Applied). option_map arc_value a.tx) applied (more ∷ []) ∙ ap (λ x. places applied ++ x ∷ []) held
+
 -- of these, with one more behind them
-pub keeps-push : (applied pushed : List Applied) (more : Applied) (t : Transaction) (u : Unspent) (place : ℕ) (old mid new : Noted) → pushed ≡ applied ++ more ∷ [] → arc_value more.tx ≡ t → place ≡ length applied → Spends old t.inputs mid → Makes mid t place new → AreKept (transactions applied) u old → AreKept (transactions pushed) u new
+pub keeps-push : (applied pushed : List Applied) (more : Applied) (t : Transaction) (u : Unspent) (place : ℕ) (old mid new : Noted) → pushed ≡ applied ++ more ∷ [] → option_map arc_value more.tx ≡ Some t → place ≡ length applied → Spends old t.inputs mid → Makes mid t place new → AreKept (places applied) u old → AreKept (places pushed) u new
 keeps-push applied pushed more t u place old mid new is held at spent made kept =
-    subst (λ ts. AreKept ts u new)
-    (sym (ap transactions is ∙ map-append (λ (a : Applied). arc_value a.tx) applied (more ∷ []) ∙ ap (λ x. transactions applied ++ x ∷ []) held))
-    (keeps (transactions applied) t u old mid new spent (subst (λ p. Makes mid t p new) (at ∙ sym (length-map applied (λ (a : Applied). arc_value a.tx))) made) kept)
+    subst (λ ps. AreKept ps u new) (sym (pushed-places applied pushed more t is held))
+    (keeps (places applied) t u old mid new spent (subst (λ p. Makes mid t p new) (at ∙ sym (length-map applied (λ (a : Applied). option_map arc_value a.tx))) made) kept)
+
+pub looks-push : (applied pushed : List Applied) (more : Applied) (t : Transaction) (u : Unspent) (noted : Noted) → pushed ≡ applied ++ more ∷ [] → option_map arc_value more.tx ≡ Some t
+    → AreKept (places applied) u noted → list_any (λ r. is_made (last_change noted r)) t.references ≡ false → AllPairs LooksPast (transactions applied) → AllPairs LooksPast (transactions pushed)
+looks-push applied pushed more t u noted is held kept none apart =
+    subst (λ ps. AllPairs LooksPast (those ps)) (sym (pushed-places applied pushed more t is held)) (looks-past (places applied) t u noted kept none apart)
+
+pub those-push : (applied pushed : List Applied) (more : Applied) (t : Transaction) → pushed ≡ applied ++ more ∷ [] → option_map arc_value more.tx ≡ Some t → transactions pushed ≡ transactions applied ++ t ∷ []
+those-push applied pushed more t is held = ap those (pushed-places applied pushed more t is held) ∙ those-append (places applied) (Some t ∷ [])

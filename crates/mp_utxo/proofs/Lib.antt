@@ -1,3 +1,7 @@
 pub mod After
-pub mod Kept
 pub mod Noting
+pub mod Places
+pub mod Makers
+pub mod Kept
+pub mod Leaves
+pub mod Taken

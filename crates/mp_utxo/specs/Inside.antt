@@ -2,3 +2,4 @@
 pub mod Changes
 pub mod Applied
 pub mod Overlay
+pub mod Leaf

@@ -1,3 +1,4 @@
 pub mod Apply
 pub mod Overlay
+pub mod Leaf
 pub mod Inside

@@ -1,8 +1,9 @@
 //! What became of references last.
 
-ghost use Rattle.std.specs.Prelude.{◌+◌, ◌<◌, ◌≤◌, length};
+ghost use Rattle.std.specs.Prelude.{◌≡◌, ◌+◌, ◌<◌, ◌≤◌, length};
+ghost use Rattle.std.specs.List.{list_any};
 ghost use Rattle.indexmap.specs.IndexMap.{spare};
-ghost use Rattle.mp_utxo.specs.Inside.Changes.{Notes, Spends, Makes};
+ghost use Rattle.mp_utxo.specs.Inside.Changes.{last_change, spent, unspent_of, is_made, Notes, SpendsOne, Spends, Makes};
 
 use indexmap::IndexMap;
 use mp_memory::Memory;
@@ -11,9 +12,12 @@ use mp_tx::{Input, OutRef, Salt, Tx};
 /// What became of a reference.
 #[derive(Clone, Copy)]
 pub enum Change {
+    /// It was spent, and none of those that were applied made it.
     Spent,
-    /// It was made by the transaction at this place among those that were applied.
+    /// It was made by the transaction at this place among those that were applied, and not spent since.
     Made(usize),
+    /// It was made by the one at this place, and spent since.
+    MadeThenSpent(usize),
 }
 
 /// What became last of each reference that was spent or made.
@@ -30,6 +34,28 @@ fn note(changes: &mut Changes, reference: OutRef, change: Change)
     }
 }
 
+// What becomes of a reference that is spent.
+fn spent(before: Option<Change>) -> Change
+    ensures { result ≡ spent before }
+{
+    match before {
+        None => Change::Spent,
+        Some(Change::Spent) => Change::Spent,
+        Some(Change::Made(place)) => Change::MadeThenSpent(place),
+        Some(Change::MadeThenSpent(place)) => Change::MadeThenSpent(place),
+    }
+}
+
+// Notes that the reference is spent.
+fn spend_one(changes: &mut Changes, reference: OutRef)
+    requires { 0 < spare changes.old }
+    ensures spends { SpendsOne changes.old.entries reference changes.new.entries }
+    ensures room { spare changes.old ≤ spare changes.new + 1 }
+{
+    let change = spent(changes.get(&reference).copied());
+    note(changes, reference, change);
+}
+
 /// Notes what the inputs spend.
 pub fn spend(changes: &mut Changes, inputs: &[Input])
     requires { length inputs.now ≤ spare changes.old }
@@ -37,7 +63,7 @@ pub fn spend(changes: &mut Changes, inputs: &[Input])
     ensures room { spare changes.old ≤ spare changes.new + length inputs.now }
 {
     for input in inputs {
-        note(changes, input.from, Change::Spent);
+        spend_one(changes, input.from);
     }
 }
 
@@ -54,4 +80,35 @@ pub fn make(changes: &mut Changes, tx: &Tx, place: usize)
         };
         note(changes, own, Change::Made(place));
     }
+}
+
+/// The place of the transaction that made it, where it wasn't spent since.
+pub fn unspent_of(changes: &Changes, reference: &OutRef) -> Option<usize>
+    ensures { result ≡ unspent_of (last_change changes.now.entries reference.now) }
+{
+    match changes.get(reference) {
+        None => None,
+        Some(Change::Spent) => None,
+        Some(Change::Made(place)) => Some(*place),
+        Some(Change::MadeThenSpent(_)) => None,
+    }
+}
+
+// Whether one of those that were applied made it.
+fn is_made(changes: &Changes, reference: &OutRef) -> bool
+    ensures { result ≡ is_made (last_change changes.now.entries reference.now) }
+{
+    match changes.get(reference) {
+        None => false,
+        Some(Change::Spent) => false,
+        Some(Change::Made(_)) => true,
+        Some(Change::MadeThenSpent(_)) => true,
+    }
+}
+
+/// Whether one of those that were applied made one of these.
+pub fn are_any_made(changes: &Changes, references: &[OutRef]) -> bool
+    ensures { result ≡ list_any (λ r. is_made (last_change changes.now.entries r)) references.now }
+{
+    references.iter().any(|r| is_made(changes, r))
 }

@@ -2,8 +2,11 @@
 //! Chakravarty et al.).
 #![tactic(auto)]
 
+mod applied;
 mod changes;
+mod leaf;
 mod overlay;
+mod undo;
 mod utxo;
 
 pub use overlay::Overlay;

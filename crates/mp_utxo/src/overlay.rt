@@ -1,20 +1,14 @@
 //! Overlays.
 
-ghost use Rattle.std.specs.Prelude.{◌≡◌, option_copied};
-ghost use Rattle.mp_utxo.specs.Inside.Applied.{output_at};
-
-use crate::changes::{Change, Changes, make, spend};
+use crate::applied::{Applied, output_at, vacate};
+use crate::changes::{Change, Changes, are_any_made, make, spend, unspent_of};
+use crate::leaf::{are_of_one, has_new_unspent};
+use crate::undo::{forget_made, restore};
 use indexmap::IndexMap;
 use mp_memory::{Memory, NoMemory};
 use mp_tx::{Ledger, OutRef, Output, Tx};
 use std::marker::Model;
 use std::sync::Arc;
-
-// A transaction that was applied.
-#[derive(Drop)]
-struct Applied {
-    tx: Arc<Tx, Memory>,
-}
 
 /// A ledger state with transactions applied upon it, seen as one map of the outputs that may be spent.
 ///
@@ -26,6 +20,10 @@ pub struct Overlay {
     ledger: Ledger,
     applied: Vec<Applied, Memory>,
     changes: Changes,
+    // while it is false, no transaction looks at what one before it made
+    looks_inside: bool,
+    // how many of the places are vacant
+    vacant: usize,
 }
 
 impl Model for Overlay {
@@ -44,19 +42,12 @@ impl Model for Overlay {
     ghost invariant = { IsKept };
 }
 
-// The output of this index that the transaction at the place makes.
-fn output_at(applied: &[Applied], place: usize, index: u16) -> Option<&Output>
-    ensures { option_copied result ≡ output_at applied.now place index }
-{
-    match applied.get(place) {
-        Some(maker) => maker.tx.outputs().get(index as usize),
-        None => None,
-    }
-}
-
 impl Overlay {
-    ghost use Rattle.std.specs.Prelude.{◌≡◌, IfOk, OnOk, option_copied};
+    ghost use Rattle.std.specs.Prelude.{◌≡◌, ◌≢◌, IfOk, OnOk, IsTrue, option_copied, map, AllPairs, Contains};
     ghost use Rattle.std.specs.Arc.{arc_value};
+    ghost use Rattle.std.specs.FinMap as finite;
+    ghost use Rattle.mp_tx.specs.Spelling.{id_of};
+    ghost use Rattle.mp_utxo.specs.Leaf.{IsLeaf, IsFed, LacksOne};
     ghost use Rattle.mp_utxo.specs.Overlay.{unspent, IsOver, HasRoomFor, IsSame, Applies};
 
     /// The ledger state with nothing applied upon it. It shares the ledger's outputs.
@@ -69,6 +60,8 @@ impl Overlay {
             ledger,
             applied: Vec::new(memory),
             changes,
+            looks_inside: false,
+            vacant: 0,
         })
     }
 
@@ -87,6 +80,7 @@ impl Overlay {
             None => self.ledger.get(reference),
             Some(Change::Spent) => None,
             Some(Change::Made(place)) => output_at(&self.applied, *place, reference.index),
+            Some(Change::MadeThenSpent(_)) => None,
         }
     }
 
@@ -110,9 +104,50 @@ impl Overlay {
         requires { HasRoomFor self.old.room (arc_value tx) }
         ensures { Applies self.old (arc_value tx) self.new }
     {
+        let looks_inside = self.looks_inside || are_any_made(&self.changes, tx.references());
         let place = self.applied.len();
         spend(&mut self.changes, tx.inputs());
         make(&mut self.changes, &tx, place);
-        self.applied.push_reserved(Applied { tx });
+        self.applied.push_reserved(Applied { tx: Some(tx) });
+        self.looks_inside = looks_inside;
+    }
+
+    // Whether so many places are vacant that a new overlay of those that are left is worth its cost.
+    fn is_sparse(&self) -> bool {
+        self.vacant > 64 && self.vacant > self.applied.len() / 2
+    }
+
+    /// Whether the transaction, which was applied, can be taken out with nothing else: `true` only where that is so; `false`
+    /// says nothing. It takes no memory.
+    pub fn is_leaf(&self, tx: &Tx) -> bool
+        ensures { IsTrue result → IsLeaf (finite.get self.now.ledger.utxo) self.now.applied tx.now }
+    {
+        if self.looks_inside || self.is_sparse() {
+            return false;
+        }
+        has_new_unspent(&self.changes, &self.ledger, tx)
+            && are_of_one(&self.changes, &self.ledger, tx.inputs())
+    }
+
+    /// Takes the transaction out. What it spent may be spent again, and what it made is gone. It takes no memory and can't
+    /// fail.
+    pub fn take_out(&mut self, tx: &Tx)
+        requires leaf { IsLeaf (finite.get self.old.ledger.utxo) self.old.applied tx.now }
+        requires fed { IsFed (finite.get self.old.ledger.utxo) self.old.applied }
+        requires distinct { AllPairs (λ a b. a ≢ b) (map id_of self.old.applied) }
+        requires there { Contains self.old.applied tx.now }
+        ensures { LacksOne self.old (id_of tx.now) self.new }
+    {
+        let first = OutRef {
+            id: *tx.id(),
+            index: 0,
+        };
+        let Some(place) = unspent_of(&self.changes, &first) else {
+            unreachable!()
+        };
+        restore(&mut self.changes, tx.inputs());
+        forget_made(&mut self.changes, tx);
+        vacate(&mut self.applied, place);
+        self.vacant = self.vacant.saturating_add(1);
     }
 }

@@ -1,17 +1,32 @@
--- The applied transactions without the shares that they are held by.
-use Rattle.std.specs.Prelude.{ℕ, List, map, Option, slice_get}
-use Rattle.std.specs.Option.{option_and_then}
+-- The applied transactions at their places, without the shares that they are held by.
+use Rattle.std.specs.Prelude.{ℕ, List, map, filter_map, Option, slice_get}
+use Rattle.std.specs.Option.{option_map, option_and_then}
 use Rattle.std.specs.Arc.{arc_value}
 use Rattle.mp_tx.specs.declared.output.Output.{Output}
 use Rattle.mp_tx.specs.Transaction.{Transaction}
-use Rattle.mp_utxo.specs.declared.overlay.Applied.{Applied}
+use Rattle.mp_utxo.specs.declared.applied.Applied.{Applied}
+
+-- what stands at each place, which is vacant where a transaction was taken out
+abbrev pub Places : Type 0
+Places = List (Option Transaction)
+
+abbrev pub places : List Applied → Places
+places applied = map (λ a. option_map arc_value a.tx) applied
+
+-- those that are there, in order
+abbrev pub those : Places → List Transaction
+those ps = filter_map (λ p. p) ps
 
 abbrev pub transactions : List Applied → List Transaction
-transactions applied = map (λ a. arc_value a.tx) applied
+transactions applied = those (places applied)
+
+-- the transaction at the place
+abbrev pub standing : Places → ℕ → Option Transaction
+standing ps place = option_and_then (λ p. p) (slice_get ps place)
 
 -- the output of this index that the transaction at the place makes
-abbrev pub made_at : List Transaction → ℕ → ℕ → Option Output
-made_at ts place index = option_and_then (λ t. slice_get t.outputs index) (slice_get ts place)
+abbrev pub made_at : Places → ℕ → ℕ → Option Output
+made_at ps place index = option_and_then (λ t. slice_get t.outputs index) (standing ps place)
 
 abbrev pub output_at : List Applied → ℕ → ℕ → Option Output
-output_at applied place index = made_at (transactions applied) place index
+output_at applied place index = made_at (places applied) place index

@@ -1,5 +1,5 @@
 -- What an overlay keeps: for each reference that was spent or made, what became of it last.
-use Rattle.std.specs.Prelude.{◌≡◌, ◌-◌, ◌<◌, ℕ, List, length, Option, Some, None}
+use Rattle.std.specs.Prelude.{◌≡◌, ◌-◌, ℕ, false, Option, Some, None, IsSome, AllPairs}
 use Rattle.std.specs.FinMap.{get}
 use Rattle.std.specs.Vec.{vec_len, vec_capacity}
 use Rattle.indexmap.specs.IndexMap.{spare}
@@ -7,11 +7,12 @@ use Rattle.mp_tx.specs.declared.reference.OutRef.{OutRef}
 use Rattle.mp_tx.specs.declared.output.Output.{Output}
 use Rattle.mp_tx.specs.Transaction.{Transaction}
 use Rattle.mp_utxo.specs.declared.changes.Change.{Change}
-use Rattle.mp_utxo.specs.declared.changes.Change.TheVariants.{Spent, Made}
+use Rattle.mp_utxo.specs.declared.changes.Change.TheVariants.{Spent, Made, MadeThenSpent}
 use Rattle.mp_utxo.specs.declared.overlay.Overlay.TheInside.{Inside}
-use Rattle.mp_utxo.specs.Apply.{Unspent, after}
+use Rattle.mp_utxo.specs.Apply.{Unspent, after, output_made}
+use Rattle.mp_utxo.specs.Leaf.{NoneMakes, LooksPast}
 use Rattle.mp_utxo.specs.Inside.Changes.{Noted, last_change}
-use Rattle.mp_utxo.specs.Inside.Applied.{transactions, made_at}
+use Rattle.mp_utxo.specs.Inside.Applied.{Places, places, those, transactions, standing, made_at}
 use Rattle.mp_utxo.specs.Overlay as told
 
 abbrev pub overlay : Inside → told.Overlay
@@ -25,21 +26,31 @@ overlay o = record {
 }
 
 -- what stands under a reference after its last change, which is the ledger's where there was none
-abbrev pub changed : List Transaction → Unspent → OutRef → Option Change → Option Output
-changed ts u r None = u r
-changed ts u r (Some Spent) = None
-changed ts u r (Some (Made place)) = made_at ts place r.index
+abbrev pub changed : Places → Unspent → OutRef → Option Change → Option Output
+changed ps u r None = u r
+changed ps u r (Some Spent) = None
+changed ps u r (Some (Made place)) = made_at ps place r.index
+changed ps u r (Some (MadeThenSpent place)) = None
 
--- what was made was made by one of so many transactions
-abbrev pub IsOfFirst : ℕ → Option Change → Type 0
-IsOfFirst count None = Unit {0}
-IsOfFirst count (Some Spent) = Unit {0}
-IsOfFirst count (Some (Made place)) = place < count
+-- the transaction at the place makes an output under the reference
+pub record MakesAt (ps : Places) (place : ℕ) (r : OutRef) : Type 0 where
+  pub maker : Transaction
+  pub stands : standing ps place ≡ Some maker
+  pub makes : IsSome (output_made maker r)
 
--- the changes tell what may be spent after the transactions
-pub record AreKept (ts : List Transaction) (u : Unspent) (noted : Noted) : Type 0 where
-  pub tell : (r : OutRef) → changed ts u r (last_change noted r) ≡ after u ts r
-  pub first : (r : OutRef) → IsOfFirst (length ts) (last_change noted r)
+-- what was made was made by the one at the place, and nothing else was
+abbrev pub IsMadeSo : Places → OutRef → Option Change → Type 0
+IsMadeSo ps r None = NoneMakes (those ps) r
+IsMadeSo ps r (Some Spent) = NoneMakes (those ps) r
+IsMadeSo ps r (Some (Made place)) = MakesAt ps place r
+IsMadeSo ps r (Some (MadeThenSpent place)) = MakesAt ps place r
 
-abbrev pub IsKept : Inside → Type 0
-IsKept o = AreKept (transactions o.applied.items) (get o.ledger.utxo) o.changes.entries
+-- the changes tell what may be spent after the transactions, and who made it
+pub record AreKept (ps : Places) (u : Unspent) (noted : Noted) : Type 0 where
+  pub tell : (r : OutRef) → changed ps u r (last_change noted r) ≡ after u (those ps) r
+  pub made : (r : OutRef) → IsMadeSo ps r (last_change noted r)
+
+pub record IsKept (o : Inside) : Type 0 where
+  pub changes : AreKept (places o.applied.items) (get o.ledger.utxo) o.changes.entries
+  -- unless it says so, no transaction looks at what one before it made
+  pub apart : o.looks_inside ≡ false → AllPairs LooksPast (transactions o.applied.items)

@@ -1,15 +1,35 @@
-use Rattle.std.proofs.Common.{rules, ◌≡◌, length, subst, ap, ◌∙◌, refl}
+use Rattle.std.proofs.Common.{rules, ◌≡◌, length, subst, ap, ◌∙◌, refl, sym, false}
+use Rattle.std.specs.Prelude.{List, [], ◌∷◌, ◌++◌}
 use Rattle.std.specs.Arc.{arc_value}
 use Rattle.std.specs.FinMap.{get}
-use Rattle.mp_utxo.specs.Inside.Changes.{Spends, Makes}
-use Rattle.mp_utxo.proofs.Kept.{keeps-push}
+use Rattle.std.specs.List.{list_any}
+use Rattle.std.proofs.lemmas.Bool.{false≢true}
+use Rattle.mp_tx.specs.declared.reference.OutRef.{OutRef}
+use Rattle.mp_utxo.specs.Overlay.{Overlay}
+use Rattle.mp_utxo.specs.Inside.Changes.{is_made, last_change, Spends, Makes}
+use Rattle.mp_utxo.proofs.Kept.{keeps-push, looks-push, those-push}
 use Rattle.mp_utxo.proofs.overlay.Overlay.apply.Goals as goal
+use Rattle.mp_utxo.proofs.overlay.Overlay.apply.Goals.{then-self, else-self}
 
 pub invariant_of-self : goal.invariant_of-self
 invariant_of-self c =
     let at : c.len-place.result ≡ length c.self.inside.applied.items = Prim.search rules in
-    keeps-push c.self.inside.applied.items _ _ (arc_value c.args.tx) (get c.self.inside.ledger.utxo) c.len-place.result c.self.inside.changes.entries c.spend.new.changes.entries c.make.new.changes.entries
-    c.push_reserved.ensures.items refl at
-    (subst (λ inputs. Spends c.self.inside.changes.entries inputs c.spend.new.changes.entries) (c.inputs.ensures.inputs ∙ ap (λ t. t.inputs) c.deref.ensures) c.spend.ensures.spends)
-    (subst (λ t. Makes c.spend.new.changes.entries t c.len-place.result c.make.new.changes.entries) c.deref-2.ensures c.make.ensures)
-    c.self.invariant
+    record {
+      changes = keeps-push c.self.inside.applied.items _ _ (arc_value c.args.tx) (get c.self.inside.ledger.utxo) c.len-place.result c.self.inside.changes.entries c.spend.new.changes.entries c.make.new.changes.entries
+          c.push_reserved.ensures.items refl at
+          (subst (λ inputs. Spends c.self.inside.changes.entries inputs c.spend.new.changes.entries) (c.inputs.ensures.inputs ∙ ap (λ t. t.inputs) c.deref-2.ensures) c.spend.ensures.spends)
+          (subst (λ t. Makes c.spend.new.changes.entries t c.len-place.result c.make.new.changes.entries) c.deref-3.ensures c.make.ensures)
+          c.self.invariant.changes;
+      apart = λ past. elim c.if-self.branch [
+        | then-self w ↦ absurd (false≢true (sym past ∙ w.looks_inside-is ∙ w.if-self.true))
+        | else-self w ↦ looks-push c.self.inside.applied.items _ _ (arc_value c.args.tx) (get c.self.inside.ledger.utxo) c.self.inside.changes.entries c.push_reserved.ensures.items refl c.self.invariant.changes
+            (subst (λ (rs : List OutRef). list_any (λ r. is_made (last_change c.self.inside.changes.entries r)) rs ≡ false) (w.references.ensures.references ∙ ap (λ t. t.references) w.deref.ensures) (sym w.are_any_made-looks_inside.ensures ∙ sym w.looks_inside-is ∙ past))
+            (c.self.invariant.apart w.if-self.false)
+      ];
+    }
+
+pub returns : goal.returns
+returns c = record {
+  base = Prim.search rules;
+  applied = those-push c.self.inside.applied.items _ _ (arc_value c.args.tx) c.push_reserved.ensures.items refl ∙ ap (λ (o : Overlay). o.applied ++ arc_value c.args.tx ∷ []) c.self.view_is;
+}

@@ -1,0 +1,28 @@
+-- What is asked of the references of a transaction on which no other hangs.
+use Rattle.std.specs.Prelude.{◌≡◌, ◌<◌, length, EachIndex, Bool, true, false, ◌&&◌, Option, None, Some, is_some, is_none}
+use Rattle.mp_tx.specs.declared.reference.OutRef.{OutRef}
+use Rattle.mp_tx.specs.declared.output.Output.{Output}
+use Rattle.mp_tx.specs.Transaction.{Transaction}
+use Rattle.mp_utxo.specs.declared.changes.Change.{Change}
+use Rattle.mp_utxo.specs.declared.changes.Change.TheVariants.{Spent, Made, MadeThenSpent}
+use Rattle.mp_utxo.specs.Apply.{Unspent, own_ref}
+use Rattle.mp_utxo.specs.Inside.Changes.{Noted, last_change, unspent_of}
+
+-- it was made and not spent since, and the ledger has nothing there
+abbrev pub is_new_unspent : Noted → Unspent → OutRef → Bool
+is_new_unspent noted u r = is_some (unspent_of (last_change noted r)) && is_none (u r)
+
+-- the transaction has outputs, of which all this is so
+pub record HasNewUnspent (noted : Noted) (u : Unspent) (t : Transaction) : Type 0 where
+  pub some : 0 < length t.outputs
+  pub each : EachIndex t.outputs (λ k. is_new_unspent noted u (own_ref t k) ≡ true)
+
+-- where a spent reference leads to is told by the ledger alone, or by the transactions alone
+abbrev pub is_told_by_one : Option Change → Option Output → Bool
+is_told_by_one None below = false
+is_told_by_one (Some Spent) below = true
+is_told_by_one (Some (Made place)) below = false
+is_told_by_one (Some (MadeThenSpent place)) below = is_none below
+
+abbrev pub is_of_one : Noted → Unspent → OutRef → Bool
+is_of_one noted u r = is_told_by_one (last_change noted r) (u r)

@@ -1,0 +1,32 @@
+//! The transactions that were applied, at their places.
+
+ghost use Rattle.std.specs.Prelude.{◌≡◌, ◌<◌, None, set, option_copied, vec_len};
+ghost use Rattle.mp_utxo.specs.Inside.Applied.{output_at, places};
+
+use mp_memory::Memory;
+use mp_tx::{Output, Tx};
+use std::sync::Arc;
+
+/// A transaction that was applied, or the place of one that was taken out, so that the others keep theirs.
+#[derive(Drop)]
+pub struct Applied {
+    pub tx: Option<Arc<Tx, Memory>>,
+}
+
+/// The output of this index that the transaction at the place makes.
+pub fn output_at(applied: &[Applied], place: usize, index: u16) -> Option<&Output>
+    ensures { option_copied result ≡ output_at applied.now place index }
+{
+    match &applied.get(place)?.tx {
+        Some(maker) => maker.outputs().get(index as usize),
+        None => None,
+    }
+}
+
+/// Takes out the transaction at the place, which is left vacant.
+pub fn vacate(applied: &mut Vec<Applied, Memory>, place: usize)
+    requires { place < vec_len applied.old }
+    ensures { places applied.new.items ≡ set (places applied.old.items) place None }
+{
+    applied[place] = Applied { tx: None };
+}
