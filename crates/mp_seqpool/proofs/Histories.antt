@@ -27,11 +27,11 @@ use Rattle.mp_seqpool.specs.Config.{renewed}
 use Rattle.mp_seqpool.specs.SlowPool.{AreSigned, IsRefused, empty_pool, unspent, ticket_of, answer_rules, answer_new, answer, done, pool_with, pool_upon, next, pool_after}
 use Rattle.mp_seqpool.specs.PoolLaws.{IsLawful, Lasts, GivesNext, ObeysLaws}
 use Rattle.mp_seqpool.proofs.Distinct.{absent}
-use Rattle.mp_seqpool.proofs.Keeping.{IsOrderly, orderly-of, rising-of, above_zero-of, given-of, distinct-of, orderly-unnamed, All-unnamed, All-kept, orderly-kept, chain-kept, signed-chain}
+use Rattle.mp_seqpool.proofs.Keeping.{IsOrderly, orderly-of, rising-of, above_zero-of, given-of, distinct-of, orderly-unnamed, All-unnamed, All-kept, orderly-kept, chain-push, chain-kept, signed-chain}
 
 -- ---- numbers, lists and tests
 
-not_refused : {A E : Type 0} (b : Bool) (e : E) (r : Result A E) (x : A) → cond b (Err e) r ≡ Ok x → r ≡ Ok x
+pub not_refused : {A E : Type 0} (b : Bool) (e : E) (r : Result A E) (x : A) → cond b (Err e) r ≡ Ok x → r ≡ Ok x
 not_refused true e r x h = Prim.cc
 not_refused false e r x h = h
 
@@ -87,7 +87,7 @@ module _ (accepts : Accepts) where
   new p t None r h = let k = by_rules p t _ r (not_refused _ _ _ r h) in (refl, k.0, k.1)
   new p t (Some k) r h = Prim.cc
 
-  taken : (p : Pool) (t : Transaction) (r : Reply) → answer accepts p (Submit t) ≡ Ok r → (ticket_of (id_of t) p.items ≡ None) × IsClear p t × (r ≡ Accepted (p.last + 1))
+  pub taken : (p : Pool) (t : Transaction) (r : Reply) → answer accepts p (Submit t) ≡ Ok r → (ticket_of (id_of t) p.items ≡ None) × IsClear p t × (r ≡ Accepted (p.last + 1))
   unfolding answer
   taken p t r h = new p t _ r (not_refused (nat_le (2 ^ 64 - 1) p.last) refusals.TicketsSpent _ r (not_refused (nat_le p.limit p.changes) refusals.HistoryFull _ r h))
 
@@ -101,10 +101,6 @@ module _ (accepts : Accepts) where
 
   -- ---- each part of the law after one more transaction
 
-  Chain-append : (u : Unspent) (tick : ℕ) (ts : List Transaction) (t : Transaction) → Chain accepts u tick ts → IsValid accepts (after u ts) tick t → Chain accepts u tick (ts ++ t ∷ [])
-  Chain-append u tick [] t c v = (v, tt)
-  Chain-append u tick (x ∷ ts) t c v = (c.0, Chain-append (apply x u) tick ts t c.1 v)
-
   lawful-accepted : (p : Pool) (t : Transaction) (r : Reply) → IsLawful accepts p → answer accepts p (Submit t) ≡ Ok r → IsLawful accepts (pool_with p t)
   lawful-accepted p t r law h =
       let is = taken p t r h in
@@ -112,7 +108,7 @@ module _ (accepts : Accepts) where
       ap (map id_of) (map-append (λ (i : ℕ × Transaction). i.1) p.items ((p.last + 1, t) ∷ [])) ∙ map-append id_of (transactions p.items) (t ∷ []) in
       record {
         chained = subst (Chain accepts (get p.ledger.utxo) p.ledger.tick) (sym (map-append (λ (i : ℕ × Transaction). i.1) p.items ((p.last + 1, t) ∷ [])))
-            (Chain-append (get p.ledger.utxo) p.ledger.tick (transactions p.items) t law.chained (valid accepts (unspent p) p.ledger.tick t is.1));
+            (chain-push accepts (get p.ledger.utxo) p.ledger.tick (transactions p.items) t law.chained (valid accepts (unspent p) p.ledger.tick t is.1));
         rising = subst IsStrictlyIncreasing (sym (map-append (λ (i : ℕ × Transaction). i.0) p.items ((p.last + 1, t) ∷ [])))
             (rising-append (tickets p.items) (p.last + 1) law.rising (λ k d lt. below_next _ p.last (law.given k d lt)));
         above_zero = subst (All (λ k. 0 < k)) (sym (map-append (λ (i : ℕ × Transaction). i.0) p.items ((p.last + 1, t) ∷ [])))

@@ -1,14 +1,14 @@
 -- What is kept of a list of items, and what stays true of it.
-use Rattle.std.proofs.Common.{◌≡◌, ◌≢◌, ℕ, zero, suc, ◌+◌, ◌<◌, ◌≤◌, Bool, true, false, cond, not, List, [], ◌∷◌, refl, sym, subst, arith}
+use Rattle.std.proofs.Common.{◌≡◌, ◌≢◌, ℕ, zero, suc, ◌+◌, ◌<◌, ◌≤◌, Bool, true, false, cond, not, List, [], ◌∷◌, ◌++◌, refl, sym, subst, arith}
 use Rattle.std.specs.Prelude.{Option, None, Some, is_none, map, All, AllPairs}
 use Rattle.std.specs.List.Sorted.{IsStrictlyIncreasing}
 use Rattle.std.proofs.lemmas.List.Elements.{All-nil, All-cons, All-head, All-tail, All-map, All-filter}
 use Rattle.std.proofs.lemmas.List.Kept.{AllPairs-cons, AllPairs-filter, AllPairs-from_increasing}
 use Rattle.mp_tx.specs.Transaction.{Transaction}
 use Rattle.mp_tx.specs.Spelling.{id_of}
-use Rattle.mp_utxo.specs.Apply.{Unspent, apply}
+use Rattle.mp_utxo.specs.Apply.{Unspent, apply, after}
 use Rattle.mp_rules.specs.Verifier.{Accepts}
-use Rattle.mp_rules.specs.Validity.{Chain, SignaturesAccepted}
+use Rattle.mp_rules.specs.Validity.{IsValid, Chain, SignaturesAccepted}
 use Rattle.mp_rules.specs.FirstFault.{first_fault}
 use Rattle.mp_rules.specs.Checked.{IsSigned}
 use Rattle.mp_rules.proofs.Faults.{each_rule}
@@ -138,6 +138,11 @@ module _ (accepts : Accepts) where
       one_more (λ kept. Chain accepts u tick (transactions kept)) u tick i is
       (λ e. (valid accepts u tick i.1 (no_fault (first_fault accepts u tick i.1) e), chain-kept (apply i.1 u) tick is))
       (chain-kept u tick is)
+
+  -- one more that is valid after all of a chain
+  pub chain-push : (u : Unspent) (tick : ℕ) (ts : List Transaction) (t : Transaction) → Chain accepts u tick ts → IsValid accepts (after u ts) tick t → Chain accepts u tick (ts ++ t ∷ [])
+  chain-push u tick [] t c v = (v, tt)
+  chain-push u tick (x ∷ ts) t c v = (c.0, chain-push (apply x u) tick ts t c.1 v)
 
   -- all signatures in a chain are accepted
   pub signed-chain : (u : Unspent) (tick : ℕ) (ts : List Transaction) → Chain accepts u tick ts → All (IsSigned accepts) ts

@@ -97,7 +97,7 @@ pub none_named : (items : List (ℕ × Transaction)) → unnamed [] items ≡ it
 none_named [] = refl
 none_named (i ∷ is) = ap (λ l. i ∷ l) (none_named is)
 
-within : (limit changes : ℕ) → changes < limit → nat_le limit changes ≡ false
+pub within : (limit changes : ℕ) → changes < limit → nat_le limit changes ≡ false
 within limit changes h = grind (arith, nat_tests)
 
 at_limit : (limit changes : ℕ) → limit ≤ changes → nat_le limit changes ≡ true
@@ -150,14 +150,18 @@ module _ (accepts : Accepts) where
   leads_left p ledger ids k q rising is keeps =
       ap (changed p) keeps ∙ ap (λ l. pool_upon p l (among k.kept p.items)) is.base ∙ ap (pool_upon p ledger) (among_kept ledger ids p.items k.kept rising is.kept)
 
-  yes_next : (p : Pool) (c : Command) (r : Reply) → answer accepts p c ≡ Ok r → next accepts p c ≡ done accepts p c
+  pub yes_next : (p : Pool) (c : Command) (r : Reply) → answer accepts p c ≡ Ok r → next accepts p c ≡ done accepts p c
   unfolding next
   yes_next p c r e = ap (λ a. cond (is_ok a) (done accepts p c) p) e
 
-  removed : (p : Pool) (ids : List (List ℕ)) (k : Kept) → is_at_limit p ≡ false → IsKeptOf accepts p.ledger p.items ids k → answer accepts p (Remove ids) ≡ Ok (Removed k.named k.dropped)
+  pub removed_as : (p : Pool) (ids : List (List ℕ)) (gone left_out : List ℕ) → is_at_limit p ≡ false → gone ≡ tickets (named ids p.items) → left_out ≡ dropped accepts p.ledger (unnamed ids p.items)
+      → answer accepts p (Remove ids) ≡ Ok (Removed gone left_out)
   unfolding answer yes
-  removed p ids k below is =
-      open_limit (is_at_limit p) _ below ∙ sym (ap (λ n. Ok (Removed n k.dropped)) is.named ∙ ap (λ d. Ok (Removed (tickets (named ids p.items)) d)) is.dropped)
+  removed_as p ids gone left_out below is_named is_dropped =
+      open_limit (is_at_limit p) _ below ∙ sym (ap (λ n. Ok (Removed n left_out)) is_named ∙ ap (λ d. Ok (Removed (tickets (named ids p.items)) d)) is_dropped)
+
+  removed : (p : Pool) (ids : List (List ℕ)) (k : Kept) → is_at_limit p ≡ false → IsKeptOf accepts p.ledger p.items ids k → answer accepts p (Remove ids) ≡ Ok (Removed k.named k.dropped)
+  removed p ids k below is = removed_as p ids k.named k.dropped below is.named is.dropped
 
   synced : (p : Pool) (ledger : LedgerState) (k : Kept) → is_at_limit p ≡ false → IsKeptOf accepts ledger p.items [] k → answer accepts p (Sync ledger) ≡ Ok (Synced k.kept k.dropped)
   unfolding answer yes

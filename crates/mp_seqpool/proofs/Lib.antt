@@ -13,3 +13,8 @@ pub mod Reading
 pub mod Leavers
 pub mod Dependents
 pub mod DependentsFollowed
+pub mod LeafOut
+pub mod Chained
+pub mod TakingOut
+pub mod Finishing
+pub mod Recounting

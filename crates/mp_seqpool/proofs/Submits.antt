@@ -1,13 +1,16 @@
 -- A submit, step by step.
 use Rattle.std.proofs.Common.{◌≡◌, ℕ, ◌+◌, ◌^◌, ◌-◌, ◌<◌, ◌≤◌, ◌≢◌, Bool, nat_le, nat_lt, true, false, cond, List, [], ◌∷◌, ◌++◌, refl, sym, ap, subst, ◌∙◌, arith}
 use Rattle.std.specs.Prelude.{Option, None, Some, Result, Ok, Err, is_ok, sum_by, map, All, AllPairs}
+use Rattle.std.specs.FinMap.{get}
 use Rattle.std.proofs.lemmas.List.{map-append}
 use Rattle.std.proofs.lemmas.Grind.{common_steps}
 use Rattle.std.proofs.lemmas.List.Elements.{All-append, All-from_recursion, recursion_from_All, All-nil, All-cons, All-head, All-tail}
 use Rattle.std.proofs.lemmas.List.Quantifiers.{all_pairs_push}
 use Rattle.mp_tx.specs.Transaction.{Transaction}
 use Rattle.mp_tx.specs.Spelling.{id_of, size_of}
+use Rattle.mp_tx.specs.Ledger.{LedgerState}
 use Rattle.mp_rules.specs.Verifier.{Accepts}
+use Rattle.mp_rules.specs.Validity.{IsValid, Chain}
 use Rattle.mp_rules.specs.FirstFault.{first_fault}
 use Rattle.mp_resync.specs.ValidatedTx.{ValidatedTx, ticketed}
 use Rattle.mp_resync.specs.Keep.{transactions, tickets}
@@ -20,6 +23,7 @@ use Rattle.mp_seqpool.specs.Inside.TicketsById.{Notes}
 use Rattle.mp_seqpool.specs.Inside.Place.{new_misplaced, misplaced}
 use Rattle.mp_seqpool.specs.Inside.Rules.{IsBrokenRule}
 use Rattle.mp_seqpool.specs.Inside.SeqPool.{state, IsCounted}
+use Rattle.mp_seqpool.specs.Inside.Chained.{all_accepted}
 use Rattle.mp_seqpool.specs.Command.{Submit}
 use Rattle.mp_rules.specs.Resolved.{Resolved}
 use Rattle.mp_seqpool.specs.Pool.{Pool, Holding}
@@ -30,6 +34,7 @@ use Rattle.mp_tickets.specs.Tickets.{IsRising}
 use Rattle.mp_tickets.proofs.Rising.{rising_push}
 use Rattle.mp_seqpool.proofs.Distinct.{absent as no_such_id}
 use Rattle.mp_seqpool.proofs.Noting.{keeps}
+use Rattle.mp_seqpool.proofs.Keeping.{chain-push}
 
 -- ---- the items with one more
 
@@ -72,16 +77,19 @@ all_below n (e ∷ es) h =
     (all_below n es (All-tail (λ k. k ≤ n) e.0 (tickets (ticketed es)) h))
 
 -- what the pool keeps beside is right with one more transaction too
-pub counted : (was new : Inside) (item : ValidatedTx) → new.config ≡ was.config → new.overlay.applied ≡ was.overlay.applied ++ item.tx ∷ [] → Notes was.tickets.entries (id_of item.tx) (was.last + 1) new.tickets.entries
+pub counted : (was new : Inside) (item : ValidatedTx) → new.config ≡ was.config → new.overlay.ledger ≡ was.overlay.ledger → new.overlay.applied ≡ was.overlay.applied ++ item.tx ∷ [] → Notes was.tickets.entries (id_of item.tx) (was.last + 1) new.tickets.entries
     → new.items ≡ was.items ++ (was.last + 1, item) ∷ [] → new.last ≡ was.last + 1 → new.bytes ≡ was.bytes + size_of item.tx → new.changes ≡ was.changes + 1
-    → ticket_of (id_of item.tx) (ticketed was.items) ≡ None → HasPlace (state was) item.tx → WasValid item.tx item.resolved → IsCounted was → IsCounted new
-counted was new item config applied noted is last bytes changes absent_there room was_valid law =
+    → ticket_of (id_of item.tx) (ticketed was.items) ≡ None → HasPlace (state was) item.tx → WasValid item.tx item.resolved → IsValid all_accepted (unspent (state was)) was.overlay.ledger.tick item.tx → IsCounted was → IsCounted new
+counted was new item config base applied noted is last bytes changes absent_there room was_valid is_valid law =
     let t : Transaction = item.tx in
     let all : List (ℕ × Transaction) = ticketed was.items ++ (was.last + 1, t) ∷ [] in
     let items : ticketed new.items ≡ all = ap ticketed is ∙ ticketed-push was.items (was.last + 1) item in
     let last_is : was.last + 1 ≡ new.last = sym last in
     record {
       applied = applied ∙ ap (λ ts. ts ++ t ∷ []) law.applied ∙ sym (ap transactions items ∙ transactions-push (ticketed was.items) (was.last + 1) t);
+      chained = subst (λ (l : LedgerState). Chain all_accepted (get l.utxo) l.tick (transactions (ticketed new.items))) (sym base)
+          (subst (Chain all_accepted (get was.overlay.ledger.utxo) was.overlay.ledger.tick) (sym (ap transactions items ∙ transactions-push (ticketed was.items) (was.last + 1) t))
+          (chain-push all_accepted (get was.overlay.ledger.utxo) was.overlay.ledger.tick (transactions (ticketed was.items)) t law.chained is_valid));
       noted = λ id. keeps (ticketed was.items) (was.last + 1) t was.tickets.entries new.tickets.entries absent_there noted law.noted id ∙ ap (ticket_of id) (sym items);
       distinct = subst (λ l. AllPairs (λ a b. a ≢ b) (map id_of (transactions l))) (sym items)
           (subst (AllPairs (λ a b. a ≢ b)) (sym (ids-push (ticketed was.items) (was.last + 1) t))

@@ -1,8 +1,11 @@
 -- What only the crate's own clauses, views and invariants cite.
 pub mod Command
+pub mod Chained
 pub mod Effect
 pub mod Leaving
+pub mod NamedLeaf
 pub mod TicketsById
 pub mod Place
 pub mod Rules
+pub mod Steps
 pub mod SeqPool

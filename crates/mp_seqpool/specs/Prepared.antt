@@ -1,14 +1,16 @@
 -- Steps that are ready to be taken.
-use Rattle.std.specs.Prelude.{◌≡◌, ℕ, ◌<◌, not, List, None, Ok}
+use Rattle.std.specs.Prelude.{◌≡◌, ℕ, ◌<◌, not, List, [], ◌∷◌, Contains, None, Ok}
 use Rattle.std.specs.List.{filter}
+use Rattle.std.specs.FinMap.{get}
 use Rattle.mp_tx.specs.Transaction.{Transaction}
 use Rattle.mp_tx.specs.Spelling.{id_of}
 use Rattle.mp_utxo.specs.Overlay.{Overlay, HasRoomFor}
+use Rattle.mp_utxo.specs.Leaf.{IsLeaf}
 use Rattle.mp_rules.specs.Verifier.{Accepts}
 use Rattle.mp_rules.specs.Checked.{WasValid}
 use Rattle.mp_tickets.specs.Tickets.{has_ticket, among}
 use Rattle.mp_resync.specs.ValidatedTx.{ValidatedTx}
-use Rattle.mp_resync.specs.Keep.{transactions}
+use Rattle.mp_resync.specs.Keep.{transactions, unnamed}
 use Rattle.mp_seqpool.specs.declared.command.Reply.{Reply}
 use Rattle.mp_seqpool.specs.declared.command.Reply.TheVariants.{Accepted, Removed, Synced}
 use Rattle.mp_seqpool.specs.Command.{Command, Submit, Remove, Sync}
@@ -21,6 +23,8 @@ pub data Effect : Type 0 where
   Append : ValidatedTx → Effect
   -- the transactions under these tickets stay, and are all that is applied upon the ledger state
   Keep : Overlay → List ℕ → Effect
+  -- the transaction goes, and nothing else
+  TakeOut : Transaction → Effect
 
 pub record Prepared : Type 0 where
   pub command : Command
@@ -30,6 +34,7 @@ pub record Prepared : Type 0 where
 abbrev pub changed : Pool → Effect → Pool
 changed p (Append item) = pool_with p item.tx
 changed p (Keep overlay kept) = pool_upon p overlay.ledger (among kept p.items)
+changed p (TakeOut t) = pool_upon p p.ledger (unnamed (id_of t ∷ []) p.items)
 
 -- the state that it leads to
 abbrev pub leads_to : Pool → Prepared → Pool
@@ -58,9 +63,15 @@ pub record CanAppend (h : Holding) (item : ValidatedTx) : Type 0 where
   pub room : HasRoomFor h.room item.tx
   pub valid : WasValid item.tx item.resolved
 
+-- the transaction stands in the pool, and no other hangs on it
+pub record CanTakeOut (p : Pool) (t : Transaction) : Type 0 where
+  pub there : Contains (transactions p.items) t
+  pub leaf : IsLeaf (get p.ledger.utxo) (transactions p.items) t
+
 abbrev pub CanChange : Holding → Effect → Type 0
 CanChange h (Append item) = CanAppend h item
 CanChange h (Keep overlay kept) = overlay.applied ≡ transactions (among kept h.pool.items)
+CanChange h (TakeOut t) = CanTakeOut h.pool t
 
 -- The pool has room for the step, whatever the slow pool says of it.
 pub record HasRoom (h : Holding) (q : Prepared) : Type 0 where

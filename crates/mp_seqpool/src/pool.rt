@@ -1,12 +1,12 @@
 //! The sequential pool.
 
-ghost use Rattle.std.specs.Prelude.{◌≡◌, ◌<◌, OnOk, IfOk};
+ghost use Rattle.std.specs.Prelude.{◌≡◌, ◌<◌, [], ◌∷◌, OnOk, IfOk};
 ghost use Rattle.std.specs.Arc.{arc_value};
 ghost use Rattle.indexmap.specs.IndexMap.{spare};
 ghost use Rattle.mp_utxo.specs.Overlay.{IsSame, HasRoomFor};
-ghost use Rattle.mp_seqpool.specs.Command.{Submit, Sync};
-ghost use Rattle.mp_seqpool.specs.Prepared.{Append, Keep};
-ghost use Rattle.mp_seqpool.specs.declared.command.Reply.TheVariants.{Accepted, Synced};
+ghost use Rattle.mp_seqpool.specs.Command.{Submit, Remove, Sync};
+ghost use Rattle.mp_seqpool.specs.Prepared.{Append, Keep, TakeOut};
+ghost use Rattle.mp_seqpool.specs.declared.command.Reply.TheVariants.{Accepted, Removed, Synced};
 
 use crate::command::{Answer, Command, Reply};
 use crate::config::Config;
@@ -119,24 +119,52 @@ fn sync_step(adopted: Ledger, left: Kept) -> Result<Prepared, NoMemory>
     })
 }
 
+// The step of a remove that takes out the one transaction under this ticket.
+fn take_out_step(
+    memory: Memory,
+    asked: Arc<Ids, Memory>,
+    ticket: u64,
+    tx: &Arc<Tx, Memory>,
+) -> Result<Prepared, NoMemory>
+    ensures command { IfOk result (λ q. q.command ≡ Remove (arc_value asked)) }
+    ensures reply { IfOk result (λ q. q.reply ≡ Removed (ticket ∷ []) []) }
+    ensures effect { IfOk result (λ q. q.effect ≡ TakeOut (arc_value tx.now)) }
+{
+    let tx = Arc::try_clone(tx)?;
+    let mut named = Tickets::new(memory);
+    named.push(ticket)?;
+    Ok(Prepared {
+        command: Command::Remove(asked),
+        reply: Reply::Removed {
+            named,
+            dropped: Tickets::new(memory),
+        },
+        effect: Effect::TakeOut(tx),
+    })
+}
+
 impl SeqPool {
-    ghost use Rattle.std.specs.Prelude.{◌≡◌, ◌≢◌, ◌+◌, ◌≤◌, ◌^◌, ◌==◌, List, [], length, All, None, IfNone, IfSome, IfOk, IfErr, OnOk, OnErr, Ok};
+    ghost use Rattle.std.specs.Prelude.{◌≡◌, ◌≢◌, ◌+◌, ◌≤◌, ◌^◌, ◌==◌, List, [], ◌∷◌, length, All, None, IfNone, IfSome, IfOk, IfErr, OnOk, OnErr, Ok};
     ghost use Rattle.std.specs.Arc.{arc_value};
     ghost use Rattle.std.specs.Map.Iter.{ShowsInOrder};
     ghost use Rattle.mp_tx.specs.Spelling.{id_of};
+    ghost use Rattle.mp_rules.specs.Validity.{IsValid};
     ghost use Rattle.mp_rules.specs.FirstFault.{first_fault};
     ghost use Rattle.mp_rules.specs.Checked.{IsChecked, WasValid};
     ghost use Rattle.mp_tickets.specs.Tickets.{IsRising, shown};
     ghost use Rattle.mp_resync.specs.ValidatedTx as resync;
     ghost use Rattle.mp_resync.specs.ValidatedTx.{ticketed};
-    ghost use Rattle.mp_resync.specs.Keep.{transactions, tickets};
+    ghost use Rattle.mp_resync.specs.Keep.{transactions, tickets, unnamed};
     ghost use Rattle.mp_resync.specs.Kept.{IsKeptOf};
+    ghost use Rattle.mp_seqpool.specs.Inside.Chained.{all_accepted};
+    ghost use Rattle.mp_seqpool.specs.Inside.NamedLeaf.{NamesLeaf};
+    ghost use Rattle.mp_seqpool.specs.Inside.Steps.{IsKeep};
     ghost use Rattle.mp_seqpool.specs.Inside.Place.{misplaced};
     ghost use Rattle.mp_seqpool.specs.Inside.Rules.{IsBrokenRule};
     ghost use Rattle.mp_seqpool.specs.Command.{Submit, Remove, Sync};
     ghost use Rattle.mp_seqpool.specs.Config.{fresh_pool, renewed};
     ghost use Rattle.mp_seqpool.specs.SlowPool.{answer, next, IsRefused, AreSigned, bytes_held, unspent, ticket_of, HasPlace, pool_with, pool_upon};
-    ghost use Rattle.mp_seqpool.specs.Prepared.{Append, Keep, CanAppend, HasRoom, Prepares, IsPrepared, left_by, leads_to};
+    ghost use Rattle.mp_seqpool.specs.Prepared.{Append, Keep, CanAppend, CanTakeOut, HasRoom, Prepares, IsPrepared, left_by, leads_to};
     ghost use Rattle.mp_seqpool.specs.declared.command.Reply.TheVariants.{Accepted};
     ghost use Rattle.mp_seqpool.specs.Inside.Command.{command_of};
 
@@ -266,6 +294,23 @@ impl SeqPool {
         revalidate(self.memory, ledger, &self.items, without, verifier)
     }
 
+    // The one transaction that is named, with its ticket, where no other hangs on it.
+    fn named_leaf(&self, ids: &[TxId]) -> Option<(u64, &Arc<Tx, Memory>)>
+        ensures { IfSome result (λ leaf. NamesLeaf
+            self.now.pool ids.now leaf.0 (arc_value leaf.1.now)) }
+    {
+        let [id] = ids else {
+            return None;
+        };
+        let ticket = self.ticket_of(id)?;
+        let tx = self.get(ticket)?;
+        if self.overlay.is_leaf(tx) {
+            Some((ticket, tx))
+        } else {
+            None
+        }
+    }
+
     /// Prepares to take out the transactions with these ids, whether they are valid or not, and with them those that aren't
     /// valid without them. Ids that no transaction of the pool has, and ids that stand twice, do nothing more. It is one change,
     /// also where nothing goes.
@@ -287,6 +332,9 @@ impl SeqPool {
             return Err(Refusal::HistoryFull);
         }
         let asked = Arc::try_clone(ids)?;
+        if let Some((ticket, tx)) = self.named_leaf(ids.as_slice()) {
+            return Ok(take_out_step(self.memory, asked, ticket, tx)?);
+        }
         let Kept {
             overlay,
             kept,
@@ -328,6 +376,8 @@ impl SeqPool {
     fn append(&mut self, node: Node<ValidatedTx>, applied: Arc<Tx, Memory>)
         requires one { arc_value applied ≡ node.tx }
         requires can { CanAppend self.old node }
+        requires valid { IsValid all_accepted
+            (unspent self.old.pool) self.old.pool.ledger.tick node.tx }
         ensures { self.new.pool ≡ pool_with self.old.pool node.tx }
     {
         let ticket = self.last + 1;
@@ -344,11 +394,27 @@ impl SeqPool {
         requires change { self.old.pool.changes < self.old.pool.limit }
         requires applied { overlay.applied
             ≡ transactions (left_by reply.now self.old.pool.items) }
+        requires told { IsKeep self.old overlay reply.now }
         ensures { self.new.pool ≡ pool_upon self.old.pool overlay.ledger
             (left_by reply.now self.old.pool.items) }
     {
         self.bytes -= take_told(&mut self.items, &mut self.tickets, reply);
         self.overlay = overlay;
+        self.changes += 1;
+    }
+
+    // Takes out the transaction, on which no other hangs, as the reply tells.
+    fn take_leaf_out(&mut self, tx: &Tx, reply: &Reply)
+        requires change { self.old.pool.changes < self.old.pool.limit }
+        requires can { CanTakeOut self.old.pool tx.now }
+        requires told { unnamed (id_of tx.now ∷ []) self.old.pool.items
+            ≡ left_by reply.now self.old.pool.items }
+        ensures { self.new.pool ≡ pool_upon self.old.pool self.old.pool.ledger
+            (left_by reply.now self.old.pool.items) }
+    {
+        let gone = take_told(&mut self.items, &mut self.tickets, reply);
+        self.overlay.take_out(tx);
+        self.bytes -= gone;
         self.changes += 1;
     }
 
@@ -367,6 +433,7 @@ impl SeqPool {
         match effect {
             Effect::Append(node, applied) => self.append(node, applied),
             Effect::Keep(overlay, _kept) => self.leave(overlay, &reply),
+            Effect::TakeOut(tx) => self.take_leaf_out(&tx, &reply),
         }
         reply
     }

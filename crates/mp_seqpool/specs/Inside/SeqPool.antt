@@ -8,6 +8,7 @@ use Rattle.mp_resync.specs.ValidatedTx.{ticketed}
 use Rattle.mp_resync.specs.Keep.{transactions, tickets}
 use Rattle.mp_seqpool.specs.declared.pool.SeqPool.TheInside.{Inside}
 use Rattle.mp_seqpool.specs.Inside.TicketsById.{AreNoted}
+use Rattle.mp_seqpool.specs.Inside.Chained.{IsChained}
 use Rattle.mp_seqpool.specs.Pool.{Pool, Holding}
 
 abbrev pub state : Inside → Pool
@@ -33,6 +34,8 @@ holding p = record {
 pub record IsCounted (p : Inside) : Type 0 where
   -- all its transactions were applied upon the ledger, in order
   pub applied : p.overlay.applied ≡ transactions (ticketed p.items)
+  -- each is valid there after all before it, but for its signatures
+  pub chained : IsChained (state p)
   -- each is found by its id
   pub noted : AreNoted (ticketed p.items) p.tickets.entries
   -- no id stands twice

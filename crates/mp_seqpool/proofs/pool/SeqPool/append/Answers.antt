@@ -1,9 +1,11 @@
 use Rattle.std.proofs.Common.{◌≡◌, ◌+◌, ◌++◌, [], ◌∷◌, refl, sym, ap, subst, ◌∙◌}
 use Rattle.std.specs.Arc.{arc_value}
 use Rattle.mp_tx.specs.Spelling.{id_of, size_of}
+use Rattle.mp_rules.specs.Validity.{IsValid}
 use Rattle.mp_seqpool.specs.Inside.TicketsById.{Notes}
 use Rattle.mp_seqpool.specs.Pool.{Holding}
-use Rattle.mp_seqpool.specs.SlowPool.{ticket_of, HasPlace}
+use Rattle.mp_seqpool.specs.Inside.Chained.{all_accepted}
+use Rattle.mp_seqpool.specs.SlowPool.{ticket_of, unspent, HasPlace}
 use Rattle.mp_seqpool.proofs.Submits.{all_below, counted}
 use Rattle.mp_seqpool.proofs.pool.SeqPool.append.Goals as goal
 
@@ -13,7 +15,7 @@ push_node-requires-clause-greater c = all_below c.self.inside.last c.self.inside
 pub invariant_of-self : goal.invariant_of-self
 invariant_of-self c =
     let same : arc_value c.args.applied ≡ c.args.node.tx = c.requires.one in
-    counted c.self.inside _ c.args.node refl
+    counted c.self.inside _ c.args.node refl c.apply.ensures.base
     (c.apply.ensures.applied ∙ ap (λ t. c.self.inside.overlay.applied ++ t ∷ []) same)
     (subst (λ id. Notes c.self.inside.tickets.entries id (c.self.inside.last + 1) c.note.new.tickets.entries) (c.id.ensures ∙ ap id_of (c.deref.ensures ∙ same)) c.note.ensures)
     c.push_node.ensures refl
@@ -21,4 +23,5 @@ invariant_of-self c =
     (ap (λ (h : Holding). ticket_of (id_of c.args.node.tx) h.pool.items) c.self.view_is ∙ c.requires.can.new)
     (subst (λ (h : Holding). HasPlace h.pool c.args.node.tx) (sym c.self.view_is) c.requires.can.place)
     c.requires.can.valid
+    (subst (λ (h : Holding). IsValid all_accepted (unspent h.pool) h.pool.ledger.tick c.args.node.tx) (sym c.self.view_is) c.requires.valid)
     c.self.invariant

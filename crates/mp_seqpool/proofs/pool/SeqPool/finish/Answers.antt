@@ -1,0 +1,89 @@
+use Rattle.std.proofs.Common.{◌≡◌, ℕ, List, [], ◌∷◌, sym, ap, subst, ◌∙◌}
+use Rattle.std.specs.Arc.{arc_value}
+use Rattle.mp_tickets.specs.Tickets.{among}
+use Rattle.mp_tx.specs.Transaction.{Transaction}
+use Rattle.mp_tx.specs.Spelling.{id_of}
+use Rattle.mp_resync.specs.Keep.{transactions, unnamed}
+use Rattle.mp_seqpool.specs.Pool.{Pool, Holding}
+use Rattle.mp_seqpool.specs.SlowPool.{pool_upon}
+use Rattle.mp_seqpool.specs.Prepared.{Prepared, Append, Keep, TakeOut, changed, CanChange, CanTakeOut, IsPrepared, left_by}
+use Rattle.mp_seqpool.specs.Inside.Command.{command_of}
+use Rattle.mp_seqpool.specs.Inside.Effect.{effect_of}
+use Rattle.mp_seqpool.proofs.Finishing.{next_valid, told_left}
+use Rattle.mp_seqpool.proofs.pool.SeqPool.finish.Goals.{in-Append, in-Keep, in-TakeOut}
+use Rattle.mp_seqpool.proofs.pool.SeqPool.finish.Goals as goal
+
+pub append-requires-clause-valid : goal.append-requires-clause-valid
+append-requires-clause-valid c =
+    let pool : Pool = c.args.self.now.pool in
+    let q : Prepared = c.args.prepared in
+    let effect : q.effect ≡ Append c.in-Append.node = sym (ap (λ (q : Prepared). q.effect) c.prepared.view_is) ∙ ap effect_of c.in-Append.is in
+    next_valid c.requires.accepts pool q.command q.reply c.in-Append.node.tx (sym (ap (changed pool) effect) ∙ c.requires.tells) c.requires.reply
+
+pub leave-requires-clause-told : goal.leave-requires-clause-told
+leave-requires-clause-told c =
+    let inside = c.prepared.inside in
+    record {
+      command = command_of inside.command;
+      kept = c.in-Keep._kept;
+      prepared = subst (IsPrepared c.args.self.now)
+          (sym c.prepared.view_is ∙ ap (λ e. record { command = command_of inside.command; reply = inside.reply; effect = effect_of e }) c.in-Keep.is)
+          c.requires;
+    }
+
+pub leave-requires-clause-applied : goal.leave-requires-clause-applied
+leave-requires-clause-applied c =
+    let pool : Pool = c.args.self.now.pool in
+    let q : Prepared = c.args.prepared in
+    let overlay = c.in-Keep.overlay in
+    let kept = c.in-Keep._kept in
+    let effect : q.effect ≡ Keep overlay kept = sym (ap (λ (q : Prepared). q.effect) c.prepared.view_is) ∙ ap effect_of c.in-Keep.is in
+    let fits : overlay.applied ≡ transactions (among kept pool.items) = subst (CanChange c.args.self.now) effect c.requires.fits in
+    fits
+    ∙ ap transactions (told_left pool q.command q.reply overlay.ledger (among kept pool.items) (sym (ap (changed pool) effect) ∙ c.requires.tells))
+    ∙ ap (λ (q : Prepared). transactions (left_by q.reply pool.items)) (sym c.prepared.view_is)
+
+pub take_leaf_out-requires-clause-can : goal.take_leaf_out-requires-clause-can
+take_leaf_out-requires-clause-can c =
+    let effect = sym (ap (λ (q : Prepared). q.effect) c.prepared.view_is) ∙ ap effect_of c.in-TakeOut.is in
+    subst (CanTakeOut c.args.self.now.pool) (sym c.deref.ensures) (subst (CanChange c.args.self.now) effect c.requires.fits)
+
+pub take_leaf_out-requires-clause-told : goal.take_leaf_out-requires-clause-told
+take_leaf_out-requires-clause-told c =
+    let pool : Pool = c.args.self.now.pool in
+    let q : Prepared = c.args.prepared in
+    let t : Transaction = arc_value c.in-TakeOut.tx in
+    let effect : q.effect ≡ TakeOut t = sym (ap (λ (q : Prepared). q.effect) c.prepared.view_is) ∙ ap effect_of c.in-TakeOut.is in
+    ap (λ (t : Transaction). unnamed (id_of t ∷ []) pool.items) c.deref.ensures
+    ∙ told_left pool q.command q.reply pool.ledger (unnamed (id_of t ∷ []) pool.items) (sym (ap (changed pool) effect) ∙ c.requires.tells)
+    ∙ ap (λ (q : Prepared). left_by q.reply pool.items) (sym c.prepared.view_is)
+
+pub returns : goal.returns
+returns c =
+    let pool : Pool = c.args.self.now.pool in
+    let q : Prepared = c.args.prepared in
+    let seen = sym (ap (λ (q : Prepared). q.effect) c.prepared.view_is) in
+    let replied : c.prepared.inside.reply ≡ q.reply = ap (λ (q : Prepared). q.reply) c.prepared.view_is in
+    elim c.match-effect.branch [
+      | in-Append w ↦ record {
+        pool = ap (λ (h : Holding). h.pool) w.self-is ∙ w.append.ensures ∙ sym (ap (changed pool) (seen ∙ ap effect_of w.in-Append.is));
+        reply = replied;
+      }
+      | in-Keep w ↦
+          let overlay = w.in-Keep.overlay in
+          let kept = w.in-Keep._kept in
+          let leads : changed pool q.effect ≡ pool_upon pool overlay.ledger (among kept pool.items) = ap (changed pool) (seen ∙ ap effect_of w.in-Keep.is) in
+          record {
+            pool = ap (λ (h : Holding). h.pool) w.self-is ∙ w.leave.ensures ∙ ap (λ r. pool_upon pool overlay.ledger (left_by r pool.items)) replied
+                ∙ ap (pool_upon pool overlay.ledger) (sym (told_left pool q.command q.reply overlay.ledger (among kept pool.items) (sym leads ∙ c.requires.tells))) ∙ sym leads;
+            reply = replied;
+          }
+      | in-TakeOut w ↦
+          let left : List (ℕ × Transaction) = unnamed (id_of (arc_value w.in-TakeOut.tx) ∷ []) pool.items in
+          let leads : changed pool q.effect ≡ pool_upon pool pool.ledger left = ap (changed pool) (seen ∙ ap effect_of w.in-TakeOut.is) in
+          record {
+            pool = ap (λ (h : Holding). h.pool) w.self-is ∙ w.take_leaf_out.ensures ∙ ap (λ r. pool_upon pool pool.ledger (left_by r pool.items)) replied
+                ∙ ap (pool_upon pool pool.ledger) (sym (told_left pool q.command q.reply pool.ledger left (sym leads ∙ c.requires.tells))) ∙ sym leads;
+            reply = replied;
+          }
+    ]
