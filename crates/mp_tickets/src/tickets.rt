@@ -22,6 +22,7 @@ impl Model for Tickets {
 impl Tickets {
     ghost use Rattle.std.specs.Prelude.{◌≡◌, ◌<◌, [], ◌∷◌, ◌++◌, All, IfOk, OnOk, OnErr};
     ghost use Rattle.std.specs.List.Sorted.{IsStrictlyIncreasing};
+    ghost use Rattle.mp_tickets.specs.Tickets.{has_ticket};
 
     /// No tickets. It takes no memory.
     pub fn new(memory: Memory) -> Tickets
@@ -60,6 +61,13 @@ impl Tickets {
         ensures rising { IsStrictlyIncreasing result.now }
     {
         &self.tickets
+    }
+
+    /// Whether the ticket is one of them. It takes no walk over them.
+    pub fn contains(&self, ticket: u64) -> bool
+        ensures { result ≡ has_ticket self.now ticket }
+    {
+        self.tickets.binary_search(&ticket).is_ok()
     }
 }
 
