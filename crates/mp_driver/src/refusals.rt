@@ -232,6 +232,7 @@ fn put_word_at(text: &mut Text, words: &[&[u8]], place: usize) -> Result<(), NoM
 }
 
 /// The word of the refusal, and what is told with it.
+#[tactic(auto, unfolding(crate::specs::AnswerText::refusal_text))]
 pub fn put_refusal(
     memory: Memory,
     text: &mut Text,
