@@ -93,10 +93,8 @@ pub fn unspent_of(changes: &Changes, reference: &OutRef) -> Option<usize>
     ensures { result ≡ unspent_of (last_change changes.now.entries reference.now) }
 {
     match changes.get(reference) {
-        None => None,
-        Some(Change::Spent) => None,
         Some(Change::Made(place)) => Some(*place),
-        Some(Change::MadeThenSpent(_)) => None,
+        None | Some(Change::Spent | Change::MadeThenSpent(_)) => None,
     }
 }
 
@@ -105,10 +103,8 @@ fn is_made(changes: &Changes, reference: &OutRef) -> bool
     ensures { result ≡ is_made (last_change changes.now.entries reference.now) }
 {
     match changes.get(reference) {
-        None => false,
-        Some(Change::Spent) => false,
-        Some(Change::Made(_)) => true,
-        Some(Change::MadeThenSpent(_)) => true,
+        None | Some(Change::Spent) => false,
+        Some(Change::Made(_) | Change::MadeThenSpent(_)) => true,
     }
 }
 

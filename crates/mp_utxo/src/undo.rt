@@ -17,9 +17,8 @@ fn restore_one(changes: &mut Changes, reference: &OutRef)
     ensures { RestoresOne changes.old.entries reference.now changes.new.entries }
 {
     match changes.get(reference).copied() {
-        None => {}
+        None | Some(Change::Made(_)) => {}
         Some(Change::Spent) => forget(changes, reference),
-        Some(Change::Made(_)) => {}
         Some(Change::MadeThenSpent(place)) => note_again(changes, reference, Change::Made(place)),
     }
 }
