@@ -30,3 +30,8 @@ pub fn vacate(applied: &mut Vec<Applied, Memory>, place: usize)
 {
     applied[place] = Applied { tx: None };
 }
+
+/// Whether so many places are vacant that a new overlay of those that are left is worth its cost.
+pub fn is_sparse(vacant: usize, places: usize) -> bool {
+    vacant > 64 && vacant > places / 2
+}

@@ -1,6 +1,6 @@
 //! What became of references last.
 
-ghost use Rattle.std.specs.Prelude.{◌≡◌, ◌+◌, ◌<◌, ◌≤◌, length};
+ghost use Rattle.std.specs.Prelude.{◌≡◌, ◌+◌, ◌<◌, ◌≤◌, length, IsSome};
 ghost use Rattle.std.specs.List.{list_any};
 ghost use Rattle.indexmap.specs.IndexMap.{spare};
 ghost use Rattle.mp_utxo.specs.Inside.Changes.{last_change, spent, unspent_of, is_made, Notes, SpendsOne, Spends, Makes};
@@ -23,26 +23,28 @@ pub enum Change {
 /// What became last of each reference that was spent or made.
 pub type Changes = IndexMap<OutRef, Change, Salt, Memory>;
 
-// Notes what became of the reference, in the place of what became of it before.
-fn note(changes: &mut Changes, reference: OutRef, change: Change)
+// Notes what became of the reference, in the place of what became of it before, which is told.
+fn note(changes: &mut Changes, reference: OutRef, change: Change) -> Option<Change>
     requires { 0 < spare changes.old }
+    ensures before { result ≡ last_change changes.old.entries reference }
     ensures notes { Notes changes.old.entries reference change changes.new.entries }
     ensures room { spare changes.old ≤ spare changes.new + 1 }
 {
-    if changes.insert(reference, change).is_err() {
-        unreachable!()
+    match changes.insert(reference, change) {
+        Ok(before) => before,
+        Err(_) => unreachable!(),
     }
 }
 
-// What becomes of a reference that is spent.
-fn spent(before: Option<Change>) -> Change
-    ensures { result ≡ spent before }
+/// Notes what became of a reference of which something had become, which takes no room.
+pub fn note_again(changes: &mut Changes, reference: &OutRef, change: Change)
+    requires { IsSome (last_change changes.old.entries reference.now) }
+    ensures notes { Notes changes.old.entries reference.now change changes.new.entries }
+    ensures room { spare changes.old ≤ spare changes.new }
 {
-    match before {
-        None => Change::Spent,
-        Some(Change::Spent) => Change::Spent,
-        Some(Change::Made(place)) => Change::MadeThenSpent(place),
-        Some(Change::MadeThenSpent(place)) => Change::MadeThenSpent(place),
+    match changes.get_mut(reference) {
+        Some(noted) => *noted = change,
+        None => unreachable!(),
     }
 }
 
@@ -52,8 +54,12 @@ fn spend_one(changes: &mut Changes, reference: OutRef)
     ensures spends { SpendsOne changes.old.entries reference changes.new.entries }
     ensures room { spare changes.old ≤ spare changes.new + 1 }
 {
-    let change = spent(changes.get(&reference).copied());
-    note(changes, reference, change);
+    match note(changes, reference, Change::Spent) {
+        None | Some(Change::Spent) => {}
+        Some(Change::Made(place) | Change::MadeThenSpent(place)) => {
+            note_again(changes, &reference, Change::MadeThenSpent(place));
+        }
+    }
 }
 
 /// Notes what the inputs spend.
@@ -78,7 +84,7 @@ pub fn make(changes: &mut Changes, tx: &Tx, place: usize)
             id: *tx.id(),
             index,
         };
-        note(changes, own, Change::Made(place));
+        let _ = note(changes, own, Change::Made(place));
     }
 }
 
@@ -87,10 +93,8 @@ pub fn unspent_of(changes: &Changes, reference: &OutRef) -> Option<usize>
     ensures { result ≡ unspent_of (last_change changes.now.entries reference.now) }
 {
     match changes.get(reference) {
-        None => None,
-        Some(Change::Spent) => None,
         Some(Change::Made(place)) => Some(*place),
-        Some(Change::MadeThenSpent(_)) => None,
+        None | Some(Change::Spent | Change::MadeThenSpent(_)) => None,
     }
 }
 
@@ -99,10 +103,8 @@ fn is_made(changes: &Changes, reference: &OutRef) -> bool
     ensures { result ≡ is_made (last_change changes.now.entries reference.now) }
 {
     match changes.get(reference) {
-        None => false,
-        Some(Change::Spent) => false,
-        Some(Change::Made(_)) => true,
-        Some(Change::MadeThenSpent(_)) => true,
+        None | Some(Change::Spent) => false,
+        Some(Change::Made(_) | Change::MadeThenSpent(_)) => true,
     }
 }
 

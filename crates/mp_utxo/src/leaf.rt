@@ -37,9 +37,8 @@ fn is_of_one(changes: &Changes, ledger: &Ledger, reference: &OutRef) -> bool
     ensures { result ≡ is_of_one changes.now.entries (get ledger.now.utxo) reference.now }
 {
     match changes.get(reference) {
-        None => false,
+        None | Some(Change::Made(_)) => false,
         Some(Change::Spent) => true,
-        Some(Change::Made(_)) => false,
         Some(Change::MadeThenSpent(_)) => ledger.get(reference).is_none(),
     }
 }

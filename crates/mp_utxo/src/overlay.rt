@@ -1,6 +1,6 @@
 //! Overlays.
 
-use crate::applied::{Applied, output_at, vacate};
+use crate::applied::{Applied, is_sparse, output_at, vacate};
 use crate::changes::{Change, Changes, are_any_made, make, spend, unspent_of};
 use crate::leaf::{are_of_one, has_new_unspent};
 use crate::undo::{forget_made, restore};
@@ -112,17 +112,12 @@ impl Overlay {
         self.looks_inside = looks_inside;
     }
 
-    // Whether so many places are vacant that a new overlay of those that are left is worth its cost.
-    fn is_sparse(&self) -> bool {
-        self.vacant > 64 && self.vacant > self.applied.len() / 2
-    }
-
     /// Whether the transaction, which was applied, can be taken out with nothing else: `true` only where that is so; `false`
     /// says nothing. It takes no memory.
     pub fn is_leaf(&self, tx: &Tx) -> bool
         ensures { IsTrue result → IsLeaf (finite.get self.now.ledger.utxo) self.now.applied tx.now }
     {
-        if self.looks_inside || self.is_sparse() {
+        if self.looks_inside || is_sparse(self.vacant, self.applied.len()) {
             return false;
         }
         has_new_unspent(&self.changes, &self.ledger, tx)

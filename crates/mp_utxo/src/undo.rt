@@ -1,20 +1,9 @@
 //! Taking back what a transaction spent and made.
 
-ghost use Rattle.std.specs.Prelude.{IsSome};
-ghost use Rattle.mp_utxo.specs.Inside.Changes.{last_change, Notes, RestoresOne, Restores, ForgetsOne, Forgets};
+ghost use Rattle.mp_utxo.specs.Inside.Changes.{RestoresOne, Restores, ForgetsOne, Forgets};
 
-use crate::changes::{Change, Changes};
+use crate::changes::{Change, Changes, note_again};
 use mp_tx::{Input, OutRef, Tx};
-
-// Notes what became of a reference of which something had become, which needs no room.
-fn note_again(changes: &mut Changes, reference: &OutRef, change: Change)
-    requires { IsSome (last_change changes.old.entries reference.now) }
-    ensures { Notes changes.old.entries reference.now change changes.new.entries }
-{
-    if changes.insert(*reference, change).is_err() {
-        unreachable!()
-    }
-}
 
 // Notes that nothing became of the reference.
 fn forget(changes: &mut Changes, reference: &OutRef)
@@ -28,9 +17,8 @@ fn restore_one(changes: &mut Changes, reference: &OutRef)
     ensures { RestoresOne changes.old.entries reference.now changes.new.entries }
 {
     match changes.get(reference).copied() {
-        None => {}
+        None | Some(Change::Made(_)) => {}
         Some(Change::Spent) => forget(changes, reference),
-        Some(Change::Made(_)) => {}
         Some(Change::MadeThenSpent(place)) => note_again(changes, reference, Change::Made(place)),
     }
 }
