@@ -8,7 +8,6 @@ use Rattle.mp_utxo.specs.Leaf.{IsFed}
 use Rattle.mp_rules.specs.Verifier.{Accepts}
 use Rattle.mp_rules.specs.Validity.{IsValid, Chain, InInterval, InputsThere, ReferencesThere, OutputsFresh, SignaturesAccepted}
 use Rattle.mp_rules.specs.Checked.{IsSigned}
-use Rattle.mp_rules.specs.FirstFault.{first_fault}
 use Rattle.mp_rules.proofs.Faults.{each_rule}
 use Rattle.mp_rules.proofs.Meeting.{still}
 use Rattle.mp_rules.proofs.Valid.{faultless}

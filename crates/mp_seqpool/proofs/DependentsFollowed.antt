@@ -21,13 +21,9 @@ use Rattle.mp_seqpool.specs.Pool.{Pool}
 use Rattle.mp_seqpool.specs.PoolLaws.{IsLawful}
 use Rattle.mp_seqpool.specs.Dependents.{is_among, hangs_on, left_of, dependents_of, ids_named, IsApart, DropsDependents}
 use Rattle.mp_seqpool.proofs.Keeping.{AllPairs-head, AllPairs-tail, no_fault}
-use Rattle.mp_seqpool.proofs.Dependents.{differs, differs_too, unlike, nothing, before, both, finds, misses}
+use Rattle.mp_seqpool.proofs.Dependents.{weaker, differs, differs_too, unlike, nothing, before, both, finds, misses}
 
 -- ---- lists
-
-weaker : {A : Type 0} (P Q : A → Type 0) → ((x : A) → P x → Q x) → (xs : List A) → AllByRecursion P xs → AllByRecursion Q xs
-weaker P Q f [] a = tt
-weaker P Q f (x ∷ xs) a = (f x a.0, weaker P Q f xs a.1)
 
 joined : {A : Type 0} (P Q R : A → Type 0) → ((x : A) → P x → Q x → R x) → (xs : List A) → AllByRecursion P xs → AllByRecursion Q xs → AllByRecursion R xs
 joined P Q R f [] a b = tt

@@ -1,16 +1,15 @@
 -- What a step that was prepared says of the transactions after it.
-use Rattle.std.proofs.Common.{◌≡◌, ℕ, ◌+◌, Bool, true, false, cond, List, [], ◌∷◌, sym, ap, subst, ◌∙◌, arith}
-use Rattle.std.specs.Prelude.{Result, Ok, Err, nat_le}
+use Rattle.std.proofs.Common.{◌≡◌, ℕ, ◌+◌, Bool, cond, List, sym, ap, subst, ◌∙◌, arith}
+use Rattle.std.specs.Prelude.{Ok, Err, nat_le}
 use Rattle.std.specs.FinMap.{get}
 use Rattle.std.proofs.lemmas.List.{same_from_push}
 use Rattle.mp_tx.specs.Transaction.{Transaction}
 use Rattle.mp_tx.specs.Ledger.{LedgerState}
 use Rattle.mp_rules.specs.Verifier.{Accepts}
-use Rattle.mp_rules.specs.Validity.{IsValid, Chain}
+use Rattle.mp_rules.specs.Validity.{IsValid}
 use Rattle.mp_rules.proofs.Valid.{valid}
-use Rattle.mp_tickets.specs.Tickets.{IsRising, among}
-use Rattle.mp_resync.specs.Keep.{transactions, tickets, named, unnamed, keep, dropped}
-use Rattle.mp_seqpool.specs.declared.refusal.Refusal.{Refusal}
+use Rattle.mp_tickets.specs.Tickets.{IsRising}
+use Rattle.mp_resync.specs.Keep.{transactions, unnamed, keep, dropped}
 use Rattle.mp_seqpool.specs.declared.refusal.Refusal.TheVariants as refusals
 use Rattle.mp_seqpool.specs.declared.command.Reply.{Reply}
 use Rattle.mp_seqpool.specs.Command.{Command, Submit, Remove, Sync}

@@ -10,10 +10,9 @@ use Rattle.std.proofs.lemmas.Grind.{common_steps}
 use Rattle.mp_tx.specs.Transaction.{Transaction}
 use Rattle.mp_tx.specs.Spelling.{id_of}
 use Rattle.mp_tx.specs.Ledger.{LedgerState}
-use Rattle.mp_utxo.specs.Apply.{Unspent, apply, after}
 use Rattle.mp_rules.specs.declared.invalid.Invalid.{Invalid}
 use Rattle.mp_rules.specs.Verifier.{Accepts}
-use Rattle.mp_rules.specs.Validity.{IsValid, Chain}
+use Rattle.mp_rules.specs.Validity.{Chain}
 use Rattle.mp_rules.specs.FirstFault.{first_fault}
 use Rattle.mp_rules.proofs.Valid.{valid}
 use Rattle.mp_resync.specs.Keep.{transactions, tickets, unnamed, keep}

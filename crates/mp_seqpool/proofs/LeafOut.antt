@@ -1,12 +1,12 @@
 -- Where a leaf is taken out, all others stay valid.
-use Rattle.std.proofs.Common.{◌≡◌, ◌≢◌, ℕ, zero, suc, ◌<◌, inl, inr, Bool, true, false, cond, ◌||◌, List, [], ◌∷◌, ◌++◌, length, get_or, refl, sym, ap, subst, ◌∙◌, arith}
+use Rattle.std.proofs.Common.{◌≡◌, ◌≢◌, ℕ, zero, suc, ◌<◌, inl, inr, Bool, true, false, cond, List, [], ◌∷◌, ◌++◌, length, get_or, refl, sym, ap, subst, ◌∙◌, arith}
 use Rattle.std.specs.Prelude.{Option, None, Some, IsSome, not, map, nat_eq, slice_get, All, AllPairs, Contains}
 use Rattle.std.specs.Option.{option_or}
-use Rattle.std.specs.List.{AllByRecursion, filter}
+use Rattle.std.specs.List.{AllByRecursion}
 use Rattle.std.specs.Cmp.Lexicographic.{pointwise, bytes_decides}
 use Rattle.std.proofs.lemmas.Bool.{true≢false, false_from_ne_true, or_cases}
 use Rattle.std.proofs.lemmas.List.Folds.{list_any_at}
-use Rattle.std.proofs.lemmas.List.Elements.{All-head, All-tail, All-contains, recursion_from_All}
+use Rattle.std.proofs.lemmas.List.Elements.{All-head, All-tail, recursion_from_All}
 use Rattle.mp_tx.specs.declared.reference.OutRef.{OutRef}
 use Rattle.mp_tx.specs.declared.input.Input.{Input}
 use Rattle.mp_tx.specs.declared.output.Output.{Output}
@@ -15,12 +15,12 @@ use Rattle.mp_tx.specs.Transaction.{Transaction, spends}
 use Rattle.mp_tx.specs.Spelling.{id_of}
 use Rattle.mp_tx.proofs.Changed.{same_exact, same_itself}
 use Rattle.mp_utxo.specs.Apply.{Unspent, apply, after, own_ref, output_made}
-use Rattle.mp_utxo.specs.Leaf.{NoneMakes, LooksPast, IsOfOne, IsLeaf, others}
+use Rattle.mp_utxo.specs.Leaf.{LooksPast, IsOfOne, IsLeaf, others}
 use Rattle.mp_rules.specs.Verifier.{Accepts}
 use Rattle.mp_rules.specs.Validity.{Chain, IsValid, InInterval, InputsThere, ReferencesThere}
 use Rattle.mp_rules.proofs.Meeting.{validity_is_local}
 use Rattle.mp_seqpool.proofs.Keeping.{AllPairs-head, AllPairs-tail, AllPairs-unmap}
-use Rattle.mp_seqpool.proofs.Dependents.{unlike}
+use Rattle.mp_seqpool.proofs.Dependents.{weaker, unlike}
 
 -- ---- what is there, and what isn't
 
@@ -100,10 +100,6 @@ of_spent P (i ∷ is) r all e = elim (or_cases (same_ref r i.from) (spends is r)
 
 -- ---- lists
 
-weaker : {A : Type 0} (P Q : A → Type 0) → ((x : A) → P x → Q x) → (xs : List A) → AllByRecursion P xs → AllByRecursion Q xs
-weaker P Q f [] a = tt
-weaker P Q f (x ∷ xs) a = (f x a.0, weaker P Q f xs a.1)
-
 All-behind : {A : Type 0} (P : A → Type 0) (xs ys : List A) → All P (xs ++ ys) → All P ys
 All-behind P [] ys all = all
 All-behind P (x ∷ xs) ys all = All-behind P xs ys (All-tail P x (xs ++ ys) all)
@@ -118,12 +114,12 @@ AllPairs-across R (x ∷ xs) ys pairs =
     (All-behind (R x) xs ys (AllPairs-head R x (xs ++ ys) pairs), AllPairs-across R xs ys (AllPairs-tail R x (xs ++ ys) pairs))
 
 -- the list is cut at one of its elements
-pub record IsCutAt {A : Type 0} (x : A) (all : List A) : Type 0 where
-  pub front : List A
-  pub back : List A
-  pub is : all ≡ front ++ x ∷ back
+record IsCutAt {A : Type 0} (x : A) (all : List A) : Type 0 where
+  front : List A
+  back : List A
+  is : all ≡ front ++ x ∷ back
 
-pub cut_at : {A : Type 0} (x : A) (all : List A) (k : ℕ) → k < length all → get_or all k x ≡ x → IsCutAt x all
+cut_at : {A : Type 0} (x : A) (all : List A) (k : ℕ) → k < length all → get_or all k x ≡ x → IsCutAt x all
 cut_at x [] k lt e = absurd (omega arith)
 cut_at x (y ∷ ys) zero lt e = record { front = []; back = ys; is = ap (λ z. z ∷ ys) e }
 cut_at x (y ∷ ys) (suc k) lt e =
@@ -236,9 +232,9 @@ module _ (accepts : Accepts) (tick : ℕ) (t : Transaction) (u : Unspent) (xs ys
     unmade_by r (inr none) e = λ k d lt.
         let y : Transaction = get_or ys k d in
         none_from (output_made y r) (λ there.
-          none_there (after u xs r)
-          (not_yet y r (weaker (λ x. All (Differ x) (t ∷ ys)) (λ x. Differ x y) (λ x a. All-tail (Differ x) t ys a k d lt) xs across) there none)
-          (fed r e))
+        none_there (after u xs r)
+        (not_yet y r (weaker (λ x. All (Differ x) (t ∷ ys)) (λ x. Differ x y) (λ x a. All-tail (Differ x) t ys a k d lt) xs across) there none)
+        (fed r e))
 
     unmade_behind : (r : OutRef) → spends t.inputs r ≡ true → AllByRecursion (λ y. output_made y r ≡ None) ys
     unmade_behind r e =

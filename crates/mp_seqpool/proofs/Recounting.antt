@@ -2,7 +2,6 @@
 use Rattle.std.proofs.Common.{◌≡◌, ℕ, ◌+◌, ◌-◌, ◌^◌, ◌<◌, ◌≤◌, sym, ap, subst, ◌∙◌, arith}
 use Rattle.std.specs.Prelude.{All}
 use Rattle.std.specs.FinMap.{get}
-use Rattle.mp_tx.specs.Ledger.{LedgerState}
 use Rattle.mp_rules.specs.Validity.{Chain}
 use Rattle.mp_resync.specs.ValidatedTx.{ticketed}
 use Rattle.mp_resync.specs.Keep.{transactions, tickets}

@@ -1,8 +1,8 @@
 -- The step that takes out a leaf.
-use Rattle.std.proofs.Common.{◌≡◌, ◌≢◌, ℕ, zero, suc, ◌<◌, Bool, true, false, cond, ◌||◌, List, [], ◌∷◌, length, refl, sym, ap, subst, ◌∙◌, arith}
-use Rattle.std.specs.Prelude.{None, Some, Ok, not, map, nat_eq, ◌==◌, All, AllPairs, Contains}
+use Rattle.std.proofs.Common.{◌≡◌, ◌≢◌, ℕ, suc, ◌<◌, Bool, true, false, cond, ◌||◌, List, [], ◌∷◌, refl, sym, ap, subst, ◌∙◌, arith}
+use Rattle.std.specs.Prelude.{Some, Ok, not, map, nat_eq, AllPairs, Contains}
 use Rattle.std.specs.FinMap.{get}
-use Rattle.std.specs.List.{AllByRecursion, filter}
+use Rattle.std.specs.List.{AllByRecursion}
 use Rattle.std.specs.Cmp.Lexicographic.{pointwise, bytes_decides}
 use Rattle.std.proofs.lemmas.Bool.{eq-eqb, ne_eqb}
 use Rattle.std.proofs.lemmas.List.Elements.{recursion_from_All}
@@ -14,7 +14,7 @@ use Rattle.mp_rules.specs.Verifier.{Accepts}
 use Rattle.mp_rules.specs.Validity.{Chain}
 use Rattle.mp_tickets.specs.Tickets.{IsRisingFrom, IsRising, item_at}
 use Rattle.mp_resync.specs.ValidatedTx.{ticketed}
-use Rattle.mp_resync.specs.Keep.{transactions, tickets, is_named, named, unnamed, keep, dropped}
+use Rattle.mp_resync.specs.Keep.{transactions, tickets, is_named, named, unnamed, dropped}
 use Rattle.mp_seqpool.specs.declared.command.Reply.{Reply}
 use Rattle.mp_seqpool.specs.declared.command.Reply.TheVariants.{Removed}
 use Rattle.mp_seqpool.specs.declared.pool.SeqPool.TheInside.{Inside}
@@ -50,7 +50,7 @@ with_test true b i us os is rest = rest ∙ ap (λ c. cond (not c) (i.1 ∷ os) 
 with_test false b i us os is rest = ap (λ l. i.1 ∷ l) rest ∙ ap (λ c. cond (not c) (i.1 ∷ os) os) is
 
 -- the transactions without those with the id
-pub others_unnamed : (id : List ℕ) (items : Items) → transactions (unnamed (id ∷ []) items) ≡ others id (transactions items)
+others_unnamed : (id : List ℕ) (items : Items) → transactions (unnamed (id ∷ []) items) ≡ others id (transactions items)
 others_unnamed id [] = refl
 others_unnamed id (i ∷ is) =
     with_test (is_named (id ∷ []) i.1) (pointwise nat_eq (id_of i.1) id) i (unnamed (id ∷ []) is) (others id (transactions is)) (named_by id i.1) (others_unnamed id is)
@@ -86,7 +86,7 @@ all_apart [] = refl
 all_apart (i ∷ is) = ap (λ l. i ∷ l) (all_apart is)
 
 -- what the reply of a remove of one id leaves are those with other ids
-pub told_one : (id : List ℕ) (items : Items) (ticket : ℕ) → AllPairs (λ a b. a ≢ b) (map id_of (transactions items)) → IsRising items → ticket_of id items ≡ Some ticket
+told_one : (id : List ℕ) (items : Items) (ticket : ℕ) → AllPairs (λ a b. a ≢ b) (map id_of (transactions items)) → IsRising items → ticket_of id items ≡ Some ticket
     → left_by (Removed (ticket ∷ []) []) items ≡ unnamed (id ∷ []) items
 told_one id items ticket distinct rising under =
     all_apart (apart (ticket ∷ []) items)
@@ -104,11 +104,11 @@ above low id (i ∷ is) ticket rising under = elim (pointwise nat_eq id (id_of i
 ] under
 
 -- it has the id, and is one of those
-pub record StandsThere (id : List ℕ) (t : Transaction) (items : Items) : Type 0 where
-  pub has_id : id_of t ≡ id
-  pub there : Contains (transactions items) t
+record StandsThere (id : List ℕ) (t : Transaction) (items : Items) : Type 0 where
+  has_id : id_of t ≡ id
+  there : Contains (transactions items) t
 
-pub found : (low : ℕ) (id : List ℕ) (items : Items) (ticket : ℕ) (t : Transaction) → IsRisingFrom low items → ticket_of id items ≡ Some ticket → item_at items ticket ≡ Some t → StandsThere id t items
+found : (low : ℕ) (id : List ℕ) (items : Items) (ticket : ℕ) (t : Transaction) → IsRisingFrom low items → ticket_of id items ≡ Some ticket → item_at items ticket ≡ Some t → StandsThere id t items
 found low id [] ticket t rising under at = absurd (let f = under in Prim.cc)
 found low id (i ∷ is) ticket t rising under at = elim (pointwise nat_eq id (id_of i.1)) as (λ b. pointwise nat_eq id (id_of i.1) ≡ b → cond b (Some i.0) (ticket_of id is) ≡ Some ticket → StandsThere id t (i ∷ is)) [
   | true ↦ λ h e.

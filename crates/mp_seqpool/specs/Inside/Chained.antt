@@ -1,5 +1,5 @@
 -- That a pool's transactions are valid in order, whoever signed them.
-use Rattle.std.specs.Prelude.{ℕ, Bool, true, List}
+use Rattle.std.specs.Prelude.{true}
 use Rattle.std.specs.FinMap.{get}
 use Rattle.mp_rules.specs.Verifier.{Accepts}
 use Rattle.mp_rules.specs.Validity.{Chain}
