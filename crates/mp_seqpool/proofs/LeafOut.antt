@@ -232,9 +232,9 @@ module _ (accepts : Accepts) (tick : ℕ) (t : Transaction) (u : Unspent) (xs ys
     unmade_by r (inr none) e = λ k d lt.
         let y : Transaction = get_or ys k d in
         none_from (output_made y r) (λ there.
-          none_there (after u xs r)
-          (not_yet y r (weaker (λ x. All (Differ x) (t ∷ ys)) (λ x. Differ x y) (λ x a. All-tail (Differ x) t ys a k d lt) xs across) there none)
-          (fed r e))
+        none_there (after u xs r)
+        (not_yet y r (weaker (λ x. All (Differ x) (t ∷ ys)) (λ x. Differ x y) (λ x a. All-tail (Differ x) t ys a k d lt) xs across) there none)
+        (fed r e))
 
     unmade_behind : (r : OutRef) → spends t.inputs r ≡ true → AllByRecursion (λ y. output_made y r ≡ None) ys
     unmade_behind r e =

@@ -45,7 +45,8 @@ fn is_of_one(changes: &Changes, ledger: &Ledger, reference: &OutRef) -> bool
 
 /// Whether that is so of what each input spends.
 pub fn are_of_one(changes: &Changes, ledger: &Ledger, inputs: &[Input]) -> bool
-    ensures { result ≡ list_all (λ i. is_of_one changes.now.entries (get ledger.now.utxo) i.from) inputs.now }
+    ensures { result ≡ list_all
+        (λ i. is_of_one changes.now.entries (get ledger.now.utxo) i.from) inputs.now }
 {
     inputs.iter().all(|i| is_of_one(changes, ledger, &i.from))
 }

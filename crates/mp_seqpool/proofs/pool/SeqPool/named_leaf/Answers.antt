@@ -27,5 +27,5 @@ returns-then-is_leaf c =
     let at = subst (λ (h : Holding). item_at h.pool.items ticket ≡ Some t) (sym c.self.view_is) (sym c.in_ok-tx.ensures) in
     let leaf = subst (IsLeaf (get overlay.ledger.utxo) overlay.applied) c.deref.ensures (c.is_leaf.ensures c.if-is_leaf.true) in
     subst (λ (h : Holding). NamesLeaf h.pool ids ticket t) c.self.view_is
-    (subst (λ l. NamesLeaf (state c.self.inside) l ticket t) (one_only ids c.in-len1.len_at_least c.in-len1.len_below)
+    (subst (λ l. NamesLeaf (state c.self.inside) l ticket t) (one_only ids (omega arith) (omega arith))
     (names_leaf c.self.inside id ticket t under at leaf c.self.invariant))

@@ -56,6 +56,12 @@ returns-in_err-asked-clause-ready g c = no_value c.from_residual.result _ c.from
 pub returns-in_err-asked-clause-refused : goal.returns-in_err-asked-clause-refused
 returns-in_err-asked-clause-refused g c = passed_on c.from_residual.result _ NoMemory c.from_residual.ensures.1 tt
 
+pub returns-in_err-take_out_step-clause-ready : goal.returns-in_err-take_out_step-clause-ready
+returns-in_err-take_out_step-clause-ready g c = no_value c.from_residual-in_err-take_out_step.result _ c.from_residual-in_err-take_out_step.ensures.0
+
+pub returns-in_err-take_out_step-clause-refused : goal.returns-in_err-take_out_step-clause-refused
+returns-in_err-take_out_step-clause-refused g c = passed_on c.from_residual-in_err-take_out_step.result _ NoMemory c.from_residual-in_err-take_out_step.ensures.1 tt
+
 pub returns-in_err-overlay-clause-ready : goal.returns-in_err-overlay-clause-ready
 returns-in_err-overlay-clause-ready g c = no_value c.from_residual-in_err-overlay.result _ c.from_residual-in_err-overlay.ensures.0
 
