@@ -24,7 +24,7 @@ LooksPast a b = All (λ r. output_made a r ≡ None) b.references
 abbrev pub IsOfOne : Unspent → List Transaction → OutRef → Type 0
 IsOfOne u ts r = NoneMakes ts r ⊎ (u r ≡ None)
 
--- nothing that is applied upon the ledger hangs on the transaction, which is one of what is applied
+-- nothing of what is applied upon the ledger hangs on the transaction
 pub record IsLeaf (u : Unspent) (ts : List Transaction) (t : Transaction) : Type 0 where
   pub has_output : 0 < length t.outputs
   -- the ledger has nothing where its outputs stand

@@ -20,9 +20,9 @@ pub struct Overlay {
     ledger: Ledger,
     applied: Vec<Applied, Memory>,
     changes: Changes,
-    // while it is false, no transaction looks at what one before it made
+    // While it is false, no transaction looks at what one before it made.
     looks_inside: bool,
-    // how many of the places are vacant
+    // How many of the places are vacant.
     vacant: usize,
 }
 
