@@ -11,64 +11,59 @@ use mp_seqpool::{Answer, Refusal, Reply};
 
 type Text = Vec<u8, Memory>;
 
+// The line of an accepted submit fits into so many bytes.
+const ACCEPTED_ROOM: usize = 32;
+
 // Each ticket after a space.
-fn put_tickets(memory: Memory, text: &mut Text, tickets: &[u64]) -> Result<(), NoMemory>
+fn put_tickets(text: &mut Text, tickets: &[u64]) -> Result<(), NoMemory>
     ensures { OnOk result (text.new.items ≡ text.old.items ++ tickets_text tickets.now) }
 {
     for ticket in tickets {
-        put_number(memory, text, *ticket)?;
+        put_number(text, *ticket)?;
     }
     Ok(())
 }
 
 // The word and the tickets.
-fn put_list(memory: Memory, text: &mut Text, word: &[u8], tickets: &[u64]) -> Result<(), NoMemory>
+fn put_list(text: &mut Text, word: &[u8], tickets: &[u64]) -> Result<(), NoMemory>
     ensures { OnOk result
         (text.new.items ≡ text.old.items ++ (word.now ++ tickets_text tickets.now)) }
 {
     put_word(text, word)?;
-    put_tickets(memory, text, tickets)
+    put_tickets(text, tickets)
 }
 
-fn put_accepted(memory: Memory, text: &mut Text, ticket: u64) -> Result<(), NoMemory>
+fn put_accepted(text: &mut Text, ticket: u64) -> Result<(), NoMemory>
     ensures { OnOk result (text.new.items
         ≡ text.old.items ++ (codes "accepted" ++ number_text ticket)) }
 {
     put_word(text, b"accepted")?;
-    put_number(memory, text, ticket)
+    put_number(text, ticket)
 }
 
 // The word with tickets, and then the tickets that were dropped.
-fn put_lists(
-    memory: Memory,
-    text: &mut Text,
-    word: &[u8],
-    tickets: &[u64],
-    dropped: &[u64],
-) -> Result<(), NoMemory>
+fn put_lists(text: &mut Text, word: &[u8], tickets: &[u64], dropped: &[u64]) -> Result<(), NoMemory>
     ensures { OnOk result (text.new.items ≡ text.old.items
         ++ ((word.now ++ tickets_text tickets.now)
         ++ (codes " dropped" ++ tickets_text dropped.now))) }
 {
-    put_list(memory, text, word, tickets)?;
-    put_list(memory, text, b" dropped", dropped)
+    put_list(text, word, tickets)?;
+    put_list(text, b" dropped", dropped)
 }
 
 /// Puts the words of a reply: its kind and its tickets.
-pub fn put_reply(memory: Memory, text: &mut Text, reply: &Reply) -> Result<(), NoMemory>
+pub fn put_reply(text: &mut Text, reply: &Reply) -> Result<(), NoMemory>
     ensures { OnOk result (text.new.items ≡ text.old.items ++ reply_text reply.now) }
 {
     match reply {
-        Reply::Accepted { ticket } => put_accepted(memory, text, *ticket),
+        Reply::Accepted { ticket } => put_accepted(text, *ticket),
         Reply::Removed { named, dropped } => put_lists(
-            memory,
             text,
             b"removed",
             named.as_slice(),
             dropped.as_slice(),
         ),
         Reply::Synced { kept, dropped } => put_lists(
-            memory,
             text,
             b"kept",
             kept.as_slice(),
@@ -100,7 +95,7 @@ fn put_answer(
         ≡ text.old.items ++ told_text names.now answer.now) }
 {
     match answer {
-        Ok(reply) => put_reply(memory, text, reply),
+        Ok(reply) => put_reply(text, reply),
         Err(refusal) => put_refused(memory, text, names, refusal),
     }
 }
@@ -111,8 +106,8 @@ pub fn reply_line(memory: Memory, reply: &Reply) -> Result<Text, NoMemory>
     ensures { IfOk result (λ text. (names : told.Names)
         → text.items ≡ answer_text names (Ok reply.now)) }
 {
-    let mut text = Vec::new(memory);
-    put_reply(memory, &mut text, reply)?;
+    let mut text = Vec::with_capacity(memory, ACCEPTED_ROOM)?;
+    put_reply(&mut text, reply)?;
     text.push(b'\n')?;
     Ok(text)
 }

@@ -23,64 +23,48 @@ use std::sync::Arc;
 type Text = Vec<u8, Memory>;
 
 /// A transaction under its ticket: the ticket and the name.
-pub fn put_item(
-    memory: Memory,
-    text: &mut Text,
-    names: &Names,
-    ticket: u64,
-    tx: &Tx,
-) -> Result<(), NoMemory>
+pub fn put_item(text: &mut Text, names: &Names, ticket: u64, tx: &Tx) -> Result<(), NoMemory>
     ensures { OnOk result (text.new.items ≡ text.old.items
         ++ item_text names.now (ticket, tx.now)) }
 {
-    put_number(memory, text, ticket)?;
+    put_number(text, ticket)?;
     text.push(b':')?;
     text.extend_from_slice(names.name_of(tx.id()))?;
     Ok(())
 }
 
-fn put_run(memory: Memory, text: &mut Text, names: &Names, run: Run<'_>) -> Result<(), NoMemory>
+fn put_run(text: &mut Text, names: &Names, run: Run<'_>) -> Result<(), NoMemory>
     ensures { OnOk result (text.new.items ≡ text.old.items ++ items_text names.now run.entry) }
 {
     for item in run {
-        put_item(memory, text, names, item.ticket, &item.tx)?;
+        put_item(text, names, item.ticket, &item.tx)?;
     }
     Ok(())
 }
 
 /// Each item: its ticket, and the name of its transaction.
-pub fn put_items(
-    memory: Memory,
-    text: &mut Text,
-    names: &Names,
-    items: &[Item],
-) -> Result<(), NoMemory>
+pub fn put_items(text: &mut Text, names: &Names, items: &[Item]) -> Result<(), NoMemory>
     ensures { OnOk result (text.new.items ≡ text.old.items
         ++ items_text names.now (items_of items.now)) }
 {
     for item in items {
-        put_item(memory, text, names, item.ticket, &item.tx)?;
+        put_item(text, names, item.ticket, &item.tx)?;
     }
     Ok(())
 }
 
 // How many transactions there are, their bytes, and the last ticket.
-fn put_numbers<N: PoolName>(
-    memory: Memory,
-    text: &mut Text,
-    snapshot: &Snapshot<'_, N>,
-) -> Result<(), NoMemory>
+fn put_numbers<N: PoolName>(text: &mut Text, snapshot: &Snapshot<'_, N>) -> Result<(), NoMemory>
     ensures { OnOk result (text.new.items ≡ text.old.items
         ++ numbers_text (state_after N.accepts snapshot.now)) }
 {
     let (count, bytes) = snapshot.size();
-    put_number(memory, text, count as u64)?;
-    put_number(memory, text, bytes)?;
-    put_number(memory, text, snapshot.last())
+    put_number(text, count as u64)?;
+    put_number(text, bytes)?;
+    put_number(text, snapshot.last())
 }
 
 fn put_snapshot<N: PoolName>(
-    memory: Memory,
     text: &mut Text,
     names: &Names,
     snapshot: &Snapshot<'_, N>,
@@ -90,16 +74,16 @@ fn put_snapshot<N: PoolName>(
         ++ items_text names.now (state_after N.accepts snapshot.now).items)) }
 {
     put_word(text, b"snapshot")?;
-    put_numbers(memory, text, snapshot)?;
-    put_run(memory, text, names, snapshot.txs())
+    put_numbers(text, snapshot)?;
+    put_run(text, names, snapshot.txs())
 }
 
-fn put_after(memory: Memory, text: &mut Text, names: &Names, run: Run<'_>) -> Result<(), NoMemory>
+fn put_after(text: &mut Text, names: &Names, run: Run<'_>) -> Result<(), NoMemory>
     ensures { OnOk result (text.new.items ≡ text.old.items
         ++ (codes "after" ++ items_text names.now run.entry)) }
 {
     put_word(text, b"after")?;
-    put_run(memory, text, names, run)
+    put_run(text, names, run)
 }
 
 /// What stands under a ticket.
@@ -132,20 +116,14 @@ pub fn put_has(text: &mut Text, has: bool) -> Result<(), NoMemory>
 }
 
 /// How many items there are, their bytes, and the items.
-pub fn put_sized(
-    memory: Memory,
-    text: &mut Text,
-    names: &Names,
-    bytes: u64,
-    items: &[Item],
-) -> Result<(), NoMemory>
+pub fn put_sized(text: &mut Text, names: &Names, bytes: u64, items: &[Item]) -> Result<(), NoMemory>
     requires { bytes ≡ bytes_of (items_of items.now) }
     ensures { OnOk result (text.new.items ≡ text.old.items
         ++ sized_text names.now (items_of items.now)) }
 {
-    put_number(memory, text, items.len() as u64)?;
-    put_number(memory, text, bytes)?;
-    put_items(memory, text, names, items)
+    put_number(text, items.len() as u64)?;
+    put_number(text, bytes)?;
+    put_items(text, names, items)
 }
 
 // The word, and the oldest transactions that fit into so many bytes together.
@@ -162,7 +140,7 @@ fn put_oldest<N: PoolName>(
 {
     put_word(text, word)?;
     let block = forge(memory, snapshot, bytes)?;
-    put_sized(memory, text, names, block.bytes, block.items.as_slice())
+    put_sized(text, names, block.bytes, block.items.as_slice())
 }
 
 // What the peer is offered next.
@@ -182,7 +160,7 @@ fn put_offer<N: PoolName>(
 {
     put_word(text, b"offer")?;
     let items = peer.offer(memory, snapshot, count, bytes)?;
-    put_items(memory, text, names, items.as_slice())
+    put_items(text, names, items.as_slice())
 }
 
 fn put_query<N: PoolName>(
@@ -199,8 +177,8 @@ fn put_query<N: PoolName>(
         ≡ cursor_after peer.old (state_after N.accepts snapshot.now) query) }
 {
     match query {
-        Query::Snapshot => put_snapshot(memory, text, names, snapshot),
-        Query::After(ticket) => put_after(memory, text, names, snapshot.after(ticket)),
+        Query::Snapshot => put_snapshot(text, names, snapshot),
+        Query::After(ticket) => put_after(text, names, snapshot.after(ticket)),
         Query::Lookup(ticket) => put_found(text, names, snapshot.lookup(ticket)),
         Query::Has(id) => put_has(text, snapshot.has(&id)),
         Query::Take(bytes) => put_oldest(memory, text, names, snapshot, b"take", bytes),
@@ -238,7 +216,7 @@ pub fn for_line(memory: Memory, names: &Names, items: &[Item]) -> Result<Text, N
 {
     let mut text = Vec::new(memory);
     put_word(&mut text, b"for")?;
-    put_items(memory, &mut text, names, items)?;
+    put_items(&mut text, names, items)?;
     text.push(b'\n')?;
     Ok(text)
 }

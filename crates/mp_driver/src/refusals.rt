@@ -3,6 +3,7 @@
 ghost use Rattle.std.specs.Prelude.{◌≡◌, ◌<◌, ◌∷◌, ◌++◌, length, map, OnOk};
 ghost use Rattle.mp_driver.specs.AnswerText.{number_text, hex_text, token_name_text, policy_text, token_text, word_at, rule_place, refusal_place, told_of_fault, told_of_refusal, refusal_text};
 
+use itoa::Buffer;
 use mp_bundle::{PolicyId, TokenName};
 use mp_memory::{Memory, NoMemory};
 use mp_names::Names;
@@ -37,12 +38,12 @@ pub const REFUSAL_WORDS: [&[u8]; REFUSALS] = [
 ];
 
 /// A space and the number.
-pub fn put_number(memory: Memory, text: &mut Text, number: u64) -> Result<(), NoMemory>
+pub fn put_number(text: &mut Text, number: u64) -> Result<(), NoMemory>
     ensures { OnOk result (text.new.items ≡ text.old.items ++ number_text number) }
 {
     text.push(b' ')?;
-    let digits = number.to_string(memory)?;
-    text.extend_from_slice(digits.as_bytes())?;
+    let mut digits = Buffer::new();
+    text.extend_from_slice(digits.format(number).as_bytes())?;
     Ok(())
 }
 
@@ -163,10 +164,10 @@ pub fn refusal_place(refusal: &Refusal) -> usize
 }
 
 // A space and the place.
-fn put_place(memory: Memory, text: &mut Text, place: usize) -> Result<(), NoMemory>
+fn put_place(text: &mut Text, place: usize) -> Result<(), NoMemory>
     ensures { OnOk result (text.new.items ≡ text.old.items ++ number_text place) }
 {
-    put_number(memory, text, place as u64)
+    put_number(text, place as u64)
 }
 
 fn put_told_of_fault(
@@ -186,22 +187,22 @@ fn put_told_of_fault(
         | Invalid::DatumMismatch(place)
         | Invalid::OutputTaken(place)
         | Invalid::ValidatorRefused(place)
-        | Invalid::PolicyRefused(place) => put_place(memory, text, *place),
+        | Invalid::PolicyRefused(place) => put_place(text, *place),
         Invalid::ForgeWithoutPolicy(policy) => put_policy_behind(memory, text, names, policy),
         Invalid::Unbalanced { policy, name, .. } => {
             put_token_behind(memory, text, names, policy, name)
         }
-        Invalid::BadSignature(key) => put_place(memory, text, key[0] as usize),
+        Invalid::BadSignature(key) => put_place(text, key[0] as usize),
     }
 }
 
 // The bytes that are wanted, and those that are free.
-fn put_bytes(memory: Memory, text: &mut Text, need: u64, free: u64) -> Result<(), NoMemory>
+fn put_bytes(text: &mut Text, need: u64, free: u64) -> Result<(), NoMemory>
     ensures { OnOk result
         (text.new.items ≡ text.old.items ++ (number_text need ++ number_text free)) }
 {
-    put_number(memory, text, need)?;
-    put_number(memory, text, free)
+    put_number(text, need)?;
+    put_number(text, free)
 }
 
 // What is told with the word.
@@ -216,8 +217,8 @@ fn put_told_of_refusal(
 {
     match refusal {
         Refusal::NoMemory | Refusal::HistoryFull | Refusal::TicketsSpent => Ok(()),
-        Refusal::AlreadyInPool(ticket) => put_number(memory, text, *ticket),
-        Refusal::Full { need, free } => put_bytes(memory, text, *need, *free),
+        Refusal::AlreadyInPool(ticket) => put_number(text, *ticket),
+        Refusal::Full { need, free } => put_bytes(text, *need, *free),
         Refusal::Invalid(fault) => put_told_of_fault(memory, text, names, fault),
     }
 }

@@ -21,25 +21,25 @@ pub struct History {
 }
 
 // The line of an entry.
-fn put_told(memory: Memory, text: &mut Text, told: &Told) -> Result<(), NoMemory>
+fn put_told(text: &mut Text, told: &Told) -> Result<(), NoMemory>
     ensures { OnOk result (text.new.items ≡ text.old.items ++ told_text told.now) }
 {
     put_word(text, b"entry")?;
-    put_number(memory, text, told.place)?;
-    put_number(memory, text, u64::from(told.worker))?;
-    put_number(memory, text, u64::from(told.task))?;
+    put_number(text, told.place)?;
+    put_number(text, u64::from(told.worker))?;
+    put_number(text, u64::from(told.task))?;
     text.push(b' ')?;
-    put_reply(memory, text, &told.reply)?;
+    put_reply(text, &told.reply)?;
     text.push(b'\n')?;
     Ok(())
 }
 
 // The lines of entries.
-fn put_lines(memory: Memory, text: &mut Text, told: &[Told]) -> Result<(), NoMemory>
+fn put_lines(text: &mut Text, told: &[Told]) -> Result<(), NoMemory>
     ensures { OnOk result (text.new.items ≡ text.old.items ++ lines_text told.now) }
 {
     for entry in told {
-        put_told(memory, text, entry)?;
+        put_told(text, entry)?;
     }
     Ok(())
 }
@@ -83,9 +83,9 @@ impl History {
     {
         let mut text = Vec::new(memory);
         put_word(&mut text, b"workers")?;
-        put_number(memory, &mut text, u64::from(self.workers))?;
+        put_number(&mut text, u64::from(self.workers))?;
         text.push(b'\n')?;
-        put_lines(memory, &mut text, &self.told)?;
+        put_lines(&mut text, &self.told)?;
         Ok(text)
     }
 

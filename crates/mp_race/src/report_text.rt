@@ -11,11 +11,11 @@ use mp_memory::{Memory, NoMemory};
 type Text = Vec<u8, Memory>;
 
 // The word and the number.
-fn put_counted(memory: Memory, text: &mut Text, word: &[u8], number: u64) -> Result<(), NoMemory>
+fn put_counted(text: &mut Text, word: &[u8], number: u64) -> Result<(), NoMemory>
     ensures { OnOk result (text.new.items ≡ and_then text.old.items word.now number) }
 {
     put_word(text, word)?;
-    put_number(memory, text, number)
+    put_number(text, number)
 }
 
 // What became of the changes.
@@ -23,9 +23,9 @@ fn changes_text(memory: Memory, report: &Report) -> Result<Text, NoMemory>
     ensures { IfOk result (λ text. text.items ≡ changes_text report.now) }
 {
     let mut text = Vec::new(memory);
-    put_counted(memory, &mut text, b"race", u64::from(report.workers))?;
-    put_counted(memory, &mut text, b" accepted", report.accepted)?;
-    put_counted(memory, &mut text, b" refused", report.refused)?;
+    put_counted(&mut text, b"race", u64::from(report.workers))?;
+    put_counted(&mut text, b" accepted", report.accepted)?;
+    put_counted(&mut text, b" refused", report.refused)?;
     Ok(text)
 }
 
@@ -34,9 +34,9 @@ fn numbers_text(memory: Memory, report: &Report) -> Result<Text, NoMemory>
     ensures { IfOk result (λ text. text.items ≡ numbers_text report.now) }
 {
     let mut text = changes_text(memory, report)?;
-    put_counted(memory, &mut text, b" removes", report.removes)?;
-    put_counted(memory, &mut text, b" syncs", report.syncs)?;
-    put_counted(memory, &mut text, b" reads", report.reads)?;
+    put_counted(&mut text, b" removes", report.removes)?;
+    put_counted(&mut text, b" syncs", report.syncs)?;
+    put_counted(&mut text, b" reads", report.reads)?;
     Ok(text)
 }
 
@@ -45,8 +45,8 @@ pub fn report_text(memory: Memory, report: &Report) -> Result<Text, NoMemory>
     ensures { IfOk result (λ text. text.items ≡ report_text report.now) }
 {
     let mut text = numbers_text(memory, report)?;
-    put_counted(memory, &mut text, b" entries", report.entries)?;
-    put_counted(memory, &mut text, b" last", report.last)?;
+    put_counted(&mut text, b" entries", report.entries)?;
+    put_counted(&mut text, b" last", report.last)?;
     put_word(&mut text, b"\naudit legal\n")?;
     Ok(text)
 }

@@ -62,7 +62,6 @@ fn first_within(
 }
 
 fn put_contents(
-    memory: Memory,
     text: &mut Text,
     names: &Names,
     items: Iter<'_, ValidatedTx>,
@@ -71,32 +70,27 @@ fn put_contents(
         ≡ text.old.items ++ items_text names.now (ticketed items.entry)) }
 {
     for (ticket, item) in items {
-        put_item(memory, text, names, ticket, &item.tx)?;
+        put_item(text, names, ticket, &item.tx)?;
     }
     Ok(())
 }
 
 // How many transactions there are, their bytes, and the last ticket.
-fn put_numbers(memory: Memory, text: &mut Text, pool: &SeqPool) -> Result<(), NoMemory>
+fn put_numbers(text: &mut Text, pool: &SeqPool) -> Result<(), NoMemory>
     ensures { OnOk result (text.new.items ≡ text.old.items ++ numbers_text pool.now.pool) }
 {
-    put_number(memory, text, pool.len() as u64)?;
-    put_number(memory, text, pool.bytes())?;
-    put_number(memory, text, pool.last_ticket())
+    put_number(text, pool.len() as u64)?;
+    put_number(text, pool.bytes())?;
+    put_number(text, pool.last_ticket())
 }
 
-fn put_snapshot(
-    memory: Memory,
-    text: &mut Text,
-    names: &Names,
-    pool: &SeqPool,
-) -> Result<(), NoMemory>
+fn put_snapshot(text: &mut Text, names: &Names, pool: &SeqPool) -> Result<(), NoMemory>
     ensures { OnOk result (text.new.items ≡ text.old.items ++ (codes "snapshot"
         ++ numbers_text pool.now.pool ++ items_text names.now pool.now.pool.items)) }
 {
     put_word(text, b"snapshot")?;
-    put_numbers(memory, text, pool)?;
-    put_contents(memory, text, names, pool.contents())
+    put_numbers(text, pool)?;
+    put_contents(text, names, pool.contents())
 }
 
 // The oldest transactions, as long as they fit into so many bytes together.
@@ -122,7 +116,7 @@ fn put_oldest(
 {
     put_word(text, word)?;
     let found = oldest_within(memory, pool, room)?;
-    put_sized(memory, text, names, found.bytes, &found.items)
+    put_sized(text, names, found.bytes, &found.items)
 }
 
 // The ticket of the last item, or the cursor where there is none.
@@ -152,7 +146,7 @@ fn put_offer(
 {
     put_word(text, b"offer")?;
     let found = first_within(memory, pool.contents_after(*cursor), count, room)?;
-    put_items(memory, text, names, &found.items)?;
+    put_items(text, names, &found.items)?;
     *cursor = moved_over(*cursor, &found.items);
     Ok(())
 }
@@ -170,10 +164,10 @@ fn put_query(
     ensures cursor { OnOk result (cursor.new ≡ cursor_after cursor.old pool.now.pool query) }
 {
     match query {
-        Query::Snapshot => put_snapshot(memory, text, names, pool),
+        Query::Snapshot => put_snapshot(text, names, pool),
         Query::After(ticket) => {
             put_word(text, b"after")?;
-            put_contents(memory, text, names, pool.contents_after(ticket))
+            put_contents(text, names, pool.contents_after(ticket))
         }
         Query::Lookup(ticket) => put_found(text, names, pool.get(ticket)),
         Query::Has(id) => put_has(text, pool.ticket_of(&id).is_some()),
@@ -205,7 +199,6 @@ pub fn query_line(
 
 // The transaction under its ticket, unless it is dropped.
 fn put_unless_dropped(
-    memory: Memory,
     text: &mut Text,
     names: &Names,
     dropped: &Tickets,
@@ -218,12 +211,11 @@ fn put_unless_dropped(
     if dropped.contains(ticket) {
         return Ok(());
     }
-    put_item(memory, text, names, ticket, tx)
+    put_item(text, names, ticket, tx)
 }
 
 // The transactions that aren't dropped.
 fn put_others(
-    memory: Memory,
     text: &mut Text,
     names: &Names,
     items: Iter<'_, ValidatedTx>,
@@ -233,7 +225,7 @@ fn put_others(
         ++ items_text names.now (apart dropped.now (ticketed items.entry))) }
 {
     for (ticket, item) in items {
-        put_unless_dropped(memory, text, names, dropped, ticket, &item.tx)?;
+        put_unless_dropped(text, names, dropped, ticket, &item.tx)?;
     }
     Ok(())
 }
@@ -250,7 +242,7 @@ fn others_line(
 {
     let mut text = Vec::new(memory);
     put_word(&mut text, b"for")?;
-    put_others(memory, &mut text, names, items, dropped)?;
+    put_others(&mut text, names, items, dropped)?;
     text.push(b'\n')?;
     Ok(text)
 }

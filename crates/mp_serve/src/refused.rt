@@ -53,7 +53,7 @@ pub fn count_if_refused(counts: &mut Counts, refusal: &Option<Refusal>)
 }
 
 // The word, and how often, unless it was never.
-fn put_count(memory: Memory, text: &mut Text, word: &[u8], count: u64) -> Result<(), NoMemory>
+fn put_count(text: &mut Text, word: &[u8], count: u64) -> Result<(), NoMemory>
     ensures { OnOk result (text.new.items ≡ text.old.items ++ count_text word.now count) }
 {
     if count == 0 {
@@ -61,31 +61,26 @@ fn put_count(memory: Memory, text: &mut Text, word: &[u8], count: u64) -> Result
     }
     text.push(b' ')?;
     put_word(text, word)?;
-    put_number(memory, text, count)
+    put_number(text, count)
 }
 
 // Each of these words with its count.
-fn put_each(
-    memory: Memory,
-    text: &mut Text,
-    words: &[&[u8]],
-    counts: &[u64],
-) -> Result<(), NoMemory>
+fn put_each(text: &mut Text, words: &[&[u8]], counts: &[u64]) -> Result<(), NoMemory>
     requires { length words.now ≤ length counts.now }
     ensures { OnOk result (text.new.items
         ≡ text.old.items ++ texts (map (λ w. w.now) words.now) counts.now) }
 {
     for (place, word) in words.iter().enumerate() {
-        put_count(memory, text, word, counts[place])?;
+        put_count(text, word, counts[place])?;
     }
     Ok(())
 }
 
 /// Each kind that was answered, and how often.
-pub fn put_counts(memory: Memory, text: &mut Text, counts: &Counts) -> Result<(), NoMemory>
+pub fn put_counts(text: &mut Text, counts: &Counts) -> Result<(), NoMemory>
     ensures { OnOk result (text.new.items ≡ text.old.items ++ counts_text counts.now) }
 {
-    put_each(memory, text, &REFUSAL_WORDS, &counts.refusals)?;
-    put_count(memory, text, b"adopt", counts.adopts)?;
-    put_count(memory, text, b"back", counts.backs)
+    put_each(text, &REFUSAL_WORDS, &counts.refusals)?;
+    put_count(text, b"adopt", counts.adopts)?;
+    put_count(text, b"back", counts.backs)
 }

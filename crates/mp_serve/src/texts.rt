@@ -11,7 +11,7 @@ use mp_driver::{put_number, put_refusal, put_word};
 use mp_memory::{Memory, NoMemory};
 use mp_names::{Names, Reason};
 use mp_seqpool::{Invalid, Refusal, SeqPool};
-use mp_tx::{Tx, TxFault};
+use mp_tx::{Tx, TxFault, TxId};
 use std::sync::Arc;
 
 /// One line of text.
@@ -19,6 +19,9 @@ pub type Text = Vec<u8, Memory>;
 
 /// What is written where an answer finds no memory.
 pub const NO_MEMORY: &[u8] = b"fault: no memory\n";
+
+// The line of bytes that were read fits into so many bytes.
+const TX_ROOM: usize = 80;
 
 /// What is answered where there is nothing to tell.
 pub fn ok_line(memory: Memory) -> Result<Text, NoMemory>
@@ -34,7 +37,7 @@ pub fn bad_line(memory: Memory, number: u64, reason: Reason<'_>) -> Result<Text,
 {
     let mut text = Vec::new(memory);
     put_word(&mut text, b"bad")?;
-    put_number(memory, &mut text, number)?;
+    put_number(&mut text, number)?;
     put_word(&mut text, b": ")?;
     let why = format!(in memory; "{reason}")?;
     put_word(&mut text, why.as_bytes())?;
@@ -50,14 +53,25 @@ fn put_hex(memory: Memory, text: &mut Text, bytes: &[u8]) -> Result<(), NoMemory
     put_word(text, digits.as_bytes())
 }
 
+// Each byte of an id as two digits, for which nothing is taken but their place in the text.
+fn put_id(text: &mut Text, id: &TxId) -> Result<(), NoMemory>
+    ensures { OnOk result (text.new.items ≡ text.old.items ++ encode_lower id.now) }
+{
+    let mut digits = [0; 64];
+    match hex::encode_to_slice(id.as_slice(), &mut digits) {
+        Ok(()) => put_word(text, &digits),
+        Err(_) => unreachable!(),
+    }
+}
+
 // The size and the id.
-fn put_tx(memory: Memory, text: &mut Text, tx: &Tx) -> Result<(), NoMemory>
+fn put_tx(text: &mut Text, tx: &Tx) -> Result<(), NoMemory>
     ensures { OnOk result (text.new.items ≡ text.old.items ++ tx_words tx.now) }
 {
     put_word(text, b"tx")?;
-    put_number(memory, text, tx.size())?;
+    put_number(text, tx.size())?;
     put_word(text, b" ")?;
-    put_hex(memory, text, tx.id())
+    put_id(text, tx.id())
 }
 
 fn fault_name(fault: TxFault) -> &'static [u8]
@@ -84,8 +98,8 @@ fn fault_name(fault: TxFault) -> &'static [u8]
 pub fn read_line(memory: Memory, tx: &Tx) -> Result<Text, NoMemory>
     ensures { IfOk result (λ text. text.items ≡ bytes_text (Ok tx.now)) }
 {
-    let mut text = Vec::new(memory);
-    put_tx(memory, &mut text, tx)?;
+    let mut text = Vec::with_capacity(memory, TX_ROOM)?;
+    put_tx(&mut text, tx)?;
     text.push(b'\n')?;
     Ok(text)
 }
@@ -108,7 +122,7 @@ pub fn show_line(memory: Memory, tx: &Tx) -> Result<Text, NoMemory>
     ensures { IfOk result (λ text. text.items ≡ show_text tx.now) }
 {
     let mut text = Vec::new(memory);
-    put_tx(memory, &mut text, tx)?;
+    put_tx(&mut text, tx)?;
     put_word(&mut text, b" ")?;
     let bytes = tx.encode(memory)?;
     put_hex(memory, &mut text, &bytes)?;
@@ -116,15 +130,15 @@ pub fn show_line(memory: Memory, tx: &Tx) -> Result<Text, NoMemory>
     Ok(text)
 }
 
-fn put_pool_numbers(memory: Memory, text: &mut Text, pool: &SeqPool) -> Result<(), NoMemory>
+fn put_pool_numbers(text: &mut Text, pool: &SeqPool) -> Result<(), NoMemory>
     ensures { OnOk result (text.new.items ≡ text.old.items ++ pool_numbers pool.now.pool) }
 {
     put_word(text, b"stats")?;
-    put_number(memory, text, pool.len() as u64)?;
-    put_number(memory, text, pool.bytes())?;
-    put_number(memory, text, pool.free_bytes())?;
-    put_number(memory, text, pool.last_ticket())?;
-    put_number(memory, text, pool.changes())
+    put_number(text, pool.len() as u64)?;
+    put_number(text, pool.bytes())?;
+    put_number(text, pool.free_bytes())?;
+    put_number(text, pool.last_ticket())?;
+    put_number(text, pool.changes())
 }
 
 /// The line of a pool's numbers, and of how often each kind of refusal was answered.
@@ -133,8 +147,8 @@ pub fn stats_line(memory: Memory, pool: &SeqPool, refused: &Counts) -> Result<Te
     ensures { IfOk result (λ text. text.items ≡ stats_text pool.now.pool refused.now) }
 {
     let mut text = Vec::new(memory);
-    put_pool_numbers(memory, &mut text, pool)?;
-    put_counts(memory, &mut text, refused)?;
+    put_pool_numbers(&mut text, pool)?;
+    put_counts(&mut text, refused)?;
     text.push(b'\n')?;
     Ok(text)
 }
@@ -189,7 +203,7 @@ pub fn back_refused_line(memory: Memory, kept: u64) -> Result<Text, NoMemory>
 {
     let mut text = Vec::new(memory);
     put_word(&mut text, b"refused back")?;
-    put_number(memory, &mut text, kept)?;
+    put_number(&mut text, kept)?;
     text.push(b'\n')?;
     Ok(text)
 }
@@ -201,7 +215,7 @@ pub fn forgotten_line(memory: Memory, count: u64) -> Result<Text, NoMemory>
 {
     let mut text = Vec::new(memory);
     put_word(&mut text, b"forgotten")?;
-    put_number(memory, &mut text, count)?;
+    put_number(&mut text, count)?;
     text.push(b'\n')?;
     Ok(text)
 }

@@ -30,10 +30,15 @@ pub fn first_line(text: &[u8]) -> Option<(&[u8], &[u8])>
     }
 }
 
+// It looks at each byte whatever the others are, which is done for many at once.
 fn are_printable(line: &[u8]) -> bool
     ensures { result ≡ list_all is_printable line.now }
 {
-    line.iter().all(|&byte| b' ' <= byte && byte <= b'~')
+    let mut printable = true;
+    for &byte in line {
+        printable &= b' ' <= byte && byte <= b'~';
+    }
+    printable
 }
 
 /// Whether a line, without its line feed, has at most 4,096 bytes, each from 0x20 to 0x7E.

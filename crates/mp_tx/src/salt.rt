@@ -1,21 +1,22 @@
 //! The secret that the places of references in a table depend on.
 
-ghost use Rattle.std.specs.List.{fold};
-ghost use Rattle.std.specs.Hash as fed;
-ghost use Rattle.std.specs.Hash.FoldHasher as folding;
-
 use std::fmt;
 use std::hash::{BuildHasher, FoldHasher, Hasher};
 
 /// A number that whoever runs the pool picks at random and keeps secret. The places of references in a table depend on it,
 /// so that nobody else can tell which of them share one. No answer depends on it, and it isn't shown.
 #[derive(Clone, Copy)]
-pub struct Salt(u64);
+pub struct Salt {
+    // It has taken in the number, so that no look-up has to do so again.
+    hasher: FoldHasher,
+}
 
 impl Salt {
     /// The salt of this number.
-    pub const fn new(number: u64) -> Salt {
-        Salt(number)
+    pub fn new(number: u64) -> Salt {
+        let mut hasher = FoldHasher::default();
+        hasher.write_u64(number);
+        Salt { hasher }
     }
 }
 
@@ -28,12 +29,10 @@ impl fmt::Debug for Salt {
 impl BuildHasher for Salt {
     type Hasher = FoldHasher;
 
-    ghost build_hasher = { λ salt. fold folding.write folding.initial (fed.u64 salt.0) };
+    ghost build_hasher = { λ salt. salt.hasher };
 
     /// A hasher that has taken in the salt. A reference is one more word for it.
     fn build_hasher(&self) -> FoldHasher {
-        let mut hasher = FoldHasher::default();
-        hasher.write_u64(self.0);
-        hasher
+        self.hasher
     }
 }
