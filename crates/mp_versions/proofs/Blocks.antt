@@ -10,8 +10,8 @@ use Rattle.mp_tickets.proofs.Rising.{after-append, after-none, after-all}
 use Rattle.mp_seqpool.specs.Prepared.{apart}
 use Rattle.mp_versions.specs.Item.{item_of, items_of}
 use Rattle.mp_versions.specs.declared.item.Item.{Item}
-use Rattle.mp_versions.specs.Inside.Pages.{flattened, IsFilled, IsPage, last_by, first_by, first_ticket, last_ticket}
-use Rattle.mp_versions.proofs.Parts.{last_by-append, Climbs, FirstFails}
+use Rattle.mp_versions.specs.Inside.Pages.{flattened, joined, IsFilled, IsPage, last_by, first_by, first_ticket, last_ticket}
+use Rattle.mp_versions.proofs.Parts.{last_by-append, flattened-append, Climbs, FirstFails}
 
 abbrev pub ticket_in : ℕ × Transaction → ℕ
 ticket_in i = i.0
@@ -29,6 +29,12 @@ rising-right low (x ∷ xs) ys r = rising-right x.0 xs ys r.1
 pub rising-zero : (low : ℕ) (xs : List (ℕ × Transaction)) → IsRisingFrom low xs → IsRising xs
 rising-zero low [] r = tt
 rising-zero low (x ∷ xs) r = let k = r.0 in (omega arith, r.1)
+
+pub rising_before : (xs ys : List (ℕ × Transaction)) → IsRising (xs ++ ys) → IsRising xs
+rising_before xs ys r = rising-left 0 xs ys r
+
+pub rising_behind : (xs ys : List (ℕ × Transaction)) → IsRising (xs ++ ys) → IsRising ys
+rising_behind xs ys r = rising-zero (last_by ticket_in 0 xs) ys (rising-right 0 xs ys r)
 
 pub at_least : (low : ℕ) (xs : List (ℕ × Transaction)) → IsRisingFrom low xs → low ≤ last_by ticket_in low xs
 at_least low [] r = omega arith
@@ -115,6 +121,12 @@ pub page_ends : (p : List (List (ℕ × Transaction))) → IsPage p → (low : �
 page_ends [] f low = let h = f.filled.least in let none : length {A = List (ℕ × Transaction)} [] ≡ 0 = refl in absurd (omega arith)
 page_ends (c ∷ cs) f low = chunks_end low (c ∷ cs) (recursion_from_All IsFilled (c ∷ cs) f.chunks)
 
+pub pages_end : (low : ℕ) (ps : List (List (List (ℕ × Transaction)))) → AllByRecursion IsPage ps → last_by ticket_in low (joined ps) ≡ last_by (last_by last_ticket 0) low ps
+pages_end low [] f = refl
+pages_end low (p ∷ ps) f =
+    ap (last_by ticket_in low) (flattened-append p (flattened ps)) ∙ last_by-append ticket_in low (flattened p) (joined ps)
+    ∙ ap (λ n. last_by ticket_in n (joined ps)) (page_ends p f.0 low) ∙ pages_end (last_by last_ticket 0 p) ps f.1
+
 -- ---- what loses nothing
 
 -- each has a ticket from the first to the last
@@ -128,6 +140,9 @@ spans-from first last low (x ∷ xs) h r l = let k = r.0 in let m = at_least x.0
 pub chunk_spans : (c : List (ℕ × Transaction)) → IsRising c → Spans (first_ticket c) (last_ticket c) c
 chunk_spans [] r = tt
 chunk_spans (i ∷ is) r = let m = at_least i.0 is r.1 in ((omega arith, m), spans-from i.0 (last_by ticket_in i.0 is) i.0 is (omega arith) r.1 (omega arith))
+
+pub pages_span : (ps : List (List (List (ℕ × Transaction)))) → AllByRecursion IsPage ps → IsRising (joined ps) → Spans 0 (last_by (last_by last_ticket 0) 0 ps) (joined ps)
+pages_span ps f r = let e = pages_end 0 ps f in spans-from 0 (last_by (last_by last_ticket 0) 0 ps) 0 (joined ps) (omega arith) r (omega (arith, e))
 
 first_in : (p : List (List (ℕ × Transaction))) → IsPage p → first_ticket (flattened p) ≡ first_by first_ticket p
 first_in [] f = refl

@@ -8,7 +8,7 @@ use Rattle.mp_versions.specs.declared.item.Item.{Item}
 use Rattle.std.proofs.lemmas.List.Elements.{All-nil}
 use Rattle.std.specs.List.{All}
 use Rattle.mp_versions.specs.Inside.Built.{IsBuilt}
-use Rattle.mp_versions.specs.declared.pages.building.Built.{Built}
+use Rattle.mp_versions.specs.declared.layout.building.Built.{Built}
 use Rattle.mp_versions.specs.Inside.Pages.{flattened, joined, IsFilled, IsPage, AreFilled}
 use Rattle.mp_versions.proofs.Parts.{flattened-push}
 

@@ -11,7 +11,7 @@ use Rattle.mp_tickets.proofs.Rising.{rising_push}
 use Rattle.mp_resync.specs.Keep.{tickets, bytes_of}
 use Rattle.mp_versions.proofs.ByteSums.{sum-last}
 use Rattle.mp_versions.specs.declared.version.Version.TheInside.{Inside}
-use Rattle.mp_versions.specs.Inside.Pages.{joined, AreFilled}
+use Rattle.mp_versions.specs.Inside.Layout.{items_in, IsLaid}
 use Rattle.mp_versions.specs.Inside.Version.{IsCounted}
 
 below : (last : ℕ) (items : List (ℕ × Transaction)) → All (λ k. k ≤ last) (tickets items) → AllByRecursion (λ i. i.0 < last + 1) items
@@ -25,10 +25,10 @@ given_push last (i ∷ is) t a =
     All-cons (λ k. k ≤ last + 1) i.0 (tickets (is ++ (last + 1, t) ∷ [])) (omega (arith, h)) (given_push last is t (All-tail (λ k. k ≤ last) i.0 (tickets is) a))
 
 -- all that is kept is right of these items
-pub counted : (v : Inside) (items : List (ℕ × Transaction)) → joined v.pages.items ≡ items → AreFilled v.pages.items → IsRising items → All (λ k. k ≤ v.last) (tickets items) → v.count ≡ length items → v.bytes ≡ bytes_of items → v.bytes ≤ 2 ^ 40
+pub counted : (v : Inside) (items : List (ℕ × Transaction)) → items_in v.layout ≡ items → IsLaid v.layout → IsRising items → All (λ k. k ≤ v.last) (tickets items) → v.count ≡ length items → v.bytes ≡ bytes_of items → v.bytes ≤ 2 ^ 40
     → v.changes ≤ v.config.limit → IsCounted v
-counted v items all filled rising given count bytes most changes = record {
-  filled = filled;
+counted v items all laid rising given count bytes most changes = record {
+  laid = laid;
   rising = subst IsRising (sym all) rising;
   given = subst (λ is. All (λ k. k ≤ v.last) (tickets is)) (sym all) given;
   count = count ∙ ap length (sym all);
@@ -38,11 +38,11 @@ counted v items all filled rising given count bytes most changes = record {
 }
 
 -- and of those with one more, under the next ticket
-pub counted_more : (v w : Inside) (t : Transaction) (size : ℕ) → IsCounted v → joined w.pages.items ≡ joined v.pages.items ++ (v.last + 1, t) ∷ [] → AreFilled w.pages.items → w.last ≡ v.last + 1 → w.count ≡ v.count + 1
-    → size ≡ size_of t → w.bytes ≡ v.bytes + size → bytes_of (joined v.pages.items) + size_of t ≤ 2 ^ 40 → w.changes ≤ w.config.limit → IsCounted w
-counted_more v w t size is all filled last count sized bytes most changes =
-    let items : List (ℕ × Transaction) = joined v.pages.items in
+pub counted_more : (v w : Inside) (t : Transaction) (size : ℕ) → IsCounted v → items_in w.layout ≡ items_in v.layout ++ (v.last + 1, t) ∷ [] → IsLaid w.layout → w.last ≡ v.last + 1 → w.count ≡ v.count + 1
+    → size ≡ size_of t → w.bytes ≡ v.bytes + size → bytes_of (items_in v.layout) + size_of t ≤ 2 ^ 40 → w.changes ≤ w.config.limit → IsCounted w
+counted_more v w t size is all laid last count sized bytes most changes =
+    let items : List (ℕ × Transaction) = items_in v.layout in
     let e : ℕ × Transaction = (v.last + 1, t) in
     let sum : w.bytes ≡ bytes_of items + size_of t = bytes ∙ ap (λ n. v.bytes + n) sized ∙ ap (λ n. n + size_of t) is.bytes in
-    counted w (items ++ e ∷ []) all filled (rising_push 0 items e is.rising (below v.last items is.given) (omega arith)) (subst (λ n. All (λ k. k ≤ n) (tickets (items ++ e ∷ []))) (sym last) (given_push v.last items t is.given))
+    counted w (items ++ e ∷ []) all laid (rising_push 0 items e is.rising (below v.last items is.given) (omega arith)) (subst (λ n. All (λ k. k ≤ n) (tickets (items ++ e ∷ []))) (sym last) (given_push v.last items t is.given))
     (count ∙ ap (λ n. n + 1) is.count ∙ sym (length_push items e)) (sum ∙ sym (sum-last items e)) (subst (λ n. n ≤ 2 ^ 40) (sym sum) most) changes

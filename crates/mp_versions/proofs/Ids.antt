@@ -24,8 +24,12 @@ any_flattened : {T : Type 0} (p : T → Bool) (lists : List (List T)) → list_a
 any_flattened p [] = refl
 any_flattened p (l ∷ ls) = any_append p l (flattened ls) ∙ ap (λ b. list_any p l || b) (any_flattened p ls)
 
-pub any_joined : (id : List ℕ) (pages : List (List (List (ℕ × Transaction)))) → list_any (list_any (has_id id)) pages ≡ has_id id (joined pages)
+any_joined : (id : List ℕ) (pages : List (List (List (ℕ × Transaction)))) → list_any (list_any (has_id id)) pages ≡ has_id id (joined pages)
 any_joined id pages = sym (any_flattened (is_of id) (chunks_of pages) ∙ any_flattened (list_any (is_of id)) pages)
+
+-- those of pages, and those behind them
+pub any_in : (id : List ℕ) (pages : List (List (List (ℕ × Transaction)))) (newest : List (ℕ × Transaction)) → has_id id (joined pages ++ newest) ≡ list_any (list_any (has_id id)) pages || has_id id newest
+any_in id pages newest = any_append (is_of id) (joined pages) newest ∙ ap (λ b. b || has_id id newest) (sym (any_joined id pages))
 
 found : (b : Bool) (k : ℕ) (id : List ℕ) (is : List (ℕ × Transaction)) → has_id id is ≡ is_some (ticket_of id is) → b || has_id id is ≡ is_some (cond b (Some k) (ticket_of id is))
 found true k id is e = refl

@@ -2,14 +2,13 @@
 use Rattle.std.proofs.Common.{◌≡◌, ℕ, suc, ◌+◌, ◌<◌, ◌≤◌, Bool, true, false, cond, List, [], ◌∷◌, ◌++◌, length, take, drop, get_or, Option, Some, None, refl, sym, ap, ◌∙◌, subst, arith}
 use Rattle.std.specs.Prelude.{not, option_to_list}
 use Rattle.std.specs.List.{All}
-use Rattle.std.proofs.lemmas.List.{length-map, length_push, take_more, drop_more, append-nil}
-use Rattle.std.proofs.lemmas.List.Elements.{All-push}
+use Rattle.std.proofs.lemmas.List.{length_push, take_more, drop_more, append-nil}
+use Rattle.std.proofs.lemmas.List.Elements.{All-push, All-get_or}
 use Rattle.mp_tx.specs.Transaction.{Transaction}
 use Rattle.mp_tickets.specs.Tickets.{has_ticket}
 use Rattle.mp_seqpool.specs.Prepared.{apart}
-use Rattle.mp_versions.specs.Item.{item_of, items_of}
-use Rattle.mp_versions.specs.declared.item.Item.{Item}
-use Rattle.mp_versions.specs.Inside.Left.{IsLeftChunk, IsLeftPage}
+use Rattle.mp_versions.specs.Inside.Layout.{filled_chunks}
+use Rattle.mp_versions.specs.Inside.Left.{IsLeftPage}
 use Rattle.mp_versions.specs.Inside.Pages.{flattened, joined, IsFilled, IsPage, AreFilled}
 use Rattle.mp_versions.proofs.Parts.{flattened-push, joined-push}
 use Rattle.mp_versions.proofs.Blocks.{apart-append}
@@ -26,14 +25,9 @@ kept_step : (c : Bool) (n : ℕ) (x : ℕ × Transaction) (is : List (ℕ × Tra
 kept_step true n x is h = let more : length (x ∷ is) ≡ suc (length is) = refl in omega arith
 kept_step false n x is h = omega arith
 
-fewer : (ts : List ℕ) (is : List (ℕ × Transaction)) → length (apart ts is) ≤ length is
+pub fewer : (ts : List ℕ) (is : List (ℕ × Transaction)) → length (apart ts is) ≤ length is
 fewer ts [] = omega arith
 fewer ts (i ∷ is) = kept_step (not (has_ticket ts i.0)) (length is) i (apart ts is) (fewer ts is)
-
-pub no_longer : (ts : List ℕ) (vs is : List Item) → items_of vs ≡ apart ts (items_of is) → length vs ≤ length is
-no_longer ts vs is e =
-    let a = length-map vs item_of in let b = length-map is item_of in let c : length (items_of vs) ≡ length (apart ts (items_of is)) = ap length e in
-    let d = fewer ts (items_of is) in omega arith
 
 -- what is kept of the chunks and of one more of them
 pub record KeepsChunks (ts : List ℕ) (kept : List (List (ℕ × Transaction))) (chunks : List (List (ℕ × Transaction))) (n : ℕ) : Type 0 where
@@ -41,24 +35,29 @@ pub record KeepsChunks (ts : List ℕ) (kept : List (List (ℕ × Transaction)))
   pub filled : All IsFilled kept
   pub few : length kept ≤ n
 
-chunk_kept : (ts : List ℕ) (ks cs : List (List (ℕ × Transaction))) (n : ℕ) (c : List (ℕ × Transaction)) (left : Option (List (ℕ × Transaction)))
-    → KeepsChunks ts ks cs n → IsLeftChunk (apart ts c) left → KeepsChunks ts (ks ++ option_to_list left) (cs ++ c ∷ []) (n + 1)
-chunk_kept ts ks cs n c None k l = record {
-  all = ap flattened (append-nil ks) ∙ k.all ∙ sym (append-nil (apart ts (flattened cs))) ∙ ap (λ is. apart ts (flattened cs) ++ is) (sym l) ∙ sym (ap (apart ts) (flattened-push cs c) ∙ apart-append ts (flattened cs) c);
+chunk_kept : (ts : List ℕ) (ks cs : List (List (ℕ × Transaction))) (n : ℕ) (c left : List (ℕ × Transaction))
+    → KeepsChunks ts ks cs n → left ≡ apart ts c → length c ≤ 64 → KeepsChunks ts (ks ++ filled_chunks left) (cs ++ c ∷ []) (n + 1)
+chunk_kept ts ks cs n c [] k l h = record {
+  all = ap flattened (append-nil ks) ∙ k.all ∙ sym (append-nil (apart ts (flattened cs))) ∙ ap (λ is. apart ts (flattened cs) ++ is) l ∙ sym (ap (apart ts) (flattened-push cs c) ∙ apart-append ts (flattened cs) c);
   filled = subst (All IsFilled) (sym (append-nil ks)) k.filled;
   few = let e = ap length (append-nil ks) in let f = k.few in omega arith;
 }
-chunk_kept ts ks cs n c (Some left) k l = record {
-  all = flattened-push ks left ∙ ap (λ is. is ++ left) k.all ∙ ap (λ is. apart ts (flattened cs) ++ is) l.0 ∙ sym (ap (apart ts) (flattened-push cs c) ∙ apart-append ts (flattened cs) c);
-  filled = All-push IsFilled ks left k.filled l.1;
-  few = let e = length_push ks left in let f = k.few in omega arith;
+chunk_kept ts ks cs n c (i ∷ is) k l h = record {
+  all = flattened-push ks (i ∷ is) ∙ ap (λ is'. is' ++ (i ∷ is)) k.all ∙ ap (λ is'. apart ts (flattened cs) ++ is') l ∙ sym (ap (apart ts) (flattened-push cs c) ∙ apart-append ts (flattened cs) c);
+  filled =
+      let more : length (i ∷ is) ≡ suc (length is) = refl in
+      let same : length (i ∷ is) ≡ length (apart ts c) = ap length l in
+      let no_more = fewer ts c in
+      All-push IsFilled ks (i ∷ is) k.filled (record { least = omega arith; most = omega (arith, same, no_more, h) });
+  few = let e = length_push ks (i ∷ is) in let f = k.few in omega arith;
 }
 
-pub chunks_kept : (ts : List ℕ) (ks news cs : List (List (ℕ × Transaction))) (i : ℕ) (c : List (ℕ × Transaction)) (left : Option (List (ℕ × Transaction)))
-    → KeepsChunks ts ks (take i cs) i → IsLeftChunk (apart ts c) left → news ≡ ks ++ option_to_list left → i < length cs → c ≡ get_or cs i c → KeepsChunks ts news (take (i + 1) cs) (i + 1)
-chunks_kept ts ks news cs i c left k l n h e =
+pub chunks_kept : (ts : List ℕ) (ks news cs : List (List (ℕ × Transaction))) (i : ℕ) (c left : List (ℕ × Transaction))
+    → KeepsChunks ts ks (take i cs) i → left ≡ apart ts c → All IsFilled cs → news ≡ ks ++ filled_chunks left → i < length cs → c ≡ get_or cs i c → KeepsChunks ts news (take (i + 1) cs) (i + 1)
+chunks_kept ts ks news cs i c left k l f n h e =
+    let is = subst IsFilled (sym e) (All-get_or IsFilled cs i c h f) in
     subst (λ ns. KeepsChunks ts ns (take (i + 1) cs) (i + 1)) (sym n)
-    (subst (λ ds. KeepsChunks ts (ks ++ option_to_list left) ds (i + 1)) (sym (up_to cs i c h e)) (chunk_kept ts ks (take i cs) i c left k l))
+    (subst (λ ds. KeepsChunks ts (ks ++ filled_chunks left) ds (i + 1)) (sym (up_to cs i c h e)) (chunk_kept ts ks (take i cs) i c left k l is.most))
 
 page_kept : (ts : List ℕ) (ks ps : List (List (List (ℕ × Transaction)))) (p : List (List (ℕ × Transaction))) (left : Option (List (List (ℕ × Transaction))))
     → (joined ks ≡ apart ts (joined ps)) × AreFilled ks → IsLeftPage (apart ts (flattened p)) left

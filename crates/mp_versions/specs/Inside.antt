@@ -1,6 +1,6 @@
 -- What only the crate's own clauses, views and invariants cite.
 pub mod Built
-pub mod End
+pub mod Layout
 pub mod Left
 pub mod Pages
 pub mod Run

@@ -6,7 +6,7 @@ use std::marker::Model;
 use std::sync::Arc;
 
 /// How many items a chunk may have.
-pub const MAX_ITEMS: usize = 64;
+pub const MAX_ITEMS: usize = 32;
 
 /// Items that change at once, and are shared as one where they don't.
 #[derive(Drop)]

@@ -6,7 +6,7 @@ ghost use Rattle.mp_versions.specs.Item.{items_of};
 ghost use Rattle.mp_versions.specs.Reading.{within, IsLongestWithin};
 
 use crate::item::Item;
-use crate::pages::chunk_at;
+use crate::layout::chunk_at;
 use crate::version::Version;
 
 /// The chunk at this place, counted from 0, of those that make up the version's items: joined in
@@ -18,7 +18,7 @@ pub fn chunk(version: &Version, place: usize) -> Option<&[Item]>
     ensures least { All (λ c. 1 ≤ length c) version.now.chunks }
     ensures most { All (λ c. length c ≤ 64) version.now.chunks }
 {
-    chunk_at(&version.pages, place)
+    chunk_at(&version.layout, place)
 }
 
 /// What is read within a number of bytes is the longest beginning that has no more bytes.

@@ -3,7 +3,7 @@ ghost use Rattle.std.specs.Prelude.{◌≡◌, [], ◌++◌, length};
 ghost use Rattle.std.specs.List.{All};
 ghost use Rattle.std.specs.Iterator.{at_most};
 ghost use Rattle.std.specs.Map.Iter.{TakesFirst};
-ghost use Rattle.mp_versions.specs.Item.{shown};
+ghost use Rattle.mp_versions.specs.Item.{items_of, shown};
 ghost use Rattle.mp_versions.specs.Reading.{within};
 ghost use Rattle.mp_versions.specs.Inside.Pages.{flattened, joined, IsFilled, AreFilled};
 ghost use Rattle.mp_versions.specs.Inside.Run.{run_of};
@@ -19,6 +19,7 @@ pub struct Run<'a> {
     items: &'a [Item],
     chunks: &'a [Chunk],
     pages: &'a [Page],
+    newest: &'a [Item],
 }
 
 impl<'a> Model for Run<'a> {
@@ -30,55 +31,66 @@ impl<'a> Model for Run<'a> {
 
     ghost Value = { List (ℕ × Transaction) };
 
-    ghost view = { λ r. run_of r.items.now r.chunks.now r.pages.now };
+    ghost view = { λ r. run_of r.items.now r.chunks.now r.pages.now r.newest.now };
 
     ghost invariant = { λ r. All IsFilled r.chunks.now × AreFilled r.pages.now };
 }
 
-// The items of the first chunk, and the chunks and pages behind it.
-fn first_of_pages(pages: &[Page]) -> (&[Item], &[Chunk], &[Page])
+// Items, and the chunks, the pages and the newest items behind them.
+type Parts<'a> = (&'a [Item], &'a [Chunk], &'a [Page], &'a [Item]);
+
+// Begins with the items of the first chunk, or with the newest.
+fn first_of_pages<'a>(pages: &'a [Page], newest: &'a [Item]) -> Parts<'a>
     requires { AreFilled pages.now }
-    ensures all { run_of result.0.now result.1.now result.2.now ≡ joined pages.now }
+    ensures all { run_of result.0.now result.1.now result.2.now result.3.now
+        ≡ joined pages.now ++ items_of newest.now }
     ensures chunks { All IsFilled result.1.now }
     ensures pages { AreFilled result.2.now }
-    ensures none { length result.0.now ≡ 0 → joined pages.now ≡ [] }
+    ensures none { length result.0.now ≡ 0 → joined pages.now ++ items_of newest.now ≡ [] }
 {
     let Some((page, others)) = pages.split_first() else {
-        return (&[], &[], &[]);
+        return (newest, &[], &[], &[]);
     };
     match page.as_slice().split_first() {
-        Some((chunk, chunks)) => (chunk.as_slice(), chunks, others),
-        None => (&[], &[], others),
+        Some((chunk, chunks)) => (chunk.as_slice(), chunks, others, newest),
+        None => (&[], &[], others, newest),
     }
 }
 
-// The items of the first chunk, and the chunks and pages behind it.
-fn first_of<'a>(chunks: &'a [Chunk], pages: &'a [Page]) -> (&'a [Item], &'a [Chunk], &'a [Page])
+// Begins with the items of the first chunk, or with the newest.
+fn first_of<'a>(chunks: &'a [Chunk], pages: &'a [Page], newest: &'a [Item]) -> Parts<'a>
     requires chunks { All IsFilled chunks.now }
     requires pages { AreFilled pages.now }
-    ensures all { run_of result.0.now result.1.now result.2.now
-        ≡ flattened chunks.now ++ joined pages.now }
+    ensures all { run_of result.0.now result.1.now result.2.now result.3.now
+        ≡ flattened chunks.now ++ (joined pages.now ++ items_of newest.now) }
     ensures chunks { All IsFilled result.1.now }
     ensures pages { AreFilled result.2.now }
-    ensures none { length result.0.now ≡ 0 → flattened chunks.now ++ joined pages.now ≡ [] }
+    ensures none { length result.0.now ≡ 0
+        → flattened chunks.now ++ (joined pages.now ++ items_of newest.now) ≡ [] }
 {
     match chunks.split_first() {
-        Some((chunk, others)) => (chunk.as_slice(), others, pages),
-        None => first_of_pages(pages),
+        Some((chunk, others)) => (chunk.as_slice(), others, pages, newest),
+        None => first_of_pages(pages, newest),
     }
 }
 
 impl<'a> Run<'a> {
-    /// These items, the items of these chunks, and those of these pages.
-    pub(crate) fn of(items: &'a [Item], chunks: &'a [Chunk], pages: &'a [Page]) -> Run<'a>
+    /// These items, the items of these chunks, those of these pages, and the newest.
+    pub(crate) fn of(
+        items: &'a [Item],
+        chunks: &'a [Chunk],
+        pages: &'a [Page],
+        newest: &'a [Item],
+    ) -> Run<'a>
         requires chunks { All IsFilled chunks.now }
         requires pages { AreFilled pages.now }
-        ensures { result ≡ run_of items.now chunks.now pages.now }
+        ensures { result ≡ run_of items.now chunks.now pages.now newest.now }
     {
         Run {
             items,
             chunks,
             pages,
+            newest,
         }
     }
 
@@ -102,7 +114,11 @@ impl<'a> Iterator for Run<'a> {
 
     fn next(&mut self) -> Option<&'a Item> {
         if self.items.is_empty() {
-            (self.items, self.chunks, self.pages) = first_of(self.chunks, self.pages);
+            (self.items, self.chunks, self.pages, self.newest) = first_of(
+                self.chunks,
+                self.pages,
+                self.newest,
+            );
         }
         let (item, others) = self.items.split_first()?;
         self.items = others;
@@ -141,7 +157,7 @@ impl<'a> Iterator for RunWithin<'a> {
             self.room -= size;
             Some(item)
         } else {
-            self.run = Run::of(&[], &[], &[]);
+            self.run = Run::of(&[], &[], &[], &[]);
             None
         }
     }

@@ -3,7 +3,7 @@ ghost use Rattle.std.specs.Prelude.{◌≡◌, [], ◌++◌, length, reverse};
 ghost use Rattle.std.specs.List.{All};
 ghost use Rattle.std.specs.Iterator.{at_most};
 ghost use Rattle.std.specs.Map.Iter.{TakesFirst};
-ghost use Rattle.mp_versions.specs.Item.{shown};
+ghost use Rattle.mp_versions.specs.Item.{items_of, shown};
 ghost use Rattle.mp_versions.specs.Inside.Pages.{flattened, joined, IsFilled, AreFilled};
 ghost use Rattle.mp_versions.specs.Inside.Run.{run_up_to};
 
@@ -68,15 +68,15 @@ fn last_of<'a>(pages: &'a [Page], chunks: &'a [Chunk]) -> (&'a [Page], &'a [Chun
 }
 
 impl<'a> RunBack<'a> {
-    /// The items of these pages.
-    pub(crate) fn of(pages: &'a [Page]) -> RunBack<'a>
+    /// The items of these pages, and the newest.
+    pub(crate) fn of(pages: &'a [Page], newest: &'a [Item]) -> RunBack<'a>
         requires { AreFilled pages.now }
-        ensures { result ≡ reverse (joined pages.now) }
+        ensures { result ≡ reverse (joined pages.now ++ items_of newest.now) }
     {
         RunBack {
             pages,
             chunks: &[],
-            items: &[],
+            items: newest,
         }
     }
 }

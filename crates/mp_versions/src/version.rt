@@ -7,18 +7,16 @@ ghost use Rattle.mp_resync.specs.Keep.{tickets, bytes_of};
 ghost use Rattle.mp_seqpool.specs.Config.{renewed};
 ghost use Rattle.mp_seqpool.specs.SlowPool.{HasPlace, bytes_held, pool_with, pool_upon, ticket_of};
 ghost use Rattle.mp_seqpool.specs.Prepared.{IsPrepared, apart, left_by, leads_to};
-ghost use Rattle.mp_versions.specs.Inside.Pages.{AreFilled, joined};
+ghost use Rattle.mp_versions.specs.Inside.Layout.{items_in, IsLaid};
 ghost use Rattle.mp_versions.specs.Reading.{within};
 ghost use Rattle.mp_versions.specs.Inside.Version.{IsRestOf};
 
 use crate::item::Item;
-use crate::page::Page;
-use crate::pages::{
-    bytes_among, count_of, find, grown, of_pool, run_after, run_of, share_all, without,
+use crate::layout::{
+    Layout, bytes_among, count_of, find, grown, has, of_pool, run_after, run_back, run_of, without,
 };
 use crate::run::{Run, RunWithin};
 use crate::run_back::RunBack;
-use crate::searching::pages_have;
 use mp_memory::{Memory, NoMemory};
 use mp_seqpool::{Command, Config, Prepared, Reply, SeqPool};
 use mp_tx::{Ledger, Tx, TxId};
@@ -29,7 +27,7 @@ use std::sync::Arc;
 /// was made from. Contracts see it as the slow pool's state and the chunks that make up its items.
 #[derive(Drop)]
 pub struct Version {
-    pub(crate) pages: Vec<Page, Memory>,
+    pub(crate) layout: Layout,
     ledger: Ledger,
     config: Config,
     last: u64,
@@ -56,51 +54,51 @@ impl Model for Version {
 // What is left of a version's items.
 #[derive(Drop)]
 struct Rest {
-    pages: Vec<Page, Memory>,
+    layout: Layout,
     bytes: u64,
 }
 
 // Takes out the items with these tickets. The bytes are those of all items together.
-fn take_out(memory: Memory, pages: &[Page], bytes: u64, tickets: &[u64]) -> Result<Rest, NoMemory>
-    requires filled { AreFilled pages.now }
-    requires rising { IsRising (joined pages.now) }
+fn take_out(memory: Memory, layout: &Layout, bytes: u64, tickets: &[u64]) -> Result<Rest, NoMemory>
+    requires laid { IsLaid layout.now }
+    requires rising { IsRising (items_in layout.now) }
     requires tickets { IsStrictlyIncreasing tickets.now }
-    requires bytes { bytes ≡ bytes_of (joined pages.now) }
+    requires bytes { bytes ≡ bytes_of (items_in layout.now) }
     requires most { bytes ≤ 2 ^ 40 }
-    ensures { IfOk result (λ rest. IsRestOf (apart tickets.now (joined pages.now)) rest) }
+    ensures { IfOk result (λ rest. IsRestOf (apart tickets.now (items_in layout.now)) rest) }
 {
-    let gone = bytes_among(pages, tickets);
+    let gone = bytes_among(layout, tickets);
     Ok(Rest {
-        pages: without(memory, pages, tickets)?,
+        layout: without(memory, layout, tickets)?,
         bytes: bytes - gone,
     })
 }
 
 // What the reply to a remove or a sync leaves.
-fn rest_after(memory: Memory, pages: &[Page], bytes: u64, reply: &Reply) -> Result<Rest, NoMemory>
-    requires filled { AreFilled pages.now }
-    requires rising { IsRising (joined pages.now) }
-    requires bytes { bytes ≡ bytes_of (joined pages.now) }
+fn rest_after(memory: Memory, layout: &Layout, bytes: u64, reply: &Reply) -> Result<Rest, NoMemory>
+    requires laid { IsLaid layout.now }
+    requires rising { IsRising (items_in layout.now) }
+    requires bytes { bytes ≡ bytes_of (items_in layout.now) }
     requires most { bytes ≤ 2 ^ 40 }
-    ensures { IfOk result (λ rest. IsRestOf (left_by reply.now (joined pages.now)) rest) }
+    ensures { IfOk result (λ rest. IsRestOf (left_by reply.now (items_in layout.now)) rest) }
 {
     match reply {
-        Reply::Accepted { .. } => take_out(memory, pages, bytes, &[]),
-        Reply::Synced { dropped, .. } => take_out(memory, pages, bytes, dropped.as_slice()),
+        Reply::Accepted { .. } => take_out(memory, layout, bytes, &[]),
+        Reply::Synced { dropped, .. } => take_out(memory, layout, bytes, dropped.as_slice()),
         Reply::Removed { named, dropped } => {
-            let rest = take_out(memory, pages, bytes, named.as_slice())?;
-            take_out(memory, &rest.pages, rest.bytes, dropped.as_slice())
+            let rest = take_out(memory, layout, bytes, named.as_slice())?;
+            take_out(memory, &rest.layout, rest.bytes, dropped.as_slice())
         }
     }
 }
 
-// How many items the pages have: no more than the last ticket says.
-fn count_up_to(pages: &[Page], last: u64) -> usize
-    requires rising { IsRising (joined pages.now) }
-    requires given { All (λ k. k ≤ last) (tickets (joined pages.now)) }
-    ensures { result ≡ length (joined pages.now) }
+// How many items there are: no more than the last ticket says.
+fn count_up_to(layout: &Layout, last: u64) -> usize
+    requires rising { IsRising (items_in layout.now) }
+    requires given { All (λ k. k ≤ last) (tickets (items_in layout.now)) }
+    ensures { result ≡ length (items_in layout.now) }
 {
-    count_of(pages)
+    count_of(layout)
 }
 
 impl Version {
@@ -109,7 +107,7 @@ impl Version {
         ensures { IfOk result (λ v. v.pool ≡ pool.now.pool) }
     {
         Ok(Version {
-            pages: of_pool(memory, pool)?,
+            layout: of_pool(memory, pool)?,
             ledger: pool.ledger().share()?,
             config: pool.config(),
             last: pool.last_ticket(),
@@ -131,7 +129,7 @@ impl Version {
             tx: Arc::try_clone(tx)?,
         };
         Ok(Version {
-            pages: grown(memory, &self.pages, item)?,
+            layout: grown(memory, &self.layout, item)?,
             ledger: self.ledger.share()?,
             config: self.config,
             last: ticket,
@@ -147,10 +145,10 @@ impl Version {
         ensures { IfOk result (λ v. v.pool
             ≡ pool_upon self.now.pool ledger.now (left_by reply.now self.now.pool.items)) }
     {
-        let rest = rest_after(memory, &self.pages, self.bytes, reply)?;
+        let rest = rest_after(memory, &self.layout, self.bytes, reply)?;
         Ok(Version {
-            count: count_up_to(&rest.pages, self.last),
-            pages: rest.pages,
+            count: count_up_to(&rest.layout, self.last),
+            layout: rest.layout,
             ledger: ledger.share()?,
             config: self.config,
             last: self.last,
@@ -188,7 +186,7 @@ impl Version {
         ensures { IfOk result (λ v. v.pool ≡ renewed limit self.now.pool) }
     {
         Ok(Version {
-            pages: share_all(memory, &self.pages, 0)?,
+            layout: self.layout.share()?,
             ledger: self.ledger.share()?,
             config: Config {
                 limit,
@@ -205,21 +203,21 @@ impl Version {
     pub fn contents(&self) -> Run<'_>
         ensures { result ≡ self.now.pool.items }
     {
-        run_of(&self.pages)
+        run_of(&self.layout)
     }
 
     /// The transactions with their tickets, newest first.
     pub fn newest_first(&self) -> RunBack<'_>
         ensures { result ≡ reverse self.now.pool.items }
     {
-        RunBack::of(&self.pages)
+        run_back(&self.layout)
     }
 
     /// Those with a greater ticket, oldest first.
     pub fn after_ticket(&self, ticket: u64) -> Run<'_>
         ensures { result ≡ after self.now.pool.items ticket }
     {
-        run_after(&self.pages, ticket)
+        run_after(&self.layout, ticket)
     }
 
     /// The transactions from the oldest on, as long as they fit into so many bytes together.
@@ -234,14 +232,14 @@ impl Version {
         ensures { option_map (λ tx. arc_value tx.now) result
             ≡ item_at self.now.pool.items ticket }
     {
-        Some(&find(&self.pages, ticket)?.tx)
+        Some(&find(&self.layout, ticket)?.tx)
     }
 
     /// Whether a transaction with this id is there. It is a walk over all.
     pub fn has(&self, id: &TxId) -> bool
         ensures { result ≡ is_some (ticket_of id.now self.now.pool.items) }
     {
-        pages_have(&self.pages, id)
+        has(&self.layout, id)
     }
 
     /// The adopted ledger state.

@@ -4,7 +4,7 @@ use Rattle.std.specs.List.{All}
 use Rattle.mp_tx.specs.Transaction.{Transaction}
 use Rattle.mp_versions.specs.Item.{items_of}
 use Rattle.mp_versions.specs.Inside.Pages.{flattened, joined, IsFilled, AreFilled}
-use Rattle.mp_versions.specs.declared.pages.building.Built.{Built}
+use Rattle.mp_versions.specs.declared.layout.building.Built.{Built}
 
 -- They are built of these items.
 pub record IsBuilt (items : List (ℕ × Transaction)) (b : Built) : Type 0 where

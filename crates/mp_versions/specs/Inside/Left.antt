@@ -1,12 +1,7 @@
--- What is left of a chunk or a page.
+-- What is left of a page.
 use Rattle.std.specs.Prelude.{◌≡◌, ℕ, List, [], Option, Some, None}
 use Rattle.mp_tx.specs.Transaction.{Transaction}
-use Rattle.mp_versions.specs.Inside.Pages.{flattened, IsFilled, IsPage}
-
--- a chunk of these items, or none where there are none
-abbrev pub IsLeftChunk : List (ℕ × Transaction) → Option (List (ℕ × Transaction)) → Type 0
-IsLeftChunk items None = items ≡ []
-IsLeftChunk items (Some chunk) = (chunk ≡ items) × IsFilled chunk
+use Rattle.mp_versions.specs.Inside.Pages.{flattened, IsPage}
 
 -- a page of these items, or none where there are none
 abbrev pub IsLeftPage : List (ℕ × Transaction) → Option (List (List (ℕ × Transaction))) → Type 0

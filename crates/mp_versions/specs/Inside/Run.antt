@@ -5,9 +5,9 @@ use Rattle.mp_versions.specs.Item.{items_of}
 use Rattle.mp_versions.specs.Inside.Pages.{flattened, joined}
 use Rattle.mp_versions.specs.declared.item.Item.{Item}
 
--- items, then chunks, then pages
-abbrev pub run_of : List Item → List (List (ℕ × Transaction)) → List (List (List (ℕ × Transaction))) → List (ℕ × Transaction)
-run_of items chunks pages = items_of items ++ (flattened chunks ++ joined pages)
+-- items, then chunks, then pages, then the newest items
+abbrev pub run_of : List Item → List (List (ℕ × Transaction)) → List (List (List (ℕ × Transaction))) → List Item → List (ℕ × Transaction)
+run_of items chunks pages newest = items_of items ++ (flattened chunks ++ (joined pages ++ items_of newest))
 
 -- pages, then chunks, then items
 abbrev pub run_up_to : List (List (List (ℕ × Transaction))) → List (List (ℕ × Transaction)) → List Item → List (ℕ × Transaction)

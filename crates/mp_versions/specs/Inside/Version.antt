@@ -7,12 +7,12 @@ use Rattle.mp_seqpool.specs.Pool.{Pool}
 use Rattle.mp_versions.specs.declared.version.Version.TheInside.{Inside}
 use Rattle.mp_versions.specs.declared.version.Rest.{Rest}
 use Rattle.mp_versions.specs.Version.{Version}
-use Rattle.mp_versions.specs.Inside.Pages.{chunks_of, joined, AreFilled}
+use Rattle.mp_versions.specs.Inside.Layout.{items_in, chunks_in, IsLaid}
 
 abbrev pub state : Inside → Pool
 state v = record {
   ledger = v.ledger;
-  items = joined v.pages.items;
+  items = items_in v.layout;
   last = v.last;
   changes = v.changes;
   limit = v.config.limit;
@@ -20,18 +20,18 @@ state v = record {
 }
 
 abbrev pub version : Inside → Version
-version v = record { pool = state v; chunks = chunks_of v.pages.items }
+version v = record { pool = state v; chunks = chunks_in v.layout }
 
--- What is kept along the way is right, and pages and chunks are neither empty nor too long.
+-- What is kept along the way is right, and the items lie as they may.
 pub record IsCounted (v : Inside) : Type 0 where
-  pub filled : AreFilled v.pages.items
+  pub laid : IsLaid v.layout
   -- tickets rise, and none is 0
-  pub rising : IsRising (joined v.pages.items)
+  pub rising : IsRising (items_in v.layout)
   -- no ticket is above the last one
-  pub given : All (λ k. k ≤ v.last) (tickets (joined v.pages.items))
-  pub count : v.count ≡ length (joined v.pages.items)
+  pub given : All (λ k. k ≤ v.last) (tickets (items_in v.layout))
+  pub count : v.count ≡ length (items_in v.layout)
   -- the bytes are those of all its transactions together
-  pub bytes : v.bytes ≡ bytes_of (joined v.pages.items)
+  pub bytes : v.bytes ≡ bytes_of (items_in v.layout)
   -- no pool can hold more
   pub most : v.bytes ≤ 2 ^ 40
   -- no more changes were made than there may be
@@ -39,6 +39,6 @@ pub record IsCounted (v : Inside) : Type 0 where
 
 -- what is left of items that are these
 pub record IsRestOf (items : List (ℕ × Transaction)) (r : Rest) : Type 0 where
-  pub all : joined r.pages.items ≡ items
-  pub filled : AreFilled r.pages.items
+  pub all : items_in r.layout ≡ items
+  pub laid : IsLaid r.layout
   pub bytes : r.bytes ≡ bytes_of items

@@ -2,7 +2,7 @@ use Rattle.std.proofs.Common.{◌+◌, ◌++◌, ◌∷◌, [], refl, sym, ap, s
 use Rattle.std.specs.Arc.{arc_value}
 use Rattle.mp_tx.specs.Spelling.{size_of}
 use Rattle.mp_versions.specs.Version.{Version}
-use Rattle.mp_versions.specs.Inside.Pages.{joined}
+use Rattle.mp_versions.specs.Inside.Layout.{items_in}
 use Rattle.mp_seqpool.specs.SlowPool.{HasPlace}
 use Rattle.mp_versions.proofs.Gone.{count_within}
 use Rattle.mp_versions.proofs.Counting.{counted_more}
@@ -12,7 +12,7 @@ pub overflow_add-result : goal.overflow_add-result
 overflow_add-result c =
     let v = c.self.inside in
     let place = subst (λ (w : Version). HasPlace w.pool (arc_value c.args.tx.now)) (sym c.self.view_is) c.requires in
-    let few = count_within 0 v.last (joined v.pages.items) (omega arith) c.self.invariant.rising c.self.invariant.given in
+    let few = count_within 0 v.last (items_in v.layout) (omega arith) c.self.invariant.rising c.self.invariant.given in
     let count = c.self.invariant.count in
     let ticket = place.ticket in
     record { fits = omega (arith, few, count, ticket) }
@@ -23,4 +23,4 @@ invariant_of-result c =
     let t = arc_value c.args.tx.now in
     let place = subst (λ (w : Version). HasPlace w.pool t) (sym c.self.view_is) c.requires in
     let change = place.change in
-    counted_more v _ t c.size.result c.self.invariant (c.in_ok-grown.ensures.joined ∙ ap (λ ps. joined ps ++ (v.last + 1, arc_value c.in_ok-try_clone.field-0) ∷ []) c.deref-2.ensures.value ∙ ap (λ tx. joined v.pages.items ++ (v.last + 1, tx) ∷ []) c.in_ok-try_clone.ensures) c.in_ok-grown.ensures.filled refl refl (c.size.ensures.size ∙ ap size_of c.deref.ensures) refl place.bytes (omega (arith, change))
+    counted_more v _ t c.size.result c.self.invariant (c.in_ok-grown.ensures.items ∙ ap (λ tx. items_in v.layout ++ (v.last + 1, tx) ∷ []) c.in_ok-try_clone.ensures) c.in_ok-grown.ensures.laid refl refl (c.size.ensures.size ∙ ap size_of c.deref.ensures) refl place.bytes (omega (arith, change))
