@@ -1,7 +1,7 @@
 -- Items without the tickets of those that go are those that stay.
 use Rattle.std.proofs.Common.{◌≡◌, ℕ, ◌<◌, ◌≤◌, Bool, true, false, cond, List, [], ◌∷◌, refl, ap, ◌∙◌, arith}
 use Rattle.std.specs.Prelude.{not, ◌||◌}
-use Rattle.std.specs.List.{AllByRecursion}
+use Rattle.std.specs.List.{filter, AllByRecursion}
 use Rattle.std.proofs.lemmas.Bool.{eq-eqb, ne_eqb}
 use Rattle.mp_tx.specs.Transaction.{Transaction}
 use Rattle.mp_utxo.specs.Apply.{Unspent, apply}
@@ -14,7 +14,7 @@ pub all_above : (low m : ℕ) (ys : List (ℕ × Transaction)) → m ≤ low →
 all_above low m [] h r = tt
 all_above low m (y ∷ ys) h r = let k = r.0 in (omega arith, all_above y.0 m ys (omega arith) r.1)
 
-not_among : (n : ℕ) (ts : List ℕ) → AllByRecursion (λ t. n < t) ts → has_ticket ts n ≡ false
+pub not_among : (n : ℕ) (ts : List ℕ) → AllByRecursion (λ t. n < t) ts → has_ticket ts n ≡ false
 not_among n [] a = refl
 not_among n (t ∷ ts) a = let h = a.0 in ap (λ b. b || has_ticket ts n) (ne_eqb t n (λ e. omega arith)) ∙ not_among n ts a.1
 
@@ -83,10 +83,13 @@ lower : (m low : ℕ) (items : List (ℕ × Transaction)) → m ≤ low → IsRi
 lower m low [] h r = tt
 lower m low (i ∷ is) h r = let k = r.0 in (omega arith, r.1)
 
-unnamed_step : (b : Bool) (low : ℕ) (i : ℕ × Transaction) (us : List (ℕ × Transaction)) → low < i.0 → IsRisingFrom i.0 us → IsRisingFrom low (cond b (i ∷ us) us)
-unnamed_step true low i us h r = (h, r)
-unnamed_step false low i us h r = lower low i.0 us (omega arith) r
+filter_step : (b : Bool) (low : ℕ) (i : ℕ × Transaction) (us : List (ℕ × Transaction)) → low < i.0 → IsRisingFrom i.0 us → IsRisingFrom low (cond b (i ∷ us) us)
+filter_step true low i us h r = (h, r)
+filter_step false low i us h r = lower low i.0 us (omega arith) r
+
+pub rising_filter : (p : ℕ × Transaction → Bool) (low : ℕ) (items : List (ℕ × Transaction)) → IsRisingFrom low items → IsRisingFrom low (filter p items)
+rising_filter p low [] r = tt
+rising_filter p low (i ∷ is) r = filter_step (p i) low i (filter p is) r.0 (rising_filter p i.0 is r.1)
 
 pub rising_unnamed : (low : ℕ) (ids : List (List ℕ)) (items : List (ℕ × Transaction)) → IsRisingFrom low items → IsRisingFrom low (unnamed ids items)
-rising_unnamed low ids [] r = tt
-rising_unnamed low ids (i ∷ is) r = unnamed_step (not (is_named ids i.1)) low i (unnamed ids is) r.0 (rising_unnamed i.0 ids is r.1)
+rising_unnamed low ids = rising_filter (λ i. not (is_named ids i.1)) low

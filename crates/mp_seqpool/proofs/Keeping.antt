@@ -17,7 +17,7 @@ use Rattle.mp_resync.specs.Keep.{transactions, tickets, is_named, unnamed, is_va
 
 -- ---- lists
 
-AllPairs-nil : {A : Type 0} (R : A → A → Type 0) → AllPairs R []
+pub AllPairs-nil : {A : Type 0} (R : A → A → Type 0) → AllPairs R []
 AllPairs-nil R i j d lt within = absurd (omega arith)
 
 pub AllPairs-head : {A : Type 0} (R : A → A → Type 0) (x : A) (xs : List A) → AllPairs R (x ∷ xs) → All (R x) xs

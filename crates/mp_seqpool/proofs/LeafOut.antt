@@ -6,7 +6,8 @@ use Rattle.std.specs.List.{AllByRecursion}
 use Rattle.std.specs.Cmp.Lexicographic.{pointwise, bytes_decides}
 use Rattle.std.proofs.lemmas.Bool.{true≢false, false_from_ne_true, or_cases}
 use Rattle.std.proofs.lemmas.List.Folds.{list_any_at}
-use Rattle.std.proofs.lemmas.List.Elements.{All-head, All-tail, recursion_from_All}
+use Rattle.std.proofs.lemmas.List.Elements.{All-head, All-tail, All-filter, All-weaker, recursion_from_All}
+use Rattle.std.proofs.lemmas.List.Kept.{AllPairs-filter}
 use Rattle.mp_tx.specs.declared.reference.OutRef.{OutRef}
 use Rattle.mp_tx.specs.declared.input.Input.{Input}
 use Rattle.mp_tx.specs.declared.output.Output.{Output}
@@ -79,6 +80,11 @@ gone_after : (ts : List Transaction) (u : Unspent) (r : OutRef) → AllByRecursi
 gone_after [] u r unmade none = none
 gone_after (t ∷ ts) u r unmade none = gone_after ts (apply t u) r unmade.1 (still_gone t u r unmade.0 none)
 
+-- what is there after the same transactions is told by what was there before
+after_same : (ts : List Transaction) (u v : Unspent) (r : OutRef) → u r ≡ v r → after u ts r ≡ after v ts r
+after_same [] u v r e = e
+after_same (t ∷ ts) u v r e = after_same ts (apply t u) (apply t v) r (ap (λ o. option_or (output_made t r) (cond (spends t.inputs r) None o)) e)
+
 after-joined : (u : Unspent) (xs ys : List Transaction) → after u (xs ++ ys) ≡ after (after u xs) ys
 after-joined u [] ys = refl
 after-joined u (x ∷ xs) ys = after-joined (apply x u) xs ys
@@ -126,7 +132,7 @@ cut_at x (y ∷ ys) (suc k) lt e =
     let more = cut_at x ys k (omega arith) e in
     record { front = y ∷ more.front; back = more.back; is = ap (λ l. y ∷ l) more.is }
 
-abbrev Differ : Transaction → Transaction → Type 0
+abbrev pub Differ : Transaction → Transaction → Type 0
 Differ a b = id_of a ≢ id_of b
 
 -- ---- behind the leaf
@@ -251,6 +257,32 @@ module _ (accepts : Accepts) (tick : ℕ) (t : Transaction) (u : Unspent) (xs ys
       unspent = λ r there. subst (λ (v : Unspent). IsSome (v r)) (after-joined u xs (t ∷ ys)) (leaf.unspent r there);
     }
 
+    -- ---- another leaf
+
+    module _ (s : Transaction) (differs : id_of t ≢ id_of s) (too : IsLeaf u (xs ++ t ∷ ys) s) (r : OutRef) (made : IsSome (output_made s r)) where
+      there_behind : IsSome (after (apply t (after u xs)) ys r)
+      there_behind = subst (λ (v : Unspent). IsSome (v r)) (after-joined u xs (t ∷ ys)) (too.unspent r made)
+
+      unmade_here : output_made t r ≡ None
+      unmade_here = made_once s t r differs made
+
+      -- the one doesn't spend what the other makes
+      spends_none : spends t.inputs r ≡ true → ⊥
+      spends_none e =
+          none_there (after (apply t (after u xs)) ys r)
+          (gone_after ys (apply t (after u xs)) r
+          (recursion_from_All (λ y. output_made y r ≡ None) ys (unmade_by r (inr (too.new r made)) e))
+          (spent_gone t (after u xs) r unmade_here e))
+          there_behind
+
+      -- which is unspent without it
+      unspent_still : IsSome (after u (xs ++ ys) r)
+      unspent_still =
+          subst IsSome
+          (after_same ys (apply t (after u xs)) (after u xs) r (passed_by t (after u xs) r unmade_here (false_from_ne_true (spends t.inputs r) spends_none))
+          ∙ ap (λ (v : Unspent). v r) (sym (after-joined u xs ys)))
+          there_behind
+
   without_leaf : IsLeaf u (xs ++ t ∷ ys) t → AllPairs Differ (xs ++ t ∷ ys) → Chain accepts u tick (xs ++ t ∷ ys) → Chain accepts u tick (xs ++ ys)
   without_leaf leaf distinct chain =
       without_one accepts tick t xs ys u chain
@@ -263,7 +295,7 @@ all_others id [] a = refl
 all_others id (t ∷ ts) a =
     ap (λ b. cond (not b) (t ∷ others id ts) (others id ts)) (unlike (id_of t) id a.0) ∙ ap (λ l. t ∷ l) (all_others id ts a.1)
 
-others_but_one : (xs : List Transaction) (t : Transaction) (ys : List Transaction) → AllPairs Differ (xs ++ t ∷ ys) → others (id_of t) (xs ++ t ∷ ys) ≡ xs ++ ys
+pub others_but_one : (xs : List Transaction) (t : Transaction) (ys : List Transaction) → AllPairs Differ (xs ++ t ∷ ys) → others (id_of t) (xs ++ t ∷ ys) ≡ xs ++ ys
 others_but_one [] t ys distinct =
     ap (λ b. cond (not b) (t ∷ others (id_of t) ys) (others (id_of t) ys)) ((bytes_decides (id_of t) (id_of t)).1 refl)
     ∙ all_others (id_of t) ys (weaker (Differ t) (λ y. id_of y ≢ id_of t) (λ y d e. d (sym e)) ys (recursion_from_All (Differ t) ys (AllPairs-head Differ t ys distinct)))
@@ -281,3 +313,29 @@ leaf_out accepts u tick ts t leaf there distinct chain =
     subst (λ l. Chain accepts u tick (others (id_of t) l)) (sym c.is)
     (subst (Chain accepts u tick) (sym (others_but_one c.front t c.back differ))
     (without_leaf accepts tick t u c.front c.back (subst (λ l. IsLeaf u l t) c.is leaf) differ (subst (Chain accepts u tick) c.is chain)))
+
+-- ---- another leaf stays one
+
+valid_at : (accepts : Accepts) (tick : ℕ) (t : Transaction) (xs ys : List Transaction) (u : Unspent) → Chain accepts u tick (xs ++ t ∷ ys) → IsValid accepts (after u xs) tick t
+valid_at accepts tick t [] ys u chain = chain.0
+valid_at accepts tick t (x ∷ xs) ys u chain = valid_at accepts tick t xs ys (apply x u) chain.1
+
+of_one_still : (u : Unspent) (id : List ℕ) (ts : List Transaction) (r : OutRef) → IsOfOne u ts r → IsOfOne u (others id ts) r
+of_one_still u id ts r (inl none) = inl (All-filter (λ t. not (pointwise nat_eq (id_of t) id)) (λ t. output_made t r ≡ None) ts none)
+of_one_still u id ts r (inr none) = inr none
+
+pub leaf_still : (accepts : Accepts) (u : Unspent) (tick : ℕ) (ts : List Transaction) (t s : Transaction) → IsLeaf u ts t → Contains ts t → AllPairs (λ a b. a ≢ b) (map id_of ts)
+    → Chain accepts u tick ts → id_of t ≢ id_of s → IsLeaf u ts s → IsLeaf u (others (id_of t) ts) s
+leaf_still accepts u tick ts t s leaf there distinct chain differs too =
+    let c = cut_at t ts there.0 there.1 there.2 in
+    let differ : AllPairs Differ (c.front ++ t ∷ c.back) = subst (AllPairs Differ) c.is (AllPairs-unmap id_of (λ a b. a ≢ b) ts distinct) in
+    let joined : c.front ++ c.back ≡ others (id_of t) ts = sym (ap (others (id_of t)) c.is ∙ others_but_one c.front t c.back differ) in
+    record {
+      has_output = too.has_output;
+      new = too.new;
+      unspent = λ r made. subst (λ l. IsSome (after u l r)) joined
+          (unspent_still accepts tick t u c.front c.back (subst (λ l. IsLeaf u l t) c.is leaf) differ
+          (valid_at accepts tick t c.front c.back u (subst (Chain accepts u tick) c.is chain)) s differs (subst (λ l. IsLeaf u l s) c.is too) r made);
+      apart = AllPairs-filter LooksPast (λ y. not (pointwise nat_eq (id_of y) (id_of t))) ts too.apart;
+      inputs = All-weaker (λ i. IsOfOne u ts i.from) (λ i. IsOfOne u (others (id_of t) ts) i.from) (λ i one. of_one_still u (id_of t) ts i.from one) s.inputs too.inputs;
+    }

@@ -28,13 +28,13 @@ Items = List (ℕ × ValidatedTx)
 -- ---- one item
 
 -- the list is cut at the item under the ticket
-pub record IsCut (t : ℕ) (item : ValidatedTx) (items : Items) : Type 0 where
-  pub front : Items
-  pub back : Items
+pub record IsCut {T : Type 0} (t : ℕ) (item : T) (items : List (ℕ × T)) : Type 0 where
+  pub front : List (ℕ × T)
+  pub back : List (ℕ × T)
   pub all : items ≡ front ++ (t, item) ∷ back
   pub rest : without items t ≡ front ++ back
 
-pub cut : (low : ℕ) (items : Items) (t : ℕ) (item : ValidatedTx) → IsRisingFrom low items → item_at items t ≡ Some item → IsCut t item items
+pub cut : {T : Type 0} (low : ℕ) (items : List (ℕ × T)) (t : ℕ) (item : T) → IsRisingFrom low items → item_at items t ≡ Some item → IsCut t item items
 cut low [] t item r e = absurd (let f = e in Prim.cc)
 cut low (x ∷ xs) t item r e = elim (x.0 == t) as (λ (b : Bool). (x.0 == t) ≡ b → cond b (Some x.1) (item_at xs t) ≡ Some item → IsCut t item (x ∷ xs)) [
   | true ↦ λ h e.
@@ -56,7 +56,7 @@ cut low (x ∷ xs) t item r e = elim (x.0 == t) as (λ (b : Bool). (x.0 == t) �
       }
 ] refl e
 
-none_there : (items : Items) (t : ℕ) → item_at items t ≡ None → AllByRecursion (λ e. (e.0 == t) ≡ false) items
+none_there : {T : Type 0} (items : List (ℕ × T)) (t : ℕ) → item_at items t ≡ None → AllByRecursion (λ e. (e.0 == t) ≡ false) items
 none_there [] t e = tt
 none_there (x ∷ xs) t e = elim (x.0 == t) as (λ (b : Bool). (x.0 == t) ≡ b → cond b (Some x.1) (item_at xs t) ≡ None → ((x.0 == t) ≡ false) × AllByRecursion (λ e. (e.0 == t) ≡ false) xs) [
   | true ↦ λ h e. absurd (let f = e in Prim.cc)
@@ -64,7 +64,7 @@ none_there (x ∷ xs) t e = elim (x.0 == t) as (λ (b : Bool). (x.0 == t) ≡ b 
 ] refl e
 
 -- where there is none, nothing is taken out
-pub nothing : (items : Items) (t : ℕ) → item_at items t ≡ None → without items t ≡ items
+pub nothing : {T : Type 0} (items : List (ℕ × T)) (t : ℕ) → item_at items t ≡ None → without items t ≡ items
 nothing items t e = without-none t items (none_there items t e)
 
 ticketed-cut : (front : Items) (e : ℕ × ValidatedTx) (back : Items) → ticketed (front ++ e ∷ back) ≡ ticketed front ++ (e.0, e.1.tx) ∷ ticketed back
@@ -73,7 +73,7 @@ ticketed-cut front e back = map-append (λ (e : ℕ × ValidatedTx). (e.0, e.1.t
 ticketed-joined : (front back : Items) → ticketed (front ++ back) ≡ ticketed front ++ ticketed back
 ticketed-joined front back = map-append (λ (e : ℕ × ValidatedTx). (e.0, e.1.tx)) front back
 
-transactions-joined : (xs ys : List (ℕ × Transaction)) → transactions (xs ++ ys) ≡ transactions xs ++ transactions ys
+pub transactions-joined : (xs ys : List (ℕ × Transaction)) → transactions (xs ++ ys) ≡ transactions xs ++ transactions ys
 transactions-joined xs ys = map-append (λ (i : ℕ × Transaction). i.1) xs ys
 
 sums : (xs ys : List Transaction) (t : Transaction) → sum_by size_of (xs ++ ys) + size_of t ≡ sum_by size_of (xs ++ t ∷ ys)
@@ -95,13 +95,15 @@ filtered p (x ∷ xs) = elim (p x.0) as (λ (b : Bool). ticketed (cond b (x ∷ 
   | false ↦ filtered p xs
 ]
 
+pub distinct_filter : (p : ℕ × Transaction → Bool) (items : List (ℕ × Transaction)) → AllPairs (λ a b. a ≢ b) (map id_of (transactions items)) → AllPairs (λ a b. a ≢ b) (map id_of (transactions (filter p items)))
+distinct_filter p items h =
+    AllPairs-map id_of (λ a b. a ≢ b) (transactions (filter p items)) (AllPairs-map (λ i. i.1) (λ t s. id_of t ≢ id_of s) (filter p items)
+    (AllPairs-filter (λ a b. id_of a.1 ≢ id_of b.1) p items
+    (AllPairs-unmap (λ i. i.1) (λ t s. id_of t ≢ id_of s) items (AllPairs-unmap id_of (λ a b. a ≢ b) (transactions items) h))))
+
 distinct_left : (p : ℕ → Bool) (items : Items) → AllPairs (λ a b. a ≢ b) (map id_of (transactions (ticketed items))) → AllPairs (λ a b. a ≢ b) (map id_of (transactions (ticketed (filter (λ e. p e.0) items))))
 distinct_left p items h =
-    let all = ticketed items in
-    subst (λ l. AllPairs (λ a b. a ≢ b) (map id_of (transactions l))) (sym (filtered p items))
-    (AllPairs-map id_of (λ a b. a ≢ b) (transactions (filter (λ i. p i.0) all)) (AllPairs-map (λ i. i.1) (λ t s. id_of t ≢ id_of s) (filter (λ i. p i.0) all)
-    (AllPairs-filter (λ a b. id_of a.1 ≢ id_of b.1) (λ i. p i.0) all
-    (AllPairs-unmap (λ i. i.1) (λ t s. id_of t ≢ id_of s) all (AllPairs-unmap id_of (λ a b. a ≢ b) (transactions all) h)))))
+    subst (λ l. AllPairs (λ a b. a ≢ b) (map id_of (transactions l))) (sym (filtered p items)) (distinct_filter (λ i. p i.0) (ticketed items) h)
 
 -- an item is taken out
 pub taken_known : (items : Items) (t : ℕ) (item : ValidatedTx) (old new : Noted) → item_at items t ≡ Some item → Forgets old (id_of item.tx) new → AreKnown items old → AreKnown (without items t) new
@@ -131,16 +133,24 @@ swapped a b = elim (a == b) as (λ (v : Bool). (a == b) ≡ v → v ≡ (b == a)
   | false ↦ λ h. sym (ne_eqb b a (λ e. absurd (let f = sym h ∙ eq-eqb a b (sym e) in Prim.cc)))
 ] refl
 
-step : (gone : List ℕ) (t : ℕ) (items : Items) (more : List ℕ) → ((n : ℕ) → has_ticket more n ≡ (has_ticket gone n || (t == n))) → without (lacking gone items) t ≡ lacking more items
+-- the items without those under these tickets
+abbrev pub less : {T : Type 0} → List ℕ → List (ℕ × T) → List (ℕ × T)
+less gone items = filter (λ e. not (has_ticket gone e.0)) items
+
+step : {T : Type 0} (gone : List ℕ) (t : ℕ) (items : List (ℕ × T)) (more : List ℕ) → ((n : ℕ) → has_ticket more n ≡ (has_ticket gone n || (t == n))) → without (less gone items) t ≡ less more items
 step gone t [] more is = refl
 step gone t (x ∷ xs) more is =
     let rest = step gone t xs more is in
-    elim (has_ticket gone x.0) as (λ (b : Bool). has_ticket more x.0 ≡ (b || (t == x.0)) → without (cond (not b) (x ∷ lacking gone xs) (lacking gone xs)) t ≡ cond (not (has_ticket more x.0)) (x ∷ lacking more xs) (lacking more xs)) [
-      | true ↦ λ h. rest ∙ sym (ap (λ (v : Bool). cond (not v) (x ∷ lacking more xs) (lacking more xs)) h)
+    elim (has_ticket gone x.0) as (λ (b : Bool). has_ticket more x.0 ≡ (b || (t == x.0)) → without (cond (not b) (x ∷ less gone xs) (less gone xs)) t ≡ cond (not (has_ticket more x.0)) (x ∷ less more xs) (less more xs)) [
+      | true ↦ λ h. rest ∙ sym (ap (λ (v : Bool). cond (not v) (x ∷ less more xs) (less more xs)) h)
       | false ↦ λ h.
-          ap (λ (v : Bool). cond (not v) (x ∷ without (lacking gone xs) t) (without (lacking gone xs) t)) (swapped x.0 t ∙ sym h)
+          ap (λ (v : Bool). cond (not v) (x ∷ without (less gone xs) t) (without (less gone xs) t)) (swapped x.0 t ∙ sym h)
           ∙ ap (λ l. cond (not (has_ticket more x.0)) (x ∷ l) l) rest
     ] (is x.0)
+
+-- one more of the tickets
+pub step_more : {T : Type 0} (gone : List ℕ) (i d : ℕ) (items : List (ℕ × T)) → i < length gone → without (less (take i gone) items) (get_or gone i d) ≡ less (take (i + 1) gone) items
+step_more gone i d items lt = step (take i gone) (get_or gone i d) items (take (i + 1) gone) (λ n. list_any_more (λ t. t == n) gone i d lt)
 
 all_left : (items : Items) → lacking [] items ≡ items
 all_left [] = refl
@@ -158,7 +168,7 @@ chained a b c m n h k = omega arith
 pub goes_on : (gone : List ℕ) (i : ℕ) (d : ℕ) (old now new : Items) (noted after : Noted) (bytes more : ℕ) → i < length gone → new ≡ without now (get_or gone i d) → AreKnown new after → bytes_in new + more ≡ bytes_in now
     → TakesOut (take i gone) old now noted bytes → TakesOut (take (i + 1) gone) old new after (bytes + more)
 goes_on gone i d old now new noted after bytes more lt is known counted so_far = record {
-  items = is ∙ ap (λ l. without l (get_or gone i d)) so_far.items ∙ step (take i gone) (get_or gone i d) old (take (i + 1) gone) (λ n. list_any_more (λ t. t == n) gone i d lt);
+  items = is ∙ ap (λ l. without l (get_or gone i d)) so_far.items ∙ step_more gone i d old lt;
   known = known;
   bytes = chained (bytes_in new) (bytes_in now) (bytes_in old) more bytes counted so_far.bytes;
 }

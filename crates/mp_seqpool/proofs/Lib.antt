@@ -14,6 +14,8 @@ pub mod Leavers
 pub mod Dependents
 pub mod DependentsFollowed
 pub mod LeafOut
+pub mod LeavesOut
+pub mod TicketsNamed
 pub mod Chained
 pub mod TakingOut
 pub mod Finishing

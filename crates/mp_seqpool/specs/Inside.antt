@@ -3,7 +3,7 @@ pub mod Command
 pub mod Chained
 pub mod Effect
 pub mod Leaving
-pub mod NamedLeaf
+pub mod NamedLeaves
 pub mod TicketsById
 pub mod Place
 pub mod Rules

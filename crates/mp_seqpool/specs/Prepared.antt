@@ -1,5 +1,5 @@
 -- Steps that are ready to be taken.
-use Rattle.std.specs.Prelude.{◌≡◌, ℕ, ◌<◌, not, List, [], ◌∷◌, Contains, None, Ok}
+use Rattle.std.specs.Prelude.{◌≡◌, ℕ, ◌<◌, not, List, All, None, IfSome, Ok}
 use Rattle.std.specs.List.{filter}
 use Rattle.std.specs.FinMap.{get}
 use Rattle.mp_tx.specs.Transaction.{Transaction}
@@ -8,9 +8,9 @@ use Rattle.mp_utxo.specs.Overlay.{Overlay, HasRoomFor}
 use Rattle.mp_utxo.specs.Leaf.{IsLeaf}
 use Rattle.mp_rules.specs.Verifier.{Accepts}
 use Rattle.mp_rules.specs.Checked.{WasValid}
-use Rattle.mp_tickets.specs.Tickets.{has_ticket, among}
+use Rattle.mp_tickets.specs.Tickets.{has_ticket, item_at, among}
 use Rattle.mp_resync.specs.ValidatedTx.{ValidatedTx}
-use Rattle.mp_resync.specs.Keep.{transactions, unnamed}
+use Rattle.mp_resync.specs.Keep.{transactions}
 use Rattle.mp_seqpool.specs.declared.command.Reply.{Reply}
 use Rattle.mp_seqpool.specs.declared.command.Reply.TheVariants.{Accepted, Removed, Synced}
 use Rattle.mp_seqpool.specs.Command.{Command, Submit, Remove, Sync}
@@ -23,26 +23,26 @@ pub data Effect : Type 0 where
   Append : ValidatedTx → Effect
   -- the transactions under these tickets stay, and are all that is applied upon the ledger state
   Keep : Overlay → List ℕ → Effect
-  -- the transaction goes, and nothing else
-  TakeOut : Transaction → Effect
+  -- the transactions under these tickets go, and nothing else
+  TakeOut : List ℕ → Effect
 
 pub record Prepared : Type 0 where
   pub command : Command
   pub reply : Reply
   pub effect : Effect
 
+-- the items without these tickets
+abbrev pub apart : List ℕ → List (ℕ × Transaction) → List (ℕ × Transaction)
+apart tickets items = filter (λ i. not (has_ticket tickets i.0)) items
+
 abbrev pub changed : Pool → Effect → Pool
 changed p (Append item) = pool_with p item.tx
 changed p (Keep overlay kept) = pool_upon p overlay.ledger (among kept p.items)
-changed p (TakeOut t) = pool_upon p p.ledger (unnamed (id_of t ∷ []) p.items)
+changed p (TakeOut gone) = pool_upon p p.ledger (apart gone p.items)
 
 -- the state that it leads to
 abbrev pub leads_to : Pool → Prepared → Pool
 leads_to p q = changed p q.effect
-
--- the items without these tickets
-abbrev pub apart : List ℕ → List (ℕ × Transaction) → List (ℕ × Transaction)
-apart tickets items = filter (λ i. not (has_ticket tickets i.0)) items
 
 -- the items that the reply leaves
 abbrev pub left_by : Reply → List (ℕ × Transaction) → List (ℕ × Transaction)
@@ -63,15 +63,14 @@ pub record CanAppend (h : Holding) (item : ValidatedTx) : Type 0 where
   pub room : HasRoomFor h.room item.tx
   pub valid : WasValid item.tx item.resolved
 
--- the transaction stands in the pool, and no other hangs on it
-pub record CanTakeOut (p : Pool) (t : Transaction) : Type 0 where
-  pub there : Contains (transactions p.items) t
-  pub leaf : IsLeaf (get p.ledger.utxo) (transactions p.items) t
+-- no other transaction of the pool hangs on what stands under the ticket
+abbrev pub IsLeafAt : Pool → ℕ → Type 0
+IsLeafAt p ticket = IfSome (item_at p.items ticket) (IsLeaf (get p.ledger.utxo) (transactions p.items))
 
 abbrev pub CanChange : Holding → Effect → Type 0
 CanChange h (Append item) = CanAppend h item
 CanChange h (Keep overlay kept) = overlay.applied ≡ transactions (among kept h.pool.items)
-CanChange h (TakeOut t) = CanTakeOut h.pool t
+CanChange h (TakeOut gone) = All (IsLeafAt h.pool) gone
 
 -- The pool has room for the step, whatever the slow pool says of it.
 pub record HasRoom (h : Holding) (q : Prepared) : Type 0 where

@@ -2,12 +2,15 @@
 
 ghost use Rattle.std.specs.Prelude.{◌≡◌, ◌+◌, ◌≤◌, ◌^◌};
 ghost use Rattle.mp_tickets.specs.Tickets.{without};
+ghost use Rattle.mp_resync.specs.ValidatedTx.{ticketed};
 ghost use Rattle.mp_seqpool.specs.Inside.Leaving.{bytes_in, AreKnown, TakesOut, Leaves};
+ghost use Rattle.mp_seqpool.specs.Inside.NamedLeaves.{HasLeaves, Lacks};
 
 use crate::command::Reply;
 use crate::tickets_by_id::{TicketsById, forget};
 use mp_resync::ValidatedTx;
 use mp_tickets::{TicketList, Tickets};
+use mp_utxo::Overlay;
 
 // Takes out the item under the ticket, with its id. Gives how many bytes its transaction has, and 0 where there is none.
 fn take_one(items: &mut TicketList<ValidatedTx>, tickets: &mut TicketsById, ticket: u64) -> u64
@@ -55,5 +58,17 @@ pub fn take_told(
             bytes + take_out(items, tickets, dropped)
         }
         Reply::Synced { dropped, .. } => take_out(items, tickets, dropped),
+    }
+}
+
+/// Takes the transactions under these tickets, on which no others hang, out of the overlay.
+pub fn take_leaves(overlay: &mut Overlay, items: &TicketList<ValidatedTx>, gone: &Tickets)
+    requires { HasLeaves overlay.old (ticketed items.now) gone.now }
+    ensures { Lacks overlay.old (ticketed items.now) gone.now overlay.new }
+{
+    for ticket in gone.as_slice() {
+        if let Some(item) = items.get(*ticket) {
+            overlay.take_out(&item.tx);
+        }
     }
 }

@@ -1,6 +1,6 @@
 //! The sequential pool.
 
-ghost use Rattle.std.specs.Prelude.{◌≡◌, ◌<◌, [], ◌∷◌, OnOk, IfOk};
+ghost use Rattle.std.specs.Prelude.{◌≡◌, ◌<◌, [], OnOk, IfOk};
 ghost use Rattle.std.specs.Arc.{arc_value};
 ghost use Rattle.indexmap.specs.IndexMap.{spare};
 ghost use Rattle.mp_utxo.specs.Overlay.{IsSame, HasRoomFor};
@@ -11,10 +11,10 @@ ghost use Rattle.mp_seqpool.specs.declared.command.Reply.TheVariants.{Accepted, 
 use crate::command::{Answer, Command, Reply};
 use crate::config::Config;
 use crate::ids::Ids;
-use crate::leaving::take_told;
+use crate::leaving::{take_leaves, take_told};
 use crate::prepared::{Effect, Prepared};
 use crate::refusal::Refusal;
-use crate::tickets_by_id::{TicketsById, note, ticket_under};
+use crate::tickets_by_id::{TicketsById, as_tickets, note, ticket_under};
 use indexmap::IndexMap;
 use mp_memory::{Memory, NoMemory};
 use mp_resync::{Kept, ValidatedTx, revalidate};
@@ -119,33 +119,31 @@ fn sync_step(adopted: Ledger, left: Kept) -> Result<Prepared, NoMemory>
     })
 }
 
-// The step of a remove that takes out the one transaction under this ticket.
+// The step of a remove that takes out those under these tickets, and nothing else. What goes is both told and done.
 fn take_out_step(
     memory: Memory,
     asked: Arc<Ids, Memory>,
-    ticket: u64,
-    tx: &Arc<Tx, Memory>,
+    gone: Tickets,
 ) -> Result<Prepared, NoMemory>
     ensures command { IfOk result (λ q. q.command ≡ Remove (arc_value asked)) }
-    ensures reply { IfOk result (λ q. q.reply ≡ Removed (ticket ∷ []) []) }
-    ensures effect { IfOk result (λ q. q.effect ≡ TakeOut (arc_value tx.now)) }
+    ensures reply { IfOk result (λ q. q.reply ≡ Removed gone []) }
+    ensures effect { IfOk result (λ q. q.effect ≡ TakeOut gone) }
 {
-    let tx = Arc::try_clone(tx)?;
-    let mut named = Tickets::new(memory);
-    named.push(ticket)?;
+    let named = gone.copy()?;
     Ok(Prepared {
         command: Command::Remove(asked),
         reply: Reply::Removed {
             named,
             dropped: Tickets::new(memory),
         },
-        effect: Effect::TakeOut(tx),
+        effect: Effect::TakeOut(gone),
     })
 }
 
 impl SeqPool {
-    ghost use Rattle.std.specs.Prelude.{◌≡◌, ◌≢◌, ◌+◌, ◌≤◌, ◌^◌, ◌==◌, List, [], ◌∷◌, length, All, None, IfNone, IfSome, IfOk, IfErr, OnOk, OnErr, Ok};
+    ghost use Rattle.std.specs.Prelude.{◌≡◌, ◌≢◌, ◌+◌, ◌≤◌, ◌^◌, ◌==◌, List, [], ◌∷◌, length, All, None, IfNone, IfSome, IfOk, IfErr, OnOk, OnErr, Ok, IsTrue};
     ghost use Rattle.std.specs.Arc.{arc_value};
+    ghost use Rattle.std.specs.List.{filter_map};
     ghost use Rattle.std.specs.Map.Iter.{ShowsInOrder};
     ghost use Rattle.mp_tx.specs.Spelling.{id_of};
     ghost use Rattle.mp_rules.specs.Validity.{IsValid};
@@ -154,17 +152,17 @@ impl SeqPool {
     ghost use Rattle.mp_tickets.specs.Tickets.{IsRising, shown};
     ghost use Rattle.mp_resync.specs.ValidatedTx as resync;
     ghost use Rattle.mp_resync.specs.ValidatedTx.{ticketed};
-    ghost use Rattle.mp_resync.specs.Keep.{transactions, tickets, unnamed};
+    ghost use Rattle.mp_resync.specs.Keep.{transactions, tickets};
     ghost use Rattle.mp_resync.specs.Kept.{IsKeptOf};
     ghost use Rattle.mp_seqpool.specs.Inside.Chained.{all_accepted};
-    ghost use Rattle.mp_seqpool.specs.Inside.NamedLeaf.{NamesLeaf};
+    ghost use Rattle.mp_seqpool.specs.Inside.NamedLeaves.{tickets_named, TakesNamed};
     ghost use Rattle.mp_seqpool.specs.Inside.Steps.{IsKeep};
     ghost use Rattle.mp_seqpool.specs.Inside.Place.{misplaced};
     ghost use Rattle.mp_seqpool.specs.Inside.Rules.{IsBrokenRule};
     ghost use Rattle.mp_seqpool.specs.Command.{Submit, Remove, Sync};
     ghost use Rattle.mp_seqpool.specs.Config.{fresh_pool, renewed};
     ghost use Rattle.mp_seqpool.specs.SlowPool.{answer, next, IsRefused, AreSigned, bytes_held, unspent, ticket_of, HasPlace, pool_with, pool_upon};
-    ghost use Rattle.mp_seqpool.specs.Prepared.{Append, Keep, CanAppend, CanTakeOut, HasRoom, Prepares, IsPrepared, left_by, leads_to};
+    ghost use Rattle.mp_seqpool.specs.Prepared.{Append, Keep, CanAppend, IsLeafAt, HasRoom, Prepares, IsPrepared, apart, left_by, leads_to};
     ghost use Rattle.mp_seqpool.specs.declared.command.Reply.TheVariants.{Accepted};
     ghost use Rattle.mp_seqpool.specs.Inside.Command.{command_of};
 
@@ -294,21 +292,60 @@ impl SeqPool {
         revalidate(self.memory, ledger, &self.items, without, verifier)
     }
 
-    // The one transaction that is named, with its ticket, where no other hangs on it.
-    fn named_leaf(&self, ids: &[TxId]) -> Option<(u64, &Arc<Tx, Memory>)>
-        ensures { IfSome result (λ leaf. NamesLeaf
-            self.now.pool ids.now leaf.0 (arc_value leaf.1.now)) }
+    // The ticket of each of these ids that the pool has, in the order of the ids.
+    fn tickets_of(&self, ids: &[TxId]) -> Result<Vec<u64, Memory>, NoMemory>
+        ensures { IfOk result (λ found. found.items
+            ≡ filter_map (λ id. ticket_of id self.now.pool.items) ids.now) }
     {
-        let [id] = ids else {
-            return None;
-        };
-        let ticket = self.ticket_of(id)?;
-        let tx = self.get(ticket)?;
-        if self.overlay.is_leaf(tx) {
-            Some((ticket, tx))
-        } else {
-            None
+        let mut found = Vec::with_capacity(self.memory, ids.len())?;
+        for id in ids {
+            if let Some(ticket) = self.ticket_of(id) {
+                found.push(ticket)?;
+            }
         }
+        Ok(found)
+    }
+
+    // The tickets of those with these ids, in order.
+    fn named(&self, ids: &[TxId]) -> Result<Tickets, NoMemory>
+        ensures { IfOk result (λ named. named ≡ tickets_named ids.now self.now.pool) }
+    {
+        let mut found = self.tickets_of(ids)?;
+        found.sort_unstable();
+        found.dedup();
+        as_tickets(self.memory, &found)
+    }
+
+    // Whether no other transaction hangs on what stands under the ticket: `false` says nothing.
+    fn is_leaf_at(&self, ticket: u64) -> bool
+        ensures { IsTrue result → IsLeafAt self.now.pool ticket }
+    {
+        match self.get(ticket) {
+            Some(tx) => self.overlay.is_leaf(tx),
+            None => true,
+        }
+    }
+
+    // Whether it is so of each of these tickets.
+    fn are_leaves(&self, tickets: &Tickets) -> bool
+        ensures { IsTrue result → All (IsLeafAt self.now.pool) tickets.now }
+    {
+        tickets
+            .as_slice()
+            .iter()
+            .all(|ticket| self.is_leaf_at(*ticket))
+    }
+
+    // The step that takes out those with these ids, and nothing else, where no other transaction hangs on one of them.
+    fn prepare_leaves(&self, ids: &Arc<Ids, Memory>) -> Result<Option<Prepared>, NoMemory>
+        ensures { IfOk result (λ step. IfSome step (TakesNamed self.now.pool (arc_value ids.now))) }
+    {
+        let named = self.named(ids.as_slice())?;
+        if !self.are_leaves(&named) {
+            return Ok(None);
+        }
+        let asked = Arc::try_clone(ids)?;
+        Ok(Some(take_out_step(self.memory, asked, named)?))
     }
 
     /// Prepares to take out the transactions with these ids, whether they are valid or not, and with them those that aren't
@@ -331,10 +368,10 @@ impl SeqPool {
         if self.changes >= self.config.limit {
             return Err(Refusal::HistoryFull);
         }
-        let asked = Arc::try_clone(ids)?;
-        if let Some((ticket, tx)) = self.named_leaf(ids.as_slice()) {
-            return Ok(take_out_step(self.memory, asked, ticket, tx)?);
+        if let Some(step) = self.prepare_leaves(ids)? {
+            return Ok(step);
         }
+        let asked = Arc::try_clone(ids)?;
         let Kept {
             overlay,
             kept,
@@ -403,18 +440,18 @@ impl SeqPool {
         self.changes += 1;
     }
 
-    // Takes out the transaction, on which no other hangs, as the reply tells.
-    fn take_leaf_out(&mut self, tx: &Tx, reply: &Reply)
+    // Takes out those under these tickets, on which no others hang, as the reply tells.
+    fn take_leaves_out(&mut self, gone: &Tickets, reply: &Reply)
         requires change { self.old.pool.changes < self.old.pool.limit }
-        requires can { CanTakeOut self.old.pool tx.now }
-        requires told { unnamed (id_of tx.now ∷ []) self.old.pool.items
+        requires leaves { All (IsLeafAt self.old.pool) gone.now }
+        requires told { apart gone.now self.old.pool.items
             ≡ left_by reply.now self.old.pool.items }
         ensures { self.new.pool ≡ pool_upon self.old.pool self.old.pool.ledger
             (left_by reply.now self.old.pool.items) }
     {
-        let gone = take_told(&mut self.items, &mut self.tickets, reply);
-        self.overlay.take_out(tx);
-        self.bytes -= gone;
+        take_leaves(&mut self.overlay, &self.items, gone);
+        let bytes = take_told(&mut self.items, &mut self.tickets, reply);
+        self.bytes -= bytes;
         self.changes += 1;
     }
 
@@ -433,7 +470,7 @@ impl SeqPool {
         match effect {
             Effect::Append(node, applied) => self.append(node, applied),
             Effect::Keep(overlay, _kept) => self.leave(overlay, &reply),
-            Effect::TakeOut(tx) => self.take_leaf_out(&tx, &reply),
+            Effect::TakeOut(gone) => self.take_leaves_out(&gone, &reply),
         }
         reply
     }

@@ -16,8 +16,8 @@ pub enum Effect {
     Append(Node<ValidatedTx>, Arc<Tx, Memory>),
     /// Those under these tickets stay: all that the overlay has applied.
     Keep(Overlay, Tickets),
-    /// The transaction goes, and nothing else.
-    TakeOut(Arc<Tx, Memory>),
+    /// Those under these tickets go, and nothing else.
+    TakeOut(Tickets),
 }
 
 /// A step of the pool that is ready to be taken: all that can be refused is behind it, and it holds the memory that it needs.

@@ -1,17 +1,15 @@
 //! The tickets of ids.
 
-ghost use Rattle.std.specs.Prelude.{◌≡◌, ◌<◌, ◌≤◌, ◌^◌, ◌≢◌, map, sum_by, AllPairs};
+ghost use Rattle.std.specs.Prelude.{◌≡◌, ◌<◌, IfOk};
+ghost use Rattle.std.specs.List.Sorted.{IsStrictlyIncreasing};
 ghost use Rattle.indexmap.specs.IndexMap.{spare};
-ghost use Rattle.mp_tx.specs.Spelling.{id_of, size_of};
-ghost use Rattle.mp_tickets.specs.Tickets.{among};
 ghost use Rattle.mp_resync.specs.ById.{key_of};
-ghost use Rattle.mp_resync.specs.ValidatedTx.{ticketed};
-ghost use Rattle.mp_resync.specs.Keep.{transactions};
-ghost use Rattle.mp_seqpool.specs.Inside.TicketsById.{noted_at, Notes, Forgets, AreNoted};
+ghost use Rattle.mp_seqpool.specs.Inside.TicketsById.{noted_at, Notes, Forgets};
 
 use indexmap::IndexMap;
-use mp_resync::{ById, ValidatedTx, key_of};
-use mp_tickets::{TicketList, Tickets};
+use mp_memory::{Memory, NoMemory};
+use mp_resync::{ById, key_of};
+use mp_tickets::Tickets;
 use mp_tx::TxId;
 
 /// The ticket of each transaction of the pool, so that an id is found with no walk over the pool.
@@ -39,4 +37,16 @@ pub fn forget(tickets: &mut TicketsById, id: &TxId)
     ensures { Forgets tickets.old.entries id.now tickets.new.entries }
 {
     let _ = tickets.swap_remove(&key_of(id));
+}
+
+/// The tickets, which rise, as a list of them.
+pub fn as_tickets(memory: Memory, rising: &[u64]) -> Result<Tickets, NoMemory>
+    requires { IsStrictlyIncreasing rising.now }
+    ensures { IfOk result (λ tickets. tickets ≡ rising.now) }
+{
+    let mut tickets = Tickets::new(memory);
+    for ticket in rising {
+        tickets.push(*ticket)?;
+    }
+    Ok(tickets)
 }

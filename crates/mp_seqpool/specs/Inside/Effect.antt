@@ -10,7 +10,7 @@ use Rattle.mp_seqpool.specs.Prepared as told
 abbrev pub effect_of : Effect → told.Effect
 effect_of (effects.Append node applied) = told.Append node
 effect_of (effects.Keep overlay kept) = told.Keep overlay kept
-effect_of (effects.TakeOut tx) = told.TakeOut (arc_value tx)
+effect_of (effects.TakeOut gone) = told.TakeOut gone
 
 abbrev pub prepared : Inside → told.Prepared
 prepared q = record { command = command_of q.command; reply = q.reply; effect = effect_of q.effect }
@@ -19,4 +19,4 @@ prepared q = record { command = command_of q.command; reply = q.reply; effect = 
 abbrev pub IsOfOne : Effect → Type 0
 IsOfOne (effects.Append node applied) = arc_value applied ≡ node.tx
 IsOfOne (effects.Keep overlay kept) = Unit {0}
-IsOfOne (effects.TakeOut tx) = Unit {0}
+IsOfOne (effects.TakeOut gone) = Unit {0}

@@ -1,12 +1,10 @@
-use Rattle.std.proofs.Common.{◌≡◌, ℕ, List, [], ◌∷◌, sym, ap, subst, ◌∙◌}
-use Rattle.std.specs.Arc.{arc_value}
+use Rattle.std.proofs.Common.{◌≡◌, ℕ, List, sym, ap, subst, ◌∙◌}
 use Rattle.mp_tickets.specs.Tickets.{among}
 use Rattle.mp_tx.specs.Transaction.{Transaction}
-use Rattle.mp_tx.specs.Spelling.{id_of}
-use Rattle.mp_resync.specs.Keep.{transactions, unnamed}
+use Rattle.mp_resync.specs.Keep.{transactions}
 use Rattle.mp_seqpool.specs.Pool.{Pool, Holding}
 use Rattle.mp_seqpool.specs.SlowPool.{pool_upon}
-use Rattle.mp_seqpool.specs.Prepared.{Prepared, Append, Keep, TakeOut, changed, CanChange, CanTakeOut, IsPrepared, left_by}
+use Rattle.mp_seqpool.specs.Prepared.{Prepared, Append, Keep, TakeOut, changed, CanChange, IsPrepared, apart, left_by}
 use Rattle.mp_seqpool.specs.Inside.Command.{command_of}
 use Rattle.mp_seqpool.specs.Inside.Effect.{effect_of}
 use Rattle.mp_seqpool.proofs.Finishing.{next_valid, told_left}
@@ -43,19 +41,18 @@ leave-requires-clause-applied c =
     ∙ ap transactions (told_left pool q.command q.reply overlay.ledger (among kept pool.items) (sym (ap (changed pool) effect) ∙ c.requires.tells))
     ∙ ap (λ (q : Prepared). transactions (left_by q.reply pool.items)) (sym c.prepared.view_is)
 
-pub take_leaf_out-requires-clause-can : goal.take_leaf_out-requires-clause-can
-take_leaf_out-requires-clause-can c =
+pub take_leaves_out-requires-clause-leaves : goal.take_leaves_out-requires-clause-leaves
+take_leaves_out-requires-clause-leaves c =
     let effect = sym (ap (λ (q : Prepared). q.effect) c.prepared.view_is) ∙ ap effect_of c.in-TakeOut.is in
-    subst (CanTakeOut c.args.self.now.pool) (sym c.deref.ensures) (subst (CanChange c.args.self.now) effect c.requires.fits)
+    subst (CanChange c.args.self.now) effect c.requires.fits
 
-pub take_leaf_out-requires-clause-told : goal.take_leaf_out-requires-clause-told
-take_leaf_out-requires-clause-told c =
+pub take_leaves_out-requires-clause-told : goal.take_leaves_out-requires-clause-told
+take_leaves_out-requires-clause-told c =
     let pool : Pool = c.args.self.now.pool in
     let q : Prepared = c.args.prepared in
-    let t : Transaction = arc_value c.in-TakeOut.tx in
-    let effect : q.effect ≡ TakeOut t = sym (ap (λ (q : Prepared). q.effect) c.prepared.view_is) ∙ ap effect_of c.in-TakeOut.is in
-    ap (λ (t : Transaction). unnamed (id_of t ∷ []) pool.items) c.deref.ensures
-    ∙ told_left pool q.command q.reply pool.ledger (unnamed (id_of t ∷ []) pool.items) (sym (ap (changed pool) effect) ∙ c.requires.tells)
+    let gone : List ℕ = c.in-TakeOut.gone in
+    let effect : q.effect ≡ TakeOut gone = sym (ap (λ (q : Prepared). q.effect) c.prepared.view_is) ∙ ap effect_of c.in-TakeOut.is in
+    told_left pool q.command q.reply pool.ledger (apart gone pool.items) (sym (ap (changed pool) effect) ∙ c.requires.tells)
     ∙ ap (λ (q : Prepared). left_by q.reply pool.items) (sym c.prepared.view_is)
 
 pub returns : goal.returns
@@ -79,10 +76,10 @@ returns c =
             reply = replied;
           }
       | in-TakeOut w ↦
-          let left : List (ℕ × Transaction) = unnamed (id_of (arc_value w.in-TakeOut.tx) ∷ []) pool.items in
+          let left : List (ℕ × Transaction) = apart w.in-TakeOut.gone pool.items in
           let leads : changed pool q.effect ≡ pool_upon pool pool.ledger left = ap (changed pool) (seen ∙ ap effect_of w.in-TakeOut.is) in
           record {
-            pool = ap (λ (h : Holding). h.pool) w.self-is ∙ w.take_leaf_out.ensures ∙ ap (λ r. pool_upon pool pool.ledger (left_by r pool.items)) replied
+            pool = ap (λ (h : Holding). h.pool) w.self-is ∙ w.take_leaves_out.ensures ∙ ap (λ r. pool_upon pool pool.ledger (left_by r pool.items)) replied
                 ∙ ap (pool_upon pool pool.ledger) (sym (told_left pool q.command q.reply pool.ledger left (sym leads ∙ c.requires.tells))) ∙ sym leads;
             reply = replied;
           }

@@ -1,0 +1,40 @@
+-- Taking out transactions on which no others hang.
+use Rattle.std.specs.Prelude.{◌≡◌, ◌≢◌, ℕ, List, [], map, All, AllPairs, IfSome}
+use Rattle.std.specs.FinMap.{get}
+use Rattle.mp_tx.specs.Transaction.{Transaction}
+use Rattle.mp_tx.specs.Spelling.{id_of}
+use Rattle.mp_utxo.specs.Overlay.{Overlay}
+use Rattle.mp_utxo.specs.Leaf.{IsLeaf}
+use Rattle.mp_rules.specs.Validity.{Chain}
+use Rattle.mp_tickets.specs.Tickets.{IsRising, item_at}
+use Rattle.mp_resync.specs.Keep.{transactions, tickets, named}
+use Rattle.mp_seqpool.specs.declared.command.Reply.TheVariants.{Removed}
+use Rattle.mp_seqpool.specs.Command.{Remove}
+use Rattle.mp_seqpool.specs.Pool.{Pool}
+use Rattle.mp_seqpool.specs.Prepared.{Prepared, TakeOut, IsLeafAt, apart}
+use Rattle.mp_seqpool.specs.Inside.Chained.{all_accepted}
+
+-- the tickets of those with these ids
+abbrev pub tickets_named : List (List ℕ) → Pool → List ℕ
+tickets_named ids p = tickets (named ids p.items)
+
+-- the step of a remove that takes out those with these ids, and nothing else
+pub record TakesNamed (p : Pool) (ids : List (List ℕ)) (q : Prepared) : Type 0 where
+  pub command : q.command ≡ Remove ids
+  pub reply : q.reply ≡ Removed (tickets_named ids p) []
+  pub effect : q.effect ≡ TakeOut (tickets_named ids p)
+  pub leaves : All (IsLeafAt p) (tickets_named ids p)
+
+-- the overlay has the items' transactions, and on what stands under these tickets no others hang
+pub record HasLeaves (overlay : Overlay) (items : List (ℕ × Transaction)) (gone : List ℕ) : Type 0 where
+  pub applied : overlay.applied ≡ transactions items
+  pub chained : Chain all_accepted (get overlay.ledger.utxo) overlay.ledger.tick (transactions items)
+  pub distinct : AllPairs (λ a b. a ≢ b) (map id_of (transactions items))
+  pub rising : IsRising items
+  pub leaves : All (λ n. IfSome (item_at items n) (IsLeaf (get overlay.ledger.utxo) (transactions items))) gone
+
+-- new has the items' transactions but for those under these tickets, and they are valid in order
+pub record Lacks (old : Overlay) (items : List (ℕ × Transaction)) (gone : List ℕ) (new : Overlay) : Type 0 where
+  pub base : new.ledger ≡ old.ledger
+  pub applied : new.applied ≡ transactions (apart gone items)
+  pub chained : Chain all_accepted (get old.ledger.utxo) old.ledger.tick (transactions (apart gone items))
