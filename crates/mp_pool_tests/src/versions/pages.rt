@@ -1,4 +1,4 @@
-//! Where chunks and pages end. A page has 4,096 items where all its chunks are full.
+//! Where chunks and pages end. A page has 2,048 items where all its chunks are full.
 use crate::rows::count;
 use crate::samples::Samples;
 use crate::versions::both::{Both, start, step};
@@ -21,7 +21,7 @@ pub fn chunk_len(version: &Version, place: usize) -> u64 {
 fn end(version: &Version) -> [u64; 3] {
     for place in 0..u16::MAX {
         let len = chunk_len(version, usize::from(place));
-        if len != 64 {
+        if len != 32 {
             let behind = chunk_len(version, usize::from(place) + 1);
             return [u64::from(place), len, behind];
         }
@@ -59,12 +59,12 @@ fn submit_openings(memory: Memory, both: &mut Both, first: u16, end: u16) -> Opt
 // The openings that are spent, from the first number to before the second; and then the number of the first chunk that isn't
 // full, and how many items it has.
 static ROWS: [(&str, [u16; 2], [u64; 2]); 6] = [
-    ("4,095 items", [0, 4_095], [63, 63]),
-    ("4,096 items", [4_095, 4_096], [64, 0]),
-    ("4,097 items", [4_096, 4_097], [64, 1]),
-    ("8,191 items", [4_097, 8_191], [127, 63]),
-    ("8,192 items", [8_191, 8_192], [128, 0]),
-    ("8,193 items", [8_192, 8_193], [128, 1]),
+    ("2,047 items", [0, 2_047], [63, 31]),
+    ("2,048 items", [2_047, 2_048], [64, 0]),
+    ("2,049 items", [2_048, 2_049], [64, 1]),
+    ("4,095 items", [2_049, 4_095], [127, 31]),
+    ("4,096 items", [4_095, 4_096], [128, 0]),
+    ("4,097 items", [4_096, 4_097], [128, 1]),
 ];
 
 fn submit_and_see(memory: Memory, both: &mut Both, [first, end]: [u16; 2]) -> Option<Seen> {
@@ -92,7 +92,7 @@ fn count_rows(rt: &impl Print, memory: Memory, both: &mut Both) -> io::Result<u6
 }
 
 fn roomy(memory: Memory) -> Option<Both> {
-    start(memory, &ledger(memory, 8_193, 1_000_000).ok()?)
+    start(memory, &ledger(memory, 4_097, 1_000_000).ok()?)
 }
 
 /// How many cases hold.

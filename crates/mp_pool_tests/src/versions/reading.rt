@@ -116,8 +116,8 @@ const NO: [u64; 4] = [0, 0, 0, 0];
 
 static ROWS: [Row; 30] = [
     ("the size", Reading::Size, [127, 22_987, 129, 130]),
-    ("the chunks", Reading::Chunks, [63, 63, 1, 0]),
-    ("the chunks anew", Reading::ChunksAnew, [64, 63, 0, 0]),
+    ("the chunks", Reading::Chunks, [32, 31, 31, 32]),
+    ("the chunks anew", Reading::ChunksAnew, [32, 32, 32, 31]),
     ("after 0", Reading::After(0), [127, 1, 129, 0]),
     ("after 62", Reading::After(62), [65, 63, 129, 0]),
     ("after 63", Reading::After(63), [64, 66, 129, 0]),

@@ -1,5 +1,5 @@
-//! A chunk that a step leaves as it is is shared: its transactions get no further owner. The chunks of 129 have 64, 64 and 1
-//! transactions.
+//! A chunk that a step leaves as it is is shared: its transactions get no further owner. The chunks of 129 have four times 32
+//! transactions, and 1.
 ghost use Rattle.mp_seqpool.specs.Prepared.{IsPrepared};
 
 use crate::rows::count;
@@ -21,23 +21,24 @@ fn owners(version: &Version, ticket: u64) -> usize {
     }
 }
 
-// How many owners the transactions under the tickets 1, 66 and 129 have: one of each chunk.
-fn owners_of_three(version: &Version) -> [usize; 3] {
+// How many owners the transactions under the tickets 1, 66, 98 and 129 have, each of another chunk.
+fn owners_of_four(version: &Version) -> [usize; 4] {
     [
         owners(version, 1),
         owners(version, 66),
+        owners(version, 98),
         owners(version, 129),
     ]
 }
 
 // How many owners more each of them has than before.
-fn more(version: &Version, before: [usize; 3]) -> Seen {
-    let after = owners_of_three(version);
+fn more(version: &Version, before: [usize; 4]) -> Seen {
+    let after = owners_of_four(version);
     [
         after[0].wrapping_sub(before[0]) as u64,
         after[1].wrapping_sub(before[1]) as u64,
         after[2].wrapping_sub(before[2]) as u64,
-        0,
+        after[3].wrapping_sub(before[3]) as u64,
         0,
         0,
     ]
@@ -46,7 +47,7 @@ fn more(version: &Version, before: [usize; 3]) -> Seen {
 fn more_with(
     made: &Result<Version, NoMemory>,
     older: &Version,
-    before: [usize; 3],
+    before: [usize; 4],
 ) -> Option<Seen> {
     match made {
         Ok(_) => Some(more(older, before)),
@@ -57,7 +58,7 @@ fn more_with(
 fn more_after(memory: Memory, both: &Both, prepared: &Prepared) -> Option<Seen>
     requires { IsPrepared both.now.pool prepared.now }
 {
-    let before = owners_of_three(&both.version);
+    let before = owners_of_four(&both.version);
     more_with(&next(memory, both, prepared), &both.version, before)
 }
 
@@ -67,20 +68,20 @@ fn more_after_step(memory: Memory, both: &mut Both, command: &Command) -> Option
 }
 
 fn more_renewed(memory: Memory, both: &Both) -> Option<Seen> {
-    let before = owners_of_three(&both.version);
+    let before = owners_of_four(&both.version);
     more_with(&both.version.renewed(memory, 9), &both.version, before)
 }
 
-// A step, the sample that it does, and how many owners more the transactions have that stand under the tickets 1, 66 and 129 once
-// the version after it was made.
+// A step, the sample that it does, and how many owners more the transactions have that stand under the tickets 1, 66, 98 and 129
+// once the version after it was made.
 static ROWS: [(&str, usize, Seen); 3] = [
-    ("what a submit shares", 129, [0, 0, 1, 0, 0, 0]),
+    ("what a submit shares", 129, [0, 0, 0, 1, 0, 0]),
     (
         "what a remove shares",
         REMOVE_SEVENTIETH,
         [0, 1, 0, 0, 0, 0],
     ),
-    ("what a sync shares", HUNDRED, [0, 1, 0, 0, 0, 0]),
+    ("what a sync shares", HUNDRED, [0, 0, 1, 0, 0, 0]),
 ];
 
 fn see_step(samples: &Samples, both: &mut Both, number: usize) -> Option<Seen> {
