@@ -1,9 +1,6 @@
-use Rattle.std.proofs.Common.{◌++◌, sym, ap, subst, ◌∙◌}
-use Rattle.std.proofs.lemmas.List.{append_assoc}
-use Rattle.mp_tickets.specs.Tickets.{IsRising, after}
-use Rattle.mp_tickets.proofs.Rising.{after-append}
-use Rattle.mp_versions.specs.Item.{items_of}
-use Rattle.mp_versions.specs.Inside.Pages.{flattened, joined}
+use Rattle.std.proofs.Common.{sym, subst}
+use Rattle.mp_tickets.specs.Tickets.{IsRising}
+use Rattle.mp_versions.specs.Inside.Pages.{joined}
 use Rattle.mp_versions.proofs.Blocks.{rising_before, rising_behind}
 use Rattle.mp_versions.proofs.layout.reading.run_after.Goals as goal
 

@@ -1,4 +1,4 @@
-use Rattle.std.proofs.Common.{◌≤◌, ◌++◌, length, sym, ap, ◌∙◌, arith}
+use Rattle.std.proofs.Common.{◌++◌, length, sym, ap, ◌∙◌, arith}
 use Rattle.mp_seqpool.specs.Prepared.{apart}
 use Rattle.mp_versions.specs.Inside.Pages.{joined}
 use Rattle.mp_versions.proofs.Blocks.{rising_before, rising_behind, apart-append}
