@@ -104,7 +104,7 @@ fn renewed_version<N: PoolName, M: PoolName>(
     requires legal { IsLegalLog M.accepts M.callers right.now }
     ensures { IfOk result (λ shown. shown ≡ right.now) }
 {
-    let version = newest.version().renewed(memory, limit)?;
+    let version = newest.version().renewed(limit)?;
     Ok(Shown::of(Arc::new(memory, version)?, right.front()))
 }
 

@@ -179,8 +179,8 @@ impl Version {
     }
 
     /// The version of the pool as `SeqPool::renew` leaves it: no change was made, and there may be so
-    /// many (1 to 2^32). All items are shared.
-    pub fn renewed(&self, _memory: Memory, limit: u64) -> Result<Version, NoMemory>
+    /// many (1 to 2^32). All items are shared. `NoMemory` where they are shared too often.
+    pub fn renewed(&self, limit: u64) -> Result<Version, NoMemory>
         requires least { 1 ≤ limit }
         requires greatest { limit ≤ 2 ^ 32 }
         ensures { IfOk result (λ v. v.pool ≡ renewed limit self.now.pool) }

@@ -1,5 +1,5 @@
 //! Each call that may want memory: at each refused growth it says so and the version stays, and then the same call answers.
-use crate::rows::{Growths, NONE, SOME, THREE_OR_MORE, Trial, count_trial};
+use crate::rows::{Growths, NONE, THREE_OR_MORE, Trial, count_trial};
 use crate::samples::{GUARDED, NARROW, REMOVE_FIRST, Samples, THREE};
 use crate::seqpool::{pool_of_three, prepare};
 use crate::versions::both::{Both, look_at, next, whole};
@@ -76,7 +76,7 @@ impl Call for Calling<'_> {
             Way::Prepare(number) => prepared(both, self.samples.command(number)?),
             Way::After(number) => look_after(memory, both, self.samples.command(number)?),
             Way::Of => look_at_made(Version::of(memory, &both.pool)),
-            Way::Renew => look_at_made(both.version.renewed(memory, 7)),
+            Way::Renew => look_at_made(both.version.renewed(7)),
             Way::Read => read(self.samples, &both.version),
         }
     }
@@ -117,7 +117,7 @@ static ROWS: [(&str, Way, Seen, Growths); 3] = [
         "a renewed version",
         Way::Renew,
         [3, 543, 3, 0, 500_000, 123],
-        SOME,
+        NONE,
     ),
     ("reading", Way::Read, [123, 1, 1, 1, 1, 1], NONE),
 ];
@@ -126,10 +126,10 @@ fn try_way(samples: &Samples, way: Way) -> Trial {
     under_each_refusal(&samples.memory, &Calling { samples, way })
 }
 
-// Three growths more than the step itself makes, or more than may be where that goes wrong.
+// Two growths more than the step itself makes, or more than may be where that goes wrong.
 fn least_after(prepared: &Trial) -> u64 {
     match prepared {
-        Ok(done) => done.growths.saturating_add(3),
+        Ok(done) => done.growths.saturating_add(2),
         Err(_) => u64::MAX,
     }
 }

@@ -1,4 +1,4 @@
-//! Where chunks and pages end. A page has 2,048 items where all its chunks are full.
+//! Where chunks and pages end. A page has 2,048 items where all its chunks are full, and up to 32 more stand in the open chunk.
 use crate::rows::count;
 use crate::samples::Samples;
 use crate::versions::both::{Both, start, step};
@@ -60,11 +60,11 @@ fn submit_openings(memory: Memory, both: &mut Both, first: u16, end: u16) -> Opt
 // full, and how many items it has.
 static ROWS: [(&str, [u16; 2], [u64; 2]); 6] = [
     ("2,047 items", [0, 2_047], [63, 31]),
-    ("2,048 items", [2_047, 2_048], [64, 0]),
-    ("2,049 items", [2_048, 2_049], [64, 1]),
-    ("4,095 items", [2_049, 4_095], [127, 31]),
-    ("4,096 items", [4_095, 4_096], [128, 0]),
-    ("4,097 items", [4_096, 4_097], [128, 1]),
+    ("2,080 items", [2_047, 2_080], [65, 0]),
+    ("2,081 items", [2_080, 2_081], [65, 1]),
+    ("4,128 items", [2_081, 4_128], [129, 0]),
+    ("4,129 items", [4_128, 4_129], [129, 1]),
+    ("8,193 items", [4_129, 8_193], [256, 1]),
 ];
 
 fn submit_and_see(memory: Memory, both: &mut Both, [first, end]: [u16; 2]) -> Option<Seen> {
@@ -92,7 +92,7 @@ fn count_rows(rt: &impl Print, memory: Memory, both: &mut Both) -> io::Result<u6
 }
 
 fn roomy(memory: Memory) -> Option<Both> {
-    start(memory, &ledger(memory, 4_097, 1_000_000).ok()?)
+    start(memory, &ledger(memory, 8_193, 1_000_000).ok()?)
 }
 
 /// How many cases hold.

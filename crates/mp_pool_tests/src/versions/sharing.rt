@@ -1,5 +1,5 @@
-//! A chunk that a step leaves as it is is shared: its transactions get no further owner. The chunks of 129 have four times 32
-//! transactions, and 1.
+//! A chunk that a step leaves as it is is shared: its transactions get no further owner. The chunks of 129 have four times
+//! 32 transactions and 1.
 ghost use Rattle.mp_seqpool.specs.Prepared.{IsPrepared};
 
 use crate::rows::count;
@@ -21,7 +21,7 @@ fn owners(version: &Version, ticket: u64) -> usize {
     }
 }
 
-// How many owners the transactions under the tickets 1, 66, 98 and 129 have, each of another chunk.
+// How many owners the transactions under the tickets 1, 66, 98 and 129 have: one of each chunk but the second.
 fn owners_of_four(version: &Version) -> [usize; 4] {
     [
         owners(version, 1),
@@ -67,13 +67,13 @@ fn more_after_step(memory: Memory, both: &mut Both, command: &Command) -> Option
     more_after(memory, both, &prepared)
 }
 
-fn more_renewed(memory: Memory, both: &Both) -> Option<Seen> {
+fn more_renewed(both: &Both) -> Option<Seen> {
     let before = owners_of_four(&both.version);
-    more_with(&both.version.renewed(memory, 9), &both.version, before)
+    more_with(&both.version.renewed(9), &both.version, before)
 }
 
-// A step, the sample that it does, and how many owners more the transactions have that stand under the tickets 1, 66, 98 and 129
-// once the version after it was made.
+// A step, the sample that it does, and how many owners more the transactions have that stand under the tickets 1, 66, 98 and 129 once
+// the version after it was made.
 static ROWS: [(&str, usize, Seen); 3] = [
     ("what a submit shares", 129, [0, 0, 0, 1, 0, 0]),
     (
@@ -89,7 +89,7 @@ fn see_step(samples: &Samples, both: &mut Both, number: usize) -> Option<Seen> {
 }
 
 fn count_rows(rt: &impl Print, samples: &Samples, both: &mut Both) -> io::Result<u64> {
-    let renewed = more_renewed(samples.memory, both);
+    let renewed = more_renewed(both);
     let mut held = count(rt, "what a renewed version shares", renewed, [0; 6])?;
     for (name, number, wanted) in &ROWS {
         let seen = see_step(samples, both, *number);
