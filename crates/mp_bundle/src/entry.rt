@@ -96,18 +96,25 @@ pub fn first_fault(given: &[Given]) -> Option<BundleFault>
     None
 }
 
+fn to_entry(given: &Given) -> Entry
+    requires { length given.now.1.items ≤ 32 }
+    ensures { result ≡ entry_of given.now }
+{
+    let token = Token {
+        policy: given.0,
+        name: TokenName::of(given.1.as_slice()),
+    };
+    (token, given.2)
+}
+
 /// The entries, in one growth of just their number.
 pub fn to_entries(memory: Memory, given: &[Given]) -> Result<Vec<Entry, Memory>, NoMemory>
     requires { All (λ g. length g.1.items ≤ 32) given.now }
     ensures { IfOk result (λ entries. entries.items ≡ entries_of given.now) }
 {
     let mut entries = Vec::with_capacity(memory, given.len())?;
-    for (policy, name, quantity) in given {
-        let token = Token {
-            policy: *policy,
-            name: TokenName::of(name),
-        };
-        entries.push((token, *quantity))?;
+    for entry in given {
+        entries.push(to_entry(entry))?;
     }
     Ok(entries)
 }

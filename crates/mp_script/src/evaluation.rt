@@ -28,8 +28,8 @@ const MAX_WAITING: usize = 128;
 
 type Values<'a> = Stack<Value<'a>, MAX_WAITING>;
 
-fn of_one<'a>(operator: Unary, a: Value<'a>, view: &View<'a>) -> Value<'a>
-    ensures { value_of result ≡ of_one operator (view_of view.now) (value_of a.entry) }
+fn of_one<'a>(operator: Unary, a: &Value<'a>, view: &View<'a>) -> Value<'a>
+    ensures { value_of result ≡ of_one operator (view_of view.now) (value_of a.now) }
 {
     match operator {
         Unary::Not => logic::not(a),
@@ -42,9 +42,9 @@ fn of_one<'a>(operator: Unary, a: Value<'a>, view: &View<'a>) -> Value<'a>
     }
 }
 
-fn of_two<'a>(operator: Binary, a: Value<'a>, b: Value<'a>, view: &View<'a>) -> Value<'a>
+fn of_two<'a>(operator: Binary, a: &Value<'a>, b: &Value<'a>, view: &View<'a>) -> Value<'a>
     ensures { value_of result ≡
-        of_two operator (view_of view.now) (value_of a.entry) (value_of b.entry) }
+        of_two operator (view_of view.now) (value_of a.now) (value_of b.now) }
 {
     match operator {
         Binary::And => logic::and(a, b),
@@ -76,8 +76,8 @@ fn of_three<'a>(
 {
     match operator {
         Ternary::If => logic::choice(a, b, c),
-        Ternary::Paid => paid::paid(a, b, c, view.outputs),
-        Ternary::RefQuantity => reference::quantity(a, b, c, view.references),
+        Ternary::Paid => paid::paid(&a, &b, &c, view.outputs),
+        Ternary::RefQuantity => reference::quantity(&a, &b, &c, view.references),
     }
 }
 
@@ -105,12 +105,12 @@ fn act<'a>(stack: &mut Values<'a>, operator: Operator<'a>, view: &View<'a>)
         Operator::Leaf(operator) => leaf::value(operator, view),
         Operator::Unary(operator) => {
             let a = operand(stack);
-            of_one(operator, a, view)
+            of_one(operator, &a, view)
         }
         Operator::Binary(operator) => {
             let b = operand(stack);
             let a = operand(stack);
-            of_two(operator, a, b, view)
+            of_two(operator, &a, &b, view)
         }
         Operator::Ternary(operator) => {
             let c = operand(stack);

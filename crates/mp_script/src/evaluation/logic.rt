@@ -8,29 +8,29 @@ ghost use Rattle.mp_script.specs.Meaning.{truth_in, negation, conjunction, disju
 use crate::datum_ref::DatumRef;
 use crate::value::Value;
 
-fn truth(value: Value) -> Option<bool>
-    ensures { result ≡ truth_in (value_of value.entry) }
+fn truth(value: &Value) -> Option<bool>
+    ensures { result ≡ truth_in (value_of value.now) }
 {
-    match value {
+    match *value {
         Value::Truth(truth) => Some(truth),
         _ => None,
     }
 }
 
 /// The other truth value.
-pub fn not(a: Value<'_>) -> Value<'_>
-    ensures { value_of result ≡ negation (value_of a.entry) }
+pub fn not<'a>(a: &Value<'a>) -> Value<'a>
+    ensures { value_of result ≡ negation (value_of a.now) }
 {
-    match a {
+    match *a {
         Value::Truth(truth) => Value::Truth(!truth),
         _ => Value::Nothing,
     }
 }
 
 /// Kleene's and: false where either is false, true where both are true.
-pub fn and<'a>(a: Value<'a>, b: Value<'a>) -> Value<'a>
+pub fn and<'a>(a: &Value<'a>, b: &Value<'a>) -> Value<'a>
     ensures { value_of result ≡
-        conjunction (truth_in (value_of a.entry)) (truth_in (value_of b.entry)) }
+        conjunction (truth_in (value_of a.now)) (truth_in (value_of b.now)) }
 {
     match (truth(a), truth(b)) {
         (Some(false), _) | (_, Some(false)) => Value::Truth(false),
@@ -40,9 +40,9 @@ pub fn and<'a>(a: Value<'a>, b: Value<'a>) -> Value<'a>
 }
 
 /// Kleene's or: true where either is true, false where both are false.
-pub fn or<'a>(a: Value<'a>, b: Value<'a>) -> Value<'a>
+pub fn or<'a>(a: &Value<'a>, b: &Value<'a>) -> Value<'a>
     ensures { value_of result ≡
-        disjunction (truth_in (value_of a.entry)) (truth_in (value_of b.entry)) }
+        disjunction (truth_in (value_of a.now)) (truth_in (value_of b.now)) }
 {
     match (truth(a), truth(b)) {
         (Some(true), _) | (_, Some(true)) => Value::Truth(true),
@@ -70,14 +70,14 @@ fn same(a: &DatumRef, b: &DatumRef) -> bool
 }
 
 /// Whether two values of one kind are equal.
-pub fn equal<'a>(a: Value<'a>, b: Value<'a>) -> Value<'a>
-    ensures { value_of result ≡ equality (value_of a.entry) (value_of b.entry) }
+pub fn equal<'a>(a: &Value<'a>, b: &Value<'a>) -> Value<'a>
+    ensures { value_of result ≡ equality (value_of a.now) (value_of b.now) }
 {
     match (a, b) {
-        (Value::Truth(a), Value::Truth(b)) => Value::Truth(a == b),
-        (Value::Whole(a), Value::Whole(b)) => Value::Truth(a == b),
-        (Value::Octets(a), Value::Octets(b)) => Value::Truth(a == b),
-        (Value::Tree(a), Value::Tree(b)) => Value::Truth(same(&a, &b)),
+        (Value::Truth(a), Value::Truth(b)) => Value::Truth(*a == *b),
+        (Value::Whole(a), Value::Whole(b)) => Value::Truth(*a == *b),
+        (Value::Octets(a), Value::Octets(b)) => Value::Truth(*a == *b),
+        (Value::Tree(a), Value::Tree(b)) => Value::Truth(same(a, b)),
         _ => Value::Nothing,
     }
 }

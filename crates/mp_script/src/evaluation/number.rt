@@ -6,11 +6,11 @@ ghost use Rattle.mp_script.specs.Meaning.{on, on_wholes, number, wholes_in};
 
 use crate::value::Value;
 
-fn wholes(a: Value, b: Value) -> Option<(i128, i128)>
-    ensures { result ≡ wholes_in (value_of a.entry) (value_of b.entry) }
+fn wholes(a: &Value, b: &Value) -> Option<(i128, i128)>
+    ensures { result ≡ wholes_in (value_of a.now) (value_of b.now) }
 {
     match (a, b) {
-        (Value::Whole(a), Value::Whole(b)) => Some((a, b)),
+        (Value::Whole(a), Value::Whole(b)) => Some((*a, *b)),
         _ => None,
     }
 }
@@ -25,9 +25,9 @@ fn whole<'a>(number: Option<i128>) -> Value<'a>
 }
 
 /// Whether a < b.
-pub fn less<'a>(a: Value<'a>, b: Value<'a>) -> Value<'a>
+pub fn less<'a>(a: &Value<'a>, b: &Value<'a>) -> Value<'a>
     ensures { value_of result ≡
-        on_wholes (λ x y. truth (int_lt x y)) (value_of a.entry) (value_of b.entry) }
+        on_wholes (λ x y. truth (int_lt x y)) (value_of a.now) (value_of b.now) }
 {
     match wholes(a, b) {
         Some((a, b)) => Value::Truth(a < b),
@@ -36,9 +36,9 @@ pub fn less<'a>(a: Value<'a>, b: Value<'a>) -> Value<'a>
 }
 
 /// Whether a <= b.
-pub fn at_most<'a>(a: Value<'a>, b: Value<'a>) -> Value<'a>
+pub fn at_most<'a>(a: &Value<'a>, b: &Value<'a>) -> Value<'a>
     ensures { value_of result ≡
-        on_wholes (λ x y. truth (int_le x y)) (value_of a.entry) (value_of b.entry) }
+        on_wholes (λ x y. truth (int_le x y)) (value_of a.now) (value_of b.now) }
 {
     match wholes(a, b) {
         Some((a, b)) => Value::Truth(a <= b),
@@ -47,9 +47,9 @@ pub fn at_most<'a>(a: Value<'a>, b: Value<'a>) -> Value<'a>
 }
 
 /// a + b.
-pub fn sum<'a>(a: Value<'a>, b: Value<'a>) -> Value<'a>
+pub fn sum<'a>(a: &Value<'a>, b: &Value<'a>) -> Value<'a>
     ensures { value_of result ≡
-        on_wholes (λ x y. number (x +ℤ y)) (value_of a.entry) (value_of b.entry) }
+        on_wholes (λ x y. number (x +ℤ y)) (value_of a.now) (value_of b.now) }
 {
     match wholes(a, b) {
         Some((a, b)) => whole(a.checked_add(b)),
@@ -58,9 +58,9 @@ pub fn sum<'a>(a: Value<'a>, b: Value<'a>) -> Value<'a>
 }
 
 /// a - b.
-pub fn difference<'a>(a: Value<'a>, b: Value<'a>) -> Value<'a>
+pub fn difference<'a>(a: &Value<'a>, b: &Value<'a>) -> Value<'a>
     ensures { value_of result ≡
-        on_wholes (λ x y. number (x -ℤ y)) (value_of a.entry) (value_of b.entry) }
+        on_wholes (λ x y. number (x -ℤ y)) (value_of a.now) (value_of b.now) }
 {
     match wholes(a, b) {
         Some((a, b)) => whole(a.checked_sub(b)),
@@ -69,9 +69,9 @@ pub fn difference<'a>(a: Value<'a>, b: Value<'a>) -> Value<'a>
 }
 
 /// a * b.
-pub fn product<'a>(a: Value<'a>, b: Value<'a>) -> Value<'a>
+pub fn product<'a>(a: &Value<'a>, b: &Value<'a>) -> Value<'a>
     ensures { value_of result ≡
-        on_wholes (λ x y. number (x *ℤ y)) (value_of a.entry) (value_of b.entry) }
+        on_wholes (λ x y. number (x *ℤ y)) (value_of a.now) (value_of b.now) }
 {
     match wholes(a, b) {
         Some((a, b)) => whole(a.checked_mul(b)),

@@ -36,15 +36,15 @@ fn total(outputs: &[PaidTo], address: &Address, policy: &PolicyId, name: &[u8]) 
 
 /// How much of a token the outputs with an address hold.
 pub fn paid<'a>(
-    address: Value<'a>,
-    policy: Value<'a>,
-    name: Value<'a>,
+    address: &Value<'a>,
+    policy: &Value<'a>,
+    name: &Value<'a>,
     outputs: &[PaidTo],
 ) -> Value<'a>
     requires { length outputs.now ≤ 256 }
     ensures { value_of result ≡
-        paid_quantity (map paid_to_of outputs.now) (value_of address.entry) (value_of policy.entry)
-        (value_of name.entry) }
+        paid_quantity (map paid_to_of outputs.now) (value_of address.now) (value_of policy.now)
+        (value_of name.now) }
 {
     match (hash_of(address), token_of(policy, name)) {
         (Some(address), Some((policy, name))) => {

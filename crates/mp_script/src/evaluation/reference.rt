@@ -11,20 +11,20 @@ use crate::value::Value;
 use crate::view::{Address, Referred};
 use mp_bytes::Hash;
 
-fn referred<'s, 'a>(at: Value<'a>, references: &'s [Referred<'a>]) -> Option<&'s Referred<'a>>
+fn referred<'s, 'a>(at: &Value<'a>, references: &'s [Referred<'a>]) -> Option<&'s Referred<'a>>
     ensures { option_map (λ r. referred_of r.now) result ≡
-        reference_at (map referred_of references.now) (value_of at.entry) }
+        reference_at (map referred_of references.now) (value_of at.now) }
 {
-    match at {
+    match *at {
         Value::Whole(number) => references.get(usize::try_from(number).ok()?),
         _ => None,
     }
 }
 
 /// The address of the output that a reference names.
-pub fn address<'a>(at: Value<'a>, references: &[Referred<'a>]) -> Value<'a>
+pub fn address<'a>(at: &Value<'a>, references: &[Referred<'a>]) -> Value<'a>
     ensures { value_of result ≡
-        on (reference_at (map referred_of references.now) (value_of at.entry))
+        on (reference_at (map referred_of references.now) (value_of at.now))
         (λ r. octets r.address) }
 {
     match referred(at, references) {
@@ -37,9 +37,9 @@ pub fn address<'a>(at: Value<'a>, references: &[Referred<'a>]) -> Value<'a>
 }
 
 /// Its datum hash.
-pub fn datum_hash<'a>(at: Value<'a>, references: &[Referred<'a>]) -> Value<'a>
+pub fn datum_hash<'a>(at: &Value<'a>, references: &[Referred<'a>]) -> Value<'a>
     ensures { value_of result ≡
-        on (reference_at (map referred_of references.now) (value_of at.entry))
+        on (reference_at (map referred_of references.now) (value_of at.now))
         (λ r. octets r.datum_hash) }
 {
     match referred(at, references) {
@@ -53,14 +53,14 @@ pub fn datum_hash<'a>(at: Value<'a>, references: &[Referred<'a>]) -> Value<'a>
 
 /// How much of a token it holds.
 pub fn quantity<'a>(
-    at: Value<'a>,
-    policy: Value<'a>,
-    name: Value<'a>,
+    at: &Value<'a>,
+    policy: &Value<'a>,
+    name: &Value<'a>,
     references: &[Referred<'a>],
 ) -> Value<'a>
     ensures { value_of result ≡
-        ref_quantity (map referred_of references.now) (value_of at.entry) (value_of policy.entry)
-        (value_of name.entry) }
+        ref_quantity (map referred_of references.now) (value_of at.now) (value_of policy.now)
+        (value_of name.now) }
 {
     match referred(at, references) {
         Some(output) => bundle_quantity(policy, name, output.value),

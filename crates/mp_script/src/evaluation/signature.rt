@@ -15,9 +15,9 @@ fn has_signed(keys: &[Key], wanted: &Key) -> bool
 }
 
 /// Whether there is a signature of a key.
-pub fn signed_by<'a>(key: Value<'a>, keys: &[Key]) -> Value<'a>
+pub fn signed_by<'a>(key: &Value<'a>, keys: &[Key]) -> Value<'a>
     ensures { value_of result ≡
-        on (hash_in (value_of key.entry)) (λ key. truth (has_signed keys.now key)) }
+        on (hash_in (value_of key.now)) (λ key. truth (has_signed keys.now key)) }
 {
     match hash_of(key) {
         Some(key) => Value::Truth(has_signed(keys, key)),

@@ -12,36 +12,39 @@ use mp_bundle::{Bundle, MAX_NAME_BYTES, PolicyId, Sum};
 use mp_bytes::Hash;
 
 /// The 32 bytes that a value is, where it is so many.
-pub fn hash_of(value: Value<'_>) -> Option<&Hash>
-    ensures { option_map (λ b. b.now) result ≡ hash_in (value_of value.entry) }
+pub fn hash_of<'a>(value: &Value<'a>) -> Option<&'a Hash>
+    ensures { option_map (λ b. b.now) result ≡ hash_in (value_of value.now) }
 {
-    match value {
+    match *value {
         Value::Octets(octets) => octets.as_array::<32>(),
         _ => None,
     }
 }
 
-fn name_of(value: Value<'_>) -> Option<&[u8]>
-    ensures { option_map (λ b. b.now) result ≡ name_in (value_of value.entry) }
+fn name_of<'a>(value: &Value<'a>) -> Option<&'a [u8]>
+    ensures { option_map (λ b. b.now) result ≡ name_in (value_of value.now) }
 {
-    match value {
+    match *value {
         Value::Octets(octets) if octets.len() <= MAX_NAME_BYTES => Some(octets),
         _ => None,
     }
 }
 
 /// The policy of 32 bytes and the name of up to 32 that two values are, where they are so many.
-pub fn token_of<'a>(policy: Value<'a>, name: Value<'a>) -> Option<(&'a PolicyId, &'a [u8])>
+pub fn token_of<'a>(policy: &Value<'a>, name: &Value<'a>) -> Option<(&'a PolicyId, &'a [u8])>
     ensures { option_map (λ t. token t.0.now t.1.now) result ≡
-        token_in (value_of policy.entry) (value_of name.entry) }
+        token_in (value_of policy.now) (value_of name.now) }
 {
-    Some((hash_of(policy)?, name_of(name)?))
+    match (hash_of(policy), name_of(name)) {
+        (Some(policy), Some(name)) => Some((policy, name)),
+        _ => None,
+    }
 }
 
 /// How much of a token a bundle holds.
-pub fn bundle_quantity<'a>(policy: Value<'a>, name: Value<'a>, bundle: &Bundle) -> Value<'a>
+pub fn bundle_quantity<'a>(policy: &Value<'a>, name: &Value<'a>, bundle: &Bundle) -> Value<'a>
     ensures { value_of result ≡
-        bundle_quantity bundle.now (value_of policy.entry) (value_of name.entry) }
+        bundle_quantity bundle.now (value_of policy.now) (value_of name.now) }
 {
     match token_of(policy, name) {
         Some((policy, name)) => Value::Whole(bundle.quantity(policy, name) as i128),
@@ -50,10 +53,10 @@ pub fn bundle_quantity<'a>(policy: Value<'a>, name: Value<'a>, bundle: &Bundle) 
 }
 
 /// How much of a token the spent output holds.
-pub fn own<'a>(policy: Value<'a>, name: Value<'a>, own_value: Option<&Bundle>) -> Value<'a>
+pub fn own<'a>(policy: &Value<'a>, name: &Value<'a>, own_value: Option<&Bundle>) -> Value<'a>
     ensures { value_of result ≡
         on own_value.entry
-        (λ bundle. bundle_quantity bundle.now (value_of policy.entry) (value_of name.entry)) }
+        (λ bundle. bundle_quantity bundle.now (value_of policy.now) (value_of name.now)) }
 {
     match own_value {
         Some(bundle) => bundle_quantity(policy, name, bundle),
@@ -62,9 +65,9 @@ pub fn own<'a>(policy: Value<'a>, name: Value<'a>, own_value: Option<&Bundle>) -
 }
 
 /// How much of a token all spent outputs hold.
-pub fn spent<'a>(policy: Value<'a>, name: Value<'a>, sum: &Sum) -> Value<'a>
+pub fn spent<'a>(policy: &Value<'a>, name: &Value<'a>, sum: &Sum) -> Value<'a>
     ensures { value_of result ≡
-        amount (token_in (value_of policy.entry) (value_of name.entry)) (total_of sum.now) }
+        amount (token_in (value_of policy.now) (value_of name.now)) (total_of sum.now) }
 {
     match token_of(policy, name) {
         Some((policy, name)) => Value::Whole(sum.total(policy, name)),

@@ -10,53 +10,56 @@ ghost use Rattle.mp_script.specs.Meaning.{on, datum_in, place_in, list_item};
 use crate::datum_ref::DatumRef;
 use crate::value::Value;
 
-fn tree(value: Value<'_>) -> Option<DatumRef<'_>>
-    ensures { option_map tree_of result ≡ datum_in (value_of value.entry) }
+fn place(value: &Value) -> Option<u64>
+    ensures { result ≡ place_in (value_of value.now) }
 {
-    match value {
-        Value::Tree(part) => Some(part),
-        _ => None,
-    }
-}
-
-fn place(value: Value) -> Option<u64>
-    ensures { result ≡ place_in (value_of value.entry) }
-{
-    match value {
+    match *value {
         Value::Whole(number) => u64::try_from(number).ok(),
         _ => None,
     }
 }
 
-fn number_of(value: Value) -> Option<i64>
-    ensures { result ≡ option_and_then number_in (datum_in (value_of value.entry)) }
+fn number_of(value: &Value) -> Option<i64>
+    ensures { result ≡ option_and_then number_in (datum_in (value_of value.now)) }
 {
-    tree(value)?.number()
+    match value {
+        Value::Tree(part) => part.number(),
+        _ => None,
+    }
 }
 
-fn octets_of(value: Value<'_>) -> Option<&[u8]>
+fn octets_of<'a>(value: &Value<'a>) -> Option<&'a [u8]>
     ensures { option_map (λ b. b.now) result ≡
-        option_and_then octets_in (datum_in (value_of value.entry)) }
+        option_and_then octets_in (datum_in (value_of value.now)) }
 {
-    tree(value)?.octets()
+    match value {
+        Value::Tree(part) => part.octets(),
+        _ => None,
+    }
 }
 
-fn length_of(value: Value) -> Option<u16>
-    ensures { result ≡ option_and_then length_in (datum_in (value_of value.entry)) }
+fn length_of(value: &Value) -> Option<u16>
+    ensures { result ≡ option_and_then length_in (datum_in (value_of value.now)) }
 {
-    tree(value)?.length()
+    match value {
+        Value::Tree(part) => part.length(),
+        _ => None,
+    }
 }
 
-fn item_of<'a>(list: Value<'a>, at: Value<'a>) -> Option<DatumRef<'a>>
-    ensures { option_map tree_of result ≡ list_item (value_of list.entry) (value_of at.entry) }
+fn item_of<'a>(list: &Value<'a>, at: &Value<'a>) -> Option<DatumRef<'a>>
+    ensures { option_map tree_of result ≡ list_item (value_of list.now) (value_of at.now) }
 {
-    tree(list)?.item(place(at)?)
+    match (list, place(at)) {
+        (Value::Tree(part), Some(place)) => part.item(place),
+        _ => None,
+    }
 }
 
 /// The number of a datum that is a number.
-pub fn as_int(datum: Value<'_>) -> Value<'_>
+pub fn as_int<'a>(datum: &Value<'a>) -> Value<'a>
     ensures { value_of result ≡
-        on (option_and_then number_in (datum_in (value_of datum.entry))) whole }
+        on (option_and_then number_in (datum_in (value_of datum.now))) whole }
 {
     match number_of(datum) {
         Some(number) => Value::Whole(number as i128),
@@ -65,9 +68,9 @@ pub fn as_int(datum: Value<'_>) -> Value<'_>
 }
 
 /// The bytes of a datum that is bytes.
-pub fn as_bytes(datum: Value<'_>) -> Value<'_>
+pub fn as_bytes<'a>(datum: &Value<'a>) -> Value<'a>
     ensures { value_of result ≡
-        on (option_and_then octets_in (datum_in (value_of datum.entry))) octets }
+        on (option_and_then octets_in (datum_in (value_of datum.now))) octets }
 {
     match octets_of(datum) {
         Some(octets) => Value::Octets(octets),
@@ -76,9 +79,9 @@ pub fn as_bytes(datum: Value<'_>) -> Value<'_>
 }
 
 /// The number of items of a list.
-pub fn length(datum: Value<'_>) -> Value<'_>
+pub fn length<'a>(datum: &Value<'a>) -> Value<'a>
     ensures { value_of result ≡
-        on (option_and_then length_in (datum_in (value_of datum.entry))) (λ n. whole (pos n)) }
+        on (option_and_then length_in (datum_in (value_of datum.now))) (λ n. whole (pos n)) }
 {
     match length_of(datum) {
         Some(length) => Value::Whole(length as i128),
@@ -87,8 +90,8 @@ pub fn length(datum: Value<'_>) -> Value<'_>
 }
 
 /// The item of a list at a place, from 0.
-pub fn item<'a>(datum: Value<'a>, at: Value<'a>) -> Value<'a>
-    ensures { value_of result ≡ on (list_item (value_of datum.entry) (value_of at.entry)) tree }
+pub fn item<'a>(datum: &Value<'a>, at: &Value<'a>) -> Value<'a>
+    ensures { value_of result ≡ on (list_item (value_of datum.now) (value_of at.now)) tree }
 {
     match item_of(datum, at) {
         Some(item) => Value::Tree(item),

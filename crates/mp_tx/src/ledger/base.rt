@@ -62,6 +62,15 @@ fn put_changes(base: &mut Base, changes: Changes) -> Result<(), NoMemory>
     Ok(())
 }
 
+// Puts shares of the old outputs in, but for those whose references the changes have, and then what the changes made.
+fn put_all(base: &mut Base, old: &Base, changes: Changes) -> Result<(), NoMemory>
+    ensures { OnOk result (base.new.entries ≡ fold with_change
+        (fold (with_kept changes.entries) base.old.entries old.now.entries) changes.entries) }
+{
+    put_all_kept(base, &changes, old)?;
+    put_changes(base, changes)
+}
+
 /// The outputs after the changes, in a table of their own.
 pub fn settled(memory: Memory, old: &Base, changes: Changes) -> Result<Base, NoMemory>
     ensures { IfOk result (λ b. from_entries b.entries
@@ -69,7 +78,6 @@ pub fn settled(memory: Memory, old: &Base, changes: Changes) -> Result<Base, NoM
 {
     let room = old.len() + changes.len();
     let mut base = IndexMap::with_capacity_and_hasher(memory, room, *old.hasher())?;
-    put_all_kept(&mut base, &changes, old)?;
-    put_changes(&mut base, changes)?;
+    put_all(&mut base, old, changes)?;
     Ok(base)
 }

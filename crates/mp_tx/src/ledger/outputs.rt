@@ -1,11 +1,15 @@
 //! The outputs of a ledger state: a table, and layers of changes above it.
 
+ghost use Rattle.std.specs.Prelude.{◌≡◌, ◌++◌, IfOk};
+ghost use Rattle.std.specs.Arc.{arc_value};
+ghost use Rattle.std.specs.FinMap.{from_entries};
 ghost use Rattle.mp_tx.specs.Ledger.{Utxo};
+ghost use Rattle.mp_tx.specs.Inside.Changes.{changed, all_of};
 
 use crate::block_fault::BlockFault;
 use crate::ledger::base::{Base, settled};
 use crate::ledger::change::{Change, Changes, note};
-use crate::ledger::layers::{Layers, RATIO, count_short, join_all, last_change};
+use crate::ledger::layers::{Layer, Layers, RATIO, count_short, join_all, last_change};
 use crate::output::Output;
 use crate::reference::OutRef;
 use crate::salt::Salt;
@@ -35,6 +39,30 @@ impl Model for Outputs {
     ghost use Rattle.mp_tx.specs.Inside.Outputs.{utxo};
 
     ghost view = { utxo };
+}
+
+// The outputs of the table after the changes, in a table of their own.
+fn make_table(memory: Memory, base: &Base, changes: Changes) -> Result<Outputs, NoMemory>
+    ensures { IfOk result (λ o. o ≡ changed (from_entries base.now.entries) changes.entries) }
+{
+    Outputs::of(memory, settled(memory, base, changes)?)
+}
+
+// The outputs of the table after the older changes and these, which become a layer above those.
+fn make_layers(
+    memory: Memory,
+    base: &Arc<Base, Memory>,
+    changes: Changes,
+    older: &[Layer],
+) -> Result<Outputs, NoMemory>
+    ensures { IfOk result (λ o. o ≡ changed (from_entries (arc_value base.now).entries)
+        (changes.entries ++ all_of older.now)) }
+{
+    let layers = Layers::over(memory, changes, older)?;
+    Ok(Outputs {
+        base: Arc::try_clone(base)?,
+        layers,
+    })
 }
 
 impl Outputs {
@@ -138,12 +166,10 @@ impl Outputs {
         let (short, long) = layers.split_at(count_short(layers, changes.len()));
         join_all(&mut changes, short)?;
         if long.is_empty() && self.base.len() / RATIO < changes.len() {
-            return Outputs::of(memory, settled(memory, &self.base, changes)?);
+            make_table(memory, &self.base, changes)
+        } else {
+            make_layers(memory, &self.base, changes, long)
         }
-        Ok(Outputs {
-            base: Arc::try_clone(&self.base)?,
-            layers: Layers::over(memory, changes, long)?,
-        })
     }
 
     /// The outputs without what is spent, and with what is made.

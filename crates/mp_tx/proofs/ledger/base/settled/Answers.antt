@@ -9,6 +9,5 @@ pub returns : goal.returns
 returns c =
     let old = c.args.old.now.entries in
     let cs = c.args.changes.entries in
-    let kept = c.in_ok-put_all_kept.ensures ∙ ap (λ es. fold (with_kept cs) es old) c.in_ok-base.ensures.empty in
-    ap (from_entries {R = ref_cmp}) (c.in_ok-put_changes.ensures ∙ ap (λ es. fold with_change es cs) kept)
-    ∙ from_entries-settled old cs c.len.ensures.unique c.len-2.ensures.unique
+    let all = c.in_ok-put_all.ensures ∙ ap (λ es. fold with_change (fold (with_kept cs) es old) cs) c.in_ok-base.ensures.empty in
+    ap (from_entries {R = ref_cmp}) all ∙ from_entries-settled old cs c.len.ensures.unique c.len-2.ensures.unique

@@ -18,13 +18,13 @@ returns-then-len c =
     let joined = c.in_ok-join_all.ensures ∙ ap (λ (ls : List Noted). fold with_earlier cs (all_of ls)) front in
     let zero : length c.split_at.result.1.now ≡ 0 = Prim.search (rules, tests) in
     let above =
-    c.in_ok-settled.ensures ∙ ap (λ m. changed (from_entries {R = ref_cmp} m.entries) new) c.deref-then-len.ensures
+    ap (λ m. changed (from_entries {R = ref_cmp} m.entries) new) c.deref-then-len.ensures
     ∙ settled_layers (from_entries (arc_value o.base).entries) cs new o.layers n joined (sym back ∙ nothing_in _ zero)
     ∙ ap (λ (u : Utxo). changed u cs) c.self.view_is in
-    if_ok c.of.result (λ m is. is ∙ above) c.of.ensures
+    if_ok c.make_table.result (λ m is. is ∙ above) c.make_table.ensures
 
-pub returns : goal.returns
-returns c =
+pub returns-else-is_empty : goal.returns-else-is_empty
+returns-else-is_empty c =
     let o = c.self.inside in
     let n = c.count_short.result in
     let cs = c.args.changes.entries in
@@ -33,8 +33,8 @@ returns c =
     let back = c.split_at.ensures.back ∙ ap (λ (ls : List Noted). drop n ls) c.as_slice-layers.ensures in
     let joined = c.in_ok-join_all.ensures ∙ ap (λ (ls : List Noted). fold with_earlier cs (all_of ls)) front in
     let base = from_entries {R = ref_cmp} (arc_value o.base).entries in
-    ap (λ m. changed (from_entries {R = ref_cmp} m.entries) (all_of c.in_ok-over.field-0)) c.in_ok-try_clone.ensures
-    ∙ ap (λ (ls : List Noted). changed base (all_of ls)) c.in_ok-over.ensures
-    ∙ ap (λ (ls : List Noted). changed base (new ++ all_of ls)) back
+    let above =
+    ap (λ (ls : List Noted). changed base (new ++ all_of ls)) back
     ∙ layered base cs new o.layers n joined
-    ∙ ap (λ (u : Utxo). changed u cs) c.self.view_is
+    ∙ ap (λ (u : Utxo). changed u cs) c.self.view_is in
+    if_ok c.make_layers.result (λ m is. is ∙ above) c.make_layers.ensures
