@@ -1,3 +1,4 @@
+pub mod Commands
 pub mod Given
 pub mod Kept
 pub mod Numbers

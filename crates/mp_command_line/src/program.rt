@@ -2,7 +2,7 @@
 
 ghost use Rattle.std.specs.Prelude.{◌≡◌, IfOk, codes, false};
 ghost use Rattle.clap.specs.declared.builder.command.Command.TheViews.{out-Command as fields_of};
-ghost use Rattle.clap.specs.Words.{app_of, rule_of};
+ghost use Rattle.clap.specs.Words.{App, app_of, new_app, rule_of, with_rule, with_subcommand};
 ghost use Rattle.mp_command_line.specs.CommandLine as spec;
 ghost use Rattle.mp_command_line.specs.Inside.Alike.{IsAlike};
 
@@ -38,11 +38,22 @@ where the command line is refused.";
 pub(crate) fn program<'a>(alloc: Global) -> Result<Command<'a>, AllocError>
     ensures { IfOk result (λ c. IsAlike (app_of c) spec.program) }
 {
-    bare_program(alloc)?
-        .subcommand(run_command(alloc)?)?
-        .subcommand(race_command(alloc)?)?
-        .subcommand(audit_command(alloc)?)?
-        .subcommand(serve_command(alloc, SIGNATURES)?)
+    let program = add_command(bare_program(alloc), run_command(alloc));
+    let program = add_command(program, race_command(alloc));
+    let program = add_command(program, audit_command(alloc));
+    add_command(program, serve_command(alloc, SIGNATURES))
+}
+
+// Puts a command under the program, where memory sufficed for both.
+fn add_command<'a>(
+    program: Result<Command<'a>, AllocError>,
+    command: Result<Command<'a>, AllocError>,
+) -> Result<Command<'a>, AllocError>
+    ensures { (a b : App) → IfOk program.entry (λ p. app_of p ≡ a)
+        → IfOk command.entry (λ c. (app_of c ≡ b) × ((fields_of c).has_globals ≡ false))
+        → IfOk result (λ p. app_of p ≡ with_subcommand a b.top) }
+{
+    program?.subcommand(command?)
 }
 
 fn bare_program<'a>(alloc: Global) -> Result<Command<'a>, AllocError>
@@ -58,106 +69,125 @@ fn bare_program<'a>(alloc: Global) -> Result<Command<'a>, AllocError>
 }
 
 fn run_command<'a>(alloc: Global) -> Result<Command<'a>, AllocError>
-    ensures shape { IfOk result (λ c. app_of c ≡ spec.run_command) }
-    ensures local { IfOk result (λ c. (fields_of c).has_globals ≡ false) }
+    ensures { IfOk result (λ c. (app_of c ≡ spec.run_command)
+        × ((fields_of c).has_globals ≡ false)) }
 {
-    Command::new(alloc, "run")
-        .about("Runs a scenario and writes its answers to standard output")
-        .arg(explain_flag(alloc))?
-        .arg(scenario_file(alloc))
+    let about = "Runs a scenario and writes its answers to standard output";
+    let command = new_command(alloc, "run", about).arg(explain_flag(alloc));
+    add_arg(command, scenario_file(alloc))
 }
 
 fn race_command<'a>(alloc: Global) -> Result<Command<'a>, AllocError>
-    ensures shape { IfOk result (λ c. app_of c ≡ spec.race_command) }
-    ensures local { IfOk result (λ c. (fields_of c).has_globals ≡ false) }
+    ensures { IfOk result (λ c. (app_of c ≡ spec.race_command)
+        × ((fields_of c).has_globals ≡ false)) }
 {
-    let command = Command::new(alloc, "race")
-        .about("Deals a scenario's commands to workers that race for one pool, and audits its log")
-        .arg(workers_option(alloc))?;
-    with_wishes(alloc, command)?
-        .arg(explain_flag(alloc))?
-        .arg(scenario_file(alloc))
+    let about = "Deals a scenario's commands to workers that race for one pool, and audits its log";
+    let command = new_command(alloc, "race", about).arg(workers_option(alloc));
+    let command = add_arg(add_wishes(alloc, command), explain_flag(alloc));
+    add_arg(command, scenario_file(alloc))
 }
 
-fn with_wishes<'a>(alloc: Global, command: Command<'a>) -> Result<Command<'a>, AllocError>
-    requires local { (fields_of command).has_globals ≡ false }
-    ensures shape { IfOk result (λ c. app_of c ≡ spec.with_wishes (app_of command.entry)) }
-    ensures local { IfOk result (λ c. (fields_of c).has_globals ≡ false) }
+fn add_wishes<'a>(
+    alloc: Global,
+    command: Result<Command<'a>, AllocError>,
+) -> Result<Command<'a>, AllocError>
+    ensures { (a : App)
+        → IfOk command.entry (λ c. (app_of c ≡ a) × ((fields_of c).has_globals ≡ false))
+        → IfOk result (λ c. (app_of c ≡ spec.with_wishes a)
+        × ((fields_of c).has_globals ≡ false)) }
 {
-    command
-        .arg(output_option(alloc, "history", "Also writes the race's history there"))?
-        .arg(output_option(alloc, "svg", "Also draws a picture of the race there"))?
-        .arg(verify_us_option(alloc))
+    let history = value_option(
+        alloc,
+        "history",
+        "FILE",
+        "Also writes the race's history there",
+    );
+    let picture = value_option(
+        alloc,
+        "svg",
+        "FILE",
+        "Also draws a picture of the race there",
+    );
+    let command = add_arg(add_arg(command, history), picture);
+    add_arg(command, verify_us_option(alloc))
 }
 
 fn audit_command<'a>(alloc: Global) -> Result<Command<'a>, AllocError>
-    ensures shape { IfOk result (λ c. app_of c ≡ spec.audit_command) }
-    ensures local { IfOk result (λ c. (fields_of c).has_globals ≡ false) }
+    ensures { IfOk result (λ c. (app_of c ≡ spec.audit_command)
+        × ((fields_of c).has_globals ≡ false)) }
 {
-    Command::new(alloc, "audit")
-        .about("Replays a history that a pool wrote over a scenario, and says whether it is legal")
-        .arg(explain_flag(alloc))?
-        .arg(input_file(alloc, "FILE", "SCENARIO", "The scenario"))?
-        .arg(input_file(
-            alloc,
-            "history",
-            "HISTORY",
-            "The history, as race --history writes it",
-        ))
+    let about = "Replays a history that a pool wrote over a scenario, and says whether it is legal";
+    let command = new_command(alloc, "audit", about).arg(explain_flag(alloc));
+    let scenario = input_file(alloc, "FILE", "SCENARIO", "The scenario");
+    let history_help = "The history, as race --history writes it";
+    let history = input_file(alloc, "history", "HISTORY", history_help);
+    add_arg(add_arg(command, scenario), history)
 }
 
 fn serve_command<'a>(alloc: Global, names: &'a [&'a str]) -> Result<Command<'a>, AllocError>
-    ensures shape { IfOk result (λ c. app_of c ≡ spec.serve_command names.entry) }
-    ensures local { IfOk result (λ c. (fields_of c).has_globals ≡ false) }
+    ensures { IfOk result (λ c. (app_of c ≡ spec.serve_command names.entry)
+        × ((fields_of c).has_globals ≡ false)) }
 {
     let about =
         "Holds a conversation with a pool: answers each line of standard input on standard output";
-    Command::new(alloc, "serve")
-        .about(about)
-        .arg(signatures_option(alloc, names))
+    new_command(alloc, "serve", about).arg(signatures_option(alloc, names))
+}
+
+fn new_command<'a>(alloc: Global, name: &'a str, about: &'a str) -> Command<'a>
+    ensures { (app_of result ≡ new_app name.now) × ((fields_of result).has_globals ≡ false) }
+{
+    Command::new(alloc, name).about(about)
+}
+
+// Gives an argument to the command, where memory sufficed for that.
+fn add_arg<'a>(
+    command: Result<Command<'a>, AllocError>,
+    arg: Arg<'a>,
+) -> Result<Command<'a>, AllocError>
+    requires local { arg.global ≡ false }
+    ensures { (a : App)
+        → IfOk command.entry (λ c. (app_of c ≡ a) × ((fields_of c).has_globals ≡ false))
+        → IfOk result (λ c. (app_of c ≡ with_rule a (rule_of arg.entry))
+        × ((fields_of c).has_globals ≡ false)) }
+{
+    command?.arg(arg)
 }
 
 fn workers_option<'a>(alloc: Global) -> Arg<'a>
     ensures rule { rule_of result ≡ spec.workers_rule }
     ensures local { result.global ≡ false }
 {
-    Arg::new(alloc, "workers")
-        .long("workers")
-        .value_name("N")
+    value_option(alloc, "workers", "N", "How many workers race, from 1 to 64")
         .value_parser(value_parser!(u64).range(1..=64))
         .required(true)
-        .help("How many workers race, from 1 to 64")
 }
 
 fn verify_us_option<'a>(alloc: Global) -> Arg<'a>
     ensures rule { rule_of result ≡ spec.verify_us_rule }
     ensures local { result.global ≡ false }
 {
-    Arg::new(alloc, "verify-us")
-        .long("verify-us")
-        .value_name("MICROSECONDS")
-        .value_parser(value_parser!(u64).range(0..=1_000_000))
-        .help("For measuring: how long each look at a signature takes, from 0 to 1000000")
+    let help = "For measuring: how long each look at a signature takes, from 0 to 1000000";
+    value_option(alloc, "verify-us", "MICROSECONDS", help).value_parser(value_parser!(u64).range(
+        0..=1_000_000,
+    ))
 }
 
 fn signatures_option<'a>(alloc: Global, names: &'a [&'a str]) -> Arg<'a>
     ensures rule { rule_of result ≡ spec.signatures_rule names.entry }
     ensures local { result.global ≡ false }
 {
-    Arg::new(alloc, "signatures")
-        .long("signatures")
-        .value_name("WHICH")
-        .value_parser(ValueParser::Names(names))
-        .help("Which signatures to accept: those of scenarios, or all, as checked by the host")
+    let help = "Which signatures to accept: those of scenarios, or all, as checked by the host";
+    value_option(alloc, "signatures", "WHICH", help).value_parser(ValueParser::Names(names))
 }
 
-fn output_option<'a>(alloc: Global, name: &'a str, help: &'a str) -> Arg<'a>
+// An option with a value, which help calls by the name `value`.
+fn value_option<'a>(alloc: Global, name: &'a str, value: &'a str, help: &'a str) -> Arg<'a>
     ensures rule { rule_of result ≡ spec.output_rule name.now }
     ensures local { result.global ≡ false }
 {
     Arg::new(alloc, name)
         .long(name)
-        .value_name("FILE")
+        .value_name(value)
         .help(help)
 }
 

@@ -96,36 +96,36 @@ fn key_of(word: &[u8]) -> Result<u8, Reason<'_>>
     Ok(key as u8)
 }
 
-fn looks_at<'a>(names: &Names, word: &'a [u8]) -> Result<Field, Reason<'a>>
-    ensures { result_ok result ≡ option_map told.LooksAt (ref_of names.now word.now) }
+fn looks_at<'a>(names: &Names, word: &'a [u8]) -> Result<Field, LineFault<'a>>
+    ensures { Reads (option_map told.LooksAt (ref_of names.now word.now)) result }
 {
     let reference = ref_of(names, word)?;
     Ok(Field::LooksAt(reference))
 }
 
-fn from(word: &[u8]) -> Result<Field, Reason<'_>>
-    ensures { result_ok result ≡ option_map told.From (number_of word.now) }
+fn from(word: &[u8]) -> Result<Field, LineFault<'_>>
+    ensures { Reads (option_map told.From (number_of word.now)) result }
 {
     let tick = any_number(word)?;
     Ok(Field::From(tick))
 }
 
-fn to(word: &[u8]) -> Result<Field, Reason<'_>>
-    ensures { result_ok result ≡ option_map told.To (number_of word.now) }
+fn to(word: &[u8]) -> Result<Field, LineFault<'_>>
+    ensures { Reads (option_map told.To (number_of word.now)) result }
 {
     let tick = any_number(word)?;
     Ok(Field::To(tick))
 }
 
-fn signs(word: &[u8]) -> Result<Field, Reason<'_>>
-    ensures { result_ok result ≡ option_map good_signer (key_of word.now) }
+fn signs(word: &[u8]) -> Result<Field, LineFault<'_>>
+    ensures { Reads (option_map good_signer (key_of word.now)) result }
 {
     let key = key_of(word)?;
     Ok(Field::Signs(Signer { key, is_good: true }))
 }
 
-fn signs_badly(word: &[u8]) -> Result<Field, Reason<'_>>
-    ensures { result_ok result ≡ option_map bad_signer (key_of word.now) }
+fn signs_badly(word: &[u8]) -> Result<Field, LineFault<'_>>
+    ensures { Reads (option_map bad_signer (key_of word.now)) result }
 {
     let key = key_of(word)?;
     Ok(Field::Signs(Signer {
@@ -174,9 +174,9 @@ fn witness_field<'a>(
     if kind == b"policy".as_slice() {
         carries(memory, names, value)
     } else if kind == b"sign".as_slice() {
-        Ok(signs(value)?)
+        signs(value)
     } else if kind == b"badsign".as_slice() {
-        Ok(signs_badly(value)?)
+        signs_badly(value)
     } else {
         Err(LineFault::Bad(Reason::Item(item)))
     }
@@ -192,9 +192,9 @@ fn limit_field<'a>(
     ensures { Reads (limit_field names.now kind.now value.now) result }
 {
     if kind == b"from".as_slice() {
-        Ok(from(value)?)
+        from(value)
     } else if kind == b"to".as_slice() {
-        Ok(to(value)?)
+        to(value)
     } else if kind == b"forge".as_slice() {
         forges(memory, names, value)
     } else {
@@ -214,7 +214,7 @@ fn field_by<'a>(
     if kind == b"in".as_slice() {
         spends(memory, names, value)
     } else if kind == b"ref".as_slice() {
-        Ok(looks_at(names, value)?)
+        looks_at(names, value)
     } else if kind == b"out".as_slice() {
         pays(memory, names, value)
     } else {

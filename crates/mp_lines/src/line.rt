@@ -1,8 +1,10 @@
 //! What a line asks.
 
-ghost use Rattle.std.specs.Prelude.{◌≡◌, Some, None};
+ghost use Rattle.std.specs.Prelude.{◌≡◌, Some, None, option_map};
+ghost use Rattle.std.specs.Result.{result_ok};
 ghost use Rattle.mp_text.specs.Words.{words_of};
 ghost use Rattle.mp_lines.specs.Lines.{command_line, declaration_line, asked_line, words_line, line_of};
+ghost use Rattle.mp_lines.specs.Lines as lines;
 ghost use Rattle.mp_names.specs.Fault.{Gives};
 ghost use Rattle.mp_lines.specs.Inside.Line.{to_line};
 
@@ -10,7 +12,7 @@ use crate::commands::{for_line, query_line, remove_line, submit_line, sync_line}
 use crate::declarations::{data_line, output_line, script_line, tx_line};
 use crate::forms::{BLOCK, DATA, FOR, LAST, LIMIT, OUT, REMOVE, SCRIPT, SUBMIT, SYNC, TICK, TX};
 use crate::query::Query;
-use crate::settings::{block_line, last_line, limit_line, tick_line};
+use crate::settings::{block_setting, last_setting, limit_setting, tick_setting};
 use mp_memory::Memory;
 use mp_names::{
     DeclaredTx, LineFault, Name, NamedDatum, NamedScript, Names, NewLedger, Payment, Reason,
@@ -84,6 +86,12 @@ fn declaration_line<'a>(
     }
 }
 
+fn sets<'a>(setting: Result<Setting, Reason<'a>>) -> Result<Line, LineFault<'a>>
+    ensures { Gives to_line (option_map lines.Sets (result_ok setting.entry)) result }
+{
+    Ok(Line::Sets(setting?))
+}
+
 fn asked_line<'a>(
     memory: Memory,
     names: &Names,
@@ -93,13 +101,13 @@ fn asked_line<'a>(
     ensures { Gives to_line (asked_line names.now word.now (words_of words.now)) result }
 {
     if word == BLOCK.word {
-        block_line(words)
+        sets(block_setting(words))
     } else if word == LIMIT.word {
-        limit_line(words)
+        sets(limit_setting(words))
     } else if word == LAST.word {
-        last_line(words)
+        sets(last_setting(words))
     } else if word == TICK.word {
-        tick_line(words)
+        sets(tick_setting(words))
     } else {
         declaration_line(memory, names, word, words)
     }

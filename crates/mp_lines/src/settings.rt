@@ -1,43 +1,49 @@
 //! Lines that set something.
 
+ghost use Rattle.std.specs.Prelude.{◌≡◌, option_and_then, option_map};
+ghost use Rattle.std.specs.Result.{result_ok};
+ghost use Rattle.mp_text.specs.Numbers.{number_of};
 ghost use Rattle.mp_text.specs.Words.{words_of};
-ghost use Rattle.mp_lines.specs.Lines.{block_line, limit_line, last_line, tick_line};
-ghost use Rattle.mp_names.specs.Fault.{Gives};
-ghost use Rattle.mp_lines.specs.Inside.Line.{to_line};
+ghost use Rattle.mp_names.specs.declared.settings.Setting.TheVariants as told;
+ghost use Rattle.mp_names.specs.Settings.{block_bytes_of, limit_of};
+ghost use Rattle.mp_lines.specs.Words.{one_word};
 
 use crate::forms::{BLOCK, LAST, LIMIT, TICK};
-use crate::line::Line;
 use crate::words::one_word;
-use mp_names::{LineFault, Setting};
+use mp_names::{Reason, Setting};
 
 /// block N
-pub fn block_line(words: &[u8]) -> Result<Line, LineFault<'_>>
-    ensures { Gives to_line (block_line (words_of words.now)) result }
+pub fn block_setting(words: &[u8]) -> Result<Setting, Reason<'_>>
+    ensures { result_ok result ≡ option_map told.BlockBytes
+        (option_and_then block_bytes_of (one_word (words_of words.now))) }
 {
     let word = one_word(BLOCK.text, words)?;
-    Ok(Line::Sets(Setting::block_bytes(word)?))
+    Setting::block_bytes(word)
 }
 
 /// limit N
-pub fn limit_line(words: &[u8]) -> Result<Line, LineFault<'_>>
-    ensures { Gives to_line (limit_line (words_of words.now)) result }
+pub fn limit_setting(words: &[u8]) -> Result<Setting, Reason<'_>>
+    ensures { result_ok result ≡ option_map told.Limit
+        (option_and_then limit_of (one_word (words_of words.now))) }
 {
     let word = one_word(LIMIT.text, words)?;
-    Ok(Line::Sets(Setting::limit(word)?))
+    Setting::limit(word)
 }
 
 /// last N
-pub fn last_line(words: &[u8]) -> Result<Line, LineFault<'_>>
-    ensures { Gives to_line (last_line (words_of words.now)) result }
+pub fn last_setting(words: &[u8]) -> Result<Setting, Reason<'_>>
+    ensures { result_ok result ≡ option_map told.Last
+        (option_and_then number_of (one_word (words_of words.now))) }
 {
     let word = one_word(LAST.text, words)?;
-    Ok(Line::Sets(Setting::last(word)?))
+    Setting::last(word)
 }
 
 /// tick N
-pub fn tick_line(words: &[u8]) -> Result<Line, LineFault<'_>>
-    ensures { Gives to_line (tick_line (words_of words.now)) result }
+pub fn tick_setting(words: &[u8]) -> Result<Setting, Reason<'_>>
+    ensures { result_ok result ≡ option_map told.Tick
+        (option_and_then number_of (one_word (words_of words.now))) }
 {
     let word = one_word(TICK.text, words)?;
-    Ok(Line::Sets(Setting::tick(word)?))
+    Setting::tick(word)
 }

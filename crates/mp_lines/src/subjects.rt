@@ -47,12 +47,16 @@ fn are_same(memory: Memory, names: &Names, one: &[u8], other: &[u8]) -> bool {
     }
 }
 
+fn is_bad(memory: Memory, names: &Names, word: &[u8]) -> bool {
+    !word.is_empty() && field_of(memory, names, word).is_err()
+}
+
 /// The first field that says what one before it says, where no two may, unless one before it is bad.
 pub fn repeat_in<'a>(memory: Memory, names: &Names, words: &'a [u8]) -> Option<Reason<'a>> {
     first_repeat(
         words,
         b' ',
-        |word| !word.is_empty() && field_of(memory, names, word).is_err(),
+        |word| is_bad(memory, names, word),
         |one, other| are_same(memory, names, one, other),
     )
 }

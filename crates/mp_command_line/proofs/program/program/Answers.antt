@@ -1,20 +1,18 @@
-use Rattle.std.proofs.Common.{◌∙◌, ap, ap₂, refl, sym, subst}
+use Rattle.std.proofs.Common.{refl, sym, subst}
 use Rattle.std.proofs.lemmas.Result.{IfOk-weaker}
 use Rattle.clap.specs.Simple.{App, with_subcommand}
-use Rattle.mp_command_line.specs.CommandLine.{program}
+use Rattle.mp_command_line.specs.CommandLine as spec
 use Rattle.mp_command_line.specs.Inside.Alike.{IsAlike}
 use Rattle.mp_command_line.proofs.Places.{program_alike}
 use Rattle.mp_command_line.proofs.program.program.Goals as goal
 
 pub returns : goal.returns
 returns c =
-    let with_run = c.in_ok-subcommand.ensures.shape c.in_ok-run_command.ensures.local
-    ∙ ap₂ with_subcommand c.in_ok-bare_program.ensures (ap (λ (a : App). a.top) c.in_ok-run_command.ensures.shape) in
-    let with_race = c.in_ok-subcommand-2.ensures.shape c.in_ok-race_command.ensures.local
-    ∙ ap₂ with_subcommand with_run (ap (λ (a : App). a.top) c.in_ok-race_command.ensures.shape) in
-    let with_audit = c.in_ok-subcommand-3.ensures.shape c.in_ok-audit_command.ensures.local
-    ∙ ap₂ with_subcommand with_race (ap (λ (a : App). a.top) c.in_ok-audit_command.ensures.shape) in
-    IfOk-weaker c.subcommand-4.result _ _ (λ r h. subst (λ (a : App). IsAlike a program)
-    (sym (h.shape c.in_ok-serve_command.ensures.local
-    ∙ ap₂ with_subcommand with_audit (ap (λ (a : App). a.top) c.in_ok-serve_command.ensures.shape)))
-    (program_alike _ refl)) c.subcommand-4.ensures
+    let run = with_subcommand spec.bare_program spec.run_command.top in
+    let race = with_subcommand run spec.race_command.top in
+    let audit = with_subcommand race spec.audit_command.top in
+    let by_run = c.add_command-program.ensures spec.bare_program spec.run_command c.bare_program.ensures c.run_command.ensures in
+    let by_race = c.add_command-program-2.ensures run spec.race_command by_run c.race_command.ensures in
+    let by_audit = c.add_command-program-3.ensures race spec.audit_command by_race c.audit_command.ensures in
+    IfOk-weaker c.add_command.result _ _ (λ p h. subst (λ (a : App). IsAlike a spec.program) (sym h) (program_alike _ refl))
+    (c.add_command.ensures audit _ by_audit c.serve_command.ensures)

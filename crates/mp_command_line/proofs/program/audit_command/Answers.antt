@@ -1,0 +1,18 @@
+use Rattle.std.proofs.Common.{codes}
+use Rattle.clap.specs.Words.{new_app, rule_of, with_rule}
+use Rattle.mp_command_line.specs.CommandLine as spec
+use Rattle.mp_command_line.proofs.Commands.{added, ruled}
+use Rattle.mp_command_line.proofs.program.audit_command.Goals as goal
+
+pub returns : goal.returns
+returns c =
+    let bare = new_app (codes "audit") in
+    let explained = with_rule bare spec.explain_rule in
+    let scenario = spec.input_rule (codes "FILE") in
+    let with_scenario = with_rule explained scenario in
+    let by_flag = added c.new_command.result c.explain_flag.result bare spec.explain_rule c.arg-command.result
+    c.new_command.ensures c.explain_flag.ensures.rule c.explain_flag.ensures.local c.arg-command.ensures in
+    let by_scenario = ruled c.add_arg.result explained (rule_of c.input_file-scenario.result) scenario
+    c.input_file-scenario.ensures.rule (c.add_arg.ensures explained by_flag) in
+    ruled c.add_arg-2.result with_scenario (rule_of c.input_file-history.result) (spec.input_rule (codes "history"))
+    c.input_file-history.ensures.rule (c.add_arg-2.ensures with_scenario by_scenario)
