@@ -4,8 +4,7 @@ ghost use Rattle.std.specs.Prelude.{true};
 
 use crate::rows::Row;
 use crate::vectors::transaction::transaction;
-use crate::vectors::{Names, ledger, upon};
-use anyhow::Result as Made;
+use crate::vectors::{Names, Wrong, ledger, upon};
 use mp_memory::Memory;
 use mp_rules::{Invalid, Resolved, Verifier, check, check_with, precheck};
 use mp_testing::{Call, Seen, TrialFault, Trialled, under_each_refusal};
@@ -113,7 +112,12 @@ impl Call for Checking {
     }
 }
 
-fn make_checking(memory: Memory, outputs: &str, parts: &str, before: &str) -> Made<Checking> {
+fn make_checking(
+    memory: Memory,
+    outputs: &str,
+    parts: &str,
+    before: &str,
+) -> Result<Checking, Wrong> {
     let names = Names::new(memory);
     Ok(Checking {
         memory,
@@ -129,7 +133,7 @@ fn make_checking(memory: Memory, outputs: &str, parts: &str, before: &str) -> Ma
 fn tried(memory: Memory, outputs: &str, parts: &str, before: &str) -> Result<Trialled, TrialFault> {
     match make_checking(memory, outputs, parts, before) {
         Ok(checking) => under_each_refusal(&memory, &checking),
-        Err(_fault) => Err(TrialFault::NotMade),
+        Err(_wrong) => Err(TrialFault::NotMade),
     }
 }
 

@@ -11,17 +11,19 @@ mod pieces;
 mod plain;
 pub mod transaction;
 mod verifier;
+mod wrong;
 
-use anyhow::{Context, Result, bail};
+use anyhow::{Context, Result};
 pub use case::{ledger, upon};
 pub use kind::Kind;
 use mp_memory::Memory;
 pub use names::Names;
 use std::rt::Files;
 use std::{fs, io};
+pub use wrong::Wrong;
 
 // How many cases a line has, where they hold: one, or none where it is blank or a comment, or gives a name to something.
-fn count_held(names: &mut Names, kind: Kind, line: &str) -> Result<u64> {
+fn count_held(names: &mut Names, kind: Kind, line: &str) -> wrong::Result<u64> {
     if line.is_empty() || line.starts_with('#') {
         return Ok(0);
     }
@@ -29,7 +31,7 @@ fn count_held(names: &mut Names, kind: Kind, line: &str) -> Result<u64> {
         Some(("word", rest)) => names.put_word(rest),
         Some(("tx", rest)) => names.put_transaction(rest),
         Some(_) => kind.check(names, line),
-        None => bail!("no words"),
+        None => Err(Wrong::Because("no words")),
     }
 }
 
@@ -41,7 +43,8 @@ fn check_lines(rt: &impl Print, names: &mut Names, kind: Kind, text: &str) -> io
         number = number.wrapping_add(1);
         match count_held(names, kind, line) {
             Ok(cases) => held = held.wrapping_add(cases),
-            Err(fault) => println!(rt; "{name}:{number}: {fault}: {line}")?,
+            Err(Wrong::Because(why)) => println!(rt; "{name}:{number}: {why}: {line}")?,
+            Err(Wrong::Fault(fault)) => println!(rt; "{name}:{number}: fault {fault}: {line}")?,
         }
     }
     Ok(held)

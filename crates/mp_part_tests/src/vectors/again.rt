@@ -6,7 +6,7 @@ use crate::vectors::check::check_tx;
 use crate::vectors::names::Names;
 use crate::vectors::transaction::transaction;
 use crate::vectors::verifier::KeyThenId;
-use anyhow::{Result, bail};
+use crate::vectors::wrong::{Result, Wrong};
 use mp_rules::{Invalid, check_with, precheck};
 use mp_tx::{Ledger, Output, Tx};
 
@@ -29,7 +29,7 @@ fn check_before(names: &Names, before: &Option<Invalid>, wanted: &str) -> Result
     if is_before(names, before, wanted)? {
         Ok(())
     } else {
-        bail!("before: {before:?}")
+        Err(Wrong::Because("something else was found before"))
     }
 }
 
@@ -40,19 +40,13 @@ fn check_upon(
     outputs: &[Output],
     wanted: Wanted<'_>,
 ) -> Result<()> {
+    let memory = names.memory();
     if outputs.len() != tx.inputs().len() + tx.references().len() {
-        bail!("another number of outputs before")
+        return Err(Wrong::Because("another number of outputs before"));
     }
-    let checked = precheck(names.memory(), tx, outputs, &KeyThenId)?;
+    let checked = precheck(memory, tx, outputs, &KeyThenId)?;
     check_before(names, &checked.fault(), wanted.before)?;
-    let answer = check_with(
-        names.memory(),
-        tx,
-        ledger,
-        ledger.tick(),
-        &checked,
-        &KeyThenId,
-    );
+    let answer = check_with(memory, tx, ledger, ledger.tick(), &checked, &KeyThenId);
     check_answer(names, ledger, tx, &answer, wanted.answer)
 }
 
@@ -81,6 +75,6 @@ pub fn check_case(names: &Names, given: &str, wanted: &str) -> Result<()> {
             let (before, answer) = (before.trim(), answer.trim());
             check_wanted(names, given, Wanted { before, answer })
         }
-        None => bail!("no ','"),
+        None => Err(Wrong::Because("no ','")),
     }
 }

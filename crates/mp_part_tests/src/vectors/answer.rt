@@ -2,17 +2,21 @@
 
 use crate::vectors::names::Names;
 use crate::vectors::plain;
-use anyhow::{Context, Result, bail};
+use crate::vectors::wrong::{self, Wrong};
 use mp_bundle::Token;
 use mp_rules::{Invalid, Resolved};
 use mp_tx::{Ledger, OutRef, Output, Tx};
 
 // Whether a fault is of this token, with these totals, as in `p.x 5 4`.
-fn is_unbalanced(names: &Names, found: &Invalid, words: &str) -> Result<bool> {
-    let (word, totals) = words.split_once(' ').context("no totals")?;
+fn is_unbalanced(names: &Names, found: &Invalid, words: &str) -> wrong::Result<bool> {
+    let (word, totals) = words.split_once(' ').ok_or(Wrong::Because("no totals"))?;
     let (policy, name) = plain::token(names, word)?;
-    let token = Token::of(&policy, name.as_bytes()).context("too long a name")?;
-    let (taken, paid) = totals.split_once(' ').context("no second total")?;
+    let Some(token) = Token::of(&policy, name.as_bytes()) else {
+        return Err(Wrong::Because("too long a name"));
+    };
+    let (taken, paid) = totals
+        .split_once(' ')
+        .ok_or(Wrong::Because("no second total"))?;
     let wanted = Invalid::Unbalanced {
         policy: token.policy,
         name: token.name,
@@ -23,18 +27,18 @@ fn is_unbalanced(names: &Names, found: &Invalid, words: &str) -> Result<bool> {
 }
 
 // Whether this is how a fault is printed for programmers.
-fn is_printed(names: &Names, found: &Invalid, wanted: &str) -> Result<bool> {
+fn is_printed(names: &Names, found: &Invalid, wanted: &str) -> wrong::Result<bool> {
     Ok(format!(in names.memory(); "{found:?}")?.as_str() == wanted)
 }
 
 // Whether a fault has this number and this text.
-fn is_told(names: &Names, found: &Invalid, wanted: &str) -> Result<bool> {
+fn is_told(names: &Names, found: &Invalid, wanted: &str) -> wrong::Result<bool> {
     let number = found.number();
     Ok(format!(in names.memory(); "{number} {found}")?.as_str() == wanted)
 }
 
 // Whether a fault has this name, and what is told with it.
-fn is_fault_of(names: &Names, found: &Invalid, name: &str, words: &str) -> Result<bool> {
+fn is_fault_of(names: &Names, found: &Invalid, name: &str, words: &str) -> wrong::Result<bool> {
     match name {
         "Unbalanced" => is_unbalanced(names, found, words),
         "ForgeWithoutPolicy" => {
@@ -51,7 +55,7 @@ fn is_fault_of(names: &Names, found: &Invalid, name: &str, words: &str) -> Resul
 
 /// Whether a fault is the one of words such as `NoInputs`, `InputMissing 1`, `ForgeWithoutPolicy p`, `Unbalanced p.x 5 4`,
 /// `BadSignature 7` or `2 the transaction has no input`.
-pub fn is_fault(names: &Names, found: &Invalid, wanted: &str) -> Result<bool> {
+pub fn is_fault(names: &Names, found: &Invalid, wanted: &str) -> wrong::Result<bool> {
     match wanted.split_once(' ') {
         Some((digits, _)) if digits.parse::<u64>().is_ok() => is_told(names, found, wanted),
         Some((name, words)) => is_fault_of(names, found, name, words),
@@ -87,23 +91,28 @@ fn are_referred(ledger: &Ledger, tx: &Tx, resolved: &Resolved) -> bool {
 }
 
 // Fails unless so many outputs were found as are wanted, each of them in the ledger.
-fn check_resolved(ledger: &Ledger, tx: &Tx, resolved: &Resolved, wanted: &str) -> Result<()> {
+fn check_resolved(
+    ledger: &Ledger,
+    tx: &Tx,
+    resolved: &Resolved,
+    wanted: &str,
+) -> wrong::Result<()> {
     let (spent, referred) = wanted.split_once('+').unwrap_or((wanted, "0"));
     let (spent, referred) = (spent.parse::<usize>()?, referred.parse::<usize>()?);
     if resolved.spent().len() != spent || resolved.referenced().len() != referred {
-        bail!("another number of outputs")
+        return Err(Wrong::Because("another number of outputs"));
     }
     if !are_spent(ledger, tx, resolved) || !are_referred(ledger, tx, resolved) {
-        bail!("other outputs")
+        return Err(Wrong::Because("other outputs"));
     }
     Ok(())
 }
 
-fn check_fault(names: &Names, found: &Invalid, wanted: &str) -> Result<()> {
+fn check_fault(names: &Names, found: &Invalid, wanted: &str) -> wrong::Result<()> {
     if is_fault(names, found, wanted)? {
         Ok(())
     } else {
-        bail!("it has another fault: {found:?}")
+        Err(Wrong::Fault(found.number()))
     }
 }
 
@@ -114,11 +123,11 @@ pub fn check_answer(
     tx: &Tx,
     answer: &Result<Resolved, Invalid>,
     wanted: &str,
-) -> Result<()> {
+) -> wrong::Result<()> {
     match (answer, wanted.strip_prefix("ok ")) {
         (Ok(resolved), Some(counts)) => check_resolved(ledger, tx, resolved, counts),
-        (Ok(_), None) => bail!("it is valid"),
-        (Err(found), Some(_)) => bail!("it has a fault: {found:?}"),
+        (Ok(_), None) => Err(Wrong::Because("it is valid")),
+        (Err(found), Some(_)) => Err(Wrong::Fault(found.number())),
         (Err(found), None) => check_fault(names, found, wanted),
     }
 }

@@ -5,7 +5,7 @@ use crate::vectors::case;
 use crate::vectors::names::Names;
 use crate::vectors::transaction::transaction;
 use crate::vectors::verifier::KeyThenId;
-use anyhow::Result;
+use crate::vectors::wrong::Result;
 use mp_rules::check;
 use mp_tx::{Ledger, Tx};
 

@@ -1,8 +1,8 @@
 //! The kinds of cases.
 
 use crate::vectors::names::Names;
+use crate::vectors::wrong::{Result, Wrong};
 use crate::vectors::{again, check, overlay};
-use anyhow::{Context, Result};
 
 /// What the lines of a file are about.
 #[derive(Clone, Copy)]
@@ -27,7 +27,7 @@ impl Kind {
 
     /// How many cases a line such as `GIVEN = WANTED` has, which is one. Fails unless what is given comes to what is wanted.
     pub fn check(self, names: &Names, line: &str) -> Result<u64> {
-        let (given, wanted) = line.rsplit_once('=').context("no '='")?;
+        let (given, wanted) = line.rsplit_once('=').ok_or(Wrong::Because("no '='"))?;
         let (given, wanted) = (given.trim(), wanted.trim());
         match self {
             Kind::Check => check::check_case(names, given, wanted)?,

@@ -2,7 +2,7 @@
 
 use crate::vectors::pieces;
 use crate::vectors::transaction::transaction;
-use anyhow::{Context, Result, bail};
+use crate::vectors::wrong::{Result, Wrong};
 use mp_memory::Memory;
 use mp_tx::{Tx, TxId};
 use std::sync::Arc;
@@ -60,7 +60,7 @@ impl Names {
                 return Ok(&named.tx);
             }
         }
-        bail!("no such transaction")
+        Err(Wrong::Because("no such transaction"))
     }
 
     /// The id of a name: that of a transaction, or 32 bytes of a number.
@@ -73,7 +73,7 @@ impl Names {
 
     /// Gives a name to bytes, as in `yes 01`. That is no case.
     pub fn put_word(&mut self, words: &str) -> Result<u64> {
-        let (name, pieces) = words.split_once(' ').context("no bytes")?;
+        let (name, pieces) = words.split_once(' ').ok_or(Wrong::Because("no bytes"))?;
         let bytes = pieces::bytes(self, pieces)?;
         let name = format!(in self.memory; "{name}")?;
         self.words.push(Word { name, bytes })?;
@@ -82,7 +82,7 @@ impl Names {
 
     /// Gives a name to a transaction, as in `a in=1.0 out=100`. That is no case.
     pub fn put_transaction(&mut self, words: &str) -> Result<u64> {
-        let (name, parts) = words.split_once(' ').context("no parts")?;
+        let (name, parts) = words.split_once(' ').ok_or(Wrong::Because("no parts"))?;
         let tx = Arc::new(self.memory, transaction(self, parts)?)?;
         let name = format!(in self.memory; "{name}")?;
         self.transactions.push(Named { name, tx })?;

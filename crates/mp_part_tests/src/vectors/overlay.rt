@@ -1,8 +1,8 @@
 //! Transactions applied upon a ledger, and what may be spent then.
 
 use crate::vectors::names::Names;
+use crate::vectors::wrong::{Result, Wrong};
 use crate::vectors::{case, plain};
-use anyhow::{Context, Result, bail};
 use mp_memory::Memory;
 use mp_tx::{Ledger, Output, Tx};
 use mp_utxo::{Overlay, Utxo};
@@ -30,7 +30,7 @@ fn is_output(names: &Names, found: &Output, written: &str) -> Result<bool> {
 
 // Whether the reference leads to the output that is wanted, or to none.
 fn leads(names: &Names, overlay: &Overlay, word: &str) -> Result<bool> {
-    let (place, written) = word.split_once(':').context("no output")?;
+    let (place, written) = word.split_once(':').ok_or(Wrong::Because("no output"))?;
     match overlay.get(&plain::reference(names, None, place)?) {
         None => Ok(written == "none"),
         Some(_) if written == "none" => Ok(false),
@@ -41,7 +41,7 @@ fn leads(names: &Names, overlay: &Overlay, word: &str) -> Result<bool> {
 fn check_outputs(names: &Names, overlay: &Overlay, wanted: &str) -> Result<()> {
     for word in wanted.split_whitespace() {
         if !leads(names, overlay, word)? {
-            bail!("another output at {word}")
+            return Err(Wrong::Because("another output"));
         }
     }
     Ok(())

@@ -1,17 +1,31 @@
 //! Bytes, as the lines write them.
 
 use crate::vectors::names::Names;
-use anyhow::Result;
+use crate::vectors::wrong::Result;
 use mp_memory::Memory;
 use mp_script::{Data, Hash, Script};
+
+fn add_repeated(bytes: &mut Vec<u8, Memory>, piece: &[u8], times: u64) -> Result<()> {
+    for _ in 0..times {
+        bytes.extend_from_slice(piece)?;
+    }
+    Ok(())
+}
 
 // Adds the bytes of hexadecimal digits, or of a number of times such digits, as `32*07`.
 fn add_digits(memory: Memory, bytes: &mut Vec<u8, Memory>, piece: &str) -> Result<()> {
     let (times, digits) = piece.split_once('*').unwrap_or(("1", piece));
     let times = times.parse::<u64>()?;
     let decoded = hex::decode(memory, digits)?;
-    for _ in 0..times {
-        bytes.extend_from_slice(&decoded)?;
+    add_repeated(bytes, &decoded, times)
+}
+
+fn add_pieces(names: &Names, bytes: &mut Vec<u8, Memory>, pieces: &str) -> Result<()> {
+    for piece in pieces.split([' ', '+']) {
+        match names.bytes(piece) {
+            Some(named) => bytes.extend_from_slice(named)?,
+            None => add_digits(names.memory(), bytes, piece)?,
+        }
     }
     Ok(())
 }
@@ -19,12 +33,7 @@ fn add_digits(memory: Memory, bytes: &mut Vec<u8, Memory>, piece: &str) -> Resul
 /// The bytes of all pieces, one after the other: names, and digits. They have spaces or plus signs between them.
 pub fn bytes(names: &Names, pieces: &str) -> Result<Vec<u8, Memory>> {
     let mut bytes = Vec::new(names.memory());
-    for piece in pieces.split([' ', '+']) {
-        match names.bytes(piece) {
-            Some(named) => bytes.extend_from_slice(named)?,
-            None => add_digits(names.memory(), &mut bytes, piece)?,
-        }
-    }
+    add_pieces(names, &mut bytes, pieces)?;
     Ok(bytes)
 }
 

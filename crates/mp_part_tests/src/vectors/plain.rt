@@ -2,8 +2,9 @@
 
 use crate::vectors::names::Names;
 use crate::vectors::pieces;
-use anyhow::{Context, Result};
+use crate::vectors::wrong::{Result, Wrong};
 use mp_bundle::{Bundle, Given, PolicyId};
+use mp_memory::Memory;
 use mp_tx::{Input, OutRef, Output, TxId};
 
 // The script that is always true, and the empty list.
@@ -13,7 +14,7 @@ const UNIT: &str = "030000";
 
 /// The reference of a word such as `3.0` or `a.0`: a name, and then the index. The name `own` is the id that is handed in.
 pub fn reference(names: &Names, own: Option<TxId>, word: &str) -> Result<OutRef> {
-    let (name, digits) = word.split_once('.').context("no reference")?;
+    let (name, digits) = word.split_once('.').ok_or(Wrong::Because("no reference"))?;
     let index = digits.parse::<u16>()?;
     let id = match own {
         Some(id) if name == "own" => id,
@@ -40,16 +41,27 @@ fn entry(names: &Names, word: &str) -> Result<Given> {
     Ok((policy, name, quantity))
 }
 
+fn add_entries(names: &Names, entries: &mut Vec<Given, Memory>, words: &str) -> Result<()> {
+    for written in words.split(',') {
+        let entry = entry(names, written)?;
+        entries.push(entry)?;
+    }
+    Ok(())
+}
+
+fn filled_bundle(names: &Names, words: &str) -> Result<Bundle> {
+    let mut entries = Vec::new(names.memory());
+    add_entries(names, &mut entries, words)?;
+    Ok(Bundle::of_entries(names.memory(), entries)?)
+}
+
 /// The bundle of a word such as `100,5*p.x`, whose entries rise, or `-`, which is empty.
 pub fn bundle(names: &Names, word: &str) -> Result<Bundle> {
     if word == "-" {
-        return Ok(Bundle::empty());
+        Ok(Bundle::empty())
+    } else {
+        filled_bundle(names, word)
     }
-    let mut entries = Vec::new(names.memory());
-    for written in word.split(',') {
-        entries.push(entry(names, written)?)?;
-    }
-    Ok(Bundle::of_entries(names.memory(), entries)?)
 }
 
 /// The output of a word such as `100`, `100@s` or `100@s/d`: the bundle, the script and the datum.

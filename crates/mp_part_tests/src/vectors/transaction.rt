@@ -1,46 +1,85 @@
 //! Transactions, as the lines write them.
 
 use crate::vectors::names::Names;
+use crate::vectors::wrong::{Result, Wrong};
 use crate::vectors::{pieces, plain};
-use anyhow::{Context, Result};
+use mp_bundle::Bundle;
+use mp_memory::Memory;
 use mp_testing::parts;
-use mp_tx::{Signature, Tx, TxId, TxParts};
+use mp_tx::{Input, OutRef, Output, Script, Signature, Tx, TxId, TxParts};
 
-// The key followed by the id, with these bits of the first byte turned.
-fn signature(id: &TxId, word: &str, turned: u8) -> Result<Signature> {
+fn add_input(names: &Names, inputs: &mut Vec<Input, Memory>, value: &str) -> Result<()> {
+    let input = plain::input(names, value)?;
+    Ok(inputs.push(input)?)
+}
+
+fn add_reference(names: &Names, references: &mut Vec<OutRef, Memory>, value: &str) -> Result<()> {
+    let reference = plain::reference(names, None, value)?;
+    Ok(references.push(reference)?)
+}
+
+fn add_output(names: &Names, outputs: &mut Vec<Output, Memory>, value: &str) -> Result<()> {
+    let output = plain::output(names, value)?;
+    Ok(outputs.push(output)?)
+}
+
+fn add_script(names: &Names, scripts: &mut Vec<Script, Memory>, value: &str) -> Result<()> {
+    let script = pieces::script(names, value)?;
+    Ok(scripts.push(script)?)
+}
+
+// Adds a signature: the key followed by the id, with these bits of the first byte turned.
+fn add_signature(
+    signatures: &mut Vec<Signature, Memory>,
+    id: &TxId,
+    word: &str,
+    turned: u8,
+) -> Result<()> {
     let key = [word.parse::<u8>()?; 32];
     let mut sig = [0; 64];
     sig[..32].copy_from_slice(&key);
     sig[32..].copy_from_slice(id);
     sig[0] ^= turned;
-    Ok(Signature { key, sig })
+    Ok(signatures.push(Signature { key, sig })?)
+}
+
+fn put_bundle(names: &Names, forge: &mut Bundle, value: &str) -> Result<()> {
+    *forge = plain::bundle(names, value)?;
+    Ok(())
+}
+
+fn put_number(number: &mut u64, digits: &str) -> Result<()> {
+    *number = digits.parse::<u64>()?;
+    Ok(())
 }
 
 // Puts in the part of a word such as `in=3.0`. A word of another kind is passed over.
 fn put_part(names: &Names, parts: &mut TxParts, id: &TxId, word: &str) -> Result<()> {
-    let (kind, value) = word.split_once('=').context("no '='")?;
+    let (kind, value) = word.split_once('=').ok_or(Wrong::Because("no '='"))?;
     match kind {
-        "in" => parts.inputs.push(plain::input(names, value)?)?,
-        "see" => parts
-            .references
-            .push(plain::reference(names, None, value)?)?,
-        "out" => parts.outputs.push(plain::output(names, value)?)?,
-        "from" => parts.from = value.parse::<u64>()?,
-        "to" => parts.to = value.parse::<u64>()?,
-        "forge" => parts.forge = plain::bundle(names, value)?,
-        "policy" => parts.scripts.push(pieces::script(names, value)?)?,
-        "sign" => parts.signatures.push(signature(id, value, 0)?)?,
-        "badsign" => parts.signatures.push(signature(id, value, 1)?)?,
-        _ => {}
+        "in" => add_input(names, &mut parts.inputs, value),
+        "see" => add_reference(names, &mut parts.references, value),
+        "out" => add_output(names, &mut parts.outputs, value),
+        "from" => put_number(&mut parts.from, value),
+        "to" => put_number(&mut parts.to, value),
+        "forge" => put_bundle(names, &mut parts.forge, value),
+        "policy" => add_script(names, &mut parts.scripts, value),
+        "sign" => add_signature(&mut parts.signatures, id, value, 0),
+        "badsign" => add_signature(&mut parts.signatures, id, value, 1),
+        _ => Ok(()),
+    }
+}
+
+fn put_parts(names: &Names, parts: &mut TxParts, id: &TxId, words: &str) -> Result<()> {
+    for word in words.split_whitespace() {
+        put_part(names, parts, id, word)?;
     }
     Ok(())
 }
 
 fn signed_for(names: &Names, id: &TxId, words: &str) -> Result<Tx> {
     let mut parts = parts(names.memory(), &[], &[])?;
-    for word in words.split_whitespace() {
-        put_part(names, &mut parts, id, word)?;
-    }
+    put_parts(names, &mut parts, id, words)?;
     Ok(Tx::of_parts(names.memory(), parts)?)
 }
 

@@ -1,0 +1,81 @@
+//! Why a line doesn't hold.
+
+use hex::FromHexError;
+use mp_bundle::BundleFault;
+use mp_memory::NoMemory;
+use mp_script::{DataFault, ScriptFault};
+use mp_tx::{LedgerFault, TxFault};
+use std::alloc::{AllocError, AllocFailed};
+use std::num::ParseIntError;
+
+/// Why a line doesn't hold. Nothing is dropped with it, and so little has to be proved where a line is given up.
+#[derive(Clone, Copy)]
+pub enum Wrong {
+    /// It can't be read, or comes to something else.
+    Because(&'static str),
+    /// A fault of this number was found, and another or none was wanted.
+    Fault(u64),
+}
+
+/// What comes of a line, or of a part of it.
+pub type Result<T> = std::result::Result<T, Wrong>;
+
+impl From<NoMemory> for Wrong {
+    fn from(_fault: NoMemory) -> Wrong {
+        Wrong::Because("no memory")
+    }
+}
+
+impl From<AllocError> for Wrong {
+    fn from(_fault: AllocError) -> Wrong {
+        Wrong::Because("no memory")
+    }
+}
+
+impl<T: Drop> From<AllocFailed<T>> for Wrong {
+    fn from(_fault: AllocFailed<T>) -> Wrong {
+        Wrong::Because("no memory")
+    }
+}
+
+impl From<ParseIntError> for Wrong {
+    fn from(_fault: ParseIntError) -> Wrong {
+        Wrong::Because("no number")
+    }
+}
+
+impl From<FromHexError> for Wrong {
+    fn from(_fault: FromHexError) -> Wrong {
+        Wrong::Because("no digits of bytes")
+    }
+}
+
+impl From<DataFault> for Wrong {
+    fn from(_fault: DataFault) -> Wrong {
+        Wrong::Because("no datum")
+    }
+}
+
+impl From<ScriptFault> for Wrong {
+    fn from(_fault: ScriptFault) -> Wrong {
+        Wrong::Because("no script")
+    }
+}
+
+impl From<BundleFault> for Wrong {
+    fn from(_fault: BundleFault) -> Wrong {
+        Wrong::Because("no bundle")
+    }
+}
+
+impl From<TxFault> for Wrong {
+    fn from(_fault: TxFault) -> Wrong {
+        Wrong::Because("no transaction")
+    }
+}
+
+impl From<LedgerFault> for Wrong {
+    fn from(_fault: LedgerFault) -> Wrong {
+        Wrong::Because("no ledger state")
+    }
+}
