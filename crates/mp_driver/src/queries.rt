@@ -4,20 +4,21 @@ ghost use Rattle.std.specs.Prelude.{◌≡◌, ◌++◌, codes, option_map, IfOk
 ghost use Rattle.std.specs.Arc.{arc_value};
 ghost use Rattle.mp_resync.specs.Keep.{bytes_of};
 ghost use Rattle.mp_history.specs.Log.{state_after};
-ghost use Rattle.mp_versions.specs.Item.{items_of};
-ghost use Rattle.mp_versions.specs.Reading.{within};
+ghost use Rattle.mp_items.specs.Item.{items_of};
+ghost use Rattle.mp_items.specs.Reading.{within};
 ghost use Rattle.mp_peer.specs.Offers.{offer, moved};
 ghost use Rattle.mp_driver.specs.AnswerText.{item_text, items_text, numbers_text};
 ghost use Rattle.mp_driver.specs.QueryText.{sized_text, found_text, has_text, words_text, query_text, for_text, cursor_after};
 
 use crate::refusals::{put_number, put_word};
 use mp_history::PoolName;
+use mp_items::{Item, Run};
 use mp_lines::Query;
 use mp_memory::{Memory, NoMemory};
 use mp_names::Names;
 use mp_peer::{PeerReader, forge};
 use mp_tx::Tx;
-use mp_versions::{Item, Run, Snapshot};
+use mp_versions::Snapshot;
 use std::sync::Arc;
 
 type Text = Vec<u8, Memory>;

@@ -1,5 +1,2 @@
--- What only the crate's own clauses, views and invariants cite.
-pub mod Locked
-pub mod Ready
+-- What only the crate's own clauses cite.
 pub mod Heir
-pub mod Kept

@@ -1,6 +1,5 @@
 pub mod Answers
 pub mod Inside
 pub mod Successor
-pub mod Locked
 pub mod Opening
 pub mod Pass

@@ -4,12 +4,10 @@
 
 mod config;
 mod early;
-mod locked;
 mod mempool;
 mod opening;
 mod pass;
 mod reader;
-mod ready;
 mod receipt;
 mod refusal;
 mod snapshot_for;
@@ -17,7 +15,6 @@ mod successor;
 pub mod under_lock;
 
 pub use config::Config;
-pub use locked::Locked;
 pub use mempool::{Handover, Mempool};
 pub use pass::Pass;
 pub use reader::Reader;

@@ -6,10 +6,10 @@ ghost use Rattle.mp_mempool.specs.Opening.{fresh_log, fresh_passes, open_fault};
 ghost use Rattle.mp_mempool.specs.Pass.{pass_of};
 
 use crate::config::Config;
-use crate::locked::Locked;
 use crate::pass::Pass;
 use crate::refusal::OpenRefusal;
 use mp_history::{Caller, CommitRight, History, NewName, PoolName};
+use mp_locked::Locked;
 use mp_memory::{Memory, NoMemory};
 use mp_seqpool::SeqPool;
 use mp_tx::Ledger;
@@ -193,22 +193,6 @@ fn open_desk<N: PoolName>(
     set_desk(rt, memory, tokens, shown, callers)
 }
 
-/// What the lock guards at first.
-pub(crate) fn lock_up<N: PoolName>(
-    pool: SeqPool,
-    right: CommitRight<N>,
-    newest: Shown<N>,
-    places: Vec<Option<u64>, Memory>,
-) -> Locked<N>
-    requires state { right ≡ record { opening = pool.pool; entries = [] } }
-    requires legal { IsLegalLog N.accepts N.callers right }
-    requires newest { newest ≡ right }
-    requires places { places.items ≡ replicate N.callers None }
-    ensures { result.log ≡ right }
-{
-    Locked::open(pool, right, newest, places)
-}
-
 // The pool with its history, in parts.
 fn open_upon<N: PoolName>(
     rt: &impl Wait,
@@ -229,7 +213,7 @@ fn open_upon<N: PoolName>(
     Ok(Parts {
         history,
         board: desk.board,
-        locked: lock_up(pool, right, desk.shown, desk.places),
+        locked: Locked::open(pool, right, desk.shown, desk.places),
         passes: desk.passes,
     })
 }

@@ -1,17 +1,16 @@
 //! The token of one caller.
-ghost use Rattle.std.specs.Prelude.{◌≡◌, ◌<◌, ◌≤◌, ◌^◌, length};
-ghost use Rattle.std.specs.Arc.{arc_value};
-ghost use Rattle.mp_history.specs.Log.{Begins, IsLegalLog, entered};
-ghost use Rattle.mp_versions.specs.Shown.{IsVersionOf};
+ghost use Rattle.std.specs.Prelude.{◌≡◌, ◌≢◌, ◌<◌, ◌≤◌, true, false, length};
+ghost use Rattle.mp_history.specs.Log.{Begins, IsLegalLog, entered, last_of};
+ghost use Rattle.mp_locked.specs.Ready.{IsReady};
 ghost use Rattle.mp_mempool.specs.Pass.{IsOwn, pass_of};
 
 use crate::reader::Reader;
-use mp_history::{Caller, CommitRight, Entry, Front, History, PoolName};
-use mp_memory::Memory;
+use crate::receipt::Receipt;
+use mp_history::{Caller, Front, History, PoolName};
+use mp_locked::{Committed, Locked, Ready};
 use mp_rules::Verifier;
-use mp_versions::{Shown, Snapshot, Version};
+use mp_versions::{Shown, Snapshot};
 use std::marker::Model;
-use std::sync::Arc;
 
 /// The token of one caller of the pool: with it the caller asks, and it holds what the caller has seen. It comes with the pool,
 /// one for each caller; it can't be cloned, and nothing else makes one. It never goes back: what it holds is only replaced by
@@ -53,27 +52,43 @@ impl<N: PoolName> Pass<N> {
         Pass { caller, shown }
     }
 
-    /// Enters the caller's entry last; the caller has then seen the version after it. Nothing else
-    /// enters an entry, so each leaves its place here.
+    /// Whether the pass knows all entries of its caller. Nobody has seen more than the lock's history has.
+    pub(crate) fn knows_all(&self, locked: &mut Locked<N>) -> bool
+        ensures same { locked.new ≡ locked.old }
+        ensures begins { Begins self.now.front locked.new.log }
+        ensures own { IsOwn self.now }
+        ensures known { result ≡ true
+            → last_of self.now.caller locked.new.log.entries ≡ self.now.last }
+        ensures foreign { result ≡ false
+            → last_of self.now.caller locked.new.log.entries ≢ self.now.last }
+    {
+        locked.is_known_to(&self.caller, self.shown.front())
+    }
+
+    /// Commits the caller's entry and takes the step; the caller has then seen the version after it. Nothing else enters an
+    /// entry, so each leaves its place here.
     pub(crate) fn commit(
         &mut self,
         history: &History<N>,
-        right: &mut CommitRight<N>,
-        entry: &Entry,
-        version: Arc<Version, Memory>,
-    )
-        requires room { length right.old.entries < 2 ^ 32 }
-        requires own { entry.now.caller ≡ self.old.caller }
-        requires version { IsVersionOf N.accepts N.callers
-            (entered right.old entry.now) (arc_value version) }
-        ensures right { right.new ≡ entered right.old entry.now }
+        locked: &mut Locked<N>,
+        ready: Ready,
+    ) -> Receipt
+        requires { IsReady N.accepts N.callers locked.old self.old.caller ready }
+        ensures log { locked.new.log ≡ entered locked.old.log ready.outcome.entry }
+        ensures place { result.place ≡ length locked.old.log.entries }
+        ensures entry { result.entry ≡ ready.outcome.entry }
         ensures pass { self.new ≡ record self.old {
-          last = Some (length right.old.entries);
-          front = right.new;
+          last = Some (length locked.old.log.entries);
+          front = locked.new.log;
         } }
     {
-        history.commit(right, &mut self.caller, entry);
-        self.shown = Shown::of(version, right.front());
+        let Committed {
+            place,
+            entry,
+            shown,
+        } = locked.commit(history, &mut self.caller, ready);
+        self.shown = shown;
+        Receipt { place, entry }
     }
 
     /// The caller has seen the version, which extends what it had seen.

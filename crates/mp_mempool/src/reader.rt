@@ -6,7 +6,7 @@ ghost use Rattle.mp_mempool.specs.Answers.{IsSeen, IsSnapshotFor};
 
 use crate::early::check_early;
 use crate::pass::Pass;
-use crate::snapshot_for::{SnapshotFor, keep_valid};
+use crate::snapshot_for::{SnapshotFor, snapshot_upon};
 use mp_history::PoolName;
 use mp_memory::{Memory, NoMemory};
 use mp_rules::{Checked, Verifier};
@@ -171,7 +171,7 @@ impl<N: PoolName, V: Verifier> Reader<N, V> {
         ensures err { OnErr result (pass.new ≡ pass.old) }
     {
         let shown = self.share_newest(pass)?;
-        let kept = keep_valid(memory, shown.version(), ledger, &self.verifier)?;
+        let kept = snapshot_upon(memory, shown.version(), ledger, &self.verifier)?;
         pass.see(shown);
         Ok(kept)
     }

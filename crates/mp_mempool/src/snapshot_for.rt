@@ -1,18 +1,14 @@
 //! What of a pool would stay valid upon another ledger state.
-ghost use Rattle.std.specs.Prelude.{◌≡◌, ◌+◌, ◌≤◌, ◌^◌, IfOk, OnOk};
-ghost use Rattle.mp_tx.specs.Spelling.{size_of};
-ghost use Rattle.mp_rules.specs.Checked.{IsSigned};
+ghost use Rattle.std.specs.Prelude.{◌≡◌, IfOk};
 ghost use Rattle.mp_resync.specs.Keep.{keep, bytes_of};
 ghost use Rattle.mp_seqpool.specs.SlowPool.{AreSigned};
-ghost use Rattle.mp_versions.specs.Item.{item_of};
-ghost use Rattle.mp_mempool.specs.Inside.Kept.{HasTried, IsBegun, Keeps, Tries};
 
+use mp_items::Items;
 use mp_memory::{Memory, NoMemory};
-use mp_rules::{Verifier, stays_valid};
+use mp_rules::Verifier;
+use mp_trial::keep_valid;
 use mp_tx::Ledger;
-use mp_utxo::Overlay;
-use mp_versions::{Item, Items, Version};
-use std::sync::Arc;
+use mp_versions::Version;
 
 /// What of a pool's transactions would stay valid upon another ledger state: each that is valid upon it after those
 /// kept before it. Nothing is changed to find that out. The transactions are the pool's own, and shared.
@@ -26,81 +22,12 @@ pub struct SnapshotFor {
     pub number: u64,
 }
 
-// What was kept so far: the ledger state with it applied, the items, and how many bytes they have.
-#[derive(Drop)]
-struct Kept {
-    overlay: Overlay,
-    items: Vec<Item, Memory>,
-    bytes: u64,
-}
-
-// Nothing yet, upon the ledger state.
-fn begin(memory: Memory, ledger: &Ledger) -> Result<Kept, NoMemory>
-    ensures { IfOk result (IsBegun ledger.now) }
-{
-    Ok(Kept {
-        overlay: Overlay::over(memory, ledger)?,
-        items: Vec::new(memory),
-        bytes: 0,
-    })
-}
-
-// Applies the item and puts it last.
-fn keep(kept: &mut Kept, item: &Item) -> Result<(), NoMemory>
-    requires { kept.old.bytes + size_of (item_of item.now).1 ≤ 2 ^ 40 }
-    ensures { OnOk result (Keeps kept.old (item_of item.now) kept.new) }
-{
-    kept.overlay.reserve_for(&item.tx)?;
-    kept.overlay.apply(Arc::try_clone(&item.tx)?);
-    kept.items.push(item.share()?)?;
-    kept.bytes += item.tx.size();
-    Ok(())
-}
-
-// Keeps the item where it is valid after those that were kept, and leaves it out where it isn't.
-fn try_item<V: Verifier>(
-    memory: Memory,
-    kept: &mut Kept,
-    item: &Item,
-    verifier: &V,
-) -> Result<(), NoMemory>
-    requires signed { IsSigned (V.accepts verifier.now) (item_of item.now).1 }
-    requires room { kept.old.bytes + size_of (item_of item.now).1 ≤ 2 ^ 40 }
-    ensures { OnOk result (Tries (V.accepts verifier.now)
-        kept.old (item_of item.now) kept.new) }
-{
-    let tick = kept.overlay.ledger().tick();
-    if stays_valid(memory, &item.tx, &kept.overlay, tick, None, verifier)? {
-        keep(kept, item)?;
-    }
-    Ok(())
-}
-
-// Tries each of the version's items, oldest first.
-fn try_all<V: Verifier>(
-    memory: Memory,
-    version: &Version,
-    ledger: &Ledger,
-    verifier: &V,
-) -> Result<Kept, NoMemory>
-    requires { AreSigned (V.accepts verifier.now) version.now.pool }
-    ensures { IfOk result (HasTried (V.accepts verifier.now)
-        ledger.now version.now.pool.items) }
-{
-    let _most = version.bytes();
-    let mut kept = begin(memory, ledger)?;
-    for item in version.contents() {
-        try_item(memory, &mut kept, item, verifier)?;
-    }
-    Ok(kept)
-}
-
-/// What of the version's items would stay valid upon the ledger state: each that is valid upon it after those kept
-/// before it. The version stays as it is. Their signatures are good, and aren't looked at again.
+/// What of the version's items would stay valid upon the ledger state. The version stays as it is. Their signatures are good,
+/// and aren't looked at again.
 ///
 /// # Errors
 /// `NoMemory`.
-pub(crate) fn keep_valid<V: Verifier>(
+pub(crate) fn snapshot_upon<V: Verifier>(
     memory: Memory,
     version: &Version,
     ledger: &Ledger,
@@ -112,9 +39,10 @@ pub(crate) fn keep_valid<V: Verifier>(
     ensures bytes { IfOk result (λ s. s.bytes ≡ bytes_of s.items) }
     ensures number { IfOk result (λ s. s.number ≡ version.now.pool.changes) }
 {
-    let kept = try_all(memory, version, ledger, verifier)?;
+    let _most = version.bytes();
+    let kept = keep_valid(memory, version.contents(), ledger, verifier)?;
     Ok(SnapshotFor {
-        items: Items::of(kept.items),
+        items: kept.items,
         bytes: kept.bytes,
         number: version.number(),
     })

@@ -8,11 +8,11 @@ ghost use Rattle.mp_mempool.specs.Opening.{open_fault, fresh_passes};
 ghost use Rattle.mp_mempool.specs.Successor.{numbers, AreAll, AreBadAt, IsKnownTo, IsFirstForeign, HandsOver, IsRefusedSuccessor};
 ghost use Rattle.mp_mempool.specs.Inside.Heir.{IsHeir};
 
-use crate::locked::Locked;
 use crate::opening::{Desk, open_fault, set_desk};
 use crate::pass::Pass;
 use crate::refusal::{OpenRefusal, SuccessorRefusal};
 use mp_history::{CommitRight, Front, History, NewName, PoolName};
+use mp_locked::Locked;
 use mp_memory::{Memory, NoMemory};
 use mp_versions::Shown;
 use std::sync::{Arc, Wait};
@@ -52,7 +52,7 @@ fn foreign_front<N: PoolName>(locked: &mut Locked<N>, passes: &[Pass<N>]) -> Opt
 {
     let front = locked.front();
     for pass in passes {
-        if !locked.is_known_to(pass) {
+        if !pass.knows_all(locked) {
             return Some(front);
         }
     }

@@ -9,15 +9,14 @@ ghost use Rattle.mp_seqpool.specs.declared.refusal.Refusal.TheVariants as refusa
 ghost use Rattle.mp_history.specs.Log.{Begins, IsLegalLog, entered, last_of, state_after};
 ghost use Rattle.mp_mempool.specs.Answers.{IsEntered, IsRefused, IsOfLog};
 ghost use Rattle.mp_mempool.specs.Pass.{IsOwn};
-ghost use Rattle.mp_mempool.specs.Inside.Ready.{IsReady};
+ghost use Rattle.mp_locked.specs.Ready.{IsReady};
 
-use crate::locked::Locked;
 use crate::mempool::Mempool;
 use crate::pass::Pass;
-use crate::ready::Ready;
 use crate::receipt::Receipt;
 use crate::refusal::Refusal;
 use mp_history::{History, PoolName};
+use mp_locked::{Locked, Ready};
 use mp_memory::{Memory, NoMemory};
 use mp_rules::{Checked, Verifier};
 use mp_seqpool::Ids;
@@ -35,7 +34,7 @@ fn require_known<N: PoolName>(locked: &mut Locked<N>, pass: &Pass<N>) -> Result<
         → IsRefused N.accepts N.callers pass.now c r pass.now) }
     ensures there { IfErr result (λ r. IsOfLog locked.new.log r pass.now) }
 {
-    if locked.is_known_to(pass) {
+    if pass.knows_all(locked) {
         Ok(())
     } else {
         Err(Refusal::Foreign(locked.front()))
@@ -68,7 +67,7 @@ fn enter<N: PoolName>(
     ensures last { pass.new.front ≡ locked.new.log }
 {
     let _last = pass.last();
-    let receipt = locked.commit(history, pass, ready);
+    let receipt = pass.commit(history, locked, ready);
     locked.show_waiting(rt, board);
     receipt
 }

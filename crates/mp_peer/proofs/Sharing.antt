@@ -6,8 +6,8 @@ use Rattle.std.proofs.lemmas.List.Sums.{sum_by-cons}
 use Rattle.mp_tx.specs.Transaction.{Transaction}
 use Rattle.mp_tx.specs.Spelling.{size_of}
 use Rattle.mp_resync.specs.Keep.{transactions, bytes_of}
-use Rattle.mp_versions.specs.declared.item.Item.{Item}
-use Rattle.mp_versions.specs.Item.{item_of, items_of}
+use Rattle.mp_items.specs.declared.item.Item.{Item}
+use Rattle.mp_items.specs.Item.{item_of, items_of}
 
 -- with one item more the items so far, and those that may still come, are the same
 pub one_taken : (count at : ℕ) (done all left rest : List (ℕ × Transaction)) (i : ℕ × Transaction) → at < count → left ≡ i ∷ rest → done ++ take (count - at) left ≡ all

@@ -7,7 +7,7 @@ use Rattle.mp_rules.specs.Verifier.{Accepts}
 use Rattle.mp_tickets.specs.Tickets.{after}
 use Rattle.mp_resync.specs.Keep.{tickets, bytes_of}
 use Rattle.mp_history.specs.Log.{Log, Begins, state_after}
-use Rattle.mp_versions.specs.Reading.{within}
+use Rattle.mp_items.specs.Reading.{within}
 
 -- of what comes after the cursor the first items, at most so many, as long as they fit into so many bytes together
 abbrev pub offer : ℕ → ℕ → ℕ → List (ℕ × Transaction) → List (ℕ × Transaction)

@@ -2,13 +2,14 @@
 ghost use Rattle.std.specs.Prelude.{◌≡◌, ◌≢◌, ◌<◌, ◌^◌, [], length, IfOk, OnErr};
 ghost use Rattle.mp_resync.specs.Keep.{bytes_of};
 ghost use Rattle.mp_history.specs.Log.{state_after};
-ghost use Rattle.mp_versions.specs.Item.{items_of};
-ghost use Rattle.mp_versions.specs.Reading.{within};
+ghost use Rattle.mp_items.specs.Item.{items_of};
+ghost use Rattle.mp_items.specs.Reading.{within};
 
 use crate::first_items::share_first;
 use mp_history::PoolName;
+use mp_items::{Item, Items};
 use mp_memory::{Memory, NoMemory};
-use mp_versions::{Item, Items, Snapshot};
+use mp_versions::Snapshot;
 
 /// The first transactions of a pool, which whoever forges a block puts into it. They are the pool's own, and shared.
 #[derive(Drop)]

@@ -1,9 +1,9 @@
 //! The first items of a run, as items of their own.
 ghost use Rattle.std.specs.Prelude.{◌≡◌, ◌≢◌, [], take, IfOk, OnOk, OnErr};
-ghost use Rattle.mp_versions.specs.Item.{items_of};
+ghost use Rattle.mp_items.specs.Item.{items_of};
 
+use mp_items::{Item, Items, RunWithin};
 use mp_memory::{Memory, NoMemory};
-use mp_versions::{Item, Items, RunWithin};
 
 // Puts the run's first items, at most so many, into a vector that is empty.
 fn push_first(

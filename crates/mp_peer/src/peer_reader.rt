@@ -5,8 +5,9 @@ ghost use Rattle.mp_peer.specs.Offers.{moved, offer};
 
 use crate::first_items::share_first;
 use mp_history::PoolName;
+use mp_items::Items;
 use mp_memory::{Memory, NoMemory};
-use mp_versions::{Items, Snapshot};
+use mp_versions::Snapshot;
 use std::marker::Model;
 
 /// Reads a pool for one peer: each offer has what comes after the last one, so that no transaction is offered twice under one

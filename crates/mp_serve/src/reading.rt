@@ -6,8 +6,8 @@ ghost use Rattle.mp_resync.specs.ValidatedTx.{ticketed};
 ghost use Rattle.mp_resync.specs.Keep.{keep, bytes_of};
 ghost use Rattle.mp_seqpool.specs.Prepared.{apart};
 ghost use Rattle.mp_seqpool.specs.SlowPool.{AreSigned};
-ghost use Rattle.mp_versions.specs.Item.{items_of};
-ghost use Rattle.mp_versions.specs.Reading.{within};
+ghost use Rattle.mp_items.specs.Item.{items_of};
+ghost use Rattle.mp_items.specs.Reading.{within};
 ghost use Rattle.mp_peer.specs.Offers.{offer, moved};
 ghost use Rattle.mp_driver.specs.AnswerText.{item_text, items_text, numbers_text};
 ghost use Rattle.mp_serve.specs.ServedPool.{accepted_by};
@@ -16,6 +16,7 @@ ghost use Rattle.mp_driver.specs.QueryText.{sized_text, words_text, query_text, 
 use crate::signatures::Signatures;
 use crate::texts::Text;
 use mp_driver::{put_found, put_has, put_item, put_items, put_number, put_sized, put_word};
+use mp_items::Item;
 use mp_lines::Query;
 use mp_memory::{Memory, NoMemory};
 use mp_names::Names;
@@ -23,7 +24,6 @@ use mp_resync::ValidatedTx;
 use mp_seqpool::{Reply, SeqPool};
 use mp_tickets::{Iter, Tickets};
 use mp_tx::{Ledger, Tx};
-use mp_versions::Item;
 use std::sync::Arc;
 
 // Items of a pool, and how many bytes their transactions have together.

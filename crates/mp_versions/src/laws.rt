@@ -1,13 +1,11 @@
-//! What holds of versions, and of what is read of them.
+//! What holds of versions.
 
-ghost use Rattle.std.specs.Prelude.{◌≡◌, ◌≤◌, ℕ, List, length, slice_get, option_map, All, flat_map};
-ghost use Rattle.mp_tx.specs.Transaction.{Transaction};
-ghost use Rattle.mp_versions.specs.Item.{items_of};
-ghost use Rattle.mp_versions.specs.Reading.{within, IsLongestWithin};
+ghost use Rattle.std.specs.Prelude.{◌≡◌, ◌≤◌, length, slice_get, option_map, All, flat_map};
+ghost use Rattle.mp_items.specs.Item.{items_of};
 
-use crate::item::Item;
-use crate::layout::chunk_at;
 use crate::version::Version;
+use mp_items::Item;
+use mp_items::layout::chunk_at;
 
 /// The chunk at this place, counted from 0, of those that make up the version's items: joined in
 /// order they are its items, and each has 1 to 64. Versions share the chunks that don't change
@@ -20,9 +18,3 @@ pub fn chunk(version: &Version, place: usize) -> Option<&[Item]>
 {
     chunk_at(&version.layout, place)
 }
-
-/// What is read within a number of bytes is the longest beginning that has no more bytes.
-pub fn longest_within()
-    ensures { (bytes : ℕ) (items : List (ℕ × Transaction))
-        → IsLongestWithin bytes items (within bytes items) }
-{}

@@ -6,11 +6,11 @@ ghost use Rattle.mp_tickets.specs.Tickets.{after, item_at};
 ghost use Rattle.mp_seqpool.specs.SlowPool.{bytes_held, ticket_of};
 ghost use Rattle.mp_seqpool.specs.PoolLaws.{Lasts};
 ghost use Rattle.mp_history.specs.Log.{state_after};
-ghost use Rattle.mp_versions.specs.Reading.{within};
+ghost use Rattle.mp_items.specs.Reading.{within};
 
-use crate::run::{Run, RunWithin};
 use crate::shown::Shown;
 use mp_history::PoolName;
+use mp_items::{Run, RunWithin};
 use mp_memory::Memory;
 use mp_tx::{Tx, TxId};
 use std::marker::Model;

@@ -3,11 +3,12 @@ use crate::mempool::count_owners;
 use crate::samples::Samples;
 use crate::told::with_digit;
 use mp_history::PoolName;
+use mp_items::Item;
 use mp_peer::{PeerReader, forge};
 use mp_seqpool::Command;
 use mp_testing::Seen;
 use mp_tx::TxId;
-use mp_versions::{Item, Snapshot};
+use mp_versions::Snapshot;
 
 // So many samples are submitted, from the first on: a list of all of them takes more than one growth.
 const SUBMITTED: usize = 6;

@@ -7,11 +7,12 @@ ghost use Rattle.mp_seqpool.specs.Prepared.{IsPrepared, leads_to};
 use crate::samples::Samples;
 use crate::seqpool::{CONFIG, prepare};
 use crate::told::with_digit;
+use mp_items::Run;
 use mp_memory::{Memory, NoMemory};
 use mp_seqpool::{Command, Prepared, SeqPool};
 use mp_testing::Seen;
 use mp_tx::Ledger;
-use mp_versions::{Run, Version};
+use mp_versions::Version;
 
 /// A pool, and the version of it.
 #[derive(Drop)]

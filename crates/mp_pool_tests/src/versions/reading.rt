@@ -4,10 +4,11 @@ use crate::rows::count;
 use crate::samples::{ALL, REMOVE_TWO, Samples};
 use crate::versions::both::{Both, asked, step};
 use crate::versions::pages::chunk_len;
+use mp_items::{Run, RunWithin};
 use mp_memory::{Memory, NoMemory};
 use mp_seqpool::SeqPool;
 use mp_testing::Seen;
-use mp_versions::{Run, RunWithin, Version};
+use mp_versions::Version;
 use std::io;
 
 // What is read.

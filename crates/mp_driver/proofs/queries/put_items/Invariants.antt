@@ -1,5 +1,5 @@
 use Rattle.std.proofs.Common.{◌≡◌, ◌++◌, take}
-use Rattle.mp_versions.specs.Item.{items_of}
+use Rattle.mp_items.specs.Item.{items_of}
 use Rattle.mp_driver.specs.AnswerText.{items_text}
 use Rattle.mp_driver.proofs.queries.put_items.Given as goal
 

@@ -4,7 +4,7 @@ use Rattle.mp_tx.specs.Transaction.{Transaction}
 use Rattle.mp_tx.specs.Spelling.{size_of}
 use Rattle.mp_tickets.specs.Tickets.{shown}
 use Rattle.mp_resync.specs.ValidatedTx.{ValidatedTx, ticketed}
-use Rattle.mp_versions.specs.Item.{items_of}
+use Rattle.mp_items.specs.Item.{items_of}
 use Rattle.mp_peer.proofs.Sharing.{items-last}
 use Rattle.mp_serve.proofs.Firsts.{goes_on}
 use Rattle.mp_serve.proofs.reading.first_within.Goals as goal

@@ -1,8 +1,8 @@
 use Rattle.std.proofs.Common.{◌≡◌, ◌-◌, ◌≤◌, ◌++◌, length, take}
 use Rattle.mp_resync.specs.ValidatedTx.{ticketed}
 use Rattle.mp_resync.specs.Keep.{bytes_of}
-use Rattle.mp_versions.specs.Item.{items_of}
-use Rattle.mp_versions.specs.Reading.{within}
+use Rattle.mp_items.specs.Item.{items_of}
+use Rattle.mp_items.specs.Reading.{within}
 use Rattle.mp_serve.proofs.reading.first_within.Given as goal
 
 -- the items so far, and those of the rest that still fit, are all

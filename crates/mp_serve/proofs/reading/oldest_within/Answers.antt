@@ -1,7 +1,7 @@
 use Rattle.std.proofs.Common.{◌≡◌, take, ap, subst, ◌∙◌}
 use Rattle.std.specs.Prelude.{IfOk}
-use Rattle.mp_versions.specs.Item.{items_of}
-use Rattle.mp_versions.specs.Reading.{within}
+use Rattle.mp_items.specs.Item.{items_of}
+use Rattle.mp_items.specs.Reading.{within}
 use Rattle.mp_serve.proofs.Firsts.{all_within}
 use Rattle.mp_serve.proofs.reading.oldest_within.Goals as goal
 

@@ -1,11 +1,11 @@
 use Rattle.std.proofs.Common.{ap}
 use Rattle.mp_mempool.specs.Pass.{Pass}
-use Rattle.mp_mempool.proofs.Preparing.{signed_after}
+use Rattle.mp_locked.proofs.Preparing.{signed_after}
 use Rattle.mp_mempool.proofs.Points.{is_snapshot_for}
 use Rattle.mp_mempool.proofs.reader.Reader.snapshot_for.Goals as goal
 
-pub keep_valid-requires : goal.keep_valid-requires
-keep_valid-requires g c =
+pub snapshot_upon-requires : goal.snapshot_upon-requires
+snapshot_upon-requires g c =
     signed_after g.N.PoolName.accepts (g.V.Verifier.accepts c.args.self.now.verifier) g.N.PoolName.callers c.in_ok-shown.shown c.version.result.now.pool c.args.self.now.accepts c.version.ensures.legal c.version.ensures.state
 
 pub returns-clause-kept : goal.returns-clause-kept

@@ -1,0 +1,12 @@
+pub mod Ascents
+pub mod Blocks
+pub mod Building
+pub mod ByteSums
+pub mod Chunks
+pub mod Finding
+pub mod Ids
+pub mod Leaving
+pub mod Lengths
+pub mod Parting
+pub mod Parts
+pub mod Withins

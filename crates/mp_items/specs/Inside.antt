@@ -1,0 +1,4 @@
+-- What only the crate's own clauses, views and invariants cite.
+pub mod Built
+pub mod Left
+pub mod Run

@@ -1,0 +1,5 @@
+pub mod Inside
+pub mod Item
+pub mod Layout
+pub mod Pages
+pub mod Reading

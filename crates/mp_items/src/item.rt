@@ -1,0 +1,30 @@
+//! A transaction under its ticket.
+
+use mp_memory::{Memory, NoMemory};
+use mp_tx::Tx;
+use std::sync::Arc;
+
+/// A transaction, and the ticket that it has in the pool.
+#[derive(Debug, Drop)]
+pub struct Item {
+    pub ticket: u64,
+    pub tx: Arc<Tx, Memory>,
+}
+
+impl Item {
+    ghost use Rattle.std.specs.Prelude.{◌≡◌, IfOk};
+    ghost use Rattle.mp_items.specs.Item.{item_of};
+
+    /// The same item, which shares its transaction.
+    ///
+    /// # Errors
+    /// `NoMemory` where the transaction is shared too often.
+    pub fn share(&self) -> Result<Item, NoMemory>
+        ensures { IfOk result (λ i. item_of i ≡ item_of self.now) }
+    {
+        Ok(Item {
+            ticket: self.ticket,
+            tx: Arc::try_clone(&self.tx)?,
+        })
+    }
+}

@@ -1,0 +1,40 @@
+//! Items of their own.
+
+use crate::item::Item;
+use mp_memory::Memory;
+use std::marker::Model;
+
+/// Items in order. A contract sees the transactions with their tickets.
+#[derive(Drop)]
+pub struct Items {
+    items: Vec<Item, Memory>,
+}
+
+impl Model for Items {
+    ghost use Rattle.std.specs.Prelude.{ℕ, List};
+    ghost use Rattle.mp_tx.specs.Transaction.{Transaction};
+    ghost use Rattle.mp_items.specs.Item.{items_of};
+
+    ghost Value = { List (ℕ × Transaction) };
+
+    ghost view = { λ i. items_of i.items.items };
+}
+
+impl Items {
+    ghost use Rattle.std.specs.Prelude.{◌≡◌};
+    ghost use Rattle.mp_items.specs.Item.{items_of};
+
+    /// These items.
+    pub fn of(items: Vec<Item, Memory>) -> Items
+        ensures { result ≡ items_of items.items }
+    {
+        Items { items }
+    }
+
+    /// The items, in order.
+    pub fn as_slice(&self) -> &[Item]
+        ensures { items_of result.now ≡ self.now }
+    {
+        &self.items
+    }
+}

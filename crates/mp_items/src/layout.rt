@@ -1,0 +1,39 @@
+//! How items lie: what is read of that, and what comes of it.
+
+mod building;
+mod counting;
+mod growing;
+mod reading;
+mod removal;
+mod searching;
+
+ghost use Rattle.std.specs.Prelude.{◌≡◌, IfOk};
+
+use crate::chunk::Chunk;
+use crate::pages::Pages;
+pub use building::of_pool;
+pub use counting::count_of;
+pub use growing::grown;
+use mp_memory::NoMemory;
+pub use reading::{bytes_among, chunk_at, find, run_after, run_back, run_of};
+pub use removal::without;
+pub use searching::has;
+
+/// The items of pages, and behind them those of an open chunk: the newest, or none.
+#[derive(Drop)]
+pub struct Layout {
+    pub pages: Pages,
+    pub newest: Chunk,
+}
+
+impl Layout {
+    /// The same items, which are shared. `NoMemory` where they are shared too often.
+    pub fn share(&self) -> Result<Layout, NoMemory>
+        ensures { IfOk result (λ l. l ≡ self.now) }
+    {
+        Ok(Layout {
+            pages: self.pages.share()?,
+            newest: self.newest.share()?,
+        })
+    }
+}

@@ -1,0 +1,21 @@
+//! Items of a pool as they lie in versions: each list of them shares nearly everything with the one before.
+#![tactic(auto)]
+
+mod chunk;
+mod item;
+mod items;
+pub mod laws;
+pub mod layout;
+mod page;
+mod pages;
+mod run;
+mod run_back;
+
+pub use chunk::Chunk;
+pub use item::Item;
+pub use items::Items;
+pub use layout::Layout;
+pub use page::Page;
+pub use pages::Pages;
+pub use run::{Run, RunWithin};
+pub use run_back::RunBack;

@@ -1,0 +1,62 @@
+//! Pages that are shared as one.
+
+use crate::page::Page;
+use mp_memory::{Memory, NoMemory};
+use std::marker::Model;
+use std::sync::Arc;
+
+/// Pages that are shared as one where none of them changes.
+#[derive(Drop)]
+pub struct Pages {
+    pages: Arc<Vec<Page, Memory>, Memory>,
+}
+
+impl Model for Pages {
+    ghost use Rattle.std.specs.Prelude.{ℕ, List};
+    ghost use Rattle.std.specs.Arc.{arc_value};
+    ghost use Rattle.mp_tx.specs.Transaction.{Transaction};
+
+    ghost Value = { List (List (List (ℕ × Transaction))) };
+
+    ghost view = { λ p. (arc_value p.pages).items };
+}
+
+impl Pages {
+    ghost use Rattle.std.specs.Prelude.{◌≡◌, IfOk};
+    ghost use Rattle.mp_items.specs.Pages.{last_by, last_ticket};
+
+    /// These pages.
+    pub fn of(memory: Memory, pages: Vec<Page, Memory>) -> Result<Pages, NoMemory>
+        ensures { IfOk result (λ p. p ≡ pages.items) }
+    {
+        Ok(Pages {
+            pages: Arc::new(memory, pages)?,
+        })
+    }
+
+    /// The same pages, which are shared. `NoMemory` where they are shared too often.
+    pub fn share(&self) -> Result<Pages, NoMemory>
+        ensures { IfOk result (λ p. p ≡ self.now) }
+    {
+        Ok(Pages {
+            pages: Arc::try_clone(&self.pages)?,
+        })
+    }
+
+    /// The pages, in order.
+    pub fn as_slice(&self) -> &[Page]
+        ensures { result.now ≡ self.now }
+    {
+        &self.pages
+    }
+
+    /// The last ticket of the last page. Where there is no page it is 0.
+    pub fn last_ticket(&self) -> u64
+        ensures { result ≡ last_by (last_by last_ticket 0) 0 self.now }
+    {
+        match self.as_slice().split_last() {
+            Some((page, _)) => page.last_ticket(),
+            None => 0,
+        }
+    }
+}

@@ -1,0 +1,4 @@
+pub mod Entering
+pub mod Places
+pub mod Preparing
+pub mod Steps

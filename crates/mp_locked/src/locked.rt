@@ -1,0 +1,437 @@
+//! What a pool's lock guards.
+ghost use Rattle.std.specs.Prelude.{◌≡◌, ◌<◌, ◌≤◌, ◌≢◌, ◌^◌, [], true, false, length, replicate, Some, None, IfSome, IfOk, IfErr};
+ghost use Rattle.std.specs.Arc.{arc_value};
+ghost use Rattle.mp_rules.specs.Checked.{IsChecked};
+ghost use Rattle.mp_seqpool.specs.Command.{Submit, Remove, Sync};
+ghost use Rattle.mp_seqpool.specs.Prepared.{IsPrepared, Prepares, leads_to};
+ghost use Rattle.mp_seqpool.specs.SlowPool as slow;
+ghost use Rattle.mp_seqpool.specs.declared.refusal.Refusal.TheVariants as refusals;
+ghost use Rattle.mp_history.specs.Log.{Begins, IsLegalLog, entered, last_of, state_after};
+ghost use Rattle.mp_history.specs.Successors.{successor};
+ghost use Rattle.mp_versions.specs.Shown.{IsVersionOf};
+ghost use Rattle.mp_locked.specs.Locked.{holding};
+ghost use Rattle.mp_locked.specs.Inside.Locked.{IsAt};
+ghost use Rattle.mp_locked.specs.Ready.{IsReady, Own, Tells};
+
+use crate::ready::{Committed, Outcome, Owners, Ready};
+use mp_history::{Caller, CommitRight, Entry, Front, History, PoolName};
+use mp_memory::{Memory, NoMemory};
+use mp_rules::{Checked, Verifier};
+use mp_seqpool::{Ids, Prepared, Refusal, SeqPool};
+use mp_tx::{Ledger, Tx};
+use mp_versions::{Board, Shown, Version};
+use std::marker::Model;
+use std::sync::{Arc, Wait};
+
+/// What a pool's lock guards: the right to lengthen its history, the sequential pool after it, the newest version, and for each
+/// caller the place of its last entry. Contracts see the history, and the room that the sequential pool has for its next step:
+/// all else is what the history leads to, as the readers say.
+#[derive(Drop)]
+pub struct Locked<N: PoolName> {
+    pool: SeqPool,
+    right: CommitRight<N>,
+    newest: Shown<N>,
+    // The newest version, where it couldn't be shown yet.
+    waiting: Option<Shown<N>>,
+    // By caller, the place of its last entry.
+    places: Vec<Option<u64>, Memory>,
+}
+
+impl<N: PoolName> Model for Locked<N> {
+    ghost use Rattle.std.specs.Coded.{codes};
+    ghost use Rattle.std.specs.FinMap as finite;
+    ghost use Rattle.mp_locked.specs.Locked as told;
+    ghost use Rattle.mp_locked.specs.Inside.Locked.{IsAt};
+
+    ghost Value = { told.Locked };
+
+    ghost coded = { Prim.hlevel (codes, finite.code) };
+
+    ghost view = { λ l. record { log = l.right; room = l.pool.room } };
+
+    ghost invariant = { λ l. IsAt N.accepts N.callers
+        l.right l.pool.pool l.newest l.places.items };
+}
+
+// The entry that tells of the step.
+fn entry_of<N: PoolName>(caller: &Caller<N>, prepared: &Prepared) -> Result<Entry, NoMemory>
+    ensures caller { IfOk result (λ e. e.caller ≡ caller.now.number) }
+    ensures command { IfOk result (λ e. e.command ≡ prepared.now.command) }
+    ensures reply { IfOk result (λ e. e.reply ≡ prepared.now.reply) }
+{
+    let command = prepared.command().share()?;
+    let reply = prepared.reply().copy()?;
+    Ok(caller.entry(command, reply))
+}
+
+// Three owners of the version.
+fn own_thrice(memory: Memory, version: Version) -> Result<Owners, NoMemory>
+    ensures pass { IfOk result (λ o. arc_value o.for_pass ≡ version) }
+    ensures lock { IfOk result (λ o. arc_value o.for_lock ≡ version) }
+    ensures board { IfOk result (λ o. arc_value o.for_board ≡ version) }
+{
+    let for_pass = Arc::new(memory, version)?;
+    let for_lock = Arc::try_clone(&for_pass)?;
+    let for_board = Arc::try_clone(&for_pass)?;
+    Ok(Owners {
+        for_pass,
+        for_lock,
+        for_board,
+    })
+}
+
+// Takes the step. The entry that tells of it has the reply already.
+fn take_step(pool: &mut SeqPool, prepared: Prepared)
+    requires { IsPrepared pool.old prepared }
+    ensures { pool.new.pool ≡ leads_to pool.old.pool prepared }
+{
+    let _reply = pool.finish(prepared);
+}
+
+impl<N: PoolName> Locked<N> {
+    // All parts together.
+    fn of(
+        pool: SeqPool,
+        right: CommitRight<N>,
+        newest: Shown<N>,
+        places: Vec<Option<u64>, Memory>,
+    ) -> Locked<N>
+        requires { IsAt N.accepts N.callers right pool.pool newest places.items }
+        ensures { result.log ≡ right }
+    {
+        Locked {
+            pool,
+            right,
+            newest,
+            waiting: None,
+            places,
+        }
+    }
+
+    /// What the lock guards at first: no entry, and no version that waits.
+    pub fn open(
+        pool: SeqPool,
+        right: CommitRight<N>,
+        newest: Shown<N>,
+        places: Vec<Option<u64>, Memory>,
+    ) -> Locked<N>
+        requires state { right ≡ record { opening = pool.pool; entries = [] } }
+        requires legal { IsLegalLog N.accepts N.callers right }
+        requires newest { newest ≡ right }
+        requires places { places.items ≡ replicate N.callers None }
+        ensures { result.log ≡ right }
+    {
+        Locked::of(pool, right, newest, places)
+    }
+
+    /// What the lock of a successor guards, whose right this is: the sequential pool is renewed, and no item is copied.
+    pub fn renew<M: PoolName>(
+        self,
+        limit: u64,
+        right: CommitRight<M>,
+        newest: Shown<M>,
+        places: Vec<Option<u64>, Memory>,
+    ) -> Locked<M>
+        requires least { 1 ≤ limit }
+        requires greatest { limit ≤ 2 ^ 32 }
+        requires right { right ≡ successor N.accepts limit self.log }
+        requires legal { IsLegalLog M.accepts M.callers right }
+        requires newest { newest ≡ right }
+        requires places { places.items ≡ replicate M.callers None }
+        ensures { result.log ≡ right }
+    {
+        let Locked { mut pool, .. } = self;
+        pool.renew(limit);
+        Locked::open(pool, right, newest, places)
+    }
+
+    // The readers, which say what ties the parts together.
+
+    /// The front of all entries.
+    pub fn front(&self) -> Front<N>
+        ensures front { result ≡ self.now.log }
+        ensures legal { IsLegalLog N.accepts N.callers self.now.log }
+    {
+        self.right.front()
+    }
+
+    /// The sequential pool, which is the slow pool after the history.
+    pub fn pool(&self) -> &SeqPool
+        ensures { result.now ≡ holding N.accepts self.now }
+    {
+        &self.pool
+    }
+
+    /// The version after all entries.
+    pub fn newest(&self) -> &Shown<N>
+        ensures { result.now ≡ self.now.log }
+    {
+        &self.newest
+    }
+
+    /// How many callers there are.
+    pub fn callers(&self) -> usize
+        ensures callers { result ≡ N.callers }
+    {
+        self.places.len()
+    }
+
+    /// The place of the caller's last entry.
+    pub fn last_of(&self, caller: &Caller<N>) -> Option<u64>
+        ensures { result ≡ last_of caller.now.number self.now.log.entries }
+    {
+        self.places[caller.number() as usize]
+    }
+
+    /// Whether the caller's token has the last of its entries. Nobody has seen more than the lock's history has, as this front.
+    pub fn is_known_to(&mut self, caller: &Caller<N>, front: &Front<N>) -> bool
+        ensures same { self.new ≡ self.old }
+        ensures begins { Begins front.now self.new.log }
+        ensures known { result ≡ true
+            → last_of caller.now.number self.new.log.entries ≡ caller.now.last }
+        ensures foreign { result ≡ false
+            → last_of caller.now.number self.new.log.entries ≢ caller.now.last }
+    {
+        self.right.covers(front);
+        self.last_of(caller) == caller.last()
+    }
+
+    // Owners of the version after a step, of which the entry tells.
+    fn own_next(
+        &self,
+        memory: Memory,
+        caller: &Caller<N>,
+        entry: &Entry,
+        prepared: &Prepared,
+    ) -> Result<Owners, NoMemory>
+        requires caller { entry.now.caller ≡ caller.now.number }
+        requires asked { entry.now.command ≡ prepared.now.command }
+        requires reply { entry.now.reply ≡ prepared.now.reply }
+        requires prepares { Prepares N.accepts (holding N.accepts self.now)
+            prepared.now.command prepared.now }
+        ensures { IfOk result (Own N.accepts N.callers (entered self.now.log entry.now)) }
+    {
+        let version = self.version_after(memory, caller, entry, prepared)?;
+        own_thrice(memory, version)
+    }
+
+    // The version after a step, of which the entry tells.
+    fn version_after(
+        &self,
+        memory: Memory,
+        caller: &Caller<N>,
+        entry: &Entry,
+        prepared: &Prepared,
+    ) -> Result<Version, NoMemory>
+        requires caller { entry.now.caller ≡ caller.now.number }
+        requires asked { entry.now.command ≡ prepared.now.command }
+        requires reply { entry.now.reply ≡ prepared.now.reply }
+        requires prepares { Prepares N.accepts (holding N.accepts self.now)
+            prepared.now.command prepared.now }
+        ensures { IfOk result (IsVersionOf N.accepts N.callers
+            (entered self.now.log entry.now)) }
+    {
+        let _number = caller.number();
+        self.newest.version().after(memory, &self.pool, prepared)
+    }
+
+    // The entry that tells of the step, and owners of the version after it.
+    fn tell(
+        &self,
+        memory: Memory,
+        caller: &Caller<N>,
+        prepared: &Prepared,
+    ) -> Result<Outcome, NoMemory>
+        requires { Prepares N.accepts (holding N.accepts self.now)
+            prepared.now.command prepared.now }
+        ensures { IfOk result (Tells N.accepts N.callers
+            self.now.log caller.now.number prepared.now) }
+    {
+        let entry = entry_of(caller, prepared)?;
+        let owners = self.own_next(memory, caller, &entry, prepared)?;
+        Ok(Outcome { entry, owners })
+    }
+
+    // The step with what is made before it is taken.
+    fn make_ready(
+        &self,
+        memory: Memory,
+        caller: &Caller<N>,
+        prepared: Prepared,
+    ) -> Result<Ready, Refusal>
+        requires { Prepares N.accepts (holding N.accepts self.now) prepared.command prepared }
+        ensures ready { IfOk result (IsReady N.accepts N.callers self.now caller.now.number) }
+        ensures command { IfOk result (λ r. r.prepared.command ≡ prepared.command) }
+        ensures refused { IfErr result (λ r. r ≡ refusals.NoMemory) }
+    {
+        match self.tell(memory, caller, &prepared) {
+            Ok(outcome) => Ok(Ready { prepared, outcome }),
+            Err(NoMemory) => Err(Refusal::NoMemory),
+        }
+    }
+
+    // What the sequential pool prepares for the transaction, with what was found of it before.
+    fn prepare_in_pool<V: Verifier>(
+        &mut self,
+        tx: &Arc<Tx, Memory>,
+        checked: Option<&Checked>,
+        verifier: &V,
+    ) -> Result<Prepared, Refusal>
+        requires verifier { V.accepts verifier.now ≡ N.accepts }
+        requires checked { IfSome checked (λ c. IsChecked N.accepts (arc_value tx.now) c.now) }
+        ensures same { self.new.log ≡ self.old.log }
+        ensures ready { IfOk result (Prepares N.accepts
+            (holding N.accepts self.new) (Submit (arc_value tx.now))) }
+        ensures refused { IfErr result (slow.IsRefused N.accepts
+            (state_after N.accepts self.old.log) (Submit (arc_value tx.now))) }
+    {
+        self.pool.prepare_submit(tx, checked, verifier)
+    }
+
+    /// Prepares to take the transaction in, with what was found of it before, and makes everything ready.
+    pub fn prepare_submit<V: Verifier>(
+        &mut self,
+        memory: Memory,
+        caller: &Caller<N>,
+        tx: &Arc<Tx, Memory>,
+        checked: Option<&Checked>,
+        verifier: &V,
+    ) -> Result<Ready, Refusal>
+        requires verifier { V.accepts verifier.now ≡ N.accepts }
+        requires checked { IfSome checked (λ c. IsChecked N.accepts (arc_value tx.now) c.now) }
+        ensures same { self.new.log ≡ self.old.log }
+        ensures ready { IfOk result (IsReady N.accepts N.callers self.new caller.now.number) }
+        ensures command { IfOk result (λ r. r.prepared.command ≡ Submit (arc_value tx.now)) }
+        ensures refused { IfErr result (slow.IsRefused N.accepts
+            (state_after N.accepts self.old.log) (Submit (arc_value tx.now))) }
+    {
+        match self.prepare_in_pool(tx, checked, verifier) {
+            Ok(prepared) => self.make_ready(memory, caller, prepared),
+            Err(refusal) => Err(refusal),
+        }
+    }
+
+    // What the sequential pool prepares for the ids.
+    fn prepare_remove_in_pool<V: Verifier>(
+        &self,
+        ids: &Arc<Ids, Memory>,
+        verifier: &V,
+    ) -> Result<Prepared, Refusal>
+        requires { V.accepts verifier.now ≡ N.accepts }
+        ensures ready { IfOk result (Prepares N.accepts
+            (holding N.accepts self.now) (Remove (arc_value ids.now))) }
+        ensures refused { IfErr result (slow.IsRefused N.accepts
+            (state_after N.accepts self.now.log) (Remove (arc_value ids.now))) }
+    {
+        self.pool.prepare_remove(ids, verifier)
+    }
+
+    /// Prepares to take out the transactions with these ids, and makes everything ready.
+    pub fn prepare_remove<V: Verifier>(
+        &self,
+        memory: Memory,
+        caller: &Caller<N>,
+        ids: &Arc<Ids, Memory>,
+        verifier: &V,
+    ) -> Result<Ready, Refusal>
+        requires { V.accepts verifier.now ≡ N.accepts }
+        ensures ready { IfOk result (IsReady N.accepts N.callers self.now caller.now.number) }
+        ensures command { IfOk result (λ r. r.prepared.command ≡ Remove (arc_value ids.now)) }
+        ensures refused { IfErr result (slow.IsRefused N.accepts
+            (state_after N.accepts self.now.log) (Remove (arc_value ids.now))) }
+    {
+        match self.prepare_remove_in_pool(ids, verifier) {
+            Ok(prepared) => self.make_ready(memory, caller, prepared),
+            Err(refusal) => Err(refusal),
+        }
+    }
+
+    // What the sequential pool prepares for the ledger state.
+    fn prepare_sync_in_pool<V: Verifier>(
+        &self,
+        ledger: &Ledger,
+        verifier: &V,
+    ) -> Result<Prepared, Refusal>
+        requires { V.accepts verifier.now ≡ N.accepts }
+        ensures ready { IfOk result (Prepares N.accepts
+            (holding N.accepts self.now) (Sync ledger.now)) }
+        ensures refused { IfErr result (slow.IsRefused N.accepts
+            (state_after N.accepts self.now.log) (Sync ledger.now)) }
+    {
+        self.pool.prepare_sync(ledger, verifier)
+    }
+
+    /// Prepares to adopt the ledger state, and makes everything ready.
+    pub fn prepare_sync<V: Verifier>(
+        &self,
+        memory: Memory,
+        caller: &Caller<N>,
+        ledger: &Ledger,
+        verifier: &V,
+    ) -> Result<Ready, Refusal>
+        requires { V.accepts verifier.now ≡ N.accepts }
+        ensures ready { IfOk result (IsReady N.accepts N.callers self.now caller.now.number) }
+        ensures command { IfOk result (λ r. r.prepared.command ≡ Sync ledger.now) }
+        ensures refused { IfErr result (slow.IsRefused N.accepts
+            (state_after N.accepts self.now.log) (Sync ledger.now)) }
+    {
+        match self.prepare_sync_in_pool(ledger, verifier) {
+            Ok(prepared) => self.make_ready(memory, caller, prepared),
+            Err(refusal) => Err(refusal),
+        }
+    }
+
+    // The place of the next entry, where one more change may be made.
+    fn next_place(&self) -> u64
+        requires { (state_after N.accepts self.now.log).changes
+            < (state_after N.accepts self.now.log).limit }
+        ensures place { result ≡ length self.now.log.entries }
+        ensures room { result < 2 ^ 32 }
+    {
+        let _limit = self.pool.config().limit;
+        self.pool.changes()
+    }
+
+    /// Commits the caller's entry and takes the step. The version after it waits to be shown. It takes no memory and can't fail.
+    pub fn commit(
+        &mut self,
+        history: &History<N>,
+        caller: &mut Caller<N>,
+        ready: Ready,
+    ) -> Committed<N>
+        requires { IsReady N.accepts N.callers self.old caller.old.number ready }
+        ensures log { self.new.log ≡ entered self.old.log ready.outcome.entry }
+        ensures place { result.place ≡ length self.old.log.entries }
+        ensures entry { result.entry ≡ ready.outcome.entry }
+        ensures shown { result.shown ≡ self.new.log }
+        ensures caller { caller.new
+            ≡ record caller.old { last = Some (length self.old.log.entries) } }
+    {
+        let Ready { prepared, outcome } = ready;
+        let Outcome { entry, owners } = outcome;
+        let place = self.next_place();
+        let number = caller.number() as usize;
+        history.commit(&mut self.right, caller, &entry);
+        take_step(&mut self.pool, prepared);
+        self.places[number] = Some(place);
+        self.newest = Shown::of(owners.for_lock, self.right.front());
+        self.waiting = Some(Shown::of(owners.for_board, self.right.front()));
+        Committed {
+            place,
+            entry,
+            shown: Shown::of(owners.for_pass, self.right.front()),
+        }
+    }
+
+    /// Shows the version that waits, if one does. Where memory is wanting it waits on.
+    pub fn show_waiting(&mut self, rt: &impl Wait, board: &Board<N>)
+        ensures { self.new ≡ self.old }
+    {
+        let Some(shown) = self.waiting.take() else {
+            return;
+        };
+        if let Err(shown) = board.show(rt, shown) {
+            self.waiting = Some(shown);
+        }
+    }
+}

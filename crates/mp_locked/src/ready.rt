@@ -1,0 +1,37 @@
+//! Steps for which everything is ready.
+
+use mp_history::{Entry, PoolName};
+use mp_memory::Memory;
+use mp_seqpool::Prepared;
+use mp_versions::{Shown, Version};
+use std::sync::Arc;
+
+/// Owners of one version, one for each who is going to hold it.
+#[derive(Drop)]
+pub struct Owners {
+    pub for_pass: Arc<Version, Memory>,
+    pub for_lock: Arc<Version, Memory>,
+    pub for_board: Arc<Version, Memory>,
+}
+
+/// What is made before a step is taken: the entry that tells of it, and the version after it.
+#[derive(Drop)]
+pub struct Outcome {
+    pub entry: Entry,
+    pub owners: Owners,
+}
+
+/// A step that can be taken without memory.
+#[derive(Drop)]
+pub struct Ready {
+    pub prepared: Prepared,
+    pub outcome: Outcome,
+}
+
+/// A step that was taken: its entry, the place of that in the history, from 0, and the version after it.
+#[derive(Drop)]
+pub struct Committed<N: PoolName> {
+    pub place: u64,
+    pub entry: Entry,
+    pub shown: Shown<N>,
+}

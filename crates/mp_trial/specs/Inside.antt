@@ -1,0 +1,2 @@
+-- What only the crate's own clauses cite.
+pub mod Kept
