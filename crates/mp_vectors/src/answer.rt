@@ -1,7 +1,7 @@
 //! Answers of which there are several kinds of lines.
 
 use crate::pieces;
-use anyhow::Result;
+use crate::wrong::Result;
 use mp_memory::Memory;
 use mp_script::Hash;
 use std::fmt::Debug;
@@ -33,6 +33,7 @@ pub fn is_number(found: Option<u64>, wanted: &str) -> Result<bool> {
 pub fn is_hashed(memory: Memory, hash: &Hash, wanted: &str) -> Result<bool> {
     match wanted.split_once(' ') {
         None => Ok(wanted == "ok"),
-        Some((word, digits)) => Ok(word == "ok" && pieces::hash(memory, digits)? == *hash),
+        Some(("ok", digits)) => Ok(pieces::array(memory, digits)? == *hash),
+        Some(_) => Ok(false),
     }
 }

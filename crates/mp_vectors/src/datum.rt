@@ -1,7 +1,7 @@
 //! What spells a datum.
 
+use crate::wrong::Result;
 use crate::{answer, pieces};
-use anyhow::Result;
 use mp_memory::Memory;
 use mp_script::Data;
 

@@ -1,7 +1,7 @@
 //! What is read of a datum, and of the data in it.
 
 use crate::pieces;
-use anyhow::Result;
+use crate::wrong::Result;
 use mp_memory::Memory;
 use mp_script::DatumRef;
 
@@ -22,9 +22,9 @@ fn is_part(memory: Memory, part: &DatumRef, wanted: &str) -> Result<bool> {
     let (kind, words) = wanted.split_once(' ').unwrap_or((wanted, ""));
     match (kind, part.number(), part.octets(), part.length()) {
         ("number", Some(number), None, None) => Ok(number == words.parse::<i64>()?),
-        ("octets", None, Some(octets), None) => Ok(*octets == *pieces::bytes(memory, words)?),
+        ("octets", None, Some(octets), None) => pieces::spell(memory, words, octets),
         ("list", None, None, Some(length)) => Ok(u64::from(length) == words.parse::<u64>()?),
-        ("datum", _, _, _) => Ok(*part.bytes() == *pieces::bytes(memory, words)?),
+        ("datum", _, _, _) => pieces::spell(memory, words, part.bytes()),
         _ => Ok(false),
     }
 }

@@ -2,7 +2,7 @@
 
 use crate::answer::is_fault;
 use crate::pieces;
-use anyhow::{Context, Result, bail};
+use crate::wrong::{Result, Wrong};
 use mp_memory::Memory;
 use mp_tx::Tx;
 
@@ -11,9 +11,9 @@ fn is_whole(memory: Memory, tx: &Tx, bytes: &[u8], wanted: &str) -> Result<bool>
     let Some(words) = wanted.strip_prefix("ok ") else {
         return Ok(false);
     };
-    let (id, size) = words.split_once(' ').context("no number")?;
+    let (id, size) = words.split_once(' ').ok_or(Wrong("no number"))?;
     Ok(
-        *tx.id() == pieces::hash(memory, id)?
+        *tx.id() == pieces::array(memory, id)?
             && tx.size() == size.parse::<u64>()?
             && *tx.encode(memory)? == *bytes,
     )
@@ -32,13 +32,17 @@ pub fn holds(memory: Memory, given: &str, wanted: &str) -> Result<bool> {
     comes_to(memory, &bytes, wanted)
 }
 
-/// How many proper prefixes bytes have, where each comes to what is wanted.
-pub fn prefixes_held(memory: Memory, given: &str, wanted: &str) -> Result<u64> {
-    let bytes = pieces::bytes(memory, given)?;
+fn check_prefixes(memory: Memory, bytes: &[u8], wanted: &str) -> Result<u64> {
     for len in 0..bytes.len() {
         if !comes_to(memory, &bytes[..len], wanted)? {
-            bail!("the first {len} bytes come to something else")
+            return Err(Wrong("a prefix comes to something else"));
         }
     }
     Ok(bytes.len() as u64)
+}
+
+/// How many proper prefixes bytes have, where each comes to what is wanted.
+pub fn prefixes_held(memory: Memory, given: &str, wanted: &str) -> Result<u64> {
+    let bytes = pieces::bytes(memory, given)?;
+    check_prefixes(memory, &bytes, wanted)
 }

@@ -2,7 +2,7 @@
 
 use crate::answer::name_of;
 use crate::numbered::Numbered;
-use anyhow::{Result, bail};
+use crate::wrong::{Result, Wrong};
 use mp_bundle::BundleFault;
 use mp_history::AuditFault;
 use mp_memory::{Memory, NoMemory};
@@ -112,7 +112,7 @@ fn holds_among<F: Numbered + Debug + Display>(
             return is_told(memory, fault, wanted);
         }
     }
-    bail!("no such word")
+    Err(Wrong("no such word"))
 }
 
 /// Whether a fault has the number and the text that are wanted.
@@ -130,6 +130,6 @@ pub fn holds(memory: Memory, given: &str, wanted: &str) -> Result<bool> {
         "AuditFault" => holds_among(memory, &AUDIT_FAULTS, name, wanted),
         "InputFault" => holds_among(memory, &INPUT_FAULTS, name, wanted),
         "WriteFault" => holds_among(memory, &[WriteFault], name, wanted),
-        _ => bail!("no such word"),
+        _ => Err(Wrong("no such word")),
     }
 }

@@ -1,10 +1,10 @@
 //! The kinds of vectors.
 
 use crate::answer::{is_number, is_told};
+use crate::wrong::Result;
 use crate::{
     bundle, datum, datum_ref, decode, faults, ledger, script, sum, text, transaction, value,
 };
-use anyhow::Result;
 use mp_memory::Memory;
 use mp_text::{is_name, number, quantity};
 

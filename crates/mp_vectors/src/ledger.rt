@@ -3,41 +3,39 @@
 use crate::answer::is_fault;
 use crate::plain::output;
 use crate::references::reference;
-use anyhow::{Context, Result};
+use crate::wrong::{Result, Wrong};
 use mp_memory::Memory;
-use mp_tx::{Ledger, LedgerFault, OutRef, Output, Salt};
+use mp_tx::{Ledger, OutRef, Output, Salt};
 
-// The output of a word such as `32*00:7/5`: the reference, and then the coin.
-fn referred(memory: Memory, word: &str) -> Result<(OutRef, Output)> {
-    let (place, coin) = word.split_once('/').context("no output")?;
-    Ok((reference(memory, place)?, output(memory, coin)?))
+// What the outputs of a ledger state are made of.
+type Outputs = Vec<(OutRef, Output), Memory>;
+
+// Adds the output of a word such as `32*00:7/5`: the reference, and then the coin.
+fn add_output(memory: Memory, outputs: &mut Outputs, word: &str) -> Result<()> {
+    let (place, coin) = word.split_once('/').ok_or(Wrong("no output"))?;
+    let reference = reference(memory, place)?;
+    let output = output(memory, coin)?;
+    outputs.push((reference, output))?;
+    Ok(())
 }
 
-fn outputs(memory: Memory, words: &str) -> Result<Vec<(OutRef, Output), Memory>> {
-    let mut outputs = Vec::new(memory);
+fn add_outputs(memory: Memory, outputs: &mut Outputs, words: &str) -> Result<()> {
     for word in words.split_whitespace() {
-        outputs.push(referred(memory, word)?)?;
+        add_output(memory, outputs, word)?;
     }
-    Ok(outputs)
+    Ok(())
 }
 
-// The ledger state of a tick, the block bytes and outputs.
-fn made(memory: Memory, given: &str) -> Result<Result<Ledger, LedgerFault>> {
-    let (tick, others) = given.split_once(' ').context("no number")?;
+// The tick, the block bytes and the words of the outputs.
+fn parted(given: &str) -> Result<(u64, u64, &str)> {
+    let (tick, others) = given.split_once(' ').ok_or(Wrong("no number"))?;
     let (block_bytes, words) = others.split_once(' ').unwrap_or((others, ""));
-    let outputs = outputs(memory, words)?;
-    Ok(Ledger::of_outputs(
-        memory,
-        Salt::new(7),
-        tick.parse::<u64>()?,
-        block_bytes.parse::<u64>()?,
-        outputs,
-    ))
+    Ok((tick.parse::<u64>()?, block_bytes.parse::<u64>()?, words))
 }
 
 // Whether a reference leads to an output of so much coin, or to none.
 fn is_held(memory: Memory, ledger: &Ledger, word: &str) -> Result<bool> {
-    let (place, coin) = word.split_once('/').context("no output")?;
+    let (place, coin) = word.split_once('/').ok_or(Wrong("no output"))?;
     match ledger.get(&reference(memory, place)?) {
         None => Ok(coin == "none"),
         Some(_) if coin == "none" => Ok(false),
@@ -60,7 +58,10 @@ fn has_outputs(memory: Memory, ledger: &Ledger, wanted: &str) -> Result<bool> {
 
 /// Whether outputs make a ledger state that has these outputs, or have a fault.
 pub fn holds(memory: Memory, given: &str, wanted: &str) -> Result<bool> {
-    match made(memory, given)? {
+    let (tick, block_bytes, words) = parted(given)?;
+    let mut outputs = Vec::new(memory);
+    add_outputs(memory, &mut outputs, words)?;
+    match Ledger::of_outputs(memory, Salt::new(7), tick, block_bytes, outputs) {
         Ok(ledger) => has_outputs(memory, &ledger, wanted),
         Err(fault) => is_fault(memory, &fault, wanted),
     }

@@ -1,8 +1,8 @@
 //! The lines of a file.
 
 use crate::kind::Kind;
+use crate::wrong::{Result, Wrong};
 use crate::{decode, spoilt};
-use anyhow::{Context, Result, bail};
 use mp_memory::Memory;
 
 /// What a line says is given, and what it says that comes to. A blank line and a comment say nothing.
@@ -10,7 +10,7 @@ pub fn parted(line: &str) -> Result<Option<(&str, &str)>> {
     if line.is_empty() || line.starts_with('#') {
         return Ok(None);
     }
-    let (given, wanted) = line.split_once('=').context("no '='")?;
+    let (given, wanted) = line.split_once('=').ok_or(Wrong("no '='"))?;
     Ok(Some((given.trim(), wanted.trim())))
 }
 
@@ -18,7 +18,7 @@ fn check_case(memory: Memory, kind: Kind, given: &str, wanted: &str) -> Result<(
     if kind.holds(memory, given, wanted)? {
         Ok(())
     } else {
-        bail!("it comes to something else")
+        Err(Wrong("it comes to something else"))
     }
 }
 

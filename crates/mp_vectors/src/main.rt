@@ -24,15 +24,17 @@ mod transaction;
 mod value;
 mod views;
 mod wanted;
+mod wrong;
 
 use anyhow::{Context, Result};
 use kind::Kind;
 use mp_memory::Memory;
-use std::fs;
 use std::rt::Files;
+use std::{fs, io};
+use wrong::Wrong;
 
 // How many cases of a line held, where all did.
-fn cases_held(memory: Memory, kind: Kind, line: &str) -> Result<u64> {
+fn cases_held(memory: Memory, kind: Kind, line: &str) -> wrong::Result<u64> {
     match line::parted(line)? {
         None => Ok(0),
         Some((given, wanted)) => line::held(memory, kind, given, wanted),
@@ -40,7 +42,7 @@ fn cases_held(memory: Memory, kind: Kind, line: &str) -> Result<u64> {
 }
 
 // Prints each line that doesn't hold, and gives how many cases held.
-fn check_lines(rt: &impl Print, memory: Memory, kind: Kind, text: &str) -> Result<u64> {
+fn check_lines(rt: &impl Print, memory: Memory, kind: Kind, text: &str) -> io::Result<u64> {
     let name = kind.file_name();
     let mut held = 0u64;
     let mut number = 0u64;
@@ -48,7 +50,7 @@ fn check_lines(rt: &impl Print, memory: Memory, kind: Kind, text: &str) -> Resul
         number = number.wrapping_add(1);
         match cases_held(memory, kind, line) {
             Ok(cases) => held = held.wrapping_add(cases),
-            Err(fault) => println!(rt; "{name}:{number}: {fault}: {line}")?,
+            Err(Wrong(why)) => println!(rt; "{name}:{number}: {why}: {line}")?,
         }
     }
     Ok(held)

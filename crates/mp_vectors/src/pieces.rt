@@ -1,14 +1,31 @@
 //! Bytes, as the lines write them.
 
-use anyhow::{Context, Result, bail};
+use crate::wrong::{Result, Wrong};
 use mp_memory::Memory;
 use mp_script::{Data, Hash, Script};
-use mp_tx::Sig;
+
+fn add_repeated(bytes: &mut Vec<u8, Memory>, piece: &[u8], times: u64) -> Result<()> {
+    for _ in 0..times {
+        bytes.extend_from_slice(piece)?;
+    }
+    Ok(())
+}
 
 fn add_times(memory: Memory, bytes: &mut Vec<u8, Memory>, times: &str, digits: &str) -> Result<()> {
+    let times = times.parse::<u64>()?;
     let piece = hex::decode(memory, digits)?;
-    for _ in 0..times.parse::<u64>()? {
-        bytes.extend_from_slice(&piece)?;
+    add_repeated(bytes, &piece, times)
+}
+
+fn add_run(
+    bytes: &mut Vec<u8, Memory>,
+    (first, last): (u16, u16),
+    (before, after): (&[u8], &[u8]),
+) -> Result<()> {
+    for number in first..=last {
+        bytes.extend_from_slice(before)?;
+        bytes.extend_from_slice(&number.to_be_bytes())?;
+        bytes.extend_from_slice(after)?;
     }
     Ok(())
 }
@@ -20,14 +37,11 @@ fn add_numbered(
     (first, last): (&str, &str),
     digits: &str,
 ) -> Result<()> {
-    let (before, after) = digits.split_once('#').context("no '#'")?;
-    let (before, after) = (hex::decode(memory, before)?, hex::decode(memory, after)?);
-    for number in first.parse::<u16>()?..=last.parse::<u16>()? {
-        bytes.extend_from_slice(&before)?;
-        bytes.extend_from_slice(&number.to_be_bytes())?;
-        bytes.extend_from_slice(&after)?;
-    }
-    Ok(())
+    let numbers = (first.parse::<u16>()?, last.parse::<u16>()?);
+    let (before, after) = digits.split_once('#').ok_or(Wrong("no '#'"))?;
+    let before = hex::decode(memory, before)?;
+    let after = hex::decode(memory, after)?;
+    add_run(bytes, numbers, (&before, &after))
 }
 
 // Adds the bytes of a piece: hexadecimal digits, a number of times such digits, as `16*030001`, a run of numbers between such
@@ -43,28 +57,31 @@ fn add_piece(memory: Memory, bytes: &mut Vec<u8, Memory>, word: &str) -> Result<
     }
 }
 
-fn add_word(memory: Memory, bytes: &mut Vec<u8, Memory>, word: &str) -> Result<()> {
-    for piece in word.split('+') {
+fn add_pieces(memory: Memory, bytes: &mut Vec<u8, Memory>, words: &str) -> Result<()> {
+    for piece in words.split([' ', '+']) {
         add_piece(memory, bytes, piece)?;
     }
     Ok(())
 }
 
-/// The bytes of all pieces, one after the other. Within a word they have a plus sign between them.
+/// The bytes of all pieces, one after the other. They have spaces or plus signs between them.
 pub fn bytes(memory: Memory, words: &str) -> Result<Vec<u8, Memory>> {
     let mut bytes = Vec::new(memory);
-    for word in words.split_whitespace() {
-        add_word(memory, &mut bytes, word)?;
-    }
+    add_pieces(memory, &mut bytes, words)?;
     Ok(bytes)
 }
 
-/// The 32 bytes of pieces.
-pub fn hash(memory: Memory, words: &str) -> Result<Hash> {
+/// Whether these are the bytes that pieces spell.
+pub fn spell(memory: Memory, words: &str, found: &[u8]) -> Result<bool> {
+    Ok(*bytes(memory, words)? == *found)
+}
+
+/// The bytes of pieces that spell as many.
+pub fn array<const N: usize>(memory: Memory, words: &str) -> Result<[u8; N]> {
     let bytes = bytes(memory, words)?;
-    match bytes.split_first_chunk::<32>() {
-        Some((hash, [])) => Ok(*hash),
-        _ => bail!("no 32 bytes"),
+    match bytes.split_first_chunk::<N>() {
+        Some((array, [])) => Ok(*array),
+        _ => Err(Wrong("another number of bytes")),
     }
 }
 
@@ -80,11 +97,12 @@ pub fn script(memory: Memory, words: &str) -> Result<Script> {
     Ok(Script::decode(memory, &bytes)?)
 }
 
-/// The signature of pieces, which has 64 bytes.
-pub fn sig(memory: Memory, words: &str) -> Result<Sig> {
-    let bytes = bytes(memory, words)?;
-    match bytes.split_first_chunk::<64>() {
-        Some((sig, [])) => Ok(*sig),
-        _ => bail!("no 64 bytes"),
-    }
+/// The hash of the datum that pieces spell.
+pub fn datum_hash(memory: Memory, words: &str) -> Result<Hash> {
+    Ok(*datum(memory, words)?.hash())
+}
+
+/// The hash of the script that pieces spell.
+pub fn script_hash(memory: Memory, words: &str) -> Result<Hash> {
+    Ok(*script(memory, words)?.hash())
 }

@@ -2,7 +2,7 @@
 
 use crate::bundle::bundle;
 use crate::pieces;
-use anyhow::Result;
+use crate::wrong::Result;
 use mp_bundle::Bundle;
 use mp_memory::Memory;
 use mp_tx::{Input, OutRef, Output};
@@ -34,8 +34,8 @@ fn coin(memory: Memory, quantity: &str) -> Result<Bundle> {
 /// The output of so much coin.
 pub fn output(memory: Memory, quantity: &str) -> Result<Output> {
     Ok(Output {
-        address: *pieces::script(memory, SCRIPT)?.hash(),
-        datum_hash: *pieces::datum(memory, UNIT)?.hash(),
+        address: pieces::script_hash(memory, SCRIPT)?,
+        datum_hash: pieces::datum_hash(memory, UNIT)?,
         value: coin(memory, quantity)?,
     })
 }

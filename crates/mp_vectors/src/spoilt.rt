@@ -3,7 +3,7 @@
 use crate::answer::name_of;
 use crate::faults::TX_FAULTS;
 use crate::pieces;
-use anyhow::{Context, Result, bail};
+use crate::wrong::{Result, Wrong};
 use mp_memory::Memory;
 use mp_tx::{Tx, TxFault};
 
@@ -24,7 +24,7 @@ fn add(counts: &mut Counts, place: usize) {
 fn count(memory: Memory, counts: &mut Counts, bytes: &[u8]) -> Result<()> {
     match Tx::decode(memory, bytes) {
         Ok(tx) if *tx.encode(memory)? == *bytes => add(counts, 0),
-        Ok(_) => bail!("a transaction encodes to other bytes"),
+        Ok(_) => return Err(Wrong("a transaction encodes to other bytes")),
         Err(fault) => add(counts, place_of(fault)),
     }
     Ok(())
@@ -50,13 +50,17 @@ fn spoil_at(memory: Memory, counts: &mut Counts, bytes: &mut [u8], place: usize)
     Ok(())
 }
 
-fn counts_of(memory: Memory, words: &str) -> Result<Counts> {
+fn spoil_all(memory: Memory, bytes: &mut [u8]) -> Result<Counts> {
     let mut counts = [0; 13];
-    let mut bytes = pieces::bytes(memory, words)?;
     for place in 0..bytes.len() {
-        spoil_at(memory, &mut counts, &mut bytes, place)?;
+        spoil_at(memory, &mut counts, bytes, place)?;
     }
     Ok(counts)
+}
+
+fn counts_of(memory: Memory, words: &str) -> Result<Counts> {
+    let mut bytes = pieces::bytes(memory, words)?;
+    spoil_all(memory, &mut bytes)
 }
 
 // How many came to a fault of this name, or at `ok` to a transaction.
@@ -66,19 +70,22 @@ fn count_named(memory: Memory, counts: &Counts, name: &str) -> Result<u64> {
     }
     for fault in TX_FAULTS {
         if name_of(memory, &fault)?.as_str() == name {
-            return counts.get(place_of(fault)).copied().context("no number");
+            return counts
+                .get(place_of(fault))
+                .copied()
+                .ok_or(Wrong("no number"));
         }
     }
-    bail!("no such word")
+    Err(Wrong("no such word"))
 }
 
 fn check_count(memory: Memory, counts: &Counts, wanted: &str) -> Result<u64> {
-    let (name, word) = wanted.split_once(' ').context("no number")?;
+    let (name, word) = wanted.split_once(' ').ok_or(Wrong("no number"))?;
     let number = word.parse::<u64>()?;
     if count_named(memory, counts, name)? == number {
         Ok(number)
     } else {
-        bail!("another number of {name}")
+        Err(Wrong("another number of a word"))
     }
 }
 

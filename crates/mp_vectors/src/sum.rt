@@ -1,15 +1,26 @@
 //! Sums of bundles.
 
 use crate::bundle::{bundle, token};
-use anyhow::{Context, Result};
-use mp_bundle::{Bundle, Sum};
+use crate::wrong::{Result, Wrong};
+use mp_bundle::Sum;
 use mp_memory::Memory;
 
 const MAX_ADDED: u64 = 1 << 32;
 
-fn add(sum: &mut Sum, bundle: &Bundle) -> Result<()> {
+fn add(memory: Memory, sum: &mut Sum, entries: &str) -> Result<()> {
+    let bundle = bundle(memory, entries)?;
     if sum.added() < MAX_ADDED {
-        sum.add(bundle)?;
+        sum.add(&bundle)?;
+    }
+    Ok(())
+}
+
+fn add_all(memory: Memory, sum: &mut Sum, words: &str) -> Result<()> {
+    if words.trim().is_empty() {
+        return Ok(());
+    }
+    for entries in words.split('+') {
+        add(memory, sum, entries)?;
     }
     Ok(())
 }
@@ -17,19 +28,15 @@ fn add(sum: &mut Sum, bundle: &Bundle) -> Result<()> {
 /// The sum of the bundles between plus signs. Where nothing is written, it is that of no bundle.
 pub fn sum(memory: Memory, words: &str) -> Result<Sum> {
     let mut sum = Sum::new(memory);
-    if words.trim().is_empty() {
-        return Ok(sum);
-    }
-    for entries in words.split('+') {
-        add(&mut sum, &bundle(memory, entries)?)?;
-    }
+    add_all(memory, &mut sum, words)?;
     Ok(sum)
 }
 
 fn has_total(memory: Memory, sum: &Sum, word: &str) -> Result<bool> {
-    let (named, total) = word.rsplit_once('/').context("no token")?;
+    let (named, total) = word.rsplit_once('/').ok_or(Wrong("no token"))?;
+    let total = total.parse::<i128>()?;
     let (policy, name) = token(memory, named)?;
-    Ok(sum.total(&policy, &name) == total.parse::<i128>()?)
+    Ok(sum.total(&policy, &name) == total)
 }
 
 // Whether so many bundles were added, and come to these totals.
@@ -54,12 +61,15 @@ fn differ_at(memory: Memory, first: &Sum, second: &Sum, wanted: &str) -> Result<
     }
 }
 
+fn differs_at(memory: Memory, first: &Sum, words: &str, wanted: &str) -> Result<bool> {
+    let second = sum(memory, words)?;
+    differ_at(memory, first, &second, wanted)
+}
+
 /// Whether a sum has these totals, or two sums differ at this token first.
 pub fn holds(memory: Memory, given: &str, wanted: &str) -> Result<bool> {
     match given.split_once('|') {
         None => has_totals(memory, &sum(memory, given)?, wanted),
-        Some((first, second)) => {
-            differ_at(memory, &sum(memory, first)?, &sum(memory, second)?, wanted)
-        }
+        Some((first, second)) => differs_at(memory, &sum(memory, first)?, second, wanted),
     }
 }

@@ -9,8 +9,8 @@ use crate::scene::{
     SECOND_DATUM_HASH, SPENT,
 };
 use crate::sum::sum;
-use crate::wanted::Wanted;
-use anyhow::Result;
+use crate::wanted::is_wanted;
+use crate::wrong::Result;
 use mp_bundle::{Bundle, Sum};
 use mp_memory::Memory;
 use mp_script::{Data, Hash, PaidTo, Referred, Script, View, eval};
@@ -32,14 +32,14 @@ fn of_guard<T>(role: Role, part: &T) -> Option<&T> {
 }
 
 // Whether a script comes to what is wanted, and takes no memory on the way.
-fn comes_to<'a>(memory: Memory, script: &'a Script, view: &View<'a>, wanted: &Wanted) -> bool
+fn comes_to<'a>(memory: Memory, script: &'a Script, view: &View<'a>, wanted: &str) -> Result<bool>
     requires { length view.now.outputs.now ≤ 256 }
 {
     memory.refuse(1);
-    let is_wanted = wanted.is(&eval(script, view));
+    let value = eval(script, view);
     let takes_none = memory.waits();
     memory.refuse(0);
-    is_wanted && takes_none
+    Ok(is_wanted(memory, &value, wanted)? && takes_none)
 }
 
 // Two outputs with one address, and between them one with another.
@@ -75,15 +75,25 @@ fn references_of<'a>(much: &'a Bundle, little: &'a Bundle) -> [Referred<'a>; 2] 
     ]
 }
 
-/// Whether a script of a role comes to what is wanted in the transaction of the scene.
-pub fn holds_in_scene(memory: Memory, role: Role, bytes: &[u8], wanted: &Wanted) -> Result<bool> {
-    let script = Script::decode(memory, bytes)?;
+// The datum and the redeemer of the spent output.
+fn data(memory: Memory) -> Result<(Data, Data)> {
     let datum = pieces::datum(memory, DATUM)?;
-    let redeemer = pieces::datum(memory, REDEEMER)?;
+    Ok((datum, pieces::datum(memory, REDEEMER)?))
+}
+
+// What much, little and what is forged are.
+fn bundles(memory: Memory) -> Result<(Bundle, Bundle, Bundle)> {
     let much = bundle(memory, MUCH)?;
     let little = bundle(memory, LITTLE)?;
+    Ok((much, little, bundle(memory, FORGE)?))
+}
+
+/// Whether a script of a role comes to what is wanted in the transaction of the scene.
+pub fn holds_in_scene(memory: Memory, role: Role, bytes: &[u8], wanted: &str) -> Result<bool> {
+    let script = Script::decode(memory, bytes)?;
+    let (datum, redeemer) = data(memory)?;
+    let (much, little, forge) = bundles(memory)?;
     let spent = sum(memory, SPENT)?;
-    let forge = bundle(memory, FORGE)?;
     let outputs = outputs_of(&much, &little);
     let references = references_of(&much, &little);
     let view = View {
@@ -99,7 +109,7 @@ pub fn holds_in_scene(memory: Memory, role: Role, bytes: &[u8], wanted: &Wanted)
         outputs: &outputs,
         references: &references,
     };
-    Ok(comes_to(memory, &script, &view, wanted))
+    comes_to(memory, &script, &view, wanted)
 }
 
 // The datum that is written, if there is one.
@@ -119,7 +129,7 @@ struct Alone {
     forge: Bundle,
 }
 
-fn comes_alone_to(memory: Memory, alone: &Alone, wanted: &Wanted) -> bool {
+fn comes_alone_to(memory: Memory, alone: &Alone, wanted: &str) -> Result<bool> {
     let view = View {
         own_hash: alone.script.hash(),
         datum: alone.datum.as_ref(),
@@ -137,19 +147,14 @@ fn comes_alone_to(memory: Memory, alone: &Alone, wanted: &Wanted) -> bool {
 }
 
 /// Whether a script comes to what is wanted with the datum that is written, or none, in a transaction of nothing.
-pub fn holds_in_nothing(
-    memory: Memory,
-    datum: &str,
-    bytes: &[u8],
-    wanted: &Wanted,
-) -> Result<bool> {
+pub fn holds_in_nothing(memory: Memory, datum: &str, bytes: &[u8], wanted: &str) -> Result<bool> {
     let alone = Alone {
         script: Script::decode(memory, bytes)?,
         datum: datum_of(memory, datum)?,
         spent: Sum::new(memory),
         forge: Bundle::empty(),
     };
-    Ok(comes_alone_to(memory, &alone, wanted))
+    comes_alone_to(memory, &alone, wanted)
 }
 
 // As many as there may be.
@@ -172,7 +177,7 @@ fn most_references(value: &Bundle) -> [Referred<'_>; 256] {
 }
 
 /// Whether a script comes to what is wanted where as many outputs and references as there may be hold much.
-pub fn holds_in_most(memory: Memory, bytes: &[u8], wanted: &Wanted) -> Result<bool> {
+pub fn holds_in_most(memory: Memory, bytes: &[u8], wanted: &str) -> Result<bool> {
     let script = Script::decode(memory, bytes)?;
     let much = bundle(memory, MUCH)?;
     let spent = Sum::new(memory);
@@ -191,5 +196,5 @@ pub fn holds_in_most(memory: Memory, bytes: &[u8], wanted: &Wanted) -> Result<bo
         outputs: &outputs,
         references: &references,
     };
-    Ok(comes_to(memory, &script, &view, wanted))
+    comes_to(memory, &script, &view, wanted)
 }

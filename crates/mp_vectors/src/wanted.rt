@@ -1,49 +1,33 @@
 //! What a script is wanted to come to.
 
 use crate::pieces;
-use anyhow::{Result, bail};
+use crate::wrong::Result;
 use mp_memory::Memory;
 use mp_script::Value;
 
-/// A value, of which octets and data are given by their bytes.
-#[derive(Drop)]
-pub enum Wanted {
-    Nothing,
-    Truth(bool),
-    Whole(i128),
-    Octets(Vec<u8, Memory>),
-    Tree(Vec<u8, Memory>),
+// Whether a value has the bytes that are wanted, as octets or as a datum.
+fn has_bytes(memory: Memory, value: &Value, kind: &str, words: &str) -> Result<bool> {
+    match (kind, value) {
+        ("octets", Value::Octets(octets)) => pieces::spell(memory, words, octets),
+        ("datum", Value::Tree(tree)) => pieces::spell(memory, words, tree.bytes()),
+        _ => Ok(false),
+    }
 }
 
-impl Wanted {
-    /// The value that words say.
-    pub fn of_words(memory: Memory, words: &str) -> Result<Wanted> {
-        match words.split_once(' ') {
-            Some(("octets", pieces)) => Ok(Wanted::Octets(pieces::bytes(memory, pieces)?)),
-            Some(("datum", pieces)) => Ok(Wanted::Tree(pieces::bytes(memory, pieces)?)),
-            Some(_) => bail!("no such word"),
-            None => Wanted::of_word(words),
-        }
+fn is_word(value: &Value, word: &str) -> bool {
+    match value {
+        Value::Nothing => word == "nothing",
+        Value::Truth(false) => word == "false",
+        Value::Truth(true) => word == "true",
+        Value::Whole(number) => word.parse::<i128>() == Ok(*number),
+        _ => false,
     }
+}
 
-    fn of_word(word: &str) -> Result<Wanted> {
-        match word {
-            "nothing" => Ok(Wanted::Nothing),
-            "false" => Ok(Wanted::Truth(false)),
-            "true" => Ok(Wanted::Truth(true)),
-            number => Ok(Wanted::Whole(number.parse::<i128>()?)),
-        }
-    }
-
-    /// Whether a value is this one.
-    pub fn is(&self, value: &Value) -> bool {
-        match (self, value) {
-            (Wanted::Nothing, Value::Nothing) => true,
-            (Wanted::Truth(wanted), Value::Truth(is)) => is == wanted,
-            (Wanted::Whole(wanted), Value::Whole(is)) => is == wanted,
-            (Wanted::Octets(wanted), Value::Octets(is)) => **is == **wanted,
-            (Wanted::Tree(wanted), Value::Tree(is)) => *is.bytes() == **wanted,
-            _ => false,
-        }
+/// Whether a value is the one that words say: `nothing`, a truth, a number, or octets or a datum by their bytes.
+pub fn is_wanted(memory: Memory, value: &Value, wanted: &str) -> Result<bool> {
+    match wanted.split_once(' ') {
+        None => Ok(is_word(value, wanted)),
+        Some((kind, words)) => has_bytes(memory, value, kind, words),
     }
 }
