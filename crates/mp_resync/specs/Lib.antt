@@ -1,5 +1,6 @@
 pub mod ById
 pub mod Keep
 pub mod Kept
+pub mod Parted
 pub mod ValidatedTx
 pub mod Inside

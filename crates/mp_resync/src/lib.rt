@@ -4,10 +4,12 @@
 mod by_id;
 mod id_set;
 mod kept;
+mod parting;
 mod revalidation;
 mod validated_tx;
 
 pub use by_id::{ById, key_of};
 pub use kept::Kept;
+pub use parting::{Parted, part};
 pub use revalidation::revalidate;
 pub use validated_tx::ValidatedTx;

@@ -20,5 +20,6 @@ mod verifier;
 pub use checked::{Checked, precheck};
 pub use checking::{check, check_with, stays_valid};
 pub use invalid::Invalid;
+pub use map::output_taken;
 pub use resolved::Resolved;
 pub use verifier::Verifier;

@@ -33,26 +33,31 @@ goes i ts is a =
 stays : (i : ℕ × Transaction) (ts : List ℕ) (is : List (ℕ × Transaction)) → AllByRecursion (λ t. i.0 < t) ts → apart ts (i ∷ is) ≡ i ∷ apart ts is
 stays i ts is a = ap (λ b. cond (not b) (i ∷ apart ts is) (apart ts is)) (not_among i.0 ts a)
 
--- ---- what is named
+-- ---- what passes a test
 
-named_above : (b : Bool) (m : ℕ) (i : ℕ × Transaction) (ns : List (ℕ × Transaction)) → m < i.0 → AllByRecursion (λ t. m < t) (tickets ns) → AllByRecursion (λ t. m < t) (tickets (cond b (i ∷ ns) ns))
-named_above true m i ns h a = (h, a)
-named_above false m i ns h a = a
+module _ (test : ℕ × Transaction → Bool) where
+  tested_above : (b : Bool) (m : ℕ) (i : ℕ × Transaction) (ns : List (ℕ × Transaction)) → m < i.0 → AllByRecursion (λ t. m < t) (tickets ns) → AllByRecursion (λ t. m < t) (tickets (cond b (i ∷ ns) ns))
+  tested_above true m i ns h a = (h, a)
+  tested_above false m i ns h a = a
 
-above_named : (m : ℕ) (ids : List (List ℕ)) (items : List (ℕ × Transaction)) → AllByRecursion (λ i. m < i.0) items → AllByRecursion (λ t. m < t) (tickets (named ids items))
-above_named m ids [] a = tt
-above_named m ids (i ∷ is) a = named_above (is_named ids i.1) m i (named ids is) a.0 (above_named m ids is a.1)
+  pub above_tested : (m : ℕ) (items : List (ℕ × Transaction)) → AllByRecursion (λ i. m < i.0) items → AllByRecursion (λ t. m < t) (tickets (filter test items))
+  above_tested m [] a = tt
+  above_tested m (i ∷ is) a = tested_above (test i) m i (filter test is) a.0 (above_tested m is a.1)
 
-named_step : (b : Bool) (i : ℕ × Transaction) (ns us is : List (ℕ × Transaction)) → AllByRecursion (λ y. i.0 < y.0) is → AllByRecursion (λ t. i.0 < t) (tickets ns) → apart (tickets ns) is ≡ us
-    → apart (tickets (cond b (i ∷ ns) ns)) (i ∷ is) ≡ cond (not b) (i ∷ us) us
-named_step true i ns us is above less e = goes i (tickets ns) is above ∙ e
-named_step false i ns us is above less e = stays i (tickets ns) is less ∙ ap (λ l. i ∷ l) e
+  tested_step : (b : Bool) (i : ℕ × Transaction) (ns us is : List (ℕ × Transaction)) → AllByRecursion (λ y. i.0 < y.0) is → AllByRecursion (λ t. i.0 < t) (tickets ns) → apart (tickets ns) is ≡ us
+      → apart (tickets (cond b (i ∷ ns) ns)) (i ∷ is) ≡ cond (not b) (i ∷ us) us
+  tested_step true i ns us is above less e = goes i (tickets ns) is above ∙ e
+  tested_step false i ns us is above less e = stays i (tickets ns) is less ∙ ap (λ l. i ∷ l) e
+
+  -- without the tickets of those that pass it, the others are left
+  pub apart_tested : (low : ℕ) (items : List (ℕ × Transaction)) → IsRisingFrom low items → apart (tickets (filter test items)) items ≡ filter (λ i. not (test i)) items
+  apart_tested low [] r = refl
+  apart_tested low (i ∷ is) r =
+      let above = all_above i.0 i.0 is (omega arith) r.1 in
+      tested_step (test i) i (filter test is) (filter (λ j. not (test j)) is) is above (above_tested i.0 is above) (apart_tested i.0 is r.1)
 
 pub apart_named : (low : ℕ) (ids : List (List ℕ)) (items : List (ℕ × Transaction)) → IsRisingFrom low items → apart (tickets (named ids items)) items ≡ unnamed ids items
-apart_named low ids [] r = refl
-apart_named low ids (i ∷ is) r =
-    let above = all_above i.0 i.0 is (omega arith) r.1 in
-    named_step (is_named ids i.1) i (named ids is) (unnamed ids is) is above (above_named i.0 ids is above) (apart_named i.0 ids is r.1)
+apart_named low ids items r = apart_tested (λ i. is_named ids i.1) low items r
 
 -- ---- what isn't valid
 

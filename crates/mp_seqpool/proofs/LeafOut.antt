@@ -25,7 +25,7 @@ use Rattle.mp_seqpool.proofs.Dependents.{weaker, unlike}
 
 -- ---- what is there, and what isn't
 
-none_there : {A : Type 0} (o : Option A) → o ≡ None → IsSome o → ⊥
+pub none_there : {A : Type 0} (o : Option A) → o ≡ None → IsSome o → ⊥
 none_there o none there = true≢false (sym (subst IsSome none there))
 
 none_from : {A : Type 0} (o : Option A) → (IsSome o → ⊥) → o ≡ None
@@ -61,18 +61,18 @@ own_made t k lt =
 -- ---- what may be spent after a transaction
 
 -- what it spends and doesn't make is gone
-spent_gone : (t : Transaction) (u : Unspent) (r : OutRef) → output_made t r ≡ None → spends t.inputs r ≡ true → apply t u r ≡ None
+pub spent_gone : (t : Transaction) (u : Unspent) (r : OutRef) → output_made t r ≡ None → spends t.inputs r ≡ true → apply t u r ≡ None
 spent_gone t u r unmade spent = ap (λ m. option_or m (cond (spends t.inputs r) None (u r))) unmade ∙ ap (λ b. cond b None (u r)) spent
 
 -- what it neither spends nor makes is as it was
-passed_by : (t : Transaction) (u : Unspent) (r : OutRef) → output_made t r ≡ None → spends t.inputs r ≡ false → apply t u r ≡ u r
+pub passed_by : (t : Transaction) (u : Unspent) (r : OutRef) → output_made t r ≡ None → spends t.inputs r ≡ false → apply t u r ≡ u r
 passed_by t u r unmade unspent = ap (λ m. option_or m (cond (spends t.inputs r) None (u r))) unmade ∙ ap (λ b. cond b None (u r)) unspent
 
 none_either : (b : Bool) (o : Option Output) → o ≡ None → cond b None o ≡ None
 none_either true o none = refl
 none_either false o none = none
 
-still_gone : (t : Transaction) (u : Unspent) (r : OutRef) → output_made t r ≡ None → u r ≡ None → apply t u r ≡ None
+pub still_gone : (t : Transaction) (u : Unspent) (r : OutRef) → output_made t r ≡ None → u r ≡ None → apply t u r ≡ None
 still_gone t u r unmade none =
     ap (λ m. option_or m (cond (spends t.inputs r) None (u r))) unmade ∙ none_either (spends t.inputs r) (u r) none
 

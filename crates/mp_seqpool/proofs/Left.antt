@@ -163,12 +163,14 @@ module _ (accepts : Accepts) where
   removed : (p : Pool) (ids : List (List ℕ)) (k : Kept) → is_at_limit p ≡ false → IsKeptOf accepts p.ledger p.items ids k → answer accepts p (Remove ids) ≡ Ok (Removed k.named k.dropped)
   removed p ids k below is = removed_as p ids k.named k.dropped below is.named is.dropped
 
-  synced : (p : Pool) (ledger : LedgerState) (k : Kept) → is_at_limit p ≡ false → IsKeptOf accepts ledger p.items [] k → answer accepts p (Sync ledger) ≡ Ok (Synced k.kept k.dropped)
+  pub synced_as : (p : Pool) (ledger : LedgerState) (stay left_out : List ℕ) → is_at_limit p ≡ false → stay ≡ tickets (keep accepts ledger p.items) → left_out ≡ dropped accepts ledger p.items → answer accepts p (Sync ledger) ≡ Ok (Synced stay left_out)
   unfolding answer yes
+  synced_as p ledger stay left_out below is_kept is_dropped =
+      open_limit (is_at_limit p) _ below ∙ sym (ap (λ n. Ok (Synced n left_out)) is_kept ∙ ap (λ d. Ok (Synced (tickets (keep accepts ledger p.items)) d)) is_dropped)
+
+  synced : (p : Pool) (ledger : LedgerState) (k : Kept) → is_at_limit p ≡ false → IsKeptOf accepts ledger p.items [] k → answer accepts p (Sync ledger) ≡ Ok (Synced k.kept k.dropped)
   synced p ledger k below is =
-      open_limit (is_at_limit p) _ below
-      ∙ ap (λ items. Ok (Synced (tickets (keep accepts ledger items)) (dropped accepts ledger items))) (sym (none_named p.items))
-      ∙ sym (ap (λ n. Ok (Synced n k.dropped)) is.kept ∙ ap (λ d. Ok (Synced (tickets (keep accepts ledger (unnamed [] p.items))) d)) is.dropped)
+      synced_as p ledger k.kept k.dropped below (is.kept ∙ ap (λ items. tickets (keep accepts ledger items)) (none_named p.items)) (is.dropped ∙ ap (dropped accepts ledger) (none_named p.items))
 
   -- the step of a remove that nothing refuses
   pub ready_removed : (h : Holding) (ids : List (List ℕ)) (k : Kept) (q : Prepared) → h.pool.changes < h.pool.limit → IsRising h.pool.items → IsKeptOf accepts h.pool.ledger h.pool.items ids k

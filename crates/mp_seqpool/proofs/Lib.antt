@@ -18,5 +18,6 @@ pub mod LeavesOut
 pub mod TicketsNamed
 pub mod Chained
 pub mod TakingOut
+pub mod Adopting
 pub mod Finishing
 pub mod Recounting

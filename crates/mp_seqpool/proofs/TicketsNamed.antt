@@ -190,7 +190,7 @@ has_once xs n =
     (λ h. has_contained xs n (Contains-from_dedup eqb xs n (contained (dedup eqb xs) n h)))
     (λ h. has_contained (dedup eqb xs) n (Contains-dedup_nat xs n (contained xs n h)))
 
-tickets_rise : (low : ℕ) (items : Items) → IsRisingFrom low items → Rise (tickets items)
+pub tickets_rise : (low : ℕ) (items : Items) → IsRisingFrom low items → Rise (tickets items)
 tickets_rise low [] r = AllPairs-nil (λ a b. a < b)
 tickets_rise low (i ∷ is) r =
     AllPairs-cons (λ a b. a < b) i.0 (tickets is) (above is (all_above i.0 i.0 is (omega arith) r.1)) (tickets_rise i.0 is r.1)

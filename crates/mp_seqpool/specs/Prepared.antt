@@ -3,6 +3,7 @@ use Rattle.std.specs.Prelude.{◌≡◌, ℕ, ◌<◌, not, List, All, None, IfS
 use Rattle.std.specs.List.{filter}
 use Rattle.std.specs.FinMap.{get}
 use Rattle.mp_tx.specs.Transaction.{Transaction}
+use Rattle.mp_tx.specs.Ledger.{LedgerState}
 use Rattle.mp_tx.specs.Spelling.{id_of}
 use Rattle.mp_utxo.specs.Overlay.{Overlay, HasRoomFor}
 use Rattle.mp_utxo.specs.Leaf.{IsLeaf}
@@ -25,6 +26,8 @@ pub data Effect : Type 0 where
   Keep : Overlay → List ℕ → Effect
   -- the transactions under these tickets go, and nothing else
   TakeOut : List ℕ → Effect
+  -- so too, and the others stand upon this ledger state
+  Adopt : LedgerState → List ℕ → Effect
 
 pub record Prepared : Type 0 where
   pub command : Command
@@ -39,6 +42,7 @@ abbrev pub changed : Pool → Effect → Pool
 changed p (Append item) = pool_with p item.tx
 changed p (Keep overlay kept) = pool_upon p overlay.ledger (among kept p.items)
 changed p (TakeOut gone) = pool_upon p p.ledger (apart gone p.items)
+changed p (Adopt ledger gone) = pool_upon p ledger (apart gone p.items)
 
 -- the state that it leads to
 abbrev pub leads_to : Pool → Prepared → Pool
@@ -71,6 +75,7 @@ abbrev pub CanChange : Holding → Effect → Type 0
 CanChange h (Append item) = CanAppend h item
 CanChange h (Keep overlay kept) = overlay.applied ≡ transactions (among kept h.pool.items)
 CanChange h (TakeOut gone) = All (IsLeafAt h.pool) gone
+CanChange h (Adopt ledger gone) = All (IsLeafAt h.pool) gone
 
 -- The pool has room for the step, whatever the slow pool says of it.
 pub record HasRoom (h : Holding) (q : Prepared) : Type 0 where

@@ -5,7 +5,7 @@ ghost use Rattle.std.specs.Arc.{arc_value};
 ghost use Rattle.indexmap.specs.IndexMap.{spare};
 ghost use Rattle.mp_utxo.specs.Overlay.{IsSame, HasRoomFor};
 ghost use Rattle.mp_seqpool.specs.Command.{Submit, Remove, Sync};
-ghost use Rattle.mp_seqpool.specs.Prepared.{Append, Keep, TakeOut};
+ghost use Rattle.mp_seqpool.specs.Prepared.{Append, Keep, TakeOut, Adopt};
 ghost use Rattle.mp_seqpool.specs.declared.command.Reply.TheVariants.{Accepted, Removed, Synced};
 
 use crate::command::{Answer, Command, Reply};
@@ -17,7 +17,7 @@ use crate::refusal::Refusal;
 use crate::tickets_by_id::{TicketsById, as_tickets, note, ticket_under};
 use indexmap::IndexMap;
 use mp_memory::{Memory, NoMemory};
-use mp_resync::{Kept, ValidatedTx, revalidate};
+use mp_resync::{Kept, Parted, ValidatedTx, part, revalidate};
 use mp_rules::{Checked, Resolved, Verifier, check, check_with};
 use mp_tickets::{Iter, Node, TicketList, Tickets, make_node};
 use mp_tx::{Ledger, Tx, TxId};
@@ -140,6 +140,30 @@ fn take_out_step(
     })
 }
 
+// How many of so many are few: to take out each of more costs more than to look at all anew.
+fn few_of(count: usize) -> usize {
+    (count / 16).max(16)
+}
+
+// The step of a sync where some go, on which no others hang, and the others stay as they are. What goes is both told and done.
+fn adopt_step(ledger: &Ledger, parted: Parted) -> Result<Prepared, NoMemory>
+    ensures command { IfOk result (λ q. q.command ≡ Sync ledger.now) }
+    ensures reply { IfOk result (λ q. q.reply ≡ Synced parted.kept parted.dropped) }
+    ensures effect { IfOk result (λ q. q.effect ≡ Adopt ledger.now parted.dropped) }
+{
+    let asked = ledger.share()?;
+    let adopted = ledger.share()?;
+    let gone = parted.dropped.copy()?;
+    Ok(Prepared {
+        command: Command::Sync(asked),
+        reply: Reply::Synced {
+            kept: parted.kept,
+            dropped: parted.dropped,
+        },
+        effect: Effect::Adopt(adopted, gone),
+    })
+}
+
 impl SeqPool {
     ghost use Rattle.std.specs.Prelude.{◌≡◌, ◌≢◌, ◌+◌, ◌≤◌, ◌^◌, ◌==◌, List, [], ◌∷◌, length, All, None, IfNone, IfSome, IfOk, IfErr, OnOk, OnErr, Ok, IsTrue};
     ghost use Rattle.std.specs.Arc.{arc_value};
@@ -156,7 +180,7 @@ impl SeqPool {
     ghost use Rattle.mp_resync.specs.Kept.{IsKeptOf};
     ghost use Rattle.mp_seqpool.specs.Inside.Chained.{all_accepted};
     ghost use Rattle.mp_seqpool.specs.Inside.NamedLeaves.{tickets_named, TakesNamed};
-    ghost use Rattle.mp_seqpool.specs.Inside.Steps.{IsKeep};
+    ghost use Rattle.mp_seqpool.specs.Inside.Steps.{IsKeep, IsAdoption, AdoptsParted};
     ghost use Rattle.mp_seqpool.specs.Inside.Place.{misplaced};
     ghost use Rattle.mp_seqpool.specs.Inside.Rules.{IsBrokenRule};
     ghost use Rattle.mp_seqpool.specs.Command.{Submit, Remove, Sync};
@@ -385,6 +409,22 @@ impl SeqPool {
         })
     }
 
+    // The step that adopts the ledger state, where what it changed tells of each transaction whether it stays as it is or goes, and
+    // no other hangs on one that goes.
+    fn prepare_adoption(&self, ledger: &Ledger) -> Result<Option<Prepared>, NoMemory>
+        ensures { IfOk result (λ step. IfSome step (AdoptsParted self.now.pool ledger.now)) }
+    {
+        let former = self.overlay.ledger();
+        let most = few_of(self.items.len());
+        let Some(parted) = part(self.memory, former, ledger, &self.items, most)? else {
+            return Ok(None);
+        };
+        if !self.are_leaves(&parted.dropped) {
+            return Ok(None);
+        }
+        Ok(Some(adopt_step(ledger, parted)?))
+    }
+
     /// Prepares to adopt the ledger state, and to drop those transactions that aren't valid upon it. The others keep their tickets.
     /// Nothing is dropped for size. It is one change, also where nothing goes.
     ///
@@ -403,6 +443,9 @@ impl SeqPool {
     {
         if self.changes >= self.config.limit {
             return Err(Refusal::HistoryFull);
+        }
+        if let Some(step) = self.prepare_adoption(ledger)? {
+            return Ok(step);
         }
         let adopted = ledger.share()?;
         let left = self.revalidate(ledger, &[], verifier)?;
@@ -455,6 +498,23 @@ impl SeqPool {
         self.changes += 1;
     }
 
+    // Takes out those under these tickets, on which no others hang, as the reply tells, and puts the ledger state below the others.
+    fn adopt(&mut self, ledger: Ledger, gone: &Tickets, reply: &Reply)
+        requires change { self.old.pool.changes < self.old.pool.limit }
+        requires leaves { All (IsLeafAt self.old.pool) gone.now }
+        requires left { apart gone.now self.old.pool.items
+            ≡ left_by reply.now self.old.pool.items }
+        requires told { IsAdoption self.old ledger gone.now reply.now }
+        ensures { self.new.pool ≡ pool_upon self.old.pool ledger
+            (left_by reply.now self.old.pool.items) }
+    {
+        take_leaves(&mut self.overlay, &self.items, gone);
+        self.overlay.rebase(ledger);
+        let bytes = take_told(&mut self.items, &mut self.tickets, reply);
+        self.bytes -= bytes;
+        self.changes += 1;
+    }
+
     /// Takes the step, and gives its reply. It takes no memory and can't fail: the step is one that the last `prepare_` call on
     /// this pool gave.
     pub fn finish(&mut self, prepared: Prepared) -> Reply
@@ -471,6 +531,7 @@ impl SeqPool {
             Effect::Append(node, applied) => self.append(node, applied),
             Effect::Keep(overlay, _kept) => self.leave(overlay, &reply),
             Effect::TakeOut(gone) => self.take_leaves_out(&gone, &reply),
+            Effect::Adopt(ledger, gone) => self.adopt(ledger, &gone, &reply),
         }
         reply
     }

@@ -4,7 +4,7 @@ use crate::command::{Command, Reply};
 use mp_memory::Memory;
 use mp_resync::ValidatedTx;
 use mp_tickets::{Node, Tickets};
-use mp_tx::Tx;
+use mp_tx::{Ledger, Tx};
 use mp_utxo::Overlay;
 use std::marker::Model;
 use std::sync::Arc;
@@ -18,6 +18,8 @@ pub enum Effect {
     Keep(Overlay, Tickets),
     /// Those under these tickets go, and nothing else.
     TakeOut(Tickets),
+    /// Those under these tickets go, on which no others hang, and the others stand upon this ledger state.
+    Adopt(Ledger, Tickets),
 }
 
 /// A step of the pool that is ready to be taken: all that can be refused is behind it, and it holds the memory that it needs.

@@ -6,6 +6,7 @@ use Rattle.std.specs.Option.{option_or, option_map, option_and_then}
 use Rattle.std.specs.Arc.{arc_value}
 use Rattle.std.proofs.lemmas.Bool.{false≢true}
 use Rattle.std.proofs.lemmas.List.{length-map, map-append}
+use Rattle.std.proofs.lemmas.List.Folds.{list_any-append}
 use Rattle.std.proofs.lemmas.List.Elements.{All-push, All-nil, All-cons}
 use Rattle.std.proofs.lemmas.List.Quantifiers.{all_pairs_push}
 use Rattle.mp_tx.specs.declared.reference.OutRef.{OutRef}
@@ -19,7 +20,7 @@ use Rattle.mp_utxo.specs.Apply.{Unspent, apply, after, output_made}
 use Rattle.mp_utxo.specs.Leaf.{NoneMakes, LooksPast}
 use Rattle.mp_utxo.specs.Inside.Changes.{Noted, last_change, spent, is_made, is_own, Spends, Makes}
 use Rattle.mp_utxo.specs.Inside.Applied.{Places, places, those, transactions}
-use Rattle.mp_utxo.specs.Inside.Overlay.{changed, IsMadeSo, MakesAt, AreKept}
+use Rattle.mp_utxo.specs.Inside.Overlay.{changed, SomeSpends, IsMadeSo, MakesAt, AreKept}
 use Rattle.mp_utxo.proofs.After.{after-append, apply-unmade}
 use Rattle.mp_utxo.proofs.Places.{those-append, standing-push, standing-last}
 use Rattle.mp_utxo.proofs.Makers.{own-made, makes-at, other-unmade}
@@ -40,18 +41,33 @@ still_at ps t r place made = record { maker = made.maker; stands = standing-push
 still_none : (ps : Places) (t : Transaction) (r : OutRef) → output_made t r ≡ None → NoneMakes (those ps) r → NoneMakes (those (ps ++ Some t ∷ [])) r
 still_none ps t r e none = subst (λ ts. NoneMakes ts r) (sym (those-append ps (Some t ∷ []))) (All-push (λ (x : Transaction). output_made x r ≡ None) (those ps) t none e)
 
+or_true : (b : Bool) → b || true ≡ true
+or_true true = refl
+or_true false = refl
+
+-- the last one spends it, or one before it did
+spent_by_last : (ps : Places) (t : Transaction) (r : OutRef) → spends t.inputs r ≡ true → SomeSpends (those (ps ++ Some t ∷ [])) r
+spent_by_last ps t r s =
+    subst (λ ts. SomeSpends ts r) (sym (those-append ps (Some t ∷ [])))
+    (list_any-append (λ x. spends x.inputs r) (those ps) (t ∷ []) ∙ ap (λ b. list_any (λ x. spends x.inputs r) (those ps) || (b || false)) s ∙ or_true (list_any (λ x. spends x.inputs r) (those ps)))
+
+spent_before : (ps : Places) (t : Transaction) (r : OutRef) → SomeSpends (those ps) r → SomeSpends (those (ps ++ Some t ∷ [])) r
+spent_before ps t r some =
+    subst (λ ts. SomeSpends ts r) (sym (those-append ps (Some t ∷ [])))
+    (list_any-append (λ x. spends x.inputs r) (those ps) (t ∷ []) ∙ ap (λ b. b || (spends t.inputs r || false)) some)
+
 -- it was made so, where the transaction makes no output under the reference
 still : (ps : Places) (t : Transaction) (r : OutRef) (o : Option Change) → output_made t r ≡ None → IsMadeSo ps r o → IsMadeSo (ps ++ Some t ∷ []) r o
 still ps t r None e made = still_none ps t r e made
-still ps t r (Some Spent) e made = still_none ps t r e made
+still ps t r (Some Spent) e made = (still_none ps t r e made.0, spent_before ps t r made.1)
 still ps t r (Some (Made place)) e made = still_at ps t r place made
 still ps t r (Some (MadeThenSpent place)) e made = still_at ps t r place made
 
-still_spent : (ps : Places) (t : Transaction) (r : OutRef) (o : Option Change) → output_made t r ≡ None → IsMadeSo ps r o → IsMadeSo (ps ++ Some t ∷ []) r (Some (spent o))
-still_spent ps t r None e made = still_none ps t r e made
-still_spent ps t r (Some Spent) e made = still_none ps t r e made
-still_spent ps t r (Some (Made place)) e made = still_at ps t r place made
-still_spent ps t r (Some (MadeThenSpent place)) e made = still_at ps t r place made
+still_spent : (ps : Places) (t : Transaction) (r : OutRef) (o : Option Change) → output_made t r ≡ None → spends t.inputs r ≡ true → IsMadeSo ps r o → IsMadeSo (ps ++ Some t ∷ []) r (Some (spent o))
+still_spent ps t r None e s made = (still_none ps t r e made, spent_by_last ps t r s)
+still_spent ps t r (Some Spent) e s made = (still_none ps t r e made.0, spent_by_last ps t r s)
+still_spent ps t r (Some (Made place)) e s made = still_at ps t r place made
+still_spent ps t r (Some (MadeThenSpent place)) e s made = still_at ps t r place made
 
 gone : (ps : Places) (u : Unspent) (r : OutRef) (o : Option Change) → changed ps u r (Some (spent o)) ≡ None
 gone ps u r None = refl
@@ -81,10 +97,10 @@ tells ps t u v r true sp o own s made is =
 tells ps t u v r false true o own s made is = gone (ps ++ Some t ∷ []) u r o ∙ sym (apply-unmade t v r (other-unmade t r own) ∙ ap (λ b. if b then None else v r) s)
 tells ps t u v r false false o own s made is = stays ps t u r o made ∙ is ∙ sym (apply-unmade t v r (other-unmade t r own) ∙ ap (λ b. if b then None else v r) s)
 
-made-both : (ps : Places) (t : Transaction) (r : OutRef) (own sp : Bool) (o : Option Change) → is_own (id_of t) (length t.outputs) r ≡ own → IsMadeSo ps r o → IsMadeSo (ps ++ Some t ∷ []) r (both own sp (length ps) o)
-made-both ps t r true sp o own made = record { maker = t; stands = standing-last ps t; makes = own-made t r own }
-made-both ps t r false true o own made = still_spent ps t r o (other-unmade t r own) made
-made-both ps t r false false o own made = still ps t r o (other-unmade t r own) made
+made-both : (ps : Places) (t : Transaction) (r : OutRef) (own sp : Bool) (o : Option Change) → is_own (id_of t) (length t.outputs) r ≡ own → spends t.inputs r ≡ sp → IsMadeSo ps r o → IsMadeSo (ps ++ Some t ∷ []) r (both own sp (length ps) o)
+made-both ps t r true sp o own s made = record { maker = t; stands = standing-last ps t; makes = own-made t r own }
+made-both ps t r false true o own s made = still_spent ps t r o (other-unmade t r own) s made
+made-both ps t r false false o own s made = still ps t r o (other-unmade t r own) made
 
 -- the changes tell what may be spent after the transaction too
 keeps : (ps : Places) (t : Transaction) (u : Unspent) (old mid new : Noted) → Spends old t.inputs mid → Makes mid t (length ps) new → AreKept ps u old → AreKept (ps ++ Some t ∷ []) u new
@@ -93,14 +109,14 @@ keeps ps t u old mid new spent made kept = record {
       ∙ tells ps t u (after u (those ps)) r (is_own (id_of t) (length t.outputs) r) (spends t.inputs r) (last_change old r) refl refl (kept.made r) (kept.tell r)
       ∙ ap (λ (v : Unspent). v r) (sym (ap (after u) (those-append ps (Some t ∷ [])) ∙ after-append u (those ps) t));
   made = λ r. subst (IsMadeSo (ps ++ Some t ∷ []) r) (sym (last-both t (length ps) old mid new spent made r))
-      (made-both ps t r (is_own (id_of t) (length t.outputs) r) (spends t.inputs r) (last_change old r) refl (kept.made r));
+      (made-both ps t r (is_own (id_of t) (length t.outputs) r) (spends t.inputs r) (last_change old r) refl refl (kept.made r));
 }
 
 -- ---- what it looks at
 
 unmade : (ps : Places) (r : OutRef) (o : Option Change) → is_made o ≡ false → IsMadeSo ps r o → NoneMakes (those ps) r
 unmade ps r None e made = made
-unmade ps r (Some Spent) e made = made
+unmade ps r (Some Spent) e made = made.0
 unmade ps r (Some (Made place)) e made = absurd (false≢true (sym e))
 unmade ps r (Some (MadeThenSpent place)) e made = absurd (false≢true (sym e))
 

@@ -47,7 +47,7 @@ left_unspent ps u r (Some (MadeThenSpent place)) e made = absurd (false≢true e
 
 told_by_one : (ps : Places) (u : Unspent) (r : OutRef) (o : Option Change) → is_told_by_one o (u r) ≡ true → IsMadeSo ps r o → IsOfOne u (those ps) r
 told_by_one ps u r None e made = absurd (false≢true e)
-told_by_one ps u r (Some Spent) e made = inl made
+told_by_one ps u r (Some Spent) e made = inl made.0
 told_by_one ps u r (Some (Made place)) e made = absurd (false≢true e)
 told_by_one ps u r (Some (MadeThenSpent place)) e made = inr (is_none-none (u r) e)
 

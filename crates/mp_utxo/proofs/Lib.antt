@@ -5,3 +5,4 @@ pub mod Makers
 pub mod Kept
 pub mod Leaves
 pub mod Taken
+pub mod Rebased

@@ -7,6 +7,7 @@ use Rattle.std.specs.Cmp.Lexicographic.{bytes_decides}
 use Rattle.std.proofs.lemmas.Bool.{false≢true}
 use Rattle.std.proofs.lemmas.List.Elements.{recursion_from_All, All-from_recursion, All-head, All-tail}
 use Rattle.std.proofs.lemmas.List.{length-append}
+use Rattle.std.proofs.lemmas.List.Folds.{list_any-append}
 use Rattle.std.proofs.lemmas.List.Edits.{remove-append_right}
 use Rattle.std.proofs.lemmas.List.Quantifiers.{all_pairs_remove}
 use Rattle.std.proofs.lemmas.Option.{none-some, same_Some}
@@ -23,7 +24,7 @@ use Rattle.mp_utxo.specs.Apply.{Unspent, apply, after, own_ref, output_made}
 use Rattle.mp_utxo.specs.Leaf.{IsLeaf, IsOfOne, IsFed, NoneMakes, LooksPast, others}
 use Rattle.mp_utxo.specs.Inside.Changes.{Noted, last_change, restored, unspent_of, is_own, Restores, Forgets}
 use Rattle.mp_utxo.specs.Inside.Applied.{Places, those, standing, made_at}
-use Rattle.mp_utxo.specs.Inside.Overlay.{changed, IsMadeSo, MakesAt, AreKept}
+use Rattle.mp_utxo.specs.Inside.Overlay.{changed, SomeSpends, IsMadeSo, MakesAt, AreKept}
 use Rattle.mp_utxo.proofs.Noting.{same-exact}
 use Rattle.mp_utxo.proofs.After.{Unmade, IsOr, after-join, after-at, never, was_there, only_one, untouched, fed_at, there_at, apply-spends, apply-past, none_some}
 use Rattle.mp_utxo.proofs.Places.{In, in-contains, those-append, in-those, all-at, cut, Stays, elsewhere}
@@ -171,7 +172,7 @@ told-made u fore t aft g r none s place at =
 
 told-spent : (u : Unspent) (fore : Places) (t : Transaction) (aft : Places) → Going u fore t aft → (r : OutRef) (o : Option Change) → output_made t r ≡ None → spends t.inputs r ≡ true → IsMadeSo (with fore t aft) r o → IsTold (without fore aft) u r (restored o)
 told-spent u fore t aft g r None none s made = told-below u fore t aft g r none s made
-told-spent u fore t aft g r (Some Spent) none s made = told-below u fore t aft g r none s made
+told-spent u fore t aft g r (Some Spent) none s made = told-below u fore t aft g r none s made.0
 told-spent u fore t aft g r (Some (Made place)) none s made = told-made u fore t aft g r none s place made
 told-spent u fore t aft g r (Some (MadeThenSpent place)) none s made = told-made u fore t aft g r none s place made
 
@@ -183,9 +184,18 @@ tell-past u fore t aft r o p none s e is =
 none-past : (fore : Places) (t : Transaction) (aft : Places) (r : OutRef) → NoneMakes (those (with fore t aft)) r → NoneMakes (those (without fore aft)) r
 none-past fore t aft r nobody = none-without fore aft r (less fore t aft r (unmade-with fore t aft r nobody))
 
+-- one of the others spends what it doesn't
+spent-past : (fore : Places) (t : Transaction) (aft : Places) (r : OutRef) → spends t.inputs r ≡ false → SomeSpends (those (with fore t aft)) r → SomeSpends (those (without fore aft)) r
+spent-past fore t aft r s some =
+    let test = λ (x : Transaction). spends x.inputs r in
+    subst (λ ts. SomeSpends ts r) (sym (those-without fore aft))
+    (list_any-append test (those fore) (those aft)
+    ∙ ap (λ b. list_any test (those fore) || (b || list_any test (those aft))) (sym s)
+    ∙ sym (list_any-append test (those fore) (t ∷ those aft)) ∙ subst (λ ts. SomeSpends ts r) (those-with fore t aft) some)
+
 told-past : (u : Unspent) (fore : Places) (t : Transaction) (aft : Places) (r : OutRef) (o : Option Change) → output_made t r ≡ None → spends t.inputs r ≡ false → changed (with fore t aft) u r o ≡ after u (those (with fore t aft)) r → IsMadeSo (with fore t aft) r o → IsTold (without fore aft) u r o
 told-past u fore t aft r None none s is made = record { tell = tell-past u fore t aft r (u r) (u r) none s refl is; made = none-past fore t aft r made }
-told-past u fore t aft r (Some Spent) none s is made = record { tell = tell-past u fore t aft r None None none s refl is; made = none-past fore t aft r made }
+told-past u fore t aft r (Some Spent) none s is made = record { tell = tell-past u fore t aft r None None none s refl is; made = (none-past fore t aft r made.0, spent-past fore t aft r s made.1) }
 told-past u fore t aft r (Some (Made place)) none s is made =
     let e = another fore t aft place r made none in
     let same = made-is (without fore aft) r place e.at ∙ ap (λ (x : Transaction). output_made x r) e.same ∙ sym (made-is (with fore t aft) r place made) in

@@ -112,6 +112,15 @@ impl Overlay {
         self.looks_inside = looks_inside;
     }
 
+    /// Puts another ledger state below the transactions. It takes no memory.
+    pub fn rebase(&mut self, ledger: Ledger)
+        requires fed { IsFed (finite.get self.old.ledger.utxo) self.old.applied }
+        ensures base { self.new.ledger ≡ ledger }
+        ensures applied { self.new.applied ≡ self.old.applied }
+    {
+        self.ledger = ledger;
+    }
+
     /// Whether the transaction, which was applied, can be taken out with nothing else: `true` only where that is so; `false`
     /// says nothing. It takes no memory.
     pub fn is_leaf(&self, tx: &Tx) -> bool

@@ -6,7 +6,7 @@ use Rattle.mp_tx.specs.Ledger.{LedgerState}
 use Rattle.mp_seqpool.specs.Command.{Submit, Remove, Sync}
 use Rattle.mp_seqpool.specs.Pool.{Pool, Holding}
 use Rattle.mp_seqpool.specs.SlowPool.{HasPlace, bytes_held, pool_with, pool_upon}
-use Rattle.mp_seqpool.specs.Prepared.{Prepared, Effect, Append, Keep, TakeOut, changed, left_by, leads_to, told, CanChange, IsPrepared}
+use Rattle.mp_seqpool.specs.Prepared.{Prepared, Effect, Append, Keep, TakeOut, Adopt, changed, left_by, leads_to, told, CanChange, IsPrepared}
 use Rattle.mp_items.proofs.ByteSums.{sum-last}
 
 not_itself : (n : ℕ) → n + 1 ≡ n → ⊥
@@ -20,6 +20,7 @@ place h (Append item) t can e =
     record { ticket = can.place.ticket; change = can.place.change; bytes = subst (λ n. n ≤ 2 ^ 40) more most }
 place h (Keep overlay kept) t can e = absurd (not_itself h.pool.last (sym (ap (λ (q : Pool). q.last) e)))
 place h (TakeOut gone) t can e = absurd (not_itself h.pool.last (sym (ap (λ (q : Pool). q.last) e)))
+place h (Adopt ledger gone) t can e = absurd (not_itself h.pool.last (sym (ap (λ (q : Pool). q.last) e)))
 
 -- a step that takes a transaction in has room for it
 pub submit_tells : (h : Holding) (q : Prepared) (t : Transaction) → q.command ≡ Submit t → IsPrepared h q → HasPlace h.pool t × (leads_to h.pool q ≡ pool_with h.pool t)

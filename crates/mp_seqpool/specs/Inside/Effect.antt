@@ -11,6 +11,7 @@ abbrev pub effect_of : Effect → told.Effect
 effect_of (effects.Append node applied) = told.Append node
 effect_of (effects.Keep overlay kept) = told.Keep overlay kept
 effect_of (effects.TakeOut gone) = told.TakeOut gone
+effect_of (effects.Adopt ledger gone) = told.Adopt ledger gone
 
 abbrev pub prepared : Inside → told.Prepared
 prepared q = record { command = command_of q.command; reply = q.reply; effect = effect_of q.effect }
@@ -20,3 +21,4 @@ abbrev pub IsOfOne : Effect → Type 0
 IsOfOne (effects.Append node applied) = arc_value applied ≡ node.tx
 IsOfOne (effects.Keep overlay kept) = Unit {0}
 IsOfOne (effects.TakeOut gone) = Unit {0}
+IsOfOne (effects.Adopt ledger gone) = Unit {0}

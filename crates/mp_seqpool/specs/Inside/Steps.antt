@@ -1,13 +1,31 @@
 -- Steps whose parts were taken apart.
-use Rattle.std.specs.Prelude.{ℕ, List}
+use Rattle.std.specs.Prelude.{◌≡◌, ℕ, List, All}
+use Rattle.mp_tx.specs.Ledger.{LedgerState}
 use Rattle.mp_utxo.specs.Overlay.{Overlay}
+use Rattle.mp_resync.specs.declared.parting.Parted.{Parted}
+use Rattle.mp_resync.specs.Parted.{IsParted}
 use Rattle.mp_seqpool.specs.declared.command.Reply.{Reply}
-use Rattle.mp_seqpool.specs.Command.{Command}
-use Rattle.mp_seqpool.specs.Pool.{Holding}
-use Rattle.mp_seqpool.specs.Prepared.{Keep, IsPrepared}
+use Rattle.mp_seqpool.specs.declared.command.Reply.TheVariants.{Synced}
+use Rattle.mp_seqpool.specs.Command.{Command, Sync}
+use Rattle.mp_seqpool.specs.Pool.{Pool, Holding}
+use Rattle.mp_seqpool.specs.Prepared.{Prepared, Keep, Adopt, IsLeafAt, IsPrepared}
 
 -- a step with this reply was prepared that keeps what is applied upon the overlay
 pub record IsKeep (h : Holding) (overlay : Overlay) (reply : Reply) : Type 0 where
   pub command : Command
   pub kept : List ℕ
   pub prepared : IsPrepared h (record { command = command; reply = reply; effect = Keep overlay kept })
+
+-- a step with this reply was prepared that takes out what stands under these tickets and adopts the ledger state
+pub record IsAdoption (h : Holding) (ledger : LedgerState) (gone : List ℕ) (reply : Reply) : Type 0 where
+  pub command : Command
+  pub prepared : IsPrepared h (record { command = command; reply = reply; effect = Adopt ledger gone })
+
+-- the step of a sync that takes out those that are lost, on which no others hang, where all others are untouched
+pub record AdoptsParted (p : Pool) (ledger : LedgerState) (q : Prepared) : Type 0 where
+  pub parted : Parted
+  pub are : IsParted p.ledger ledger p.items parted
+  pub command : q.command ≡ Sync ledger
+  pub reply : q.reply ≡ Synced parted.kept parted.dropped
+  pub effect : q.effect ≡ Adopt ledger parted.dropped
+  pub leaves : All (IsLeafAt p) parted.dropped

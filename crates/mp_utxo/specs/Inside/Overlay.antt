@@ -1,11 +1,12 @@
 -- What an overlay keeps: for each reference that was spent or made, what became of it last.
-use Rattle.std.specs.Prelude.{◌≡◌, ◌-◌, ℕ, false, Option, Some, None, IsSome, AllPairs}
+use Rattle.std.specs.Prelude.{◌≡◌, ◌-◌, ℕ, false, List, Option, Some, None, IsSome, IsTrue, AllPairs}
+use Rattle.std.specs.List.{list_any}
 use Rattle.std.specs.FinMap.{get}
 use Rattle.std.specs.Vec.{vec_len, vec_capacity}
 use Rattle.indexmap.specs.IndexMap.{spare}
 use Rattle.mp_tx.specs.declared.reference.OutRef.{OutRef}
 use Rattle.mp_tx.specs.declared.output.Output.{Output}
-use Rattle.mp_tx.specs.Transaction.{Transaction}
+use Rattle.mp_tx.specs.Transaction.{Transaction, spends}
 use Rattle.mp_utxo.specs.declared.changes.Change.{Change}
 use Rattle.mp_utxo.specs.declared.changes.Change.TheVariants.{Spent, Made, MadeThenSpent}
 use Rattle.mp_utxo.specs.declared.overlay.Overlay.TheInside.{Inside}
@@ -38,10 +39,14 @@ pub record MakesAt (ps : Places) (place : ℕ) (r : OutRef) : Type 0 where
   pub stands : standing ps place ≡ Some maker
   pub makes : IsSome (output_made maker r)
 
--- what was made was made by the one at the place, and nothing else was
+-- one of the transactions spends the reference
+abbrev pub SomeSpends : List Transaction → OutRef → Type 0
+SomeSpends ts r = IsTrue (list_any (λ t. spends t.inputs r) ts)
+
+-- what was made was made by the one at the place, and nothing else was; what was only spent was spent by one of them
 abbrev pub IsMadeSo : Places → OutRef → Option Change → Type 0
 IsMadeSo ps r None = NoneMakes (those ps) r
-IsMadeSo ps r (Some Spent) = NoneMakes (those ps) r
+IsMadeSo ps r (Some Spent) = NoneMakes (those ps) r × SomeSpends (those ps) r
 IsMadeSo ps r (Some (Made place)) = MakesAt ps place r
 IsMadeSo ps r (Some (MadeThenSpent place)) = MakesAt ps place r
 

@@ -4,11 +4,11 @@ use Rattle.mp_tx.specs.Transaction.{Transaction}
 use Rattle.mp_resync.specs.Keep.{transactions}
 use Rattle.mp_seqpool.specs.Pool.{Pool, Holding}
 use Rattle.mp_seqpool.specs.SlowPool.{pool_upon}
-use Rattle.mp_seqpool.specs.Prepared.{Prepared, Append, Keep, TakeOut, changed, CanChange, IsPrepared, apart, left_by}
+use Rattle.mp_seqpool.specs.Prepared.{Prepared, Append, Keep, TakeOut, Adopt, changed, CanChange, IsPrepared, apart, left_by}
 use Rattle.mp_seqpool.specs.Inside.Command.{command_of}
 use Rattle.mp_seqpool.specs.Inside.Effect.{effect_of}
 use Rattle.mp_seqpool.proofs.Finishing.{next_valid, told_left}
-use Rattle.mp_seqpool.proofs.pool.SeqPool.finish.Goals.{in-Append, in-Keep, in-TakeOut}
+use Rattle.mp_seqpool.proofs.pool.SeqPool.finish.Goals.{in-Append, in-Keep, in-TakeOut, in-Adopt}
 use Rattle.mp_seqpool.proofs.pool.SeqPool.finish.Goals as goal
 
 pub append-requires-clause-valid : goal.append-requires-clause-valid
@@ -55,6 +55,30 @@ take_leaves_out-requires-clause-told c =
     told_left pool q.command q.reply pool.ledger (apart gone pool.items) (sym (ap (changed pool) effect) ∙ c.requires.tells)
     ∙ ap (λ (q : Prepared). left_by q.reply pool.items) (sym c.prepared.view_is)
 
+pub adopt-requires-clause-leaves : goal.adopt-requires-clause-leaves
+adopt-requires-clause-leaves c =
+    let effect = sym (ap (λ (q : Prepared). q.effect) c.prepared.view_is) ∙ ap effect_of c.in-Adopt.is in
+    subst (CanChange c.args.self.now) effect c.requires.fits
+
+pub adopt-requires-clause-left : goal.adopt-requires-clause-left
+adopt-requires-clause-left c =
+    let pool : Pool = c.args.self.now.pool in
+    let q : Prepared = c.args.prepared in
+    let gone : List ℕ = c.in-Adopt.gone in
+    let effect : q.effect ≡ Adopt c.in-Adopt.ledger gone = sym (ap (λ (q : Prepared). q.effect) c.prepared.view_is) ∙ ap effect_of c.in-Adopt.is in
+    told_left pool q.command q.reply c.in-Adopt.ledger (apart gone pool.items) (sym (ap (changed pool) effect) ∙ c.requires.tells)
+    ∙ ap (λ (q : Prepared). left_by q.reply pool.items) (sym c.prepared.view_is)
+
+pub adopt-requires-clause-told : goal.adopt-requires-clause-told
+adopt-requires-clause-told c =
+    let inside = c.prepared.inside in
+    record {
+      command = command_of inside.command;
+      prepared = subst (IsPrepared c.args.self.now)
+          (sym c.prepared.view_is ∙ ap (λ e. record { command = command_of inside.command; reply = inside.reply; effect = effect_of e }) c.in-Adopt.is)
+          c.requires;
+    }
+
 pub returns : goal.returns
 returns c =
     let pool : Pool = c.args.self.now.pool in
@@ -81,6 +105,14 @@ returns c =
           record {
             pool = ap (λ (h : Holding). h.pool) w.self-is ∙ w.take_leaves_out.ensures ∙ ap (λ r. pool_upon pool pool.ledger (left_by r pool.items)) replied
                 ∙ ap (pool_upon pool pool.ledger) (sym (told_left pool q.command q.reply pool.ledger left (sym leads ∙ c.requires.tells))) ∙ sym leads;
+            reply = replied;
+          }
+      | in-Adopt w ↦
+          let left : List (ℕ × Transaction) = apart w.in-Adopt.gone pool.items in
+          let leads : changed pool q.effect ≡ pool_upon pool w.in-Adopt.ledger left = ap (changed pool) (seen ∙ ap effect_of w.in-Adopt.is) in
+          record {
+            pool = ap (λ (h : Holding). h.pool) w.self-is ∙ w.adopt.ensures ∙ ap (λ r. pool_upon pool w.in-Adopt.ledger (left_by r pool.items)) replied
+                ∙ ap (pool_upon pool w.in-Adopt.ledger) (sym (told_left pool q.command q.reply w.in-Adopt.ledger left (sym leads ∙ c.requires.tells))) ∙ sym leads;
             reply = replied;
           }
     ]

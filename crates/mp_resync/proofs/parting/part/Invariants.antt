@@ -1,0 +1,12 @@
+use Rattle.std.proofs.Common.{map}
+use Rattle.mp_tickets.specs.Tickets.{shown}
+use Rattle.mp_resync.specs.ValidatedTx.{ticketed}
+use Rattle.mp_resync.specs.Parted.{IsParted}
+use Rattle.mp_resync.proofs.parting.part.Given as goal
+
+-- the items so far are told apart
+abbrev pub invariant-loop-ticket : goal.invariant-loop-ticket
+invariant-loop-ticket l =
+    goal.iterator-loop-ticket.can_next l.ticket-iterator
+    × goal.iterator-loop-ticket.is_finite l.ticket-iterator
+    × IsParted l.old l.new (ticketed (map shown l.yielded)) l.parted

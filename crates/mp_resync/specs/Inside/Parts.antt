@@ -1,0 +1,27 @@
+-- How one item more is told apart.
+use Rattle.std.specs.Prelude.{◌≡◌, ◌⊎◌, ℕ, ◌<◌, true, [], ◌∷◌, ◌++◌, All}
+use Rattle.mp_tx.specs.Transaction.{Transaction}
+use Rattle.mp_tx.specs.Ledger.{LedgerState}
+use Rattle.mp_resync.specs.declared.parting.Parted.{Parted}
+use Rattle.mp_resync.specs.Parted.{is_lost, IsUntouched}
+
+-- all tickets are below this one
+pub record AreBelow (ticket : ℕ) (p : Parted) : Type 0 where
+  pub kept : All (λ t. t < ticket) p.kept
+  pub dropped : All (λ t. t < ticket) p.dropped
+
+-- its ticket stands last among those of the untouched
+pub record Stays (old new : LedgerState) (was : Parted) (i : ℕ × Transaction) (now : Parted) : Type 0 where
+  pub untouched : IsUntouched old new i.1
+  pub kept : now.kept ≡ was.kept ++ i.0 ∷ []
+  pub dropped : now.dropped ≡ was.dropped
+
+-- its ticket stands last among those of the lost
+pub record Goes (old new : LedgerState) (was : Parted) (i : ℕ × Transaction) (now : Parted) : Type 0 where
+  pub lost : is_lost old new i.1 ≡ true
+  pub kept : now.kept ≡ was.kept
+  pub dropped : now.dropped ≡ was.dropped ++ i.0 ∷ []
+
+-- it stays or goes
+abbrev pub Parts : LedgerState → LedgerState → Parted → ℕ × Transaction → Parted → Type 0
+Parts old new was i now = Stays old new was i now ⊎ Goes old new was i now
