@@ -183,7 +183,7 @@ impl<N: PoolName> Locked<N> {
         self.places[caller.number() as usize]
     }
 
-    /// Whether the caller's token has the last of its entries. Nobody has seen more than the lock's history has, as this front.
+    /// Whether the caller's token has the last of its entries. What the front has seen begins the history under the lock.
     pub fn is_known_to(&mut self, caller: &Caller<N>, front: &Front<N>) -> bool
         ensures same { self.new ≡ self.old }
         ensures begins { Begins front.now self.new.log }
