@@ -1,5 +1,5 @@
 -- One item more is told apart.
-use Rattle.std.proofs.Common.{◌≡◌, ℕ, ◌<◌, inl, inr, ⊎_elim, Bool, true, false, cond, List, [], ◌∷◌, ◌++◌, get_or, refl, sym, ap, subst, ◌∙◌}
+use Rattle.std.proofs.Common.{◌≡◌, ℕ, ◌<◌, ⊎_elim, Bool, true, false, cond, List, [], ◌∷◌, ◌++◌, get_or, refl, sym, ap, subst, ◌∙◌}
 use Rattle.std.specs.Prelude.{Option, None, Some, is_some, is_none, not, ◌&&◌, ◌||◌, All}
 use Rattle.std.specs.List.{filter, list_any}
 use Rattle.std.specs.FinMap.{get}
@@ -10,9 +10,10 @@ use Rattle.mp_tx.specs.declared.input.Input.{Input}
 use Rattle.mp_tx.specs.declared.output.Output.{Output}
 use Rattle.mp_tx.specs.Transaction.{Transaction}
 use Rattle.mp_tx.specs.Ledger.{LedgerState}
+use Rattle.mp_utxo.specs.Leaf.{IsLeaf}
 use Rattle.mp_resync.specs.Keep.{tickets}
 use Rattle.mp_resync.specs.declared.parting.Parted.{Parted}
-use Rattle.mp_resync.specs.Parted.{is_timely, is_spent_since, is_lost, IsUntouched, IsParted}
+use Rattle.mp_resync.specs.Parted.{is_spent_since, is_lost, IsUntouched, IsParted}
 use Rattle.mp_resync.specs.Inside.Parts.{AreBelow, Stays, Goes, Parts}
 
 abbrev Items : Type 0
@@ -26,7 +27,7 @@ there_once (Some x) = refl
 same_there : (a b : Option Output) → a ≡ b → (is_some a && is_none b) ≡ false
 same_there a b e = ap (λ o. is_some o && is_none b) e ∙ there_once b
 
-module _ (old new : LedgerState) where
+module _ (old : LedgerState) (ts : List Transaction) (new : LedgerState) where
   -- what is untouched isn't lost
   kept_whole : (t : Transaction) → IsUntouched old new t → is_lost old new t ≡ false
   kept_whole t u =
@@ -56,30 +57,37 @@ module _ (old new : LedgerState) where
       one test i true h = ap (λ c. tickets (cond c (i ∷ []) [])) h
       one test i false h = ap (λ c. tickets (cond c (i ∷ []) [])) h
 
-  one_stays : (xs : Items) (i : ℕ × Transaction) (was now : Parted) → IsParted old new xs was → Stays old new was i now → IsParted old new (xs ++ i ∷ []) now
+  one_stays : (xs : Items) (i : ℕ × Transaction) (was now : Parted) → IsParted old ts new xs was → Stays old new was i now → IsParted old ts new (xs ++ i ∷ []) now
   one_stays xs i was now is s =
       let whole = kept_whole i.1 s.untouched in
       record {
         kept = s.kept ∙ ap (λ l. l ++ i.0 ∷ []) is.kept ∙ sym (passed stays xs i true (ap not whole));
         dropped = s.dropped ∙ is.dropped ∙ sym (passed goes xs i false whole ∙ append-none (tickets (filter goes xs)));
         untouched = All-push (λ j. is_lost old new j.1 ≡ false → IsUntouched old new j.1) xs i is.untouched (λ h. s.untouched);
+        leaves = All-push (λ j. is_lost old new j.1 ≡ true → IsLeaf (get old.utxo) ts j.1) xs i is.leaves (λ h. absurd (true≢false (sym h ∙ whole)));
       }
 
-  one_goes : (xs : Items) (i : ℕ × Transaction) (was now : Parted) → IsParted old new xs was → Goes old new was i now → IsParted old new (xs ++ i ∷ []) now
+  one_goes : (xs : Items) (i : ℕ × Transaction) (was now : Parted) → IsParted old ts new xs was → Goes old ts new was i now → IsParted old ts new (xs ++ i ∷ []) now
   one_goes xs i was now is g = record {
     kept = g.kept ∙ is.kept ∙ sym (passed stays xs i false (ap not g.lost) ∙ append-none (tickets (filter stays xs)));
     dropped = g.dropped ∙ ap (λ l. l ++ i.0 ∷ []) is.dropped ∙ sym (passed goes xs i true g.lost);
     untouched = All-push (λ j. is_lost old new j.1 ≡ false → IsUntouched old new j.1) xs i is.untouched (λ h. absurd (true≢false (sym g.lost ∙ h)));
+    leaves = All-push (λ j. is_lost old new j.1 ≡ true → IsLeaf (get old.utxo) ts j.1) xs i is.leaves (λ h. g.leaf);
   }
 
-  pub one_more : (xs : Items) (i : ℕ × Transaction) (was now : Parted) → IsParted old new xs was → Parts old new was i now → IsParted old new (xs ++ i ∷ []) now
+  pub one_more : (xs : Items) (i : ℕ × Transaction) (was now : Parted) → IsParted old ts new xs was → Parts old ts new was i now → IsParted old ts new (xs ++ i ∷ []) now
   one_more xs i was now is parts = ⊎_elim (one_stays xs i was now is) (one_goes xs i was now is) parts
 
-  pub none : (p : Parted) → p.kept ≡ [] → p.dropped ≡ [] → IsParted old new [] p
-  none p kept dropped = record { kept = kept; dropped = dropped; untouched = All-nil (λ (j : ℕ × Transaction). is_lost old new j.1 ≡ false → IsUntouched old new j.1) }
+  pub none : (p : Parted) → p.kept ≡ [] → p.dropped ≡ [] → IsParted old ts new [] p
+  none p kept dropped = record {
+    kept = kept;
+    dropped = dropped;
+    untouched = All-nil (λ (j : ℕ × Transaction). is_lost old new j.1 ≡ false → IsUntouched old new j.1);
+    leaves = All-nil (λ (j : ℕ × Transaction). is_lost old new j.1 ≡ true → IsLeaf (get old.utxo) ts j.1);
+  }
 
   -- where all items are below a ticket, all tickets that came of them are
-  pub below : (xs : Items) (ticket : ℕ) (p : Parted) → All (λ i. i.0 < ticket) xs → IsParted old new xs p → AreBelow ticket p
+  pub below : (xs : Items) (ticket : ℕ) (p : Parted) → All (λ i. i.0 < ticket) xs → IsParted old ts new xs p → AreBelow ticket p
   below xs ticket p a is = record {
     kept = subst (All (λ t. t < ticket)) (sym is.kept) (All-map (λ t. t < ticket) (λ i. i.0) (filter stays xs) (All-filter stays (λ i. i.0 < ticket) xs a));
     dropped = subst (All (λ t. t < ticket)) (sym is.dropped) (All-map (λ t. t < ticket) (λ i. i.0) (filter goes xs) (All-filter goes (λ i. i.0 < ticket) xs a));

@@ -1,11 +1,12 @@
 -- What becomes of items upon another ledger state, as far as what they name tells it by itself.
-use Rattle.std.specs.Prelude.{◌≡◌, ℕ, nat_le, Bool, false, ◌&&◌, ◌||◌, not, List, All, Option, None, is_some, is_none, IsTrue}
+use Rattle.std.specs.Prelude.{◌≡◌, ℕ, nat_le, Bool, true, false, ◌&&◌, ◌||◌, not, List, All, None, is_some, is_none, IsTrue}
 use Rattle.std.specs.List.{filter, list_any}
 use Rattle.std.specs.FinMap.{get}
 use Rattle.mp_tx.specs.declared.reference.OutRef.{OutRef}
 use Rattle.mp_tx.specs.Transaction.{Transaction}
 use Rattle.mp_tx.specs.Ledger.{LedgerState}
 use Rattle.mp_utxo.specs.Apply.{Unspent}
+use Rattle.mp_utxo.specs.Leaf.{IsLeaf}
 use Rattle.mp_rules.specs.FirstFault.{output_taken}
 use Rattle.mp_resync.specs.declared.parting.Parted.{Parted}
 use Rattle.mp_resync.specs.Keep.{tickets}
@@ -30,8 +31,10 @@ pub record IsUntouched (old new : LedgerState) (t : Transaction) : Type 0 where
   pub references : All (λ r. get old.utxo r ≡ get new.utxo r) t.references
   pub fresh : output_taken (get new.utxo) t ≡ None
 
--- those that are lost are told apart from the others, which are untouched
-pub record IsParted (old new : LedgerState) (items : List (ℕ × Transaction)) (p : Parted) : Type 0 where
+-- Those that are lost, on which none of the transactions upon the old one hangs, are told apart from the others, which are untouched.
+pub record IsParted (old : LedgerState) (ts : List Transaction) (new : LedgerState) (items : List (ℕ × Transaction)) (p : Parted)
+    : Type 0 where
   pub kept : p.kept ≡ tickets (filter (λ i. not (is_lost old new i.1)) items)
   pub dropped : p.dropped ≡ tickets (filter (λ i. is_lost old new i.1) items)
   pub untouched : All (λ i. is_lost old new i.1 ≡ false → IsUntouched old new i.1) items
+  pub leaves : All (λ i. is_lost old new i.1 ≡ true → IsLeaf (get old.utxo) ts i.1) items

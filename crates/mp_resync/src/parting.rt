@@ -12,6 +12,7 @@ use mp_memory::{Memory, NoMemory};
 use mp_rules::output_taken;
 use mp_tickets::{TicketList, Tickets};
 use mp_tx::{Input, Ledger, OutRef, Tx};
+use mp_utxo::Overlay;
 
 /// Items that were told apart.
 #[derive(Drop)]
@@ -94,9 +95,9 @@ fn nothing_parted(memory: Memory) -> Parted
     }
 }
 
-// Tells one item more apart, unless what it names doesn't tell what becomes of it, or so many are lost already.
+// Tells one item more apart, unless what it names doesn't tell what becomes of it, another hangs on it, or so many are lost already.
 fn part_one(
-    old: &Ledger,
+    overlay: &Overlay,
     new: &Ledger,
     most: usize,
     parted: &mut Parted,
@@ -105,39 +106,41 @@ fn part_one(
 ) -> Result<bool, NoMemory>
     requires { AreBelow ticket parted.old }
     ensures { IfOk result (λ known. IsTrue known
-        → Parts old.now new.now parted.old (ticket, tx.now) parted.new) }
+        → Parts overlay.now.ledger overlay.now.applied new.now
+        parted.old (ticket, tx.now) parted.new) }
 {
+    let old = overlay.ledger();
     if is_untouched(old, new, tx) {
         parted.kept.push(ticket)?;
         return Ok(true);
     }
-    if parted.dropped.as_slice().len() < most && is_lost(old, new, tx) {
+    if parted.dropped.as_slice().len() < most && is_lost(old, new, tx) && overlay.is_leaf(tx) {
         parted.dropped.push(ticket)?;
         return Ok(true);
     }
     Ok(false)
 }
 
-/// Tells the items apart that stay as they are upon the new ledger state and those that can't stay, where they stood upon the
-/// old one and what they name tells that of each. Of an item that stays, what it names leads to the same upon both; of one that
-/// can't, the interval hasn't the new tick, or an output that it spends was spent since. No overlay is made, and no rule is looked
-/// at but the tick and its own outputs. Where an item isn't told so, or more than `most` can't stay, it gives `None`.
+/// Tells the overlay's items apart: those that stay as they are upon the new ledger state, and those that can't stay and on which
+/// no other hangs. Of an item that stays, what it names leads to the same upon both ledger states; of one that can't, the interval
+/// hasn't the new tick, or an output that it spends was spent since. No overlay is made, and no rule is looked at but the tick and
+/// its own outputs. Where an item isn't told so, or more than `most` can't stay, it gives `None`.
 ///
 /// # Errors
 /// `NoMemory`.
 pub fn part(
     memory: Memory,
-    old: &Ledger,
+    overlay: &Overlay,
     new: &Ledger,
     items: &TicketList<ValidatedTx>,
     most: usize,
 ) -> Result<Option<Parted>, NoMemory>
     ensures { IfOk result (λ parted. IfSome parted
-        (IsParted old.now new.now (ticketed items.now))) }
+        (IsParted overlay.now.ledger overlay.now.applied new.now (ticketed items.now))) }
 {
     let mut parted = nothing_parted(memory);
     for (ticket, item) in items.iter() {
-        if !part_one(old, new, most, &mut parted, ticket, &item.tx)? {
+        if !part_one(overlay, new, most, &mut parted, ticket, &item.tx)? {
             return Ok(None);
         }
     }

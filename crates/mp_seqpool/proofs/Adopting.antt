@@ -1,12 +1,12 @@
 -- What stays and goes where what was changed below tells it.
-use Rattle.std.proofs.Common.{◌≡◌, ◌≢◌, ℕ, ◌<◌, ◌≤◌, ◌⊎◌, inl, inr, ⊎_elim, Bool, true, false, cond, List, [], ◌∷◌, get_or, refl, sym, ap, subst, ◌∙◌, arith}
-use Rattle.std.specs.Prelude.{Option, None, Some, IsSome, IfSome, is_some, is_none, not, nat_le, ◌&&◌, ◌||◌, map, All, AllPairs, Result, Ok, Err, if◌then◌else◌}
+use Rattle.std.proofs.Common.{◌≡◌, ◌≢◌, ℕ, ◌<◌, ◌≤◌, ⊎_elim, Bool, true, false, cond, List, [], ◌∷◌, get_or, refl, sym, ap, subst, ◌∙◌, arith}
+use Rattle.std.specs.Prelude.{Option, None, Some, IsSome, IfSome, is_some, is_none, not, nat_le, ◌&&◌, ◌||◌, map, All, AllPairs, Ok}
 use Rattle.std.specs.Option.{option_or}
 use Rattle.std.specs.List.{filter, list_any, AllByRecursion}
 use Rattle.std.specs.FinMap.{get}
 use Rattle.std.proofs.lemmas.Bool.{true≢false, false_from_ne_true, eq-eqb, ne_eqb}
 use Rattle.std.proofs.lemmas.Bool.Decides.{nat_tests}
-use Rattle.std.proofs.lemmas.List.Elements.{All-head, All-tail, recursion_from_All}
+use Rattle.std.proofs.lemmas.List.Elements.{recursion_from_All, All-from_recursion}
 use Rattle.std.proofs.lemmas.List.Folds.{Any-from_list_any}
 use Rattle.mp_tx.specs.declared.reference.OutRef.{OutRef}
 use Rattle.mp_tx.specs.declared.input.Input.{Input}
@@ -14,7 +14,7 @@ use Rattle.mp_tx.specs.declared.output.Output.{Output}
 use Rattle.mp_tx.specs.Transaction.{Transaction, spends}
 use Rattle.mp_tx.specs.Spelling.{id_of}
 use Rattle.mp_tx.specs.Ledger.{LedgerState}
-use Rattle.mp_utxo.specs.Apply.{Unspent, apply, after, own_ref, output_made}
+use Rattle.mp_utxo.specs.Apply.{Unspent, apply, own_ref, output_made}
 use Rattle.mp_utxo.specs.Overlay.{Overlay}
 use Rattle.mp_utxo.specs.Leaf.{NoneMakes, IsFed, IsOfOne, IsLeaf}
 use Rattle.mp_rules.specs.declared.invalid.Invalid.{Invalid}
@@ -26,14 +26,12 @@ use Rattle.mp_rules.proofs.Meeting.{validity_is_local}
 use Rattle.mp_rules.proofs.Valid.{valid, faultless}
 use Rattle.mp_tickets.specs.Tickets.{IsRisingFrom, IsRising, item_at}
 use Rattle.mp_resync.specs.ValidatedTx.{ticketed}
-use Rattle.mp_resync.specs.Parted.{is_timely, is_spent_since, is_lost, IsUntouched, IsParted}
-use Rattle.mp_resync.specs.Keep.{transactions, tickets, is_valid, keep_upon, keep, dropped_upon, dropped}
-use Rattle.mp_seqpool.specs.declared.refusal.Refusal.TheVariants as refusals
-use Rattle.mp_seqpool.specs.declared.command.Reply.{Reply}
+use Rattle.mp_resync.specs.Parted.{is_timely, is_spent_since, is_lost, IsUntouched}
+use Rattle.mp_resync.specs.Keep.{transactions, tickets, is_valid, keep_upon, keep, dropped_upon}
 use Rattle.mp_seqpool.specs.declared.command.Reply.TheVariants.{Synced}
 use Rattle.mp_seqpool.specs.Command.{Sync}
 use Rattle.mp_seqpool.specs.Pool.{Pool, Holding}
-use Rattle.mp_seqpool.specs.SlowPool.{AreSigned, is_at_limit, pool_upon, answer}
+use Rattle.mp_seqpool.specs.SlowPool.{AreSigned, pool_upon, answer}
 use Rattle.mp_seqpool.specs.Prepared.{Prepared, IsLeafAt, changed, CanChange, Prepares, leads_to, told, apart}
 use Rattle.mp_seqpool.specs.declared.pool.SeqPool.TheInside.{Inside}
 use Rattle.mp_seqpool.specs.Inside.Chained.{all_accepted, IsChained}
@@ -129,7 +127,7 @@ module _ (accepts : Accepts) (ts : List Transaction) (old new : LedgerState) whe
         (lost_by any.1.from any.4 (subst (λ (i : Input). IsOfOne base ts i.from) any.3 (ones any.0 any.1 any.2)))
         (subst (λ (i : Input). IsSome (v i.from)) any.3 (is InputsThere any.0 any.1 any.2))
 
--- ---- one after another
+  -- ---- one after another
 
   abbrev stay : Items → Items
   stay items = filter (λ i. not (is_lost old new i.1)) items
@@ -189,32 +187,29 @@ each_made : (ts : List Transaction) (items : Items) → ((r : OutRef) → NoneMa
 each_made ts [] f = tt
 each_made ts (i ∷ is) f = (λ r nobody. (f r nobody).0, each_made ts is (λ r nobody. (f r nobody).1))
 
--- what stands under a ticket of what goes spends what the ledger alone tells, or the transactions alone
+-- a leaf of those that pass a test stands under each of their tickets
 module _ (u : Unspent) (ts : List Transaction) (test : ℕ × Transaction → Bool) where
   abbrev At : Items → ℕ → Type 0
   At all n = IfSome (item_at all n) (IsLeaf u ts)
 
-  found_first : (i : ℕ × Transaction) (is : Items) → item_at (i ∷ is) i.0 ≡ Some i.1
-  found_first i is = ap (λ b. cond b (Some i.1) (item_at is i.0)) (eq-eqb i.0 i.0 refl)
+  at_first : (i : ℕ × Transaction) (is : Items) → IsLeaf u ts i.1 → At (i ∷ is) i.0
+  at_first i is leaf = subst (λ o. IfSome o (IsLeaf u ts)) (sym (ap (λ b. cond b (Some i.1) (item_at is i.0)) (eq-eqb i.0 i.0 refl))) leaf
 
-  found_later : (n : ℕ) (i : ℕ × Transaction) (is : Items) → i.0 < n → item_at (i ∷ is) n ≡ item_at is n
-  found_later n i is lt = ap (λ b. cond b (Some i.1) (item_at is n)) (ne_eqb i.0 n (λ e. omega arith))
+  at_later : (i : ℕ × Transaction) (is : Items) (ns : List ℕ) → AllByRecursion (λ n. i.0 < n) ns → AllByRecursion (At is) ns → AllByRecursion (At (i ∷ is)) ns
+  at_later i is [] above a = tt
+  at_later i is (n ∷ ns) above a =
+      let lt = above.0 in
+      (subst (λ o. IfSome o (IsLeaf u ts)) (sym (ap (λ b. cond b (Some i.1) (item_at is n)) (ne_eqb i.0 n (λ e. omega arith)))) a.0, at_later i is ns above.1 a.1)
 
-  move_later : (i : ℕ × Transaction) (is : Items) (ns : List ℕ) → AllByRecursion (λ n. i.0 < n) ns → AllByRecursion (At (i ∷ is)) ns → AllByRecursion (At is) ns
-  move_later i is [] above a = tt
-  move_later i is (n ∷ ns) above a = (subst (λ o. IfSome o (IsLeaf u ts)) (found_later n i is above.0) a.0, move_later i is ns above.1 a.1)
+  leaf_step : (i : ℕ × Transaction) (is : Items) (b : Bool) → test i ≡ b → (test i ≡ true → IsLeaf u ts i.1) → AllByRecursion (At (i ∷ is)) (tickets (filter test is)) → AllByRecursion (At (i ∷ is)) (tickets (cond b (i ∷ filter test is) (filter test is)))
+  leaf_step i is true e leaf a = (at_first i is (leaf e), a)
+  leaf_step i is false e leaf a = a
 
-  leaf_step : (i : ℕ × Transaction) (is : Items) (b : Bool) → test i ≡ b → AllByRecursion (λ n. i.0 < n) (tickets (filter test is)) → AllByRecursion (At (i ∷ is)) (tickets (cond b (i ∷ filter test is) (filter test is)))
-      → (test i ≡ true → IsLeaf u ts i.1) × AllByRecursion (At is) (tickets (filter test is))
-  leaf_step i is true e above a = (λ h. subst (λ o. IfSome o (IsLeaf u ts)) (found_first i is) a.0, move_later i is (tickets (filter test is)) above a.1)
-  leaf_step i is false e above a = (λ h. absurd (true≢false (sym h ∙ e)), move_later i is (tickets (filter test is)) above a)
-
-  leaves_of : (low : ℕ) (items : Items) → IsRisingFrom low items → AllByRecursion (At items) (tickets (filter test items)) → AllByRecursion (λ i. test i ≡ true → IsLeaf u ts i.1) items
-  leaves_of low [] r a = tt
-  leaves_of low (i ∷ is) r a =
+  leaves_at : (low : ℕ) (items : Items) → IsRisingFrom low items → AllByRecursion (λ i. test i ≡ true → IsLeaf u ts i.1) items → AllByRecursion (At items) (tickets (filter test items))
+  leaves_at low [] r a = tt
+  leaves_at low (i ∷ is) r a =
       let above = above_tested test i.0 is (all_above i.0 i.0 is (omega arith) r.1) in
-      let one = leaf_step i is (test i) refl above a in
-      (one.0, leaves_of i.0 is r.1 one.1)
+      leaf_step i is (test i) refl a.0 (at_later i is (tickets (filter test is)) above (leaves_at i.0 is r.1 a.1))
 
 weaker : {P Q : ℕ × Transaction → Type 0} → ((i : ℕ × Transaction) → P i → Q i) → (items : Items) → AllByRecursion P items → AllByRecursion Q items
 weaker f [] a = tt
@@ -236,14 +231,14 @@ module _ (accepts : Accepts) where
       let is_gone : gone ≡ tickets (filter lost p.items) = adopts.are.dropped in
       let is : apart gone p.items ≡ left = ap (λ ns. apart ns p.items) is_gone ∙ apart_tested lost 0 p.items rising in
       let rise : AllPairs (λ a b. a < b) gone = subst (AllPairs (λ a b. a < b)) (sym is_gone) (tickets_rise 0 (filter lost p.items) (rising_filter lost 0 p.items rising)) in
+      let each = recursion_from_All (λ i. lost i ≡ true → IsLeaf u ts i.1) p.items adopts.are.leaves in
+      let leaves : All (IsLeafAt p) gone = subst (λ ns. All (IsLeafAt p) ns) (sym is_gone) (All-from_recursion (IsLeafAt p) (tickets (filter lost p.items)) (leaves_at u ts lost 0 p.items rising each)) in
       let chain : Chain accepts u p.ledger.tick (transactions left) =
       subst (λ l. Chain accepts u p.ledger.tick (transactions l)) is
-      (all_out accepts u p.ledger.tick p.items gone rise adopts.leaves rising distinct (chain_signed accepts u p.ledger.tick ts chained signed)) in
-      let leaves = leaves_of u ts lost 0 p.items rising
-      (subst (λ ns. AllByRecursion (λ n. IfSome (item_at p.items n) (IsLeaf u ts)) ns) is_gone (recursion_from_All (λ n. IfSome (item_at p.items n) (IsLeaf u ts)) gone adopts.leaves)) in
+      (all_out accepts u p.ledger.tick p.items gone rise leaves rising distinct (chain_signed accepts u p.ledger.tick ts chained signed)) in
       let so : AreSo accepts ts p.ledger ledger p.items = record {
         untouched = recursion_from_All (λ i. is_lost p.ledger ledger i.1 ≡ false → IsUntouched p.ledger ledger i.1) p.items adopts.are.untouched;
-        ones = weaker {P = λ i. lost i ≡ true → IsLeaf u ts i.1} {Q = λ i. lost i ≡ true → All (λ j. IsOfOne u ts j.from) i.1.inputs} (λ i f e. (f e).inputs) p.items leaves;
+        ones = weaker {P = λ i. lost i ≡ true → IsLeaf u ts i.1} {Q = λ i. lost i ≡ true → All (λ j. IsOfOne u ts j.from) i.1.inputs} (λ i f e. (f e).inputs) p.items each;
         among = each_made ts p.items (λ r nobody. recursion_from_All (λ t. output_made t r ≡ None) ts nobody);
       } in
       let begin : Stands ts u (get ledger.utxo) u (get ledger.utxo) = record { same = λ r e. e; none = λ r e f. f; unmade = λ r e f. f } in
@@ -258,7 +253,7 @@ module _ (accepts : Accepts) where
         leads = yes_next accepts p (Sync ledger) (Synced adopts.parted.kept gone) yes ∙ ap (pool_upon p ledger) all.kept ∙ sym leads;
         prepared = record {
           change = change;
-          fits = subst (CanChange h) (sym adopts.effect) adopts.leaves;
+          fits = subst (CanChange h) (sym adopts.effect) leaves;
           tells = leads ∙ sym (ap (λ c. told p c q.reply) adopts.command ∙ ap (told p (Sync ledger)) adopts.reply ∙ ap (pool_upon p ledger) is);
           accepts = accepts;
           reply = ap (answer accepts p) adopts.command ∙ yes ∙ sym (ap Ok adopts.reply);

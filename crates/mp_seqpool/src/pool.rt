@@ -414,15 +414,11 @@ impl SeqPool {
     fn prepare_adoption(&self, ledger: &Ledger) -> Result<Option<Prepared>, NoMemory>
         ensures { IfOk result (λ step. IfSome step (AdoptsParted self.now.pool ledger.now)) }
     {
-        let former = self.overlay.ledger();
         let most = few_of(self.items.len());
-        let Some(parted) = part(self.memory, former, ledger, &self.items, most)? else {
-            return Ok(None);
-        };
-        if !self.are_leaves(&parted.dropped) {
-            return Ok(None);
+        match part(self.memory, &self.overlay, ledger, &self.items, most)? {
+            Some(parted) => Ok(Some(adopt_step(ledger, parted)?)),
+            None => Ok(None),
         }
-        Ok(Some(adopt_step(ledger, parted)?))
     }
 
     /// Prepares to adopt the ledger state, and to drop those transactions that aren't valid upon it. The others keep their tickets.

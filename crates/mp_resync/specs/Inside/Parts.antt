@@ -1,7 +1,9 @@
 -- How one item more is told apart.
-use Rattle.std.specs.Prelude.{◌≡◌, ◌⊎◌, ℕ, ◌<◌, true, [], ◌∷◌, ◌++◌, All}
+use Rattle.std.specs.Prelude.{◌≡◌, ◌⊎◌, ℕ, ◌<◌, true, List, [], ◌∷◌, ◌++◌, All}
+use Rattle.std.specs.FinMap.{get}
 use Rattle.mp_tx.specs.Transaction.{Transaction}
 use Rattle.mp_tx.specs.Ledger.{LedgerState}
+use Rattle.mp_utxo.specs.Leaf.{IsLeaf}
 use Rattle.mp_resync.specs.declared.parting.Parted.{Parted}
 use Rattle.mp_resync.specs.Parted.{is_lost, IsUntouched}
 
@@ -16,12 +18,14 @@ pub record Stays (old new : LedgerState) (was : Parted) (i : ℕ × Transaction)
   pub kept : now.kept ≡ was.kept ++ i.0 ∷ []
   pub dropped : now.dropped ≡ was.dropped
 
--- its ticket stands last among those of the lost
-pub record Goes (old new : LedgerState) (was : Parted) (i : ℕ × Transaction) (now : Parted) : Type 0 where
+-- its ticket stands last among those of the lost, and none of the transactions hangs on it
+pub record Goes (old : LedgerState) (ts : List Transaction) (new : LedgerState) (was : Parted) (i : ℕ × Transaction) (now : Parted)
+    : Type 0 where
   pub lost : is_lost old new i.1 ≡ true
+  pub leaf : IsLeaf (get old.utxo) ts i.1
   pub kept : now.kept ≡ was.kept
   pub dropped : now.dropped ≡ was.dropped ++ i.0 ∷ []
 
 -- it stays or goes
-abbrev pub Parts : LedgerState → LedgerState → Parted → ℕ × Transaction → Parted → Type 0
-Parts old new was i now = Stays old new was i now ⊎ Goes old new was i now
+abbrev pub Parts : LedgerState → List Transaction → LedgerState → Parted → ℕ × Transaction → Parted → Type 0
+Parts old ts new was i now = Stays old new was i now ⊎ Goes old ts new was i now

@@ -1,14 +1,15 @@
 -- Steps whose parts were taken apart.
-use Rattle.std.specs.Prelude.{◌≡◌, ℕ, List, All}
+use Rattle.std.specs.Prelude.{◌≡◌, ℕ, List}
 use Rattle.mp_tx.specs.Ledger.{LedgerState}
 use Rattle.mp_utxo.specs.Overlay.{Overlay}
 use Rattle.mp_resync.specs.declared.parting.Parted.{Parted}
+use Rattle.mp_resync.specs.Keep.{transactions}
 use Rattle.mp_resync.specs.Parted.{IsParted}
 use Rattle.mp_seqpool.specs.declared.command.Reply.{Reply}
 use Rattle.mp_seqpool.specs.declared.command.Reply.TheVariants.{Synced}
 use Rattle.mp_seqpool.specs.Command.{Command, Sync}
 use Rattle.mp_seqpool.specs.Pool.{Pool, Holding}
-use Rattle.mp_seqpool.specs.Prepared.{Prepared, Keep, Adopt, IsLeafAt, IsPrepared}
+use Rattle.mp_seqpool.specs.Prepared.{Prepared, Keep, Adopt, IsPrepared}
 
 -- a step with this reply was prepared that keeps what is applied upon the overlay
 pub record IsKeep (h : Holding) (overlay : Overlay) (reply : Reply) : Type 0 where
@@ -24,8 +25,7 @@ pub record IsAdoption (h : Holding) (ledger : LedgerState) (gone : List ℕ) (re
 -- the step of a sync that takes out those that are lost, on which no others hang, where all others are untouched
 pub record AdoptsParted (p : Pool) (ledger : LedgerState) (q : Prepared) : Type 0 where
   pub parted : Parted
-  pub are : IsParted p.ledger ledger p.items parted
+  pub are : IsParted p.ledger (transactions p.items) ledger p.items parted
   pub command : q.command ≡ Sync ledger
   pub reply : q.reply ≡ Synced parted.kept parted.dropped
   pub effect : q.effect ≡ Adopt ledger parted.dropped
-  pub leaves : All (IsLeafAt p) parted.dropped

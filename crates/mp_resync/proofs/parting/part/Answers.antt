@@ -11,7 +11,7 @@ use Rattle.mp_resync.proofs.parting.part.Goals as goal
 
 pub part_one-requires : goal.part_one-requires
 part_one-requires c =
-    below c.args.old.now c.args.new.now (ticketed (map shown c.loop-ticket.yielded)) c.in-Some.ticket c.loop-ticket.parted
+    below c.args.overlay.now.ledger c.args.overlay.now.applied c.args.new.now (ticketed (map shown c.loop-ticket.yielded)) c.in-Some.ticket c.loop-ticket.parted
     (below_turn c.args.items.now c.into_iter-ticket-iterator.result c.loop-ticket.ticket-iterator c.next.new.self c.loop-ticket.yielded c.next.result (c.in-Some.ticket, c.in-Some.item)
     c.iter-ticket-items.ensures.rising (c.into_iter-ticket-iterator.ensures.into_iter_gives ∙ c.iter-ticket-items.ensures.all) c.loop-ticket.yielded_by c.in-Some.is c.next.ensures.steps)
     c.loop-ticket.invariant.2
@@ -22,14 +22,14 @@ loop-ticket-preserved c =
     let parts = c.in_ok-part_one.ensures c.if-not-branch.false in (
       tt,
       tt,
-      subst (λ l. IsParted c.args.old.now c.args.new.now l c.part_one.new.parted) (sym (ticketed-last c.loop-ticket.yielded (c.in-Some.ticket, c.in-Some.item)))
-          (one_more c.args.old.now c.args.new.now (ticketed (map shown c.loop-ticket.yielded)) (c.in-Some.ticket, c.in-Some.item.now.tx) c.loop-ticket.parted c.part_one.new.parted
-          c.loop-ticket.invariant.2 (subst (λ (t : Transaction). Parts c.args.old.now c.args.new.now c.loop-ticket.parted (c.in-Some.ticket, t) c.part_one.new.parted) same parts)),
+      subst (λ l. IsParted c.args.overlay.now.ledger c.args.overlay.now.applied c.args.new.now l c.part_one.new.parted) (sym (ticketed-last c.loop-ticket.yielded (c.in-Some.ticket, c.in-Some.item)))
+          (one_more c.args.overlay.now.ledger c.args.overlay.now.applied c.args.new.now (ticketed (map shown c.loop-ticket.yielded)) (c.in-Some.ticket, c.in-Some.item.now.tx) c.loop-ticket.parted c.part_one.new.parted
+          c.loop-ticket.invariant.2 (subst (λ (t : Transaction). Parts c.args.overlay.now.ledger c.args.overlay.now.applied c.args.new.now c.loop-ticket.parted (c.in-Some.ticket, t) c.part_one.new.parted) same parts)),
     )
 
 pub returns : goal.returns
 returns c =
-    subst (λ l. IsParted c.args.old.now c.args.new.now (ticketed l) c.loop-ticket.parted)
+    subst (λ l. IsParted c.args.overlay.now.ledger c.args.overlay.now.applied c.args.new.now (ticketed l) c.loop-ticket.parted)
     (iter_end shown c.args.items.now c.loop-ticket.yielded c.into_iter-ticket-iterator.result c.loop-ticket.ticket-iterator c.next.new.self c.next.result
     (c.into_iter-ticket-iterator.ensures.into_iter_gives ∙ c.iter-ticket-items.ensures.all) c.loop-ticket.yielded_by c.in-None.is c.next.ensures.steps).0
     c.loop-ticket.invariant.2

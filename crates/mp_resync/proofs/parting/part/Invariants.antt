@@ -9,4 +9,4 @@ abbrev pub invariant-loop-ticket : goal.invariant-loop-ticket
 invariant-loop-ticket l =
     goal.iterator-loop-ticket.can_next l.ticket-iterator
     × goal.iterator-loop-ticket.is_finite l.ticket-iterator
-    × IsParted l.old l.new (ticketed (map shown l.yielded)) l.parted
+    × IsParted l.overlay.ledger l.overlay.applied l.new (ticketed (map shown l.yielded)) l.parted
