@@ -5,7 +5,7 @@ mod asking;
 mod making;
 mod steps;
 
-use crate::samples::{AFTER_FIRST, GUARDED, REMOVE_FIRST, Samples};
+use crate::samples::{AFTER_FIRST, GUARDED, PART, REMOVE_FIRST, Samples};
 use crate::seqpool::answers::held_answers;
 use crate::seqpool::asking::held_calls;
 use crate::seqpool::making::{held_copies, held_makings};
@@ -27,16 +27,19 @@ pub enum Kind {
     Submit,
     Remove,
     Sync,
+    // A sync that takes out what hasn't what it spends any more, and looks at no rule.
+    Adopt,
 }
 
 impl Kind {
-    /// The number of the sample that is asked for: a submit of the guarded transaction, a remove of the first of three, or a sync
-    /// with what that one pays.
+    /// The number of the sample that is asked for: a submit of the guarded transaction, a remove of the first of three, a sync
+    /// with what that one pays, or one with what it spends.
     pub const fn number(self) -> usize {
         match self {
             Kind::Submit => GUARDED,
             Kind::Remove => REMOVE_FIRST,
             Kind::Sync => AFTER_FIRST,
+            Kind::Adopt => PART,
         }
     }
 }

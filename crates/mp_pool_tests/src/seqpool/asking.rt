@@ -1,5 +1,5 @@
 //! What the pool is asked under refusals of memory.
-use crate::rows::{MANY, Trial, count_trial};
+use crate::rows::{Growths, MANY, THREE_OR_MORE, Trial, count_trial};
 use crate::samples::Samples;
 use crate::seqpool::steps::{call, call_after_drops, pool_for, step, try_command, try_upon_others};
 use crate::seqpool::{Kind, look_at};
@@ -92,7 +92,11 @@ const REMOVED: Told = Told::Removed(1, 2);
 
 const SYNCED: Told = Told::Synced(2, 13);
 
-static ROWS: [Row; 13] = [
+const WITHOUT_THIRD: [u64; 4] = [12, 362, 3, 4];
+
+const ADOPTED: Told = Told::Synced(12, 3);
+
+static ROWS: [Row; 16] = [
     (
         "a prepared submit",
         Way::Prepare,
@@ -160,7 +164,36 @@ static ROWS: [Row; 13] = [
         WITHOUT_FIRST,
     ),
     ("a sync as a step", Way::Step, Kind::Sync, SYNCED, OF_SECOND),
+    (
+        "a prepared sync that tells apart",
+        Way::Prepare,
+        Kind::Adopt,
+        ADOPTED,
+        OF_THREE,
+    ),
+    (
+        "a sync that tells apart",
+        Way::Call,
+        Kind::Adopt,
+        ADOPTED,
+        WITHOUT_THIRD,
+    ),
+    (
+        "a sync that tells apart after drops",
+        Way::CallAfterDrops,
+        Kind::Adopt,
+        ADOPTED,
+        WITHOUT_THIRD,
+    ),
 ];
+
+// A sync that tells apart makes room for tickets alone.
+fn growths(kind: Kind) -> Growths {
+    match kind {
+        Kind::Adopt => THREE_OR_MORE,
+        Kind::Submit | Kind::Remove | Kind::Sync => MANY,
+    }
+}
 
 fn try_call(samples: &Samples, way: Way, kind: Kind, sight: Sight) -> Trial {
     let asking = Asking {
@@ -175,10 +208,10 @@ fn try_call(samples: &Samples, way: Way, kind: Kind, sight: Sight) -> Trial {
 fn count_row(rt: &impl Print, samples: &Samples, row: &Row) -> io::Result<u64> {
     let (name, way, kind, told, [tickets, bytes, last, changes]) = *row;
     let trial = try_call(samples, way, kind, Sight::Told);
-    let told = count_trial(rt, name, trial, told.seen(), MANY)?;
+    let told = count_trial(rt, name, trial, told.seen(), growths(kind))?;
     let trial = try_call(samples, way, kind, Sight::Standing);
     let standing = [tickets, bytes, last, changes, 0, 0];
-    Ok(told.wrapping_add(count_trial(rt, name, trial, standing, MANY)?))
+    Ok(told.wrapping_add(count_trial(rt, name, trial, standing, growths(kind))?))
 }
 
 /// How many cases hold: of each call two, what it is told and how the pool stands then.

@@ -134,6 +134,6 @@ pub fn pool_of_three(samples: &Samples) -> Option<SeqPool> {
 pub fn pool_for(samples: &Samples, kind: Kind) -> Option<SeqPool> {
     match kind {
         Kind::Submit => new_pool(samples),
-        Kind::Remove | Kind::Sync => pool_of_three(samples),
+        Kind::Remove | Kind::Sync | Kind::Adopt => pool_of_three(samples),
     }
 }
