@@ -13,8 +13,8 @@ use std::sync::Arc;
 /// A ledger state with transactions applied upon it, seen as one map of the outputs that may be spent.
 ///
 /// The ledger is shared, and not copied. For each reference that was spent or made the overlay keeps what became of it last,
-/// in a table with the ledger's salt. So what a transaction spends and a later one makes again is there again, and an output
-/// that was made is found through its transaction.
+/// in a table with the salt of the ledger that it was made over. So what a transaction spends and a later one makes again is there
+/// again, and an output that was made is found through its transaction.
 #[derive(Drop)]
 pub struct Overlay {
     ledger: Ledger,
