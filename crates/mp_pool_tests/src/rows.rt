@@ -14,6 +14,12 @@ pub const ONE: Growths = [1, 1];
 /// Just two.
 pub const TWO: Growths = [2, 2];
 
+/// Just three.
+pub const THREE: Growths = [3, 3];
+
+/// Just nine.
+pub const NINE: Growths = [9, 9];
+
 /// One at least.
 pub const SOME: Growths = [1, MAX_GROWTHS];
 

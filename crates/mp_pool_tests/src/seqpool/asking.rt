@@ -1,5 +1,5 @@
 //! What the pool is asked under refusals of memory.
-use crate::rows::{Growths, MANY, THREE_OR_MORE, Trial, count_trial};
+use crate::rows::{Growths, MANY, NINE, THREE, Trial, count_trial};
 use crate::samples::Samples;
 use crate::seqpool::steps::{call, call_after_drops, pool_for, step, try_command, try_upon_others};
 use crate::seqpool::{Kind, look_at};
@@ -187,11 +187,14 @@ static ROWS: [Row; 16] = [
     ),
 ];
 
-// A sync that tells apart makes room for tickets alone.
-fn growths(kind: Kind) -> Growths {
+// A sync that tells apart makes room for three lists of tickets and for nothing else, each time that it is prepared.
+fn growths(way: Way, kind: Kind) -> Growths {
     match kind {
-        Kind::Adopt => THREE_OR_MORE,
         Kind::Submit | Kind::Remove | Kind::Sync => MANY,
+        Kind::Adopt => match way {
+            Way::CallAfterDrops => NINE,
+            _ => THREE,
+        },
     }
 }
 
@@ -208,10 +211,10 @@ fn try_call(samples: &Samples, way: Way, kind: Kind, sight: Sight) -> Trial {
 fn count_row(rt: &impl Print, samples: &Samples, row: &Row) -> io::Result<u64> {
     let (name, way, kind, told, [tickets, bytes, last, changes]) = *row;
     let trial = try_call(samples, way, kind, Sight::Told);
-    let told = count_trial(rt, name, trial, told.seen(), growths(kind))?;
+    let told = count_trial(rt, name, trial, told.seen(), growths(way, kind))?;
     let trial = try_call(samples, way, kind, Sight::Standing);
     let standing = [tickets, bytes, last, changes, 0, 0];
-    Ok(told.wrapping_add(count_trial(rt, name, trial, standing, growths(kind))?))
+    Ok(told.wrapping_add(count_trial(rt, name, trial, standing, growths(way, kind))?))
 }
 
 /// How many cases hold: of each call two, what it is told and how the pool stands then.
