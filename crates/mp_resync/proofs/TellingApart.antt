@@ -4,8 +4,9 @@ use Rattle.std.specs.Prelude.{Option, None, Some, is_some, is_none, not, ◌&&�
 use Rattle.std.specs.List.{filter, list_any}
 use Rattle.std.specs.FinMap.{get}
 use Rattle.std.proofs.lemmas.Bool.{true≢false}
+use Rattle.std.proofs.lemmas.List.{append-nil}
 use Rattle.std.proofs.lemmas.List.Folds.{list_any_none}
-use Rattle.std.proofs.lemmas.List.Elements.{All-nil, All-push, All-map, All-filter, filter-append}
+use Rattle.std.proofs.lemmas.List.Elements.{All-push, All-map, All-filter, filter-append}
 use Rattle.mp_tx.specs.declared.input.Input.{Input}
 use Rattle.mp_tx.specs.declared.output.Output.{Output}
 use Rattle.mp_tx.specs.Transaction.{Transaction}
@@ -45,10 +46,6 @@ module _ (old : LedgerState) (ts : List Transaction) (new : LedgerState) where
   tickets-joined [] ys = refl
   tickets-joined (x ∷ xs) ys = ap (λ l. x.0 ∷ l) (tickets-joined xs ys)
 
-  append-none : (xs : List ℕ) → xs ++ [] ≡ xs
-  append-none [] = refl
-  append-none (x ∷ xs) = ap (λ l. x ∷ l) (append-none xs)
-
   -- the tickets of those that pass a test, with one item more
   passed : (test : ℕ × Transaction → Bool) (xs : Items) (i : ℕ × Transaction) (b : Bool) → test i ≡ b → tickets (filter test (xs ++ i ∷ [])) ≡ tickets (filter test xs) ++ cond b (i.0 ∷ []) []
   passed test xs i b h = ap tickets (filter-append test xs (i ∷ [])) ∙ tickets-joined (filter test xs) (filter test (i ∷ [])) ∙ ap (λ l. tickets (filter test xs) ++ l) (one test i b h)
@@ -62,14 +59,14 @@ module _ (old : LedgerState) (ts : List Transaction) (new : LedgerState) where
       let whole = kept_whole i.1 s.untouched in
       record {
         kept = s.kept ∙ ap (λ l. l ++ i.0 ∷ []) is.kept ∙ sym (passed stays xs i true (ap not whole));
-        dropped = s.dropped ∙ is.dropped ∙ sym (passed goes xs i false whole ∙ append-none (tickets (filter goes xs)));
+        dropped = s.dropped ∙ is.dropped ∙ sym (passed goes xs i false whole ∙ append-nil (tickets (filter goes xs)));
         untouched = All-push (λ j. is_lost old new j.1 ≡ false → IsUntouched old new j.1) xs i is.untouched (λ h. s.untouched);
         leaves = All-push (λ j. is_lost old new j.1 ≡ true → IsLeaf (get old.utxo) ts j.1) xs i is.leaves (λ h. absurd (true≢false (sym h ∙ whole)));
       }
 
   one_goes : (xs : Items) (i : ℕ × Transaction) (was now : Parted) → IsParted old ts new xs was → Goes old ts new was i now → IsParted old ts new (xs ++ i ∷ []) now
   one_goes xs i was now is g = record {
-    kept = g.kept ∙ is.kept ∙ sym (passed stays xs i false (ap not g.lost) ∙ append-none (tickets (filter stays xs)));
+    kept = g.kept ∙ is.kept ∙ sym (passed stays xs i false (ap not g.lost) ∙ append-nil (tickets (filter stays xs)));
     dropped = g.dropped ∙ ap (λ l. l ++ i.0 ∷ []) is.dropped ∙ sym (passed goes xs i true g.lost);
     untouched = All-push (λ j. is_lost old new j.1 ≡ false → IsUntouched old new j.1) xs i is.untouched (λ h. absurd (true≢false (sym g.lost ∙ h)));
     leaves = All-push (λ j. is_lost old new j.1 ≡ true → IsLeaf (get old.utxo) ts j.1) xs i is.leaves (λ h. g.leaf);
@@ -77,14 +74,6 @@ module _ (old : LedgerState) (ts : List Transaction) (new : LedgerState) where
 
   pub one_more : (xs : Items) (i : ℕ × Transaction) (was now : Parted) → IsParted old ts new xs was → Parts old ts new was i now → IsParted old ts new (xs ++ i ∷ []) now
   one_more xs i was now is parts = ⊎_elim (one_stays xs i was now is) (one_goes xs i was now is) parts
-
-  pub none : (p : Parted) → p.kept ≡ [] → p.dropped ≡ [] → IsParted old ts new [] p
-  none p kept dropped = record {
-    kept = kept;
-    dropped = dropped;
-    untouched = All-nil (λ (j : ℕ × Transaction). is_lost old new j.1 ≡ false → IsUntouched old new j.1);
-    leaves = All-nil (λ (j : ℕ × Transaction). is_lost old new j.1 ≡ true → IsLeaf (get old.utxo) ts j.1);
-  }
 
   -- where all items are below a ticket, all tickets that came of them are
   pub below : (xs : Items) (ticket : ℕ) (p : Parted) → All (λ i. i.0 < ticket) xs → IsParted old ts new xs p → AreBelow ticket p

@@ -4,6 +4,7 @@ use Rattle.std.specs.Prelude.{Option, None, Some, IsSome, IfSome, is_some, is_no
 use Rattle.std.specs.Option.{option_or}
 use Rattle.std.specs.List.{filter, list_any, AllByRecursion}
 use Rattle.std.specs.FinMap.{get}
+use Rattle.std.specs.Cmp.{first_so, second_so}
 use Rattle.std.proofs.lemmas.Bool.{true≢false, false_from_ne_true, eq-eqb, ne_eqb}
 use Rattle.std.proofs.lemmas.Bool.Decides.{nat_tests}
 use Rattle.std.proofs.lemmas.List.Elements.{recursion_from_All, All-from_recursion}
@@ -23,7 +24,7 @@ use Rattle.mp_rules.specs.Validity.{Chain, IsValid, InInterval, InputsThere, Out
 use Rattle.mp_rules.specs.FirstFault.{first_fault}
 use Rattle.mp_rules.proofs.Faults.{each_rule}
 use Rattle.mp_rules.proofs.Meeting.{validity_is_local}
-use Rattle.mp_rules.proofs.Valid.{valid, faultless}
+use Rattle.mp_rules.proofs.Valid.{valid}
 use Rattle.mp_tickets.specs.Tickets.{IsRisingFrom, IsRising, item_at}
 use Rattle.mp_resync.specs.ValidatedTx.{ticketed}
 use Rattle.mp_resync.specs.Parted.{is_timely, is_spent_since, is_lost, IsUntouched}
@@ -38,7 +39,7 @@ use Rattle.mp_seqpool.specs.Inside.Chained.{all_accepted, IsChained}
 use Rattle.mp_seqpool.specs.Inside.NamedLeaves.{Lacks}
 use Rattle.mp_seqpool.specs.Inside.Steps.{AdoptsParted}
 use Rattle.mp_seqpool.proofs.Apart.{all_above, above_tested, apart_tested, rising_filter}
-use Rattle.mp_seqpool.proofs.Chained.{chain_signed, chain_fed}
+use Rattle.mp_seqpool.proofs.Chained.{clear, chain_signed, chain_fed}
 use Rattle.mp_seqpool.proofs.LeafOut.{none_there, spent_gone, passed_by, still_gone}
 use Rattle.mp_seqpool.proofs.LeavesOut.{all_out}
 use Rattle.mp_seqpool.proofs.Left.{within, synced_as, yes_next}
@@ -73,10 +74,6 @@ after_one ts old new u v t among s = record {
 
 -- ---- one transaction
 
-both_true : (a b : Bool) → (a && b) ≡ true → (a ≡ true) × (b ≡ true)
-both_true true b e = (refl, e)
-both_true false b e = absurd (true≢false (sym e))
-
 is_at_least : (a b : ℕ) → nat_le a b ≡ true → a ≤ b
 is_at_least a b e = grind (arith, nat_tests)
 
@@ -102,7 +99,6 @@ module _ (accepts : Accepts) (ts : List Transaction) (old new : LedgerState) whe
     -- what is untouched stays valid
     stays_valid : IsValid accepts u old.tick t → IsUntouched old new t → IsValid accepts v new.tick t
     stays_valid was still =
-        let timely = both_true (nat_le t.from new.tick) (nat_le new.tick t.to) still.timely in
         let fresh = (each_rule accepts other new.tick t OutputsFresh).holds still.fresh in
         validity_is_local accepts u v old.tick new.tick t
         (record {
@@ -110,12 +106,11 @@ module _ (accepts : Accepts) (ts : List Transaction) (old new : LedgerState) whe
           references = λ k d lt. s.same (get_or t.references k d) (still.references k d lt);
           own = λ k lt. was OutputsFresh k lt ∙ sym (s.none (own_ref t k) (was OutputsFresh k lt) (fresh k lt));
         })
-        was (is_at_least t.from new.tick timely.0) (is_at_least new.tick t.to timely.1)
+        was (is_at_least t.from new.tick (first_so _ _ still.timely)) (is_at_least new.tick t.to (second_so _ _ still.timely))
 
     lost_by : (r : OutRef) → is_spent_since base other r ≡ true → IsOfOne base ts r → v r ≡ None
     lost_by r e one =
-        let b = both_true (is_some (base r)) (is_none (other r)) e in
-        ⊎_elim (λ (nobody : NoneMakes ts r). s.unmade r nobody (empty (other r) b.1)) (λ (none : base r ≡ None). absurd (none_there (base r) none b.0)) one
+        ⊎_elim (λ (nobody : NoneMakes ts r). s.unmade r nobody (empty (other r) (second_so _ _ e))) (λ (none : base r ≡ None). absurd (none_there (base r) none (first_so _ _ e))) one
 
     -- what is lost isn't valid
     goes_invalid : is_lost old new t ≡ true → All (λ i. IsOfOne base ts i.from) t.inputs → IsValid accepts v new.tick t → ⊥
@@ -144,9 +139,6 @@ module _ (accepts : Accepts) (ts : List Transaction) (old new : LedgerState) whe
   later : (i : ℕ × Transaction) (is : Items) → AreSo (i ∷ is) → AreSo is
   later i is so = record { untouched = so.untouched.1; ones = so.ones.1; among = so.among.1 }
 
-  clear : (v : Unspent) (t : Transaction) → IsValid accepts v new.tick t → is_valid accepts v new.tick t ≡ true
-  clear v t is = ap is_none (faultless accepts v new.tick t is)
-
   none_of : (o : Option Invalid) → is_none o ≡ true → o ≡ None
   none_of None e = refl
   none_of (Some x) e = absurd (true≢false (sym e))
@@ -174,7 +166,7 @@ module _ (accepts : Accepts) (ts : List Transaction) (old new : LedgerState) whe
             }
         | false ↦ λ whole chain.
             let rest = sorted is (apply i.1 u) (apply i.1 v) (after_one ts base other u v i.1 so.among.0 s) (later i is so) chain.1 in
-            let is_so : is_valid accepts v new.tick i.1 ≡ true = clear v i.1 (stays_valid u v i.1 s chain.0 (so.untouched.0 whole)) in
+            let is_so : is_valid accepts v new.tick i.1 ≡ true = clear accepts v new.tick i.1 (stays_valid u v i.1 s chain.0 (so.untouched.0 whole)) in
             record {
               kept = ap (λ b. cond b (i ∷ keep_upon accepts (apply i.1 v) new.tick is) (keep_upon accepts v new.tick is)) is_so ∙ ap (λ l. i ∷ l) rest.kept ∙ sym (ap (λ b. cond (not b) (i ∷ stay is) (stay is)) whole);
               dropped = ap (λ b. cond b (dropped_upon accepts (apply i.1 v) new.tick is) (i.0 ∷ dropped_upon accepts v new.tick is)) is_so ∙ rest.dropped ∙ sym (ap (λ b. tickets (cond b (i ∷ go is) (go is))) whole);

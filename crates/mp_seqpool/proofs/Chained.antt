@@ -40,7 +40,7 @@ module _ (accepts : Accepts) where
   chain_fed u tick [] chain = tt
   chain_fed u tick (t ∷ ts) chain = (chain.0 InputsThere, chain_fed (apply t u) tick ts chain.1)
 
-  clear : (u : Unspent) (tick : ℕ) (t : Transaction) → IsValid accepts u tick t → is_valid accepts u tick t ≡ true
+  pub clear : (u : Unspent) (tick : ℕ) (t : Transaction) → IsValid accepts u tick t → is_valid accepts u tick t ≡ true
   clear u tick t valid = ap is_none (faultless accepts u tick t valid)
 
   -- of a chain all is kept

@@ -112,7 +112,8 @@ impl Overlay {
         self.looks_inside = looks_inside;
     }
 
-    /// Puts another ledger state below the transactions. It takes no memory.
+    /// Puts another ledger state below the same transactions, each of which spends what was there before it upon the former one. It
+    /// takes no memory.
     pub fn rebase(&mut self, ledger: Ledger)
         requires fed { IsFed (finite.get self.old.ledger.utxo) self.old.applied }
         ensures base { self.new.ledger ≡ ledger }
