@@ -1,7 +1,7 @@
 //! Bundles.
 
 ghost use Rattle.std.specs.Prelude.{◌≡◌, IfOk};
-ghost use Rattle.mp_bundle.specs.Inside.Bundle.{entries_in};
+ghost use Rattle.mp_bundle.specs.Inside.Bundle.{those, entries_in};
 
 use crate::entry::{Entry, Given, first_fault, quantity_at, to_entries};
 use crate::fault::BundleFault;
@@ -10,8 +10,15 @@ use mp_memory::{Memory, NoMemory};
 use std::marker::Model;
 use std::sync::Arc;
 
+// The entries of a bundle. Most have one, which then takes no memory of its own.
+#[derive(Debug, Drop)]
+enum Entries {
+    One([Entry; 1]),
+    Several(Vec<Entry, Memory>),
+}
+
 // Entries that several bundles may have.
-type Shared = Arc<Vec<Entry, Memory>, Memory>;
+type Shared = Arc<Entries, Memory>;
 
 /// A finite map from tokens to quantities that aren't zero, from -(2^63 - 1) to 2^63 - 1. Contracts see its entries, in the
 /// rising order of their tokens. Several owners may share them, and the bundle of no token keeps none.
@@ -33,6 +40,17 @@ impl Model for Bundle {
     ghost invariant = { λ b. IsBundle (entries_in b.entries) };
 }
 
+fn to_exact(entries: Vec<Entry, Memory>) -> Entries
+    ensures { those result ≡ entries.items }
+{
+    if let [only] = entries.as_slice() {
+        return Entries::One([*only]);
+    }
+    let mut exact = entries;
+    exact.shrink_to_fit();
+    Entries::Several(exact)
+}
+
 // What a bundle of these entries keeps.
 fn to_shared(memory: Memory, entries: Vec<Entry, Memory>) -> Result<Option<Shared>, NoMemory>
     ensures { IfOk result (λ s. entries_in s ≡ entries.items) }
@@ -40,9 +58,7 @@ fn to_shared(memory: Memory, entries: Vec<Entry, Memory>) -> Result<Option<Share
     if entries.is_empty() {
         return Ok(None);
     }
-    let mut exact = entries;
-    exact.shrink_to_fit();
-    Ok(Some(Arc::new(memory, exact)?))
+    Ok(Some(Arc::new(memory, to_exact(entries))?))
 }
 
 impl Bundle {
@@ -116,8 +132,9 @@ impl Bundle {
         ensures all { result.now ≡ self.now }
         ensures bundle { IsBundle self.now }
     {
-        match &self.entries {
-            Some(entries) => entries.as_slice(),
+        match self.entries.as_deref() {
+            Some(Entries::One(only)) => only,
+            Some(Entries::Several(entries)) => entries,
             None => &[],
         }
     }

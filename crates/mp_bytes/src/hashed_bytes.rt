@@ -1,62 +1,110 @@
 //! Bytes that are kept with their digest.
 
-use crate::hash::{Hash, digest};
+use crate::hash::{Hash, TRUE_SCRIPT, TRUE_SCRIPT_HASH, UNIT_DATUM, UNIT_DATUM_HASH, digest};
 use mp_memory::{Memory, NoMemory};
 use std::marker::Model;
+use std::sync::Arc;
 
-/// Bytes with their SHA-256 digest (FIPS 180-4), which is computed once. Contracts see the bytes.
 #[derive(Debug, Drop)]
-pub struct HashedBytes {
+struct Digested {
     bytes: Vec<u8, Memory>,
     hash: Hash,
 }
 
-impl Model for HashedBytes {
+impl Model for Digested {
     ghost use Rattle.std.specs.Prelude.{ℕ, List, ◌≡◌};
     ghost use Rattle.sha2.specs.Sha256.{sha256};
 
     ghost Value = { List ℕ };
 
-    ghost view = { λ h. h.bytes.items };
+    ghost view = { λ d. d.bytes.items };
 
-    ghost invariant = { λ h. h.hash ≡ sha256 h.bytes.items };
+    ghost invariant = { λ d. d.hash ≡ sha256 d.bytes.items };
+}
+
+// Nearly every input carries the first two, so these take no memory. Several owners may share others.
+#[derive(Debug, Drop)]
+enum Kept {
+    TrueScript,
+    UnitDatum,
+    Shared(Arc<Digested, Memory>),
+}
+
+/// Bytes with their SHA-256 digest (FIPS 180-4), which is computed once. Contracts see the bytes.
+#[derive(Debug, Drop)]
+pub struct HashedBytes {
+    kept: Kept,
+}
+
+impl Model for HashedBytes {
+    ghost use Rattle.std.specs.Prelude.{ℕ, List};
+    ghost use Rattle.mp_bytes.specs.Inside.HashedBytes.{bytes_in};
+
+    ghost Value = { List ℕ };
+
+    ghost view = { λ h. bytes_in h.kept };
 }
 
 impl HashedBytes {
     ghost use Rattle.std.specs.Prelude.{◌≡◌, IfOk};
     ghost use Rattle.sha2.specs.Sha256.{sha256};
 
-    /// A copy of the bytes, in one growth of just their number.
+    /// A copy of the bytes, in two growths: of their number, and of what owners share. The bytes `01` and `030000`, of the
+    /// script of one operator that gives true and the datum of no fields, take none.
     pub fn of(memory: Memory, bytes: &[u8]) -> Result<HashedBytes, NoMemory>
         ensures { IfOk result (λ kept. kept ≡ bytes.now) }
     {
-        Ok(HashedBytes {
+        if bytes == TRUE_SCRIPT.as_slice() {
+            return Ok(HashedBytes {
+                kept: Kept::TrueScript,
+            });
+        }
+        if bytes == UNIT_DATUM.as_slice() {
+            return Ok(HashedBytes {
+                kept: Kept::UnitDatum,
+            });
+        }
+        let digested = Digested {
             bytes: bytes.to_vec(memory)?,
             hash: digest(bytes),
+        };
+        Ok(HashedBytes {
+            kept: Kept::Shared(Arc::new(memory, digested)?),
         })
     }
 
-    /// The same bytes once more, in one growth of just their number.
-    pub fn copy(&self, memory: Memory) -> Result<HashedBytes, NoMemory>
+    /// The same bytes, which are shared, and not copied.
+    pub fn share(&self) -> Result<HashedBytes, NoMemory>
         ensures { IfOk result (λ kept. kept ≡ self.now) }
     {
-        Ok(HashedBytes {
-            bytes: self.bytes.to_vec(memory)?,
-            hash: self.hash,
-        })
+        let kept = match &self.kept {
+            Kept::TrueScript => Kept::TrueScript,
+            Kept::UnitDatum => Kept::UnitDatum,
+            Kept::Shared(digested) => Kept::Shared(Arc::try_clone(digested)?),
+        };
+        Ok(HashedBytes { kept })
     }
 
     /// The bytes.
     pub fn bytes(&self) -> &[u8]
         ensures { result.now ≡ self.now }
     {
-        &self.bytes
+        match &self.kept {
+            Kept::TrueScript => &TRUE_SCRIPT,
+            Kept::UnitDatum => &UNIT_DATUM,
+            Kept::Shared(digested) => &digested.bytes,
+        }
     }
 
     /// Their SHA-256 digest (FIPS 180-4).
+    #[tactic(auto, using(crate::proofs::Known::one, crate::proofs::Known::unit))]
     pub fn hash(&self) -> &Hash
         ensures { result.now ≡ sha256 self.now }
     {
-        &self.hash
+        match &self.kept {
+            Kept::TrueScript => &TRUE_SCRIPT_HASH,
+            Kept::UnitDatum => &UNIT_DATUM_HASH,
+            Kept::Shared(digested) => &digested.hash,
+        }
     }
 }

@@ -8,9 +8,8 @@ use mp_names::Payment;
 use mp_script::{Data, Script};
 use mp_tx::{Input, OutRef, Output};
 
-/// The input that spends the reference with copies of these.
+/// The input that spends the reference with these, which are shared.
 pub fn make_input(
-    memory: Memory,
     from: OutRef,
     validator: &Script,
     datum: &Data,
@@ -25,34 +24,24 @@ pub fn make_input(
 {
     Ok(Input {
         from,
-        validator: validator.copy(memory)?,
-        datum: datum.copy(memory)?,
-        redeemer: redeemer.copy(memory)?,
+        validator: validator.share()?,
+        datum: datum.share()?,
+        redeemer: redeemer.share()?,
     })
 }
 
-fn put_input(inputs: &mut Vec<Input, Memory>, memory: Memory, input: &Input) -> Result<(), NoMemory>
+fn put_input(inputs: &mut Vec<Input, Memory>, input: &Input) -> Result<(), NoMemory>
     ensures { OnOk result (inputs.new.items ≡ inputs.old.items ++ input.now ∷ []) }
 {
-    let copy = make_input(
-        memory,
-        input.from,
-        &input.validator,
-        &input.datum,
-        &input.redeemer,
-    )?;
+    let copy = make_input(input.from, &input.validator, &input.datum, &input.redeemer)?;
     inputs.push(copy)?;
     Ok(())
 }
 
-fn put_script(
-    scripts: &mut Vec<Script, Memory>,
-    memory: Memory,
-    script: &Script,
-) -> Result<(), NoMemory>
+fn put_script(scripts: &mut Vec<Script, Memory>, script: &Script) -> Result<(), NoMemory>
     ensures { OnOk result (scripts.new.items ≡ scripts.old.items ++ script.now ∷ []) }
 {
-    scripts.push(script.copy(memory)?)?;
+    scripts.push(script.share()?)?;
     Ok(())
 }
 
@@ -64,31 +53,23 @@ fn put_output(outputs: &mut Vec<Output, Memory>, payment: &Payment) -> Result<()
 }
 
 /// Puts the same inputs last.
-pub fn copy_inputs(
-    copies: &mut Vec<Input, Memory>,
-    memory: Memory,
-    inputs: &[Input],
-) -> Result<(), NoMemory>
+pub fn copy_inputs(copies: &mut Vec<Input, Memory>, inputs: &[Input]) -> Result<(), NoMemory>
     ensures { OnOk result (copies.new.items ≡ copies.old.items ++ inputs.now) }
 {
     copies.reserve_exact(inputs.len())?;
     for input in inputs {
-        put_input(copies, memory, input)?;
+        put_input(copies, input)?;
     }
     Ok(())
 }
 
 /// Puts the same scripts last.
-pub fn copy_scripts(
-    copies: &mut Vec<Script, Memory>,
-    memory: Memory,
-    scripts: &[Script],
-) -> Result<(), NoMemory>
+pub fn copy_scripts(copies: &mut Vec<Script, Memory>, scripts: &[Script]) -> Result<(), NoMemory>
     ensures { OnOk result (copies.new.items ≡ copies.old.items ++ scripts.now) }
 {
     copies.reserve_exact(scripts.len())?;
     for script in scripts {
-        put_script(copies, memory, script)?;
+        put_script(copies, script)?;
     }
     Ok(())
 }

@@ -177,9 +177,9 @@ fn put_others(
 {
     parts.forge = forge_of(draft)?;
     parts.references = Vec::from_slice(memory, &draft.references)?;
-    copy_inputs(&mut parts.inputs, memory, &draft.inputs)?;
+    copy_inputs(&mut parts.inputs, &draft.inputs)?;
     put_outputs(&mut parts.outputs, &draft.payments)?;
-    copy_scripts(&mut parts.scripts, memory, &draft.scripts)?;
+    copy_scripts(&mut parts.scripts, &draft.scripts)?;
     put_signatures(&mut parts.signatures, id, signers)
 }
 

@@ -75,7 +75,7 @@ fn spent_datum_of<'n, 'a>(
 
 // REF, and behind a colon the script, the datum and the redeemer.
 #[tactic(auto, unfolding(crate::specs::Fields::input_of))]
-fn input_of<'a>(memory: Memory, names: &Names, word: &'a [u8]) -> Result<Input, LineFault<'a>>
+fn input_of<'a>(names: &Names, word: &'a [u8]) -> Result<Input, LineFault<'a>>
     ensures { Reads (input_of names.now word.now) result }
 {
     let (reference, handed) = split_once(word, b':');
@@ -86,7 +86,7 @@ fn input_of<'a>(memory: Memory, names: &Names, word: &'a [u8]) -> Result<Input, 
     let validator = validator_of(names, validator, spent)?;
     let datum = spent_datum_of(names, datum, spent)?;
     let redeemer = datum_or_unit(names, redeemer)?;
-    Ok(make_input(memory, from, validator, datum, redeemer)?)
+    Ok(make_input(from, validator, datum, redeemer)?)
 }
 
 fn key_of(word: &[u8]) -> Result<u8, Reason<'_>>
@@ -134,10 +134,10 @@ fn signs_badly(word: &[u8]) -> Result<Field, LineFault<'_>>
     }))
 }
 
-fn spends<'a>(memory: Memory, names: &Names, word: &'a [u8]) -> Result<Field, LineFault<'a>>
+fn spends<'a>(names: &Names, word: &'a [u8]) -> Result<Field, LineFault<'a>>
     ensures { Reads (option_map told.Spends (input_of names.now word.now)) result }
 {
-    let input = input_of(memory, names, word)?;
+    let input = input_of(names, word)?;
     Ok(Field::Spends(input))
 }
 
@@ -155,15 +155,14 @@ fn forges<'a>(memory: Memory, names: &Names, word: &'a [u8]) -> Result<Field, Li
     Ok(Field::Forges(bundle))
 }
 
-fn carries<'a>(memory: Memory, names: &Names, word: &'a [u8]) -> Result<Field, LineFault<'a>>
+fn carries<'a>(names: &Names, word: &'a [u8]) -> Result<Field, LineFault<'a>>
     ensures { Reads (option_map told.Carries (script_named word.now names.now)) result }
 {
     let script = names.script(word)?;
-    Ok(Field::Carries(script.copy(memory)?))
+    Ok(Field::Carries(script.share()?))
 }
 
 fn witness_field<'a>(
-    memory: Memory,
     names: &Names,
     item: &'a [u8],
     kind: &[u8],
@@ -172,7 +171,7 @@ fn witness_field<'a>(
     ensures { Reads (witness_field names.now kind.now value.now) result }
 {
     if kind == b"policy".as_slice() {
-        carries(memory, names, value)
+        carries(names, value)
     } else if kind == b"sign".as_slice() {
         signs(value)
     } else if kind == b"badsign".as_slice() {
@@ -198,7 +197,7 @@ fn limit_field<'a>(
     } else if kind == b"forge".as_slice() {
         forges(memory, names, value)
     } else {
-        witness_field(memory, names, item, kind, value)
+        witness_field(names, item, kind, value)
     }
 }
 
@@ -212,7 +211,7 @@ fn field_by<'a>(
     ensures { Reads (field_by names.now kind.now value.now) result }
 {
     if kind == b"in".as_slice() {
-        spends(memory, names, value)
+        spends(names, value)
     } else if kind == b"ref".as_slice() {
         looks_at(names, value)
     } else if kind == b"out".as_slice() {

@@ -61,7 +61,7 @@ pub fn lock_words(word: Option<&[u8]>) -> (Option<&[u8]>, Option<&[u8]>)
     }
 }
 
-fn pay(memory: Memory, value: Bundle, script: &Script, datum: &Data) -> Result<Payment, NoMemory>
+fn pay(value: Bundle, script: &Script, datum: &Data) -> Result<Payment, NoMemory>
     ensures { IfOk result (λ p. p ≡ record {
       value = value;
       script = script.now;
@@ -70,8 +70,8 @@ fn pay(memory: Memory, value: Bundle, script: &Script, datum: &Data) -> Result<P
 {
     Ok(Payment {
         value,
-        script: script.copy(memory)?,
-        datum: datum.copy(memory)?,
+        script: script.share()?,
+        datum: datum.share()?,
     })
 }
 
@@ -89,5 +89,5 @@ pub fn payment_of<'a>(
     let (script, datum) = lock_words(lock);
     let script = script_or_yes(names, script)?;
     let datum = datum_or_unit(names, datum)?;
-    Ok(pay(memory, value, script, datum)?)
+    Ok(pay(value, script, datum)?)
 }

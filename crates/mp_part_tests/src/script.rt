@@ -1,4 +1,5 @@
-//! Data and scripts: which of their calls take memory. A datum, a script and a copy of either take one growth each.
+//! Data and scripts: which of their calls take memory. A datum and a script take two growths each, those that nearly every input has
+//! none, and a share of either takes none.
 use crate::rows::{Row, without_growth};
 use mp_memory::Memory;
 use mp_script::{Data, DataFault, Script, ScriptFault};
@@ -26,8 +27,8 @@ const OR: &[u8] = &[0x01, 0x10, 0x03, 0, 0x12];
 enum Taking {
     Datum(&'static [u8]),
     Script(&'static [u8]),
-    DatumCopy,
-    ScriptCopy,
+    DatumShare,
+    ScriptShare,
 }
 
 #[derive(Drop)]
@@ -53,24 +54,24 @@ fn decode_script(memory: Memory, bytes: &[u8]) -> Option<Seen> {
     }
 }
 
-// How many bytes the copy has, and whether they are the same.
-fn compare(copy: &[u8], bytes: &[u8]) -> Seen {
-    [copy.len() as u64, u64::from(copy == bytes), 0, 0, 0, 0]
+// How many bytes the share has, and whether they are the same.
+fn compare(share: &[u8], bytes: &[u8]) -> Seen {
+    [share.len() as u64, u64::from(share == bytes), 0, 0, 0, 0]
 }
 
-fn copy_datum(memory: Memory, datum: &Data) -> Option<Seen> {
-    let copy = datum.copy(memory).ok()?;
-    Some(compare(copy.bytes(), datum.bytes()))
+fn share_datum(datum: &Data) -> Option<Seen> {
+    let share = datum.share().ok()?;
+    Some(compare(share.bytes(), datum.bytes()))
 }
 
-fn copy_script(memory: Memory, script: &Script) -> Option<Seen> {
-    let copy = script.copy(memory).ok()?;
-    Some(compare(copy.bytes(), script.bytes()))
+fn share_script(script: &Script) -> Option<Seen> {
+    let share = script.share().ok()?;
+    Some(compare(share.bytes(), script.bytes()))
 }
 
 fn make(memory: Memory) -> Option<(Data, Script)> {
     let datum = Data::decode(memory, LIST_OF_FIVE).ok()?;
-    Some((datum, Script::decode(memory, TRUE).ok()?))
+    Some((datum, Script::decode(memory, OR).ok()?))
 }
 
 impl Call for Taken {
@@ -84,8 +85,8 @@ impl Call for Taken {
         match self.taking {
             Taking::Datum(bytes) => decode_datum(self.memory, bytes),
             Taking::Script(bytes) => decode_script(self.memory, bytes),
-            Taking::DatumCopy => copy_datum(self.memory, &value.0),
-            Taking::ScriptCopy => copy_script(self.memory, &value.1),
+            Taking::DatumShare => share_datum(&value.0),
+            Taking::ScriptShare => share_script(&value.1),
         }
     }
 
@@ -99,34 +100,34 @@ fn tried(memory: Memory, taking: Taking) -> Result<Trialled, TrialFault> {
     under_each_refusal(&memory, &Taken { memory, taking })
 }
 
-/// What takes one growth.
+/// What takes two growths, or none.
 pub fn growths(memory: Memory) -> [Row; 6] {
     [
         Row::tried(
             "an empty list",
             tried(memory, Taking::Datum(EMPTY_LIST)),
             [3],
-            1,
+            0,
         ),
         Row::tried(
             "a list of five",
             tried(memory, Taking::Datum(LIST_OF_FIVE)),
             [44],
-            1,
+            2,
         ),
-        Row::tried("true", tried(memory, Taking::Script(TRUE)), [1], 1),
-        Row::tried("an or", tried(memory, Taking::Script(OR)), [5], 1),
+        Row::tried("true", tried(memory, Taking::Script(TRUE)), [1], 0),
+        Row::tried("an or", tried(memory, Taking::Script(OR)), [5], 2),
         Row::tried(
-            "a copy of a datum",
-            tried(memory, Taking::DatumCopy),
+            "a share of a datum",
+            tried(memory, Taking::DatumShare),
             [44, 1],
-            1,
+            0,
         ),
         Row::tried(
-            "a copy of a script",
-            tried(memory, Taking::ScriptCopy),
-            [1, 1],
-            1,
+            "a share of a script",
+            tried(memory, Taking::ScriptShare),
+            [5, 1],
+            0,
         ),
     ]
 }

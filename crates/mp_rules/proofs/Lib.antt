@@ -10,3 +10,4 @@ pub mod Differences
 pub mod SameOutputs
 pub mod Order
 pub mod Meeting
+pub mod GivesTrue

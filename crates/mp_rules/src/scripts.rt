@@ -1,6 +1,6 @@
 //! The rules of scripts.
 
-ghost use Rattle.std.specs.Prelude.{◌≡◌, ◌≤◌, not, length, map, IfOk};
+ghost use Rattle.std.specs.Prelude.{◌≡◌, ◌≤◌, [], ◌∷◌, not, length, map, All, IfOk, IsTrue};
 ghost use Rattle.std.specs.List.{position, zip};
 ghost use Rattle.mp_script.specs.View.{view_of, paid_to_of, referred_of};
 ghost use Rattle.mp_script.specs.Value.{value_of};
@@ -15,6 +15,9 @@ use crate::script_context::ScriptContext;
 use mp_memory::{Memory, NoMemory};
 use mp_script::{PaidTo, Referred, Value, View, eval};
 use mp_tx::{Input, Key, Output, Script, Signature, Tx};
+
+// The script of one operator, which gives true whatever it sees.
+const TRUE: [u8; 1] = [0x01];
 
 fn keys_of(memory: Memory, signatures: &[Signature]) -> Result<Vec<Key, Memory>, NoMemory>
     ensures { IfOk result (λ keys. keys.items ≡ map (λ s. s.key) signatures.now) }
@@ -158,9 +161,27 @@ fn refusing_policy<'a>(context: &'a ScriptContext<'a>, scripts: &'a [Script]) ->
         .position(|script| !policy_accepts(context, script))
 }
 
-/// The first validator that refuses, else the first policy script that does.
+fn gives_true(script: &Script) -> bool
+    ensures { IsTrue result → script.now ≡ 1 ∷ [] }
+{
+    script.bytes() == TRUE.as_slice()
+}
+
+fn validators_give_true(inputs: &[Input]) -> bool
+    ensures { IsTrue result → All (λ i. i.validator ≡ 1 ∷ []) inputs.now }
+{
+    inputs.iter().all(|input| gives_true(&input.validator))
+}
+
+fn policies_give_true(scripts: &[Script]) -> bool
+    ensures { IsTrue result → All (λ s. s ≡ 1 ∷ []) scripts.now }
+{
+    scripts.iter().all(|script| gives_true(script))
+}
+
+// The first that refuses, as each is run.
 #[tactic(auto, unfolding(crate::specs::Checked::script_refused, crate::specs::FirstFault::validator_refused, crate::specs::FirstFault::policy_refused))]
-pub fn script_refused(
+fn refused_in_view(
     memory: Memory,
     tx: &Tx,
     resolved: &Resolved,
@@ -175,4 +196,18 @@ pub fn script_refused(
         Some(place) => Ok(Some(Invalid::PolicyRefused(place))),
         None => Ok(None),
     }
+}
+
+/// The first validator that refuses, else the first policy script that does.
+pub fn script_refused(
+    memory: Memory,
+    tx: &Tx,
+    resolved: &Resolved,
+) -> Result<Option<Invalid>, NoMemory>
+    ensures { IfOk result (λ fault. fault ≡ script_refused tx.now resolved.now) }
+{
+    if validators_give_true(tx.inputs()) && policies_give_true(tx.scripts()) {
+        return Ok(None);
+    }
+    refused_in_view(memory, tx, resolved)
 }

@@ -47,7 +47,8 @@ impl Data {
     ghost use Rattle.mp_script.specs.Datum.{Datum, Spells, IsDatum};
     ghost use Rattle.mp_script.specs.DataReading.{IsFaultOf};
 
-    /// The datum that the bytes spell, kept in one growth of just their number.
+    /// The datum that the bytes spell, kept in two growths, of just their number and of what owners share. The list of no items
+    /// takes none.
     ///
     /// # Errors
     /// The first fault from the left. For each datum in reading order: `Truncated` where no byte is left, `TooDeep` where it
@@ -64,12 +65,12 @@ impl Data {
         })
     }
 
-    /// The same datum once more, in one growth.
-    pub fn copy(&self, memory: Memory) -> Result<Data, NoMemory>
+    /// The same datum. Its bytes are shared, and not copied.
+    pub fn share(&self) -> Result<Data, NoMemory>
         ensures { IfOk result (λ d. d ≡ self.now) }
     {
         Ok(Data {
-            spelled: self.spelled.copy(memory)?,
+            spelled: self.spelled.share()?,
         })
     }
 

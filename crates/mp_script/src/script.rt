@@ -42,7 +42,8 @@ impl Script {
     ghost use Rattle.mp_script.specs.Script.{Tree, Spells, IsScript};
     ghost use Rattle.mp_script.specs.ScriptReading.{IsFaultOf};
 
-    /// The script that the bytes spell, kept in one growth of just their number.
+    /// The script that the bytes spell, kept in two growths, of just their number and of what owners share. The one operator
+    /// that gives true takes none.
     ///
     /// # Errors
     /// The first fault from the left. For each operator: `BadOperator` where its byte is none's, `Truncated` where further
@@ -60,12 +61,12 @@ impl Script {
         })
     }
 
-    /// The same script once more, in one growth.
-    pub fn copy(&self, memory: Memory) -> Result<Script, NoMemory>
+    /// The same script. Its bytes are shared, and not copied.
+    pub fn share(&self) -> Result<Script, NoMemory>
         ensures { IfOk result (λ s. s ≡ self.now) }
     {
         Ok(Script {
-            spelled: self.spelled.copy(memory)?,
+            spelled: self.spelled.share()?,
         })
     }
 

@@ -1,20 +1,9 @@
-use Rattle.std.proofs.Common.{refl, sym, ◌∙◌, None, Some}
-use Rattle.mp_rules.proofs.Evaluated.{refusing_input, refusing_policy, told}
+use Rattle.std.proofs.Common.{[], ◌∷◌, ◌≡◌, sym, subst}
+use Rattle.std.specs.Prelude.{All}
+use Rattle.mp_rules.proofs.GivesTrue.{none_refuses}
 use Rattle.mp_rules.proofs.scripts.script_refused.Goals as goal
 
-pub returns-in-Some : goal.returns-in-Some
-returns-in-Some c =
-    told c.in_ok-context.context c.args.tx.now c.args.resolved.now (Some c.in-Some.place) _ c.in_ok-context.ensures
-    (sym c.in-Some.is ∙ c.refusing_input.ensures ∙ (λ i. refusing_input c.in_ok-context.context (c.inputs.ensures.inputs i) (c.spent.ensures.same i))) refl
-
-pub returns-in-Some-refusing_policy : goal.returns-in-Some-refusing_policy
-returns-in-Some-refusing_policy c =
-    told c.in_ok-context.context c.args.tx.now c.args.resolved.now None (Some c.in-Some-refusing_policy.place) c.in_ok-context.ensures
-    (sym c.in_default.is ∙ c.refusing_input.ensures ∙ (λ i. refusing_input c.in_ok-context.context (c.inputs.ensures.inputs i) (c.spent.ensures.same i)))
-    (sym c.in-Some-refusing_policy.is ∙ c.refusing_policy.ensures ∙ (λ i. refusing_policy c.in_ok-context.context (c.scripts.ensures.scripts i)))
-
-pub returns : goal.returns
-returns c =
-    told c.in_ok-context.context c.args.tx.now c.args.resolved.now None None c.in_ok-context.ensures
-    (sym c.in_default.is ∙ c.refusing_input.ensures ∙ (λ i. refusing_input c.in_ok-context.context (c.inputs.ensures.inputs i) (c.spent.ensures.same i)))
-    (sym c.in-None.is ∙ c.refusing_policy.ensures ∙ (λ i. refusing_policy c.in_ok-context.context (c.scripts.ensures.scripts i)))
+pub returns-then-policies_give_true : goal.returns-then-policies_give_true
+returns-then-policies_give_true c = sym (none_refuses c.args.tx.now c.args.resolved.now
+    (subst (All (λ i. i.validator ≡ 1 ∷ [])) c.inputs.ensures.inputs (c.validators_give_true.ensures c.if-validators_give_true.true))
+    (subst (All (λ s. s ≡ 1 ∷ [])) c.scripts.ensures.scripts (c.policies_give_true.ensures c.if-policies_give_true.true)))
