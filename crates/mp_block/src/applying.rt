@@ -43,7 +43,11 @@ pub fn follow(
 fn spent_refs(memory: Memory, inputs: &[Input]) -> Result<Vec<OutRef, Memory>, NoMemory>
     ensures { IfOk result (λ v. v.items ≡ spent_refs inputs.now) }
 {
-    Ok(inputs.iter().map(|input| input.from).collect(memory)?)
+    let mut spent = Vec::with_capacity(memory, inputs.len())?;
+    for input in inputs {
+        spent.push(input.from)?;
+    }
+    Ok(spent)
 }
 
 // The outputs of the transaction under their references.
