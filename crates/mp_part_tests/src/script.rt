@@ -162,14 +162,14 @@ fn look_at_datum(datum: &Data) -> [u64; 4] {
 // The same, whether the script has its bytes, and whether both have a hash of 32.
 fn look(value: &(Data, Script)) -> Seen {
     let [is_whole, is_list, length, has_last] = look_at_datum(&value.0);
-    let is_true = u64::from(value.1.bytes() == TRUE);
+    let is_or = u64::from(value.1.bytes() == OR);
     let is_hashed = value.0.hash().len() == 32 && value.1.hash().len() == 32;
     [
         is_whole,
         is_list,
         length,
         has_last,
-        is_true,
+        is_or,
         u64::from(is_hashed),
     ]
 }

@@ -1,16 +1,31 @@
 //! Transactions: which of their calls take memory. A transaction of its parts and its bytes take one growth each. A decoded
-//! one takes one for each list of parts, for each script and datum, and two for each bundle.
+//! one takes one for each list of parts, and two for each bundle, script and datum; scripts that give true and data of no items
+//! take none.
 use crate::rows::{Row, without_growth};
 use mp_memory::{Memory, NoMemory};
+use mp_script::{Data, Script};
 use mp_testing::{
-    Call, Seen, TrialFault, Trialled, coin, opening, output, parts, script, under_each_refusal,
+    Call, Seen, TrialFault, Trialled, coin, opening, output, parts, under_each_refusal,
 };
 use mp_tx::{Signature, Tx, TxFault, TxParts};
+
+// The opposite of true.
+fn refusing(memory: Memory) -> Result<Script, NoMemory> {
+    Script::decode(memory, &[0x01, 0x10]).map_err(|_| NoMemory)
+}
+
+// The byte `x`.
+fn octets(memory: Memory) -> Result<Data, NoMemory> {
+    Data::decode(memory, &[2, 0, 1, 0x78]).map_err(|_| NoMemory)
+}
 
 fn add_parts(memory: Memory, parts: &mut TxParts) -> Result<(), NoMemory> {
     parts.references.push(opening(2))?;
     parts.forge = coin(memory, 7)?;
-    parts.scripts.push(script(memory)?)?;
+    parts.scripts.push(refusing(memory)?)?;
+    if let Some(first) = parts.inputs.first_mut() {
+        first.redeemer = octets(memory)?;
+    }
     parts.signatures.push(Signature {
         key: [5; 32],
         sig: [6; 64],
@@ -121,10 +136,10 @@ fn output_shared(memory: Memory) -> Option<[u64; 1]> {
 pub fn growths(memory: Memory) -> [Row; 11] {
     [
         Row::seen("growth 1 of parts", made(memory, 1), [1, 0, 0]),
-        Row::seen("growth 2 of parts", made(memory, 2), [0, 1, 404]),
+        Row::seen("growth 2 of parts", made(memory, 2), [0, 1, 406]),
         Row::seen("growth 1 of bytes", encoded(memory, 1), [1, 0, 0, 0]),
-        Row::seen("growth 2 of bytes", encoded(memory, 2), [0, 1, 404, 404]),
-        Row::tried("a decoded one", tried(memory), [404, 0, u64::MAX], 16),
+        Row::seen("growth 2 of bytes", encoded(memory, 2), [0, 1, 406, 406]),
+        Row::tried("a decoded one", tried(memory), [406, 0, u64::MAX], 13),
         Row::seen("no bytes", no_transaction(memory, &[]), [1]),
         Row::seen("a version alone", no_transaction(memory, &[1]), [1]),
         Row::seen("an unknown version", no_transaction(memory, &[3]), [1]),
