@@ -104,7 +104,7 @@ impl Bundle {
         })
     }
 
-    /// The same bundle. The entries are shared, and not copied.
+    /// The same bundle. The entries are shared, and not copied: `NoMemory` where they are shared too often.
     pub fn share(&self) -> Result<Bundle, NoMemory>
         ensures { IfOk result (λ b. b ≡ self.now) }
     {

@@ -73,7 +73,7 @@ impl HashedBytes {
         })
     }
 
-    /// The same bytes, which are shared, and not copied.
+    /// The same bytes, which are shared, and not copied. `NoMemory` where they are shared too often.
     pub fn share(&self) -> Result<HashedBytes, NoMemory>
         ensures { IfOk result (λ kept. kept ≡ self.now) }
     {

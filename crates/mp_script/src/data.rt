@@ -65,7 +65,7 @@ impl Data {
         })
     }
 
-    /// The same datum. Its bytes are shared, and not copied.
+    /// The same datum. Its bytes are shared, and not copied: `NoMemory` where they are shared too often.
     pub fn share(&self) -> Result<Data, NoMemory>
         ensures { IfOk result (λ d. d ≡ self.now) }
     {

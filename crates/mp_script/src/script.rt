@@ -61,7 +61,7 @@ impl Script {
         })
     }
 
-    /// The same script. Its bytes are shared, and not copied.
+    /// The same script. Its bytes are shared, and not copied: `NoMemory` where they are shared too often.
     pub fn share(&self) -> Result<Script, NoMemory>
         ensures { IfOk result (λ s. s ≡ self.now) }
     {

@@ -18,7 +18,7 @@ pub struct Output {
 impl Output {
     ghost use Rattle.std.specs.Prelude.{◌≡◌, IfOk};
 
-    /// The same output. The entries of its bundle are shared, and not copied.
+    /// The same output. The entries of its bundle are shared, and not copied: `NoMemory` where they are shared too often.
     pub fn share(&self) -> Result<Output, NoMemory>
         ensures { IfOk result (λ o. o ≡ self.now) }
     {
