@@ -1,1 +1,2 @@
+-- What only the crate's own views cite.
 pub mod HashedBytes

@@ -140,11 +140,11 @@ fn tried(memory: Memory, outputs: &str, parts: &str, before: &str) -> Result<Tri
 
 /// The numbers are how many outputs are spent, how many are looked at, a fault's number, and how many signatures are verified.
 ///
-/// Of coin alone: one growth for what is spent. The sums take none, and scripts of the one operator that gives true see nothing.
-/// With all parts, and a policy script of three operators: one for each of what is spent and what is looked at, of the two sums that have to balance, and of the keys, the
-/// spent total, the outputs and the references that scripts see. A precheck takes one for the outputs, one to part them, and
-/// four for what scripts see. After it four growths are left where the transaction names the same outputs, since scripts
-/// aren't run again.
+/// Of coin alone: one growth for what is spent. The sums take none, and scripts of the one operator that gives true see
+/// nothing. With all parts, of which the policy script has three operators: one for each of what is spent and what is looked
+/// at, of the two sums that have to balance, and of the keys, the spent total, the outputs and the references that scripts
+/// see. A precheck takes one for the outputs, one to part them, and four for what scripts see. After it four growths are left
+/// where the transaction names the same outputs, since scripts aren't run again.
 pub fn growths(memory: Memory) -> [Row; 5] {
     let [coin, all] = [[2, 0, 0, 0], [2, 1, 0, 1]];
     [

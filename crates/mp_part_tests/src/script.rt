@@ -1,5 +1,5 @@
-//! Data and scripts: which of their calls take memory. A datum and a script take two growths each, those that nearly every input has
-//! none, and a share of either takes none.
+//! Data and scripts: which of their calls take memory. A datum and a script take two growths each, those that nearly every
+//! input has take none, and so does a share.
 use crate::rows::{Row, without_growth};
 use mp_memory::Memory;
 use mp_script::{Data, DataFault, Script, ScriptFault};

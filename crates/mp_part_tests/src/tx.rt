@@ -1,6 +1,6 @@
 //! Transactions: which of their calls take memory. A transaction of its parts and its bytes take one growth each. A decoded
-//! one takes one for each list of parts, and two for each bundle, script and datum; scripts that give true and data of no items
-//! take none.
+//! one takes one for each list of parts, and two for each bundle, script and datum; the script of one operator that gives true
+//! and the list of no items take none.
 use crate::rows::{Row, without_growth};
 use mp_memory::{Memory, NoMemory};
 use mp_script::{Data, Script};

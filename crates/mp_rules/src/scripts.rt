@@ -1,6 +1,6 @@
 //! The rules of scripts.
 
-ghost use Rattle.std.specs.Prelude.{◌≡◌, ◌≤◌, [], ◌∷◌, not, length, map, All, IfOk, IsTrue};
+ghost use Rattle.std.specs.Prelude.{◌≡◌, ◌↔◌, ◌≤◌, [], ◌∷◌, not, length, map, All, IfOk, IsTrue};
 ghost use Rattle.std.specs.List.{position, zip};
 ghost use Rattle.mp_script.specs.View.{view_of, paid_to_of, referred_of};
 ghost use Rattle.mp_script.specs.Value.{value_of};
@@ -162,19 +162,19 @@ fn refusing_policy<'a>(context: &'a ScriptContext<'a>, scripts: &'a [Script]) ->
 }
 
 fn gives_true(script: &Script) -> bool
-    ensures { IsTrue result → script.now ≡ 1 ∷ [] }
+    ensures { IsTrue result ↔ (script.now ≡ 1 ∷ []) }
 {
     script.bytes() == TRUE.as_slice()
 }
 
 fn validators_give_true(inputs: &[Input]) -> bool
-    ensures { IsTrue result → All (λ i. i.validator ≡ 1 ∷ []) inputs.now }
+    ensures { IsTrue result ↔ All (λ i. i.validator ≡ 1 ∷ []) inputs.now }
 {
     inputs.iter().all(|input| gives_true(&input.validator))
 }
 
 fn policies_give_true(scripts: &[Script]) -> bool
-    ensures { IsTrue result → All (λ s. s ≡ 1 ∷ []) scripts.now }
+    ensures { IsTrue result ↔ All (λ s. s ≡ 1 ∷ []) scripts.now }
 {
     scripts.iter().all(|script| gives_true(script))
 }

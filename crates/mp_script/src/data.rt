@@ -47,8 +47,8 @@ impl Data {
     ghost use Rattle.mp_script.specs.Datum.{Datum, Spells, IsDatum};
     ghost use Rattle.mp_script.specs.DataReading.{IsFaultOf};
 
-    /// The datum that the bytes spell, kept in two growths, of just their number and of what owners share. The list of no items
-    /// takes none.
+    /// The datum that the bytes spell, kept in two growths, of just their number and of what owners share. The list of no
+    /// items takes none.
     ///
     /// # Errors
     /// The first fault from the left. For each datum in reading order: `Truncated` where no byte is left, `TooDeep` where it
