@@ -15,7 +15,7 @@ use Rattle.mp_mempool.specs.Pass.{Pass}
 use Rattle.mp_mempool.specs.declared.refusal.Refusal.{Refusal}
 use Rattle.mp_mempool.specs.declared.refusal.Refusal.TheVariants.{Pool, Foreign}
 use Rattle.mp_mempool.specs.Answers.{IsEntered, IsRefused, IsRefusedAt, IsSeen, seen}
-use Rattle.mp_driver.specs.Verifier.{is_key_and_id}
+use Rattle.mp_settings.specs.Verifier.{is_key_and_id}
 use Rattle.mp_driver.specs.Inside.ScenarioPool.{IsLast, IsAlone, GoesOnBehind, IsSequential}
 
 -- what stands at a place is within the list

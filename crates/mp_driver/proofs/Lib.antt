@@ -1,3 +1,2 @@
-pub mod Numbered
 pub mod Alone
 pub mod Progress

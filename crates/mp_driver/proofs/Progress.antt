@@ -6,6 +6,7 @@ use Rattle.std.proofs.Math.Seq.{take-append_seam, take-append-add}
 use Rattle.std.proofs.lemmas.List.{take-append-le}
 use Rattle.mp_text.specs.Lines.{lines_of}
 use Rattle.mp_text.specs.Output.{AppendsFront}
+use Rattle.mp_answers.proofs.Appending.{Appends-nothing, Appends-more}
 use Rattle.mp_driver.specs.declared.halt.Halt.{Halt}
 use Rattle.mp_driver.specs.declared.halt.Halt.TheVariants.{NoMemory, Bad, Missing}
 use Rattle.mp_driver.specs.Scene.{Scene, empty_scene, line_step, follow, outcome, reached}
@@ -21,16 +22,6 @@ pub record Progress (old now : Option (List ℕ)) (all rest : List (List ℕ)) (
   pub told : (more : List (List ℕ)) → outcome_of (lines ++ more) ≡ (text ++ (outcome s n more).0, (outcome s n more).1)
   pub there : (more : List (List ℕ)) → reached empty_scene (lines ++ more) ≡ reached s more
   pub wrote : Appends old now text
-
-pub Appends-nothing : (o : Option (List ℕ)) → Appends o o []
-Appends-nothing None = tt
-Appends-nothing (Some xs) = sym (append-nil xs)
-
-Appends-more : (a b c : Option (List ℕ)) (xs ys : List ℕ) → Appends a b xs → Appends b c ys → Appends a c (xs ++ ys)
-Appends-more None b c xs ys p q = tt
-Appends-more (Some a) None c xs ys p q = absurd p
-Appends-more (Some a) (Some b) None xs ys p q = absurd q
-Appends-more (Some a) (Some b) (Some c) xs ys p q = q ∙ ap (λ z. z ++ ys) p ∙ append_assoc a xs ys
 
 pub begins : (o : Option (List ℕ)) (all : List (List ℕ)) → Progress o o all all empty_scene 1
 begins o all = record { lines = []; text = []; whole = refl; told = λ more. refl; there = λ more. refl; wrote = Appends-nothing o }

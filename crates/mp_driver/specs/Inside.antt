@@ -1,4 +1,3 @@
 -- What only the crate's own clauses, views and invariants cite.
-pub mod Openings
 pub mod ScenarioPool
 pub mod Scene

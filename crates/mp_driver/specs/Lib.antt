@@ -1,7 +1,3 @@
-pub mod Settings
-pub mod Verifier
-pub mod AnswerText
-pub mod QueryText
 pub mod Scene
 pub mod Missing
 pub mod Halt

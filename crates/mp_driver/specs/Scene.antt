@@ -1,8 +1,8 @@
 -- What a scenario has come to, and what a line makes of it.
-use Rattle.std.specs.Prelude.{ℕ, ◌+◌, ◌^◌, nat_lt, List, [], ◌∷◌, ◌++◌, length, Option, None, Some, option_map, option_and_then, unwrap_or, if◌then◌else◌}
+use Rattle.std.specs.Prelude.{ℕ, ◌+◌, ◌^◌, nat_lt, List, [], ◌∷◌, ◌++◌, length, Option, None, Some, option_map, option_and_then, if◌then◌else◌}
 use Rattle.mp_tx.specs.declared.reference.OutRef.{OutRef}
 use Rattle.mp_tx.specs.declared.output.Output.{Output}
-use Rattle.mp_tx.specs.Ledger.{LedgerState, ledger_of}
+use Rattle.mp_tx.specs.Ledger.{LedgerState}
 use Rattle.mp_resync.specs.Keep.{keep}
 use Rattle.mp_seqpool.specs.Command.{Command}
 use Rattle.mp_seqpool.specs.Command as commands
@@ -11,17 +11,17 @@ use Rattle.mp_seqpool.specs.SlowPool.{empty_pool, answer, next}
 use Rattle.mp_names.specs.declared.payment.Payment.{Payment}
 use Rattle.mp_names.specs.declared.names.Binding.TheVariants.{Opening, Made}
 use Rattle.mp_names.specs.declared.settings.Setting.{Setting}
-use Rattle.mp_names.specs.declared.new_ledger.NewLedger.{NewLedger}
 use Rattle.mp_names.specs.Names.{Names, first_names, with_binding, with_script, with_datum}
 use Rattle.mp_names.specs.Payments.{output_of}
 use Rattle.mp_names.specs.References.{opening_ref}
 use Rattle.mp_lines.specs.declared.query.Query.{Query}
 use Rattle.mp_lines.specs.Lines.{Line, Blank, Sets, Script, Data, Out, Tx, Submit, Remove, Sync, For, Asks, line_of}
-use Rattle.mp_driver.specs.declared.settings.Settings.{Settings}
-use Rattle.mp_driver.specs.Settings.{no_settings, with_setting, block_bytes_of, limit_of, last_of, tick_of}
-use Rattle.mp_driver.specs.Verifier.{is_key_and_id}
-use Rattle.mp_driver.specs.AnswerText.{answer_text}
-use Rattle.mp_driver.specs.QueryText.{query_text, for_text, cursor_after}
+use Rattle.mp_settings.specs.declared.settings.Settings.{Settings}
+use Rattle.mp_settings.specs.Settings.{no_settings, with_setting, limit_of, last_of}
+use Rattle.mp_settings.specs.Ledgers.{opening_ledger, ledger_at}
+use Rattle.mp_settings.specs.Verifier.{is_key_and_id}
+use Rattle.mp_answers.specs.AnswerText.{answer_text}
+use Rattle.mp_answers.specs.QueryText.{query_text, for_text, cursor_after}
 
 -- the opening outputs before the first command, and the pool from it on
 pub data Stage : Type 0 where
@@ -37,10 +37,6 @@ pub record Scene : Type 0 where
 
 abbrev pub empty_scene : Scene
 empty_scene = record { names = first_names; settings = no_settings; cursor = 0; stage = Before [] }
-
--- the ledger state at the opening
-abbrev pub opening_ledger : Settings → List (OutRef × Output) → LedgerState
-opening_ledger g outputs = ledger_of (tick_of g) (block_bytes_of g) outputs
 
 -- the pool opens with the first command
 abbrev pub pool_at : Settings → Stage → Pool
@@ -91,10 +87,6 @@ answer_query s p query = (with_cursor s (cursor_after s.cursor p query) p, query
 -- what would stay upon this ledger state
 abbrev pub try_ledger : Scene → Pool → LedgerState → Scene × List ℕ
 try_ledger s p l = (with_pool s p, for_text s.names (keep is_key_and_id l p.items))
-
--- where the line tells no bytes of a block, the setting holds
-abbrev pub ledger_at : Settings → NewLedger → LedgerState
-ledger_at g l = ledger_of l.tick (unwrap_or l.block_bytes (block_bytes_of g)) l.outputs
 
 abbrev pub take : Scene → Line → Step
 take s Blank = Some (s, [])

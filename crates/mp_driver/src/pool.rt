@@ -8,11 +8,11 @@ ghost use Rattle.mp_driver.specs.Inside.ScenarioPool.{GoesOnBehind, IsSequential
 
 use crate::halt::Halt;
 use crate::missing_entry::MissingEntry;
-use crate::verifier::KeyAndId;
 use mp_history::{NewName, PoolName};
 use mp_memory::{Memory, NoMemory};
 use mp_mempool::{Config, Mempool, OpenRefusal, Pass, Refusal, SnapshotFor};
 use mp_seqpool::{Answer, Command};
+use mp_settings::KeyAndId;
 use mp_tx::Ledger;
 use mp_versions::Snapshot;
 use std::marker::Model;
@@ -40,7 +40,7 @@ impl<N: PoolName> Model for ScenarioPool<N> {
     ghost coded = { Prim.hlevel (codes, finite.code) };
 
     ghost use Rattle.mp_history.specs.Log.{state_after};
-    ghost use Rattle.mp_driver.specs.Verifier.{is_key_and_id};
+    ghost use Rattle.mp_settings.specs.Verifier.{is_key_and_id};
     ghost use Rattle.mp_driver.specs.Inside.ScenarioPool.{IsAlone};
 
     ghost view = { λ p. state_after is_key_and_id p.pass.front };
@@ -102,7 +102,7 @@ impl<N: PoolName> ScenarioPool<N> {
     ghost use Rattle.mp_seqpool.specs.Inside.Command.{command_of};
     ghost use Rattle.mp_history.specs.Log.{state_after};
     ghost use Rattle.mp_history.specs.PoolName.{head_of};
-    ghost use Rattle.mp_driver.specs.Verifier.{is_key_and_id};
+    ghost use Rattle.mp_settings.specs.Verifier.{is_key_and_id};
     ghost use Rattle.mp_driver.specs.Halt.{IsBad, TellsOf};
     ghost use Rattle.mp_driver.specs.Inside.ScenarioPool.{IsAlone};
 

@@ -1,54 +1,28 @@
 //! The lines that queries write.
 
-ghost use Rattle.std.specs.Prelude.{◌≡◌, ◌++◌, codes, option_map, IfOk, OnOk};
-ghost use Rattle.std.specs.Arc.{arc_value};
-ghost use Rattle.mp_resync.specs.Keep.{bytes_of};
+ghost use Rattle.std.specs.Prelude.{◌≡◌, ◌++◌, codes, IfOk, OnOk};
 ghost use Rattle.mp_history.specs.Log.{state_after};
 ghost use Rattle.mp_items.specs.Item.{items_of};
 ghost use Rattle.mp_items.specs.Reading.{within};
 ghost use Rattle.mp_peer.specs.Offers.{offer, moved};
-ghost use Rattle.mp_driver.specs.AnswerText.{item_text, items_text, numbers_text};
-ghost use Rattle.mp_driver.specs.QueryText.{sized_text, found_text, has_text, words_text, query_text, for_text, cursor_after};
+ghost use Rattle.mp_answers.specs.AnswerText.{items_text, numbers_text};
+ghost use Rattle.mp_answers.specs.QueryText.{sized_text, words_text, query_text, for_text, cursor_after};
 
-use crate::refusals::{put_number, put_word};
+use mp_answers::{put_found, put_has, put_item, put_items, put_number, put_sized, put_word};
 use mp_history::PoolName;
 use mp_items::{Item, Run};
 use mp_lines::Query;
 use mp_memory::{Memory, NoMemory};
 use mp_names::Names;
 use mp_peer::{PeerReader, forge};
-use mp_tx::Tx;
 use mp_versions::Snapshot;
-use std::sync::Arc;
 
 type Text = Vec<u8, Memory>;
-
-/// A transaction under its ticket: the ticket and the name.
-pub fn put_item(text: &mut Text, names: &Names, ticket: u64, tx: &Tx) -> Result<(), NoMemory>
-    ensures { OnOk result (text.new.items ≡ text.old.items
-        ++ item_text names.now (ticket, tx.now)) }
-{
-    put_number(text, ticket)?;
-    text.push(b':')?;
-    text.extend_from_slice(names.name_of(tx.id()))?;
-    Ok(())
-}
 
 fn put_run(text: &mut Text, names: &Names, run: Run<'_>) -> Result<(), NoMemory>
     ensures { OnOk result (text.new.items ≡ text.old.items ++ items_text names.now run.entry) }
 {
     for item in run {
-        put_item(text, names, item.ticket, &item.tx)?;
-    }
-    Ok(())
-}
-
-/// Each item: its ticket, and the name of its transaction.
-pub fn put_items(text: &mut Text, names: &Names, items: &[Item]) -> Result<(), NoMemory>
-    ensures { OnOk result (text.new.items ≡ text.old.items
-        ++ items_text names.now (items_of items.now)) }
-{
-    for item in items {
         put_item(text, names, item.ticket, &item.tx)?;
     }
     Ok(())
@@ -85,46 +59,6 @@ fn put_after(text: &mut Text, names: &Names, run: Run<'_>) -> Result<(), NoMemor
 {
     put_word(text, b"after")?;
     put_run(text, names, run)
-}
-
-/// What stands under a ticket.
-pub fn put_found(
-    text: &mut Text,
-    names: &Names,
-    found: Option<&Arc<Tx, Memory>>,
-) -> Result<(), NoMemory>
-    ensures { OnOk result (text.new.items ≡ text.old.items
-        ++ found_text names.now (option_map (λ tx. arc_value tx.now) found.entry)) }
-{
-    match found {
-        None => put_word(text, b"lookup none"),
-        Some(tx) => {
-            put_word(text, b"lookup ")?;
-            put_word(text, names.name_of(tx.id()))
-        }
-    }
-}
-
-/// Whether a transaction is there.
-pub fn put_has(text: &mut Text, has: bool) -> Result<(), NoMemory>
-    ensures { OnOk result (text.new.items ≡ text.old.items ++ has_text has) }
-{
-    if has {
-        put_word(text, b"has yes")
-    } else {
-        put_word(text, b"has no")
-    }
-}
-
-/// How many items there are, their bytes, and the items.
-pub fn put_sized(text: &mut Text, names: &Names, bytes: u64, items: &[Item]) -> Result<(), NoMemory>
-    requires { bytes ≡ bytes_of (items_of items.now) }
-    ensures { OnOk result (text.new.items ≡ text.old.items
-        ++ sized_text names.now (items_of items.now)) }
-{
-    put_number(text, items.len() as u64)?;
-    put_number(text, bytes)?;
-    put_items(text, names, items)
 }
 
 // The word, and the oldest transactions that fit into so many bytes together.
@@ -191,7 +125,7 @@ fn put_query<N: PoolName>(
 }
 
 /// The line that the query writes. An offer moves the peer's cursor.
-#[tactic(auto, unfolding(crate::specs::QueryText::query_text))]
+#[tactic(auto, unfolding(mp_answers::specs::QueryText::query_text))]
 pub fn query_line<N: PoolName>(
     memory: Memory,
     names: &Names,
@@ -211,7 +145,7 @@ pub fn query_line<N: PoolName>(
 }
 
 /// The line of what would stay upon another ledger state.
-#[tactic(auto, unfolding(crate::specs::QueryText::for_text))]
+#[tactic(auto, unfolding(mp_answers::specs::QueryText::for_text))]
 pub fn for_line(memory: Memory, names: &Names, items: &[Item]) -> Result<Text, NoMemory>
     ensures { IfOk result (λ text. text.items ≡ for_text names.now (items_of items.now)) }
 {

@@ -2,7 +2,7 @@
 
 ghost use Rattle.std.specs.Prelude.{◌≡◌, ◌≤◌, length, IfSome};
 ghost use Rattle.mp_history.specs.PoolName.{head_of};
-ghost use Rattle.mp_driver.specs.Verifier.{is_key_and_id};
+ghost use Rattle.mp_settings.specs.Verifier.{is_key_and_id};
 ghost use Rattle.mp_driver.specs.Scene.{empty_scene};
 ghost use Rattle.mp_driver.specs.Ending.{stop_of, AreAnswers, Ended};
 ghost use Rattle.mp_driver.specs.Inside.Scene.{scene_of};

@@ -2,14 +2,13 @@
 
 ghost use Rattle.std.specs.Prelude.{◌≡◌};
 ghost use Rattle.mp_history.specs.PoolName.{head_of};
-ghost use Rattle.mp_driver.specs.Verifier.{is_key_and_id};
+ghost use Rattle.mp_settings.specs.Verifier.{is_key_and_id};
 
-use crate::ledgers::make_ledger;
-use crate::openings::Openings;
 use crate::pool::ScenarioPool;
-use crate::settings::Settings;
 use mp_history::{NewName, PoolName};
 use mp_memory::{Memory, NoMemory};
+use mp_mempool::Config;
+use mp_settings::{Openings, Settings, make_ledger};
 use std::marker::PhantomData;
 use std::sync::Wait;
 
@@ -27,7 +26,7 @@ pub struct Unopened<N: PoolName> {
 impl<N: PoolName> Unopened<N> {
     ghost use Rattle.std.specs.Prelude.{◌≡◌, [], IfOk};
     ghost use Rattle.mp_history.specs.PoolName.{head_of};
-    ghost use Rattle.mp_driver.specs.Verifier.{is_key_and_id};
+    ghost use Rattle.mp_settings.specs.Verifier.{is_key_and_id};
     ghost use Rattle.mp_driver.specs.Scene.{Before, pool_at};
 
     /// No output yet.
@@ -56,6 +55,10 @@ impl<N: PoolName> Unopened<N> {
         let Unopened { openings, name, .. } = self;
         let outputs = openings.into_entries();
         let ledger = make_ledger(memory, settings.tick(), settings.block_bytes(), outputs)?;
-        ScenarioPool::open(rt, memory, name, settings.config(), &ledger)
+        let config = Config {
+            limit: settings.limit(),
+            last: settings.last(),
+        };
+        ScenarioPool::open(rt, memory, name, config, &ledger)
     }
 }

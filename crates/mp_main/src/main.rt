@@ -6,7 +6,7 @@
 
 ghost use Rattle.std.specs.Prelude.{◌≡◌, ◌≤◌, length};
 ghost use Rattle.mp_history.specs.PoolName.{head_of};
-ghost use Rattle.mp_driver.specs.Verifier.{is_key_and_id};
+ghost use Rattle.mp_settings.specs.Verifier.{is_key_and_id};
 
 mod audits;
 mod conversation;

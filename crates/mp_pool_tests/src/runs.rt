@@ -1,7 +1,7 @@
 //! Runs of scenarios: devices that fail, as many bytes as an input may have, the texts of faults, and refusals of memory.
 ghost use Rattle.std.specs.Prelude.{◌≡◌};
 ghost use Rattle.mp_history.specs.PoolName.{head_of};
-ghost use Rattle.mp_driver.specs.Verifier.{is_key_and_id};
+ghost use Rattle.mp_settings.specs.Verifier.{is_key_and_id};
 
 use crate::rows::count;
 use mp_driver::{Fault, run};

@@ -1,6 +1,6 @@
 -- The text of a history.
 use Rattle.std.specs.Prelude.{ℕ, List, [], ◌∷◌, ◌++◌, codes, flat_map}
-use Rattle.mp_driver.specs.AnswerText.{number_text, reply_text}
+use Rattle.mp_answers.specs.AnswerText.{number_text, reply_text}
 use Rattle.mp_race.specs.declared.fault.Fault.{Fault}
 use Rattle.mp_race.specs.declared.fault.Fault.TheVariants.{NoMemory, BadLine, ReadFault, WriteFault, Audit, MissingEntry}
 use Rattle.mp_race.specs.declared.told.Told.{Told}

@@ -15,9 +15,9 @@ use Rattle.mp_lines.specs.declared.query.Query.{Query}
 use Rattle.mp_lines.specs.declared.query.Query.TheVariants.{Snapshot}
 use Rattle.mp_lines.specs.Lines.{Line, Blank, Sets, Script, Data, Out, Tx, Submit, Remove, Sync, For, Asks, line_of}
 use Rattle.mp_mempool.specs.declared.config.Config.{Config}
-use Rattle.mp_driver.specs.declared.settings.Settings.{Settings}
-use Rattle.mp_driver.specs.Settings.{no_settings, with_setting, limit_of, last_of}
-use Rattle.mp_driver.specs.Scene.{opening_ledger, ledger_at}
+use Rattle.mp_settings.specs.declared.settings.Settings.{Settings}
+use Rattle.mp_settings.specs.Settings.{no_settings, with_setting, limit_of, last_of}
+use Rattle.mp_settings.specs.Ledgers.{opening_ledger, ledger_at}
 use Rattle.mp_race.specs.Task.{Task, Change, Read}
 
 pub record Scenario : Type 0 where

@@ -3,7 +3,7 @@
 ghost use Rattle.std.specs.Prelude.{◌≡◌, ◌≤◌, ◌<◌, true, false, length, take, get_or, All, IfOk, IfErr, IfSome, IfNone, OnOk};
 ghost use Rattle.mp_history.specs.Log.{IsLegal};
 ghost use Rattle.mp_mempool.specs.Opening.{fresh_log};
-ghost use Rattle.mp_driver.specs.Verifier.{is_key_and_id};
+ghost use Rattle.mp_settings.specs.Verifier.{is_key_and_id};
 ghost use Rattle.mp_race.specs.History.{IsEntryOf, AreEntriesOf, IsHistory, IsUndealt, IsLate, IsFaultOfHistory};
 ghost use Rattle.mp_race.specs.HistoryText.{history_text};
 ghost use Rattle.mp_race.specs.Inside.Task.{tasks_of};
@@ -14,7 +14,7 @@ use crate::history::History;
 use crate::scenario::Scenario;
 use crate::task::Task;
 use crate::told::Told;
-use mp_driver::KeyAndId;
+use mp_settings::KeyAndId;
 use mp_history::{AuditFault, Entry, audit};
 use mp_memory::{Memory, NoMemory};
 

@@ -5,7 +5,7 @@ ghost use Rattle.mp_seqpool.specs.Command.{Remove};
 ghost use Rattle.mp_seqpool.specs.Inside.Command.{command_of};
 
 use crate::task::Task;
-use mp_driver::{Openings, Settings, ledger_at};
+use mp_settings::{Openings, Settings, ledger_at};
 use mp_lines::{Line, MAX_OUTPUTS, Query};
 use mp_memory::{Memory, NoMemory};
 use mp_names::{Binding, LineFault, Name, Names, NewLedger, Payment, Reason, Setting};

@@ -1,6 +1,6 @@
 //! What is told of a race as it runs.
 
-use mp_driver::KeyAndId;
+use mp_settings::KeyAndId;
 use mp_seqpool::Verifier;
 use mp_tx::{Key, Sig, TxId};
 
@@ -30,7 +30,7 @@ pub struct Watched<'a, G: Gate> {
 }
 
 impl<G: Gate> Verifier for Watched<'_, G> {
-    ghost use Rattle.mp_driver.specs.Verifier.{is_key_and_id};
+    ghost use Rattle.mp_settings.specs.Verifier.{is_key_and_id};
 
     ghost accepts = { λ _. is_key_and_id };
 

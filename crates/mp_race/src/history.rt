@@ -6,7 +6,7 @@ ghost use Rattle.mp_race.specs.HistoryText.{told_text, lines_text, history_text}
 use crate::fault::Fault;
 use crate::reading::read_history;
 use crate::told::Told;
-use mp_driver::{put_number, put_reply, put_word};
+use mp_answers::{put_number, put_reply, put_word};
 use mp_memory::{Memory, NoMemory};
 
 type Text = Vec<u8, Memory>;

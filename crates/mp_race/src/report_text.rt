@@ -1,11 +1,11 @@
 //! The text of a report.
 
 ghost use Rattle.std.specs.Prelude.{◌≡◌, ◌++◌, OnOk, IfOk, codes};
-ghost use Rattle.mp_driver.specs.AnswerText.{number_text};
+ghost use Rattle.mp_answers.specs.AnswerText.{number_text};
 ghost use Rattle.mp_race.specs.ReportText.{and_then, report_text, changes_text, numbers_text};
 
 use crate::report::Report;
-use mp_driver::{put_number, put_word};
+use mp_answers::{put_number, put_word};
 use mp_memory::{Memory, NoMemory};
 
 type Text = Vec<u8, Memory>;

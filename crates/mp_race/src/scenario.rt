@@ -10,7 +10,7 @@ use crate::draft::Draft;
 use crate::fault::Fault;
 use crate::stop::Stop;
 use crate::task::Task;
-use mp_driver::make_ledger;
+use mp_settings::make_ledger;
 use mp_memory::{Memory, NoMemory};
 use mp_mempool::Config;
 use mp_names::LineFault;
@@ -81,7 +81,10 @@ fn finish(memory: Memory, draft: Draft) -> Result<Scenario, NoMemory>
     } = draft;
     let outputs = outputs.into_entries();
     Ok(Scenario {
-        config: settings.config(),
+        config: Config {
+            limit: settings.limit(),
+            last: settings.last(),
+        },
         ledger: make_ledger(memory, settings.tick(), settings.block_bytes(), outputs)?,
         tasks,
     })

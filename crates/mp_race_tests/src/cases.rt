@@ -1,7 +1,7 @@
 //! Races of texts.
 ghost use Rattle.std.specs.Prelude.{◌≡◌, ◌≤◌};
 ghost use Rattle.mp_history.specs.PoolName.{head_of};
-ghost use Rattle.mp_driver.specs.Verifier.{is_key_and_id};
+ghost use Rattle.mp_settings.specs.Verifier.{is_key_and_id};
 
 use mp_history::{NewName, PoolName};
 use mp_memory::Memory;

@@ -6,19 +6,13 @@ use Rattle.std.specs.Io.BufRead.{take_through, drop_through, strip_last, DropsTh
 use Rattle.std.proofs.Math.Seq.{take-append_seam, take-append-add}
 use Rattle.mp_text.specs.Lines.{lines_of}
 use Rattle.mp_text.specs.Output.{AppendsFront}
-use Rattle.mp_driver.proofs.Progress.{Appends-nothing}
+use Rattle.mp_answers.proofs.Appending.{Appends-nothing, Appends-more}
 use Rattle.mp_serve.specs.declared.signatures.Signatures.{Signatures}
 use Rattle.mp_serve.specs.declared.fault.Fault.TheVariants.{ReadFault, WriteFault}
 use Rattle.mp_serve.specs.declared.conversation.Conversation.{Conversation}
 use Rattle.mp_serve.specs.Talk.{new_conversation}
 use Rattle.mp_serve.specs.Served.{IsAnswer, AreAnswers, WereAnswered, WasCut, Ended}
 use Rattle.mp_serve.proofs.Lines.{first_through}
-
-Appends-more : (a b c : Option (List ℕ)) (xs ys : List ℕ) → Appends a b xs → Appends b c ys → Appends a c (xs ++ ys)
-Appends-more None b c xs ys p q = tt
-Appends-more (Some a) None c xs ys p q = absurd p
-Appends-more (Some a) (Some b) None xs ys p q = absurd q
-Appends-more (Some a) (Some b) (Some c) xs ys p q = q ∙ ap (λ z. z ++ ys) p ∙ append_assoc a xs ys
 
 pub answers-more : (n : ℕ) (s : Conversation) (lines : List (List ℕ)) (text : List ℕ) (t : Conversation) (line answer : List ℕ) (u : Conversation)
     → AreAnswers n s lines text t → IsAnswer (n + length lines) t line answer u → AreAnswers n s (lines ++ line ∷ []) (text ++ answer) u

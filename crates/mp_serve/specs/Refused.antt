@@ -1,7 +1,7 @@
 -- How often each kind of refusal was answered.
 use Rattle.std.specs.Prelude.{ℕ, ◌+◌, ◌-◌, ◌^◌, min, nat_eq, List, [], ◌∷◌, ◌++◌, length, replicate, codes, slice_index, slice_set, Option, Some, None, if◌then◌else◌}
 use Rattle.mp_seqpool.specs.declared.refusal.Refusal.{Refusal}
-use Rattle.mp_driver.specs.AnswerText.{number_text, refusal_words, refusal_place}
+use Rattle.mp_answers.specs.AnswerText.{number_text, refusal_words, refusal_place}
 use Rattle.mp_serve.specs.declared.refused.Counts.{Counts}
 
 abbrev pub none_counted : Counts

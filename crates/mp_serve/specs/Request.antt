@@ -15,8 +15,8 @@ use Rattle.mp_seqpool.specs.Pool.{Pool}
 use Rattle.mp_seqpool.specs.SlowPool.{is_at_limit, answer, next}
 use Rattle.mp_names.specs.Names.{Names}
 use Rattle.mp_lines.specs.declared.query.Query.{Query}
-use Rattle.mp_driver.specs.AnswerText.{answer_text}
-use Rattle.mp_driver.specs.QueryText.{query_text, for_text, cursor_after}
+use Rattle.mp_answers.specs.AnswerText.{answer_text}
+use Rattle.mp_answers.specs.QueryText.{query_text, for_text, cursor_after}
 use Rattle.mp_serve.specs.ServedPool.{ServedPool, accepted_by, latest, state_back}
 use Rattle.mp_serve.specs.declared.refused.Counts.{Counts}
 use Rattle.mp_serve.specs.Refused.{one_more, counted_if}

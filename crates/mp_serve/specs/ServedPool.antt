@@ -3,7 +3,7 @@ use Rattle.std.specs.Prelude.{ℕ, ◌-◌, nat_le, true, List, [], ◌∷◌, �
 use Rattle.mp_tx.specs.Ledger.{LedgerState}
 use Rattle.mp_rules.specs.Verifier.{Accepts}
 use Rattle.mp_seqpool.specs.Pool.{Pool}
-use Rattle.mp_driver.specs.Verifier.{is_key_and_id}
+use Rattle.mp_settings.specs.Verifier.{is_key_and_id}
 use Rattle.mp_serve.specs.declared.refused.Counts.{Counts}
 use Rattle.mp_serve.specs.declared.signatures.Signatures.{Signatures}
 use Rattle.mp_serve.specs.declared.signatures.Signatures.TheVariants.{OfScenarios, Checked}

@@ -20,9 +20,9 @@ use Rattle.mp_names.specs.Names.{Names, first_names, binding_named, with_binding
 use Rattle.mp_names.specs.Payments.{output_of}
 use Rattle.mp_names.specs.References.{opening_ref}
 use Rattle.mp_lines.specs.Lines.{Line, Blank, Sets, Script, Data, Out, Tx, Submit, Remove, Sync, For, Asks}
-use Rattle.mp_driver.specs.declared.settings.Settings.{Settings}
-use Rattle.mp_driver.specs.Settings.{no_settings, with_setting, block_bytes_of, limit_of, last_of, tick_of}
-use Rattle.mp_driver.specs.Scene.{ledger_at}
+use Rattle.mp_settings.specs.declared.settings.Settings.{Settings}
+use Rattle.mp_settings.specs.Settings.{no_settings, with_setting, block_bytes_of, limit_of, last_of, tick_of}
+use Rattle.mp_settings.specs.Ledgers.{ledger_at}
 use Rattle.mp_serve.specs.declared.signatures.Signatures.{Signatures}
 use Rattle.mp_serve.specs.declared.beginning.Beginning.{Beginning}
 use Rattle.mp_serve.specs.declared.conversation.Stage.{Stage}

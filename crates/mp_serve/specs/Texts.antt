@@ -10,7 +10,7 @@ use Rattle.mp_seqpool.specs.declared.refusal.Refusal.TheVariants as refusals
 use Rattle.mp_seqpool.specs.Pool.{Pool}
 use Rattle.mp_seqpool.specs.SlowPool.{bytes_held, free_bytes}
 use Rattle.mp_names.specs.Names.{Names, name_of}
-use Rattle.mp_driver.specs.AnswerText.{number_text, refusal_text}
+use Rattle.mp_answers.specs.AnswerText.{number_text, refusal_text}
 use Rattle.mp_serve.specs.declared.refused.Counts.{Counts}
 use Rattle.mp_serve.specs.Refused.{counts_text}
 

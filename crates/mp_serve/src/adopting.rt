@@ -3,7 +3,7 @@
 ghost use Rattle.std.specs.Prelude.{◌≡◌, ◌≤◌, ◌-◌, [], ◌∷◌, ◌++◌, length, take, IfOk, OnOk, OnErr};
 ghost use Rattle.mp_seqpool.specs.Command.{Sync};
 ghost use Rattle.mp_seqpool.specs.SlowPool.{answer, next};
-ghost use Rattle.mp_driver.specs.AnswerText.{answer_text};
+ghost use Rattle.mp_answers.specs.AnswerText.{answer_text};
 ghost use Rattle.mp_serve.specs.ServedPool.{accepted_by, latest, state_back};
 ghost use Rattle.mp_serve.specs.Request.{counted_anew};
 ghost use Rattle.mp_serve.specs.Inside.Pool.{IsReady};

@@ -1,10 +1,10 @@
 //! Blocks after which a pool is to adopt the ledger state.
 
 ghost use Rattle.std.specs.Prelude.{◌≡◌, map, unwrap_or};
-ghost use Rattle.mp_driver.specs.Settings.{block_bytes_of};
+ghost use Rattle.mp_settings.specs.Settings.{block_bytes_of};
 ghost use Rattle.mp_serve.specs.Inside.Ask.{to_block};
 
-use mp_driver::{Settings, block_bytes_at};
+use mp_settings::{Settings, block_bytes_at};
 use mp_memory::Memory;
 use mp_names::BlockBytes;
 use mp_tx::Tx;
@@ -47,7 +47,7 @@ impl Block {
     ghost use Rattle.std.specs.Prelude.{◌≡◌, map, unwrap_or};
     ghost use Rattle.std.specs.Arc.{arc_value};
     ghost use Rattle.mp_tx.specs.Ledger.{HasBlockBytes};
-    ghost use Rattle.mp_driver.specs.Settings.{block_bytes_of};
+    ghost use Rattle.mp_settings.specs.Settings.{block_bytes_of};
     ghost use Rattle.mp_serve.specs.Inside.Ask.{to_block};
 
     /// The block that a line tells. The setting holds where it tells no bytes of a block.

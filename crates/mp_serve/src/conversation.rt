@@ -15,7 +15,7 @@ use crate::pool::ServedPool;
 use crate::request::Request;
 use crate::signatures::Signatures;
 use crate::texts::{Text, forgotten_line, ok_line, read_line, show_line, undecodable_line};
-use mp_driver::{Settings, ledger_at, make_ledger};
+use mp_settings::{Settings, ledger_at, make_ledger};
 use mp_lines::Line;
 use mp_memory::{Memory, NoMemory};
 use mp_names::{
@@ -79,7 +79,7 @@ impl Conversation {
     ghost use Rattle.mp_tx.specs.Reading.{transaction_of};
     ghost use Rattle.mp_names.specs.declared.names.Binding.TheVariants.{Made};
     ghost use Rattle.mp_names.specs.Names.{with_binding, with_script, with_datum};
-    ghost use Rattle.mp_driver.specs.Scene.{ledger_at};
+    ghost use Rattle.mp_settings.specs.Ledgers.{ledger_at};
     ghost use Rattle.mp_serve.specs.Request.{Do, Adopt, Try};
     ghost use Rattle.mp_serve.specs.Talk.{new_conversation, ask, declare, set_at, output_at, hold_at, does, read, forget, take, line_step};
     ghost use Rattle.mp_serve.specs.Inside.Ask.{to_ask};

@@ -7,14 +7,14 @@ ghost use Rattle.mp_seqpool.specs.Command.{Submit};
 ghost use Rattle.mp_seqpool.specs.Inside.Command.{command_of};
 ghost use Rattle.mp_seqpool.specs.Prepared.{Prepares};
 ghost use Rattle.mp_seqpool.specs.SlowPool.{answer, next, AreSigned, IsRefused};
-ghost use Rattle.mp_driver.specs.AnswerText.{answer_text};
+ghost use Rattle.mp_answers.specs.AnswerText.{answer_text};
 ghost use Rattle.mp_serve.specs.ServedPool.{accepted_by};
 ghost use Rattle.mp_serve.specs.Request.{counted_anew};
 ghost use Rattle.mp_serve.specs.Inside.Pool.{IsReady};
 
 use crate::signatures::Signatures;
 use crate::texts::Text;
-use mp_driver::{answer_line, reply_line};
+use mp_answers::{answer_line, reply_line};
 use mp_memory::{Memory, NoMemory};
 use mp_names::Names;
 use mp_seqpool::{Command, Prepared, Refusal, SeqPool};

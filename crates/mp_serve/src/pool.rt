@@ -10,7 +10,7 @@ use crate::refused::{Counts, count_if_refused, count_one, none_counted};
 use crate::request::Request;
 use crate::signatures::Signatures;
 use crate::texts::{Text, back_refused_line, stats_line};
-use mp_driver::Settings;
+use mp_settings::Settings;
 use mp_memory::{Memory, NoMemory};
 use mp_names::Names;
 use mp_seqpool::{Command, Config, SeqPool};
@@ -62,10 +62,9 @@ impl ServedPool {
     {
         let ledger = &beginning.ledger;
         let ledger = at_tick(memory, ledger, settings.tick(), settings.block_bytes())?;
-        let settings = settings.config();
         let config = Config {
-            limit: settings.limit,
-            last: settings.last,
+            limit: settings.limit(),
+            last: settings.last(),
         };
         Ok(ServedPool {
             pool: SeqPool::start(memory, config, &ledger)?,

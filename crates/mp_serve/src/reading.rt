@@ -9,13 +9,13 @@ ghost use Rattle.mp_seqpool.specs.SlowPool.{AreSigned};
 ghost use Rattle.mp_items.specs.Item.{items_of};
 ghost use Rattle.mp_items.specs.Reading.{within};
 ghost use Rattle.mp_peer.specs.Offers.{offer, moved};
-ghost use Rattle.mp_driver.specs.AnswerText.{item_text, items_text, numbers_text};
+ghost use Rattle.mp_answers.specs.AnswerText.{item_text, items_text, numbers_text};
 ghost use Rattle.mp_serve.specs.ServedPool.{accepted_by};
-ghost use Rattle.mp_driver.specs.QueryText.{sized_text, words_text, query_text, for_text, cursor_after};
+ghost use Rattle.mp_answers.specs.QueryText.{sized_text, words_text, query_text, for_text, cursor_after};
 
 use crate::signatures::Signatures;
 use crate::texts::Text;
-use mp_driver::{put_found, put_has, put_item, put_items, put_number, put_sized, put_word};
+use mp_answers::{put_found, put_has, put_item, put_items, put_number, put_sized, put_word};
 use mp_items::Item;
 use mp_lines::Query;
 use mp_memory::{Memory, NoMemory};

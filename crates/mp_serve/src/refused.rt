@@ -4,7 +4,7 @@ ghost use Rattle.std.specs.Prelude.{◌≡◌, ◌<◌, ◌≤◌, ◌++◌, len
 ghost use Rattle.mp_serve.specs.Refused.{none_counted, one_more, counted, counted_if, count_text, texts, counts_text};
 
 use crate::texts::Text;
-use mp_driver::{REFUSAL_WORDS, REFUSALS, put_number, put_word, refusal_place};
+use mp_answers::{REFUSAL_WORDS, REFUSALS, put_number, put_word, refusal_place};
 use mp_memory::{Memory, NoMemory};
 use mp_seqpool::Refusal;
 

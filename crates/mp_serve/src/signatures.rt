@@ -1,6 +1,6 @@
 //! Which signatures a pool accepts.
 
-use mp_driver::KeyAndId;
+use mp_settings::KeyAndId;
 use mp_seqpool::Verifier;
 use mp_tx::{Key, Sig, TxId};
 

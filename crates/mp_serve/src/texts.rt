@@ -7,7 +7,7 @@ ghost use Rattle.std.specs.Arc.{arc_value};
 ghost use Rattle.mp_serve.specs.Texts.{ok_text, bad_text, fault_name, tx_words, bytes_text, show_text, pool_numbers, stats_text, name_if_any, block_refused_text, back_refused_text, forgotten_text};
 
 use crate::refused::{Counts, put_counts};
-use mp_driver::{put_number, put_refusal, put_word};
+use mp_answers::{put_number, put_refusal, put_word};
 use mp_memory::{Memory, NoMemory};
 use mp_names::{Names, Reason};
 use mp_seqpool::{Invalid, Refusal, SeqPool};

@@ -7,7 +7,7 @@ use Rattle.mp_seqpool.specs.declared.refusal.Refusal.TheVariants as refusals
 use Rattle.mp_mempool.specs.declared.refusal.Refusal.{Refusal}
 use Rattle.mp_mempool.specs.declared.refusal.Refusal.TheVariants.{Pool, Foreign}
 use Rattle.mp_mempool.specs.Pass.{Pass}
-use Rattle.mp_driver.specs.Verifier.{is_key_and_id}
+use Rattle.mp_settings.specs.Verifier.{is_key_and_id}
 
 -- the last of so many entries
 abbrev pub IsLast : Option ℕ → ℕ → Type 0

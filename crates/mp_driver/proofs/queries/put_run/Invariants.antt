@@ -1,5 +1,5 @@
 use Rattle.std.proofs.Common.{◌≡◌, ◌++◌}
-use Rattle.mp_driver.specs.AnswerText.{items_text}
+use Rattle.mp_answers.specs.AnswerText.{items_text}
 use Rattle.mp_driver.proofs.queries.put_run.Given as goal
 
 -- with the items that are left it is the whole text

@@ -1,4 +1,4 @@
-use Rattle.mp_driver.specs.Verifier.{is_key_and_id}
+use Rattle.mp_settings.specs.Verifier.{is_key_and_id}
 use Rattle.mp_main.proofs.races.race_over.Given as goal
 
 -- the name that was just made, for as many callers as there are workers

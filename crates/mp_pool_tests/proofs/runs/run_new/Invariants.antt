@@ -1,4 +1,4 @@
-use Rattle.mp_driver.specs.Verifier.{is_key_and_id}
+use Rattle.mp_settings.specs.Verifier.{is_key_and_id}
 use Rattle.mp_pool_tests.proofs.runs.run_new.Given as goal
 
 -- the name that was just made, for one caller

@@ -4,7 +4,7 @@ use Rattle.mp_seqpool.specs.Pool.{Pool}
 use Rattle.mp_history.specs.Entry.{Entry}
 use Rattle.mp_history.specs.Log.{IsLegal}
 use Rattle.mp_mempool.specs.Opening.{fresh_log}
-use Rattle.mp_driver.specs.Verifier.{is_key_and_id}
+use Rattle.mp_settings.specs.Verifier.{is_key_and_id}
 use Rattle.mp_race.specs.Task as told
 use Rattle.mp_race.specs.History.{AreEntriesOf}
 use Rattle.mp_race.specs.Inside.Auditing.{EndsAt}

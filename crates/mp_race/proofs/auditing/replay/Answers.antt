@@ -1,6 +1,6 @@
 use Rattle.std.proofs.Common.{subst}
 use Rattle.mp_history.specs.AuditFault.{IsFaultOf}
-use Rattle.mp_driver.specs.Verifier.{is_key_and_id}
+use Rattle.mp_settings.specs.Verifier.{is_key_and_id}
 use Rattle.mp_race.proofs.Fitting.{not_strange}
 use Rattle.mp_race.proofs.auditing.replay.Goals as goal
 

@@ -3,7 +3,7 @@ use Rattle.std.specs.Prelude.{IfOk}
 use Rattle.std.specs.Result.{result_err}
 use Rattle.mp_seqpool.specs.Inside.Command.{command_of}
 use Rattle.mp_seqpool.proofs.Histories.{signed, told}
-use Rattle.mp_driver.specs.AnswerText.{answer_text}
+use Rattle.mp_answers.specs.AnswerText.{answer_text}
 use Rattle.mp_serve.specs.ServedPool.{accepted_by}
 use Rattle.mp_serve.proofs.Pools.{on_ok, on_err, refused_same}
 use Rattle.mp_serve.proofs.obeying.carry_out.Goals as goal

@@ -1,7 +1,7 @@
 use Rattle.std.proofs.Common.{◌≡◌, sym, ap, subst, ◌∙◌}
 use Rattle.std.specs.Prelude.{IfOk}
 use Rattle.mp_seqpool.specs.Prepared.{apart}
-use Rattle.mp_driver.specs.QueryText.{for_text}
+use Rattle.mp_answers.specs.QueryText.{for_text}
 use Rattle.mp_serve.specs.ServedPool.{accepted_by}
 use Rattle.mp_serve.proofs.Pools.{synced, kept}
 use Rattle.mp_serve.proofs.reading.kept_line.Goals as goal

@@ -1,5 +1,5 @@
 use Rattle.std.proofs.Common.{rules}
-use Rattle.mp_driver.specs.QueryText.{for_text}
+use Rattle.mp_answers.specs.QueryText.{for_text}
 use Rattle.mp_serve.proofs.reading.others_line.Goals as goal
 
 pub returns : goal.returns

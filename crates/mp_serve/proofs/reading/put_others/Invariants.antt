@@ -1,7 +1,7 @@
 use Rattle.std.proofs.Common.{◌≡◌, ◌++◌}
 use Rattle.mp_resync.specs.ValidatedTx.{ticketed}
 use Rattle.mp_seqpool.specs.Prepared.{apart}
-use Rattle.mp_driver.specs.AnswerText.{items_text}
+use Rattle.mp_answers.specs.AnswerText.{items_text}
 use Rattle.mp_serve.proofs.reading.put_others.Given as goal
 
 -- with the items that are left it is the whole text

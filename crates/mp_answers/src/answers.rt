@@ -1,0 +1,125 @@
+//! The lines that commands write.
+
+ghost use Rattle.std.specs.Prelude.{◌≡◌, ◌++◌, Ok, IfOk, OnOk, codes};
+ghost use Rattle.mp_names.specs.Names as told;
+ghost use Rattle.mp_answers.specs.AnswerText.{number_text, tickets_text, reply_text, refusal_text, told_text, answer_text};
+
+use crate::refusals::put_refusal;
+use crate::words::{put_number, put_word};
+use mp_memory::{Memory, NoMemory};
+use mp_names::Names;
+use mp_seqpool::{Answer, Refusal, Reply};
+
+type Text = Vec<u8, Memory>;
+
+// The line of an accepted submit fits into so many bytes.
+const ACCEPTED_ROOM: usize = 32;
+
+// Each ticket after a space.
+fn put_tickets(text: &mut Text, tickets: &[u64]) -> Result<(), NoMemory>
+    ensures { OnOk result (text.new.items ≡ text.old.items ++ tickets_text tickets.now) }
+{
+    for ticket in tickets {
+        put_number(text, *ticket)?;
+    }
+    Ok(())
+}
+
+// The word and the tickets.
+fn put_list(text: &mut Text, word: &[u8], tickets: &[u64]) -> Result<(), NoMemory>
+    ensures { OnOk result
+        (text.new.items ≡ text.old.items ++ (word.now ++ tickets_text tickets.now)) }
+{
+    put_word(text, word)?;
+    put_tickets(text, tickets)
+}
+
+fn put_accepted(text: &mut Text, ticket: u64) -> Result<(), NoMemory>
+    ensures { OnOk result (text.new.items
+        ≡ text.old.items ++ (codes "accepted" ++ number_text ticket)) }
+{
+    put_word(text, b"accepted")?;
+    put_number(text, ticket)
+}
+
+// The word with tickets, and then the tickets that were dropped.
+fn put_lists(text: &mut Text, word: &[u8], tickets: &[u64], dropped: &[u64]) -> Result<(), NoMemory>
+    ensures { OnOk result (text.new.items ≡ text.old.items
+        ++ ((word.now ++ tickets_text tickets.now)
+        ++ (codes " dropped" ++ tickets_text dropped.now))) }
+{
+    put_list(text, word, tickets)?;
+    put_list(text, b" dropped", dropped)
+}
+
+/// Puts the words of a reply: its kind and its tickets.
+pub fn put_reply(text: &mut Text, reply: &Reply) -> Result<(), NoMemory>
+    ensures { OnOk result (text.new.items ≡ text.old.items ++ reply_text reply.now) }
+{
+    match reply {
+        Reply::Accepted { ticket } => put_accepted(text, *ticket),
+        Reply::Removed { named, dropped } => put_lists(
+            text,
+            b"removed",
+            named.as_slice(),
+            dropped.as_slice(),
+        ),
+        Reply::Synced { kept, dropped } => put_lists(
+            text,
+            b"kept",
+            kept.as_slice(),
+            dropped.as_slice(),
+        ),
+    }
+}
+
+fn put_refused(
+    memory: Memory,
+    text: &mut Text,
+    names: &Names,
+    refusal: &Refusal,
+) -> Result<(), NoMemory>
+    ensures { OnOk result (text.new.items
+        ≡ text.old.items ++ (codes "refused " ++ refusal_text names.now refusal.now)) }
+{
+    put_word(text, b"refused ")?;
+    put_refusal(memory, text, names, refusal)
+}
+
+fn put_answer(
+    memory: Memory,
+    text: &mut Text,
+    names: &Names,
+    answer: &Answer,
+) -> Result<(), NoMemory>
+    ensures { OnOk result (text.new.items
+        ≡ text.old.items ++ told_text names.now answer.now) }
+{
+    match answer {
+        Ok(reply) => put_reply(text, reply),
+        Err(refusal) => put_refused(memory, text, names, refusal),
+    }
+}
+
+/// The line of a pool's reply.
+#[tactic(auto, unfolding(crate::specs::AnswerText::answer_text))]
+pub fn reply_line(memory: Memory, reply: &Reply) -> Result<Text, NoMemory>
+    ensures { IfOk result (λ text. (names : told.Names)
+        → text.items ≡ answer_text names (Ok reply.now)) }
+{
+    let mut text = Vec::with_capacity(memory, ACCEPTED_ROOM)?;
+    put_reply(&mut text, reply)?;
+    text.push(b'\n')?;
+    Ok(text)
+}
+
+/// The line of a pool's answer.
+#[tactic(auto, unfolding(crate::specs::AnswerText::answer_text))]
+pub fn answer_line(memory: Memory, names: &Names, answer: &Answer) -> Result<Text, NoMemory>
+    ensures { IfOk result (λ text. text.items ≡ answer_text names.now answer.now) }
+{
+    let mut text = Vec::new(memory);
+    put_answer(memory, &mut text, names, answer)?;
+    text.push(b'\n')?;
+    Ok(text)
+}

@@ -1,0 +1,12 @@
+//! The lines that commands and queries write: what a pool answered, and what it holds.
+#![tactic(auto)]
+
+mod answers;
+mod items;
+mod refusals;
+mod words;
+
+pub use answers::{answer_line, put_reply, reply_line};
+pub use items::{put_found, put_has, put_item, put_items, put_sized};
+pub use refusals::{REFUSAL_WORDS, REFUSALS, put_refusal, refusal_place};
+pub use words::{put_number, put_word};

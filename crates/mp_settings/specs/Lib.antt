@@ -1,0 +1,4 @@
+pub mod Settings
+pub mod Ledgers
+pub mod Verifier
+pub mod Inside
