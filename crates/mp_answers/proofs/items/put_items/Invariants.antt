@@ -1,7 +1,7 @@
 use Rattle.std.proofs.Common.{◌≡◌, ◌++◌, take}
 use Rattle.mp_items.specs.Item.{items_of}
 use Rattle.mp_answers.specs.AnswerText.{items_text}
-use Rattle.mp_answers.proofs.queries.put_items.Given as goal
+use Rattle.mp_answers.proofs.items.put_items.Given as goal
 
 -- the items so far
 abbrev pub invariant-loop-item : goal.invariant-loop-item
