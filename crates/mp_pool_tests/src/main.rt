@@ -1,29 +1,25 @@
-//! Tests pools, and runs of scenarios, for what no contract says: growths that are refused, devices that fail, threads, what is
-//! shared and dropped, and answers that were worked out by hand. It prints each case that is found otherwise, and for each part how many held.
+//! Tests pools for what no contract says: growths that are refused, threads, what is shared and dropped, and answers that were worked out
+//! by hand. It prints each case that is found otherwise, and for each part how many held.
 #![tactic(auto)]
 
 mod history;
 mod mempool;
 mod peers;
 mod rows;
-mod runs;
 mod samples;
 mod seqpool;
-mod talks;
 mod told;
 mod verifier;
 mod versions;
 
 use mp_memory::Memory;
 use samples::{Samples, all_samples};
-use std::alloc::Global;
 use std::io;
 use std::sync::Wait;
 use std::thread::Threads;
 
 fn check_all<R: Print + Threads + Wait + Sync>(
     rt: &R,
-    alloc: Global,
     samples: &Samples,
 ) -> io::Result<()> {
     println!(rt; "seqpool {}", seqpool::held(rt, samples)?)?;
@@ -31,8 +27,6 @@ fn check_all<R: Print + Threads + Wait + Sync>(
     println!(rt; "versions {}", versions::held(rt, samples)?)?;
     println!(rt; "mempool {}", mempool::held(rt, samples)?)?;
     println!(rt; "peers {}", peers::held(rt, samples)?)?;
-    println!(rt; "runs {}", runs::held(rt, samples.memory, alloc)?)?;
-    println!(rt; "talks {}", talks::held(rt, samples.memory, alloc)?)?;
     Ok(())
 }
 
@@ -42,7 +36,7 @@ fn samples_of(memory: Option<Memory>) -> Option<Samples> {
 
 fn main(rt: HostRuntime) -> io::Result<()> {
     match samples_of(Memory::new(rt.alloc()).ok()) {
-        Some(samples) => check_all(&rt, rt.alloc(), &samples),
+        Some(samples) => check_all(&rt, &samples),
         None => println!(rt; "no samples"),
     }
 }

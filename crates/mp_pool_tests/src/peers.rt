@@ -11,13 +11,13 @@ mod seen;
 
 use crate::peers::asks::make;
 use crate::peers::rows::ROWS;
-use crate::rows::count;
 use crate::samples::{ALL, Samples};
 use crate::verifier::{ACCEPTS_ALL, AcceptsAll};
 use mp_history::{NewName, PoolName};
 use mp_mempool::{Config, Mempool, Pass};
 use mp_peer::PeerReader;
 use mp_tx::Ledger;
+use mp_testing::count;
 use std::io;
 use std::marker::Brand;
 use std::sync::Wait;

@@ -1,4 +1,4 @@
-//! Cases: what is found of each, and what is wanted.
+//! Calls under each refusal of memory: what is found of each, and what is wanted.
 use mp_testing::{MAX_GROWTHS, Seen, TrialFault, Trialled};
 use std::io;
 
@@ -35,15 +35,6 @@ pub const MANY: Growths = [6, MAX_GROWTHS];
 /// What comes of a trial of a call.
 pub type Trial = Result<Trialled, TrialFault>;
 
-/// Gives 1 where what is seen of the case is as it is wanted. Otherwise it prints the case, and gives 0.
-pub fn count(rt: &impl Print, name: &str, seen: Option<Seen>, wanted: Seen) -> io::Result<u64> {
-    if seen == Some(wanted) {
-        return Ok(1);
-    }
-    println!(rt; "{name}: found {seen:?}, wanted {wanted:?}")?;
-    Ok(0)
-}
-
 fn holds(trial: &Trial, wanted: Seen, growths: Growths) -> bool {
     let [least, most] = growths;
     match trial {
@@ -52,7 +43,8 @@ fn holds(trial: &Trial, wanted: Seen, growths: Growths) -> bool {
     }
 }
 
-/// The same of a call that was tried under each refusal: its answer and the number of its growths are as they are wanted.
+/// Gives 1 where the call's answer under each refusal, and the number of its growths, are as they are wanted. Otherwise it prints the
+/// case, and gives 0.
 pub fn count_trial(
     rt: &impl Print,
     name: &str,

@@ -3,11 +3,13 @@
 #![tactic(auto)]
 
 mod reader;
+mod rows;
 mod samples;
 mod trial;
 mod writer;
 
 pub use reader::FailingReader;
+pub use rows::count;
 pub use samples::{
     COIN, coin, input, ledger, opening, output, output_of, parts, script, transaction, unit,
 };

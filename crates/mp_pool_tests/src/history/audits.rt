@@ -1,13 +1,13 @@
 //! Audits that were worked out by hand.
 use crate::history::entries::{Telling, idle_entries, three_entries};
-use crate::rows::{TWO_OR_MORE, Trial, count, count_trial};
+use crate::rows::{TWO_OR_MORE, Trial, count_trial};
 use crate::samples::{PART, Samples};
 use crate::seqpool::CONFIG;
 use crate::told::{Told, read_fault};
 use crate::verifier::ACCEPTS_ALL;
 use mp_history::{Entry, audit};
 use mp_seqpool::Config;
-use mp_testing::{Call, Seen, TrialFault, under_each_refusal};
+use mp_testing::{Call, Seen, TrialFault, count, under_each_refusal};
 use mp_tx::Ledger;
 use std::io;
 

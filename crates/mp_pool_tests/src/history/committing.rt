@@ -3,14 +3,13 @@ ghost use Rattle.std.specs.Prelude.{◌≡◌};
 ghost use Rattle.mp_history.specs.PoolName.{head_of};
 
 use crate::history::audits::tell;
-use crate::rows::count;
 use crate::samples::{HUNDRED, Samples};
 use crate::seqpool::CONFIG;
 use crate::told::Told;
 use mp_history::{Caller, CommitRight, Entry, Front, History, NewName, PoolName, look};
 use mp_memory::{Memory, NoMemory};
 use mp_seqpool::{Command, Reply, SeqPool};
-use mp_testing::Seen;
+use mp_testing::{Seen, count};
 use std::io;
 use std::marker::Brand;
 use std::sync::{Mutex, Wait};

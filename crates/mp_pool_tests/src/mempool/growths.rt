@@ -2,10 +2,9 @@
 use crate::mempool::calls::Call;
 use crate::mempool::heard::{Heard, NO_MEMORY};
 use crate::mempool::pools::{LONG, Line, MAX_GROWTHS, Played, play};
-use crate::rows::count;
 use crate::samples::{ALL, CHAINED, EVEN, MERGED, PART, REMOVE_SECOND, RIVAL, Samples};
 use crate::told::Told;
-use mp_testing::Seen;
+use mp_testing::{Seen, count};
 use std::io;
 use std::sync::Wait;
 

@@ -2,10 +2,10 @@
 use crate::mempool::calls::Call;
 use crate::mempool::heard::Heard;
 use crate::mempool::pools::{Line, Played, play};
-use crate::rows::{MANY, Trial, count, count_trial};
+use crate::rows::{MANY, Trial, count_trial};
 use crate::samples::Samples;
 use mp_mempool::OpenRefusal;
-use mp_testing::{Seen, under_each_refusal};
+use mp_testing::{Seen, count, under_each_refusal};
 use std::io;
 use std::sync::Wait;
 

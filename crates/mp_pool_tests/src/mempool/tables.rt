@@ -2,11 +2,10 @@
 use crate::mempool::calls::Call;
 use crate::mempool::heard::Heard;
 use crate::mempool::pools::{LONG, Line, play};
-use crate::rows::count;
 use crate::samples::{ALL, CHAINED, PART, REMOVE_SECOND, RIVAL, SUBMITS, Samples};
 use crate::told::Told;
 use mp_seqpool::Command;
-use mp_testing::Seen;
+use mp_testing::{Seen, count};
 use std::io;
 use std::sync::{Arc, Wait};
 

@@ -2,9 +2,9 @@
 use crate::mempool::calls::Call;
 use crate::mempool::heard::{Heard, MANY};
 use crate::mempool::pools::{LONG, Line, MAX_GROWTHS, Played, play};
-use crate::rows::count;
 use crate::samples::Samples;
 use crate::told::Told;
+use mp_testing::count;
 use std::io;
 use std::sync::Wait;
 

@@ -1,12 +1,11 @@
 //! Answers to what no scenario can ask for, worked out by hand. A scenario's remove names a transaction at least, and its sync
 //! can't give an output of a reference that paid otherwise before.
-use crate::rows::count;
 use crate::samples::{GUARDED, OF_100, Samples};
 use crate::seqpool::look_at;
 use crate::seqpool::steps::play_some;
 use crate::told::{Told, read_answer};
 use mp_seqpool::Played;
-use mp_testing::Seen;
+use mp_testing::{Seen, count};
 use std::io;
 
 // What the guarded commands are told on a pool where the guarded output has 100 coin: the validator looks at what its own output

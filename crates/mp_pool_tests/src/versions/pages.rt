@@ -1,10 +1,9 @@
 //! Where chunks and pages end. A page has 2,048 items where all its chunks are full, and up to 32 more stand in the open chunk.
-use crate::rows::count;
 use crate::samples::Samples;
 use crate::versions::both::{Both, start, step};
 use mp_memory::{Memory, NoMemory};
 use mp_seqpool::Command;
-use mp_testing::{Seen, ledger, opening, transaction};
+use mp_testing::{Seen, count, ledger, opening, transaction};
 use mp_versions::{Version, laws};
 use std::io;
 

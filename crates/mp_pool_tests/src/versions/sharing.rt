@@ -2,13 +2,12 @@
 //! 32 transactions and 1.
 ghost use Rattle.mp_seqpool.specs.Prepared.{IsPrepared};
 
-use crate::rows::count;
 use crate::samples::{ALL, HUNDRED, REMOVE_SEVENTIETH, Samples};
 use crate::seqpool::prepare;
 use crate::versions::both::{Both, asked, next};
 use mp_memory::{Memory, NoMemory};
 use mp_seqpool::{Command, Prepared};
-use mp_testing::Seen;
+use mp_testing::{Seen, count};
 use mp_versions::Version;
 use std::io;
 use std::sync::Arc;

@@ -1,5 +1,5 @@
 use Rattle.mp_settings.specs.Verifier.{is_key_and_id}
-use Rattle.mp_pool_tests.proofs.runs.run_new.Given as goal
+use Rattle.mp_run_tests.proofs.runs.run_new.Given as goal
 
 -- the name that was just made, for one caller
 abbrev pub ghosts-run_named : goal.ghosts-run_named

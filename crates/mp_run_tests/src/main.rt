@@ -1,12 +1,14 @@
-//! Tests races for what no contract says: that they come to their end, that two workers run at once, growths that are refused,
-//! devices that fail, and reports that were worked out by hand. It prints each case that is found otherwise, and for each
-//! part how many held.
+//! Tests runs of scenarios, conversations and races for what no contract says: growths that are refused, devices that fail, that races come
+//! to their end, that two workers run at once, and reports that were worked out by hand. It prints each case that is found otherwise, and
+//! for each part how many held.
 #![tactic(auto)]
 
 mod cases;
 mod devices;
 mod meeting;
 mod reports;
+mod runs;
+mod talks;
 
 use mp_memory::Memory;
 use std::alloc::Global;
@@ -19,6 +21,8 @@ fn check_all<R: Print + Threads + Wait + Sync>(
     memory: Memory,
     alloc: Global,
 ) -> io::Result<()> {
+    println!(rt; "runs {}", runs::held(rt, memory, alloc)?)?;
+    println!(rt; "talks {}", talks::held(rt, memory, alloc)?)?;
     println!(rt; "reports {}", reports::held(rt, memory)?)?;
     println!(rt; "meetings {}", meeting::held(rt, memory)?)?;
     println!(rt; "devices {}", devices::held(rt, memory, alloc)?)?;

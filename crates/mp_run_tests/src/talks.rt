@@ -1,10 +1,9 @@
 //! Conversations at refused growths: a line that finds no memory is said again.
 
-use crate::rows::count;
 use mp_memory::{Memory, NoMemory};
 use mp_names::LineFault;
 use mp_serve::{Conversation, Signatures};
-use mp_testing::MAX_GROWTHS;
+use mp_testing::{MAX_GROWTHS, count};
 use std::alloc::Global;
 use std::io;
 

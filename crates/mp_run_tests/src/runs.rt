@@ -3,11 +3,10 @@ ghost use Rattle.std.specs.Prelude.{◌≡◌};
 ghost use Rattle.mp_history.specs.PoolName.{head_of};
 ghost use Rattle.mp_settings.specs.Verifier.{is_key_and_id};
 
-use crate::rows::count;
 use mp_driver::{Fault, run};
 use mp_history::{NewName, PoolName};
 use mp_memory::Memory;
-use mp_testing::{FailingReader, FailingWriter, MAX_GROWTHS, Seen};
+use mp_testing::{FailingReader, FailingWriter, MAX_GROWTHS, Seen, count};
 use std::alloc::Global;
 use std::io;
 use std::marker::Brand;

@@ -1,5 +1,5 @@
 use Rattle.mp_settings.specs.Verifier.{is_key_and_id}
-use Rattle.mp_race_tests.proofs.cases.race_new.Given as goal
+use Rattle.mp_run_tests.proofs.cases.race_new.Given as goal
 
 -- the name that was just made, for as many callers as there are workers
 abbrev pub ghosts-race_named : goal.ghosts-race_named
