@@ -1,9 +1,11 @@
-//! Ledger states: which of their calls take memory. One takes five growths, one of no outputs a single one, and a share none.
+//! Ledger states: which of their calls take memory, and that they keep their salt, which no contract sees. One takes five growths, one of
+//! no outputs a single one, and a share none.
 use crate::rows::{Row, without_growth};
 use mp_bundle::Bundle;
 use mp_memory::{Memory, NoMemory};
 use mp_testing::{Call, Seen, TrialFault, Trialled, under_each_refusal};
 use mp_tx::{Ledger, LedgerFault, OutRef, Output, Salt};
+use std::hash::{BuildHasher, Hasher};
 
 const SALT: u64 = 0x5eed;
 
@@ -79,6 +81,33 @@ fn shared(memory: Memory) -> Option<[u64; 4]> {
     without_growth(memory, look(&ledger.share().ok()?))
 }
 
+// What a hasher of the salt makes of a word.
+fn hashed(salt: Salt) -> u64 {
+    let mut hasher = salt.build_hasher();
+    hasher.write_u64(1);
+    hasher.finish()
+}
+
+fn has_salt(ledger: &Ledger) -> u64 {
+    u64::from(hashed(ledger.salt()) == hashed(Salt::new(SALT)))
+}
+
+// Whether a ledger state of so many outputs has its salt, a share of it, and the one after a block; and whether another salt hashes otherwise.
+fn salts(memory: Memory, outputs: u8) -> Option<[u64; 4]> {
+    let ledger = ledger_of(memory, outputs_to(memory, outputs).ok()?).ok()?;
+    let share = ledger.share().ok()?;
+    let after = ledger
+        .after(memory, 7, 2, &[reference(3, 0)], Vec::new(memory))
+        .ok()?;
+    let differs = hashed(Salt::new(0)) != hashed(Salt::new(SALT));
+    Some([
+        has_salt(&ledger),
+        has_salt(&share),
+        has_salt(&after),
+        u64::from(differs),
+    ])
+}
+
 // A block that spends the output of transaction 3 and makes none, upon a ledger state.
 #[derive(Drop)]
 struct Block {
@@ -128,8 +157,8 @@ pub fn blocks(memory: Memory) -> [Row; 2] {
     ]
 }
 
-/// Ledger states under refusals.
-pub fn ledgers(memory: Memory) -> [Row; 9] {
+/// Ledger states under refusals, and their salts: where the block becomes a layer, and where its table is made anew.
+pub fn ledgers(memory: Memory) -> [Row; 11] {
     let refused = [1, 0, 0, 0, 0, 0];
     [
         Row::seen("growth 1 of a ledger", made(memory, 9, 1), refused),
@@ -149,5 +178,7 @@ pub fn ledgers(memory: Memory) -> [Row; 9] {
             [0, 1, 6, 1, 0, 0],
         ),
         Row::seen("a shared ledger", shared(memory), [6, 1, 3, 0]),
+        Row::seen("salts of a layer", salts(memory, 9), [1, 1, 1, 1]),
+        Row::seen("salts of a table", salts(memory, 7), [1, 1, 1, 1]),
     ]
 }
