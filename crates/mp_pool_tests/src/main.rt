@@ -18,10 +18,7 @@ use std::io;
 use std::sync::Wait;
 use std::thread::Threads;
 
-fn check_all<R: Print + Threads + Wait + Sync>(
-    rt: &R,
-    samples: &Samples,
-) -> io::Result<()> {
+fn check_all<R: Print + Threads + Wait + Sync>(rt: &R, samples: &Samples) -> io::Result<()> {
     println!(rt; "seqpool {}", seqpool::held(rt, samples)?)?;
     println!(rt; "history {}", history::held(rt, samples)?)?;
     println!(rt; "versions {}", versions::held(rt, samples)?)?;

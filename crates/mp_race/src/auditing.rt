@@ -14,9 +14,9 @@ use crate::history::History;
 use crate::scenario::Scenario;
 use crate::task::Task;
 use crate::told::Told;
-use mp_settings::KeyAndId;
 use mp_history::{AuditFault, Entry, audit};
 use mp_memory::{Memory, NoMemory};
+use mp_settings::KeyAndId;
 
 const MAX_WORKERS: usize = 64;
 

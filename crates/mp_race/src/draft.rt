@@ -5,11 +5,11 @@ ghost use Rattle.mp_seqpool.specs.Command.{Remove};
 ghost use Rattle.mp_seqpool.specs.Inside.Command.{command_of};
 
 use crate::task::Task;
-use mp_settings::{Openings, Settings, ledger_at};
 use mp_lines::{Line, MAX_OUTPUTS, Query};
 use mp_memory::{Memory, NoMemory};
 use mp_names::{Binding, LineFault, Name, Names, NewLedger, Payment, Reason, Setting};
 use mp_seqpool::{Command, Ids};
+use mp_settings::{Openings, Settings, ledger_at};
 use mp_tx::TxId;
 use std::sync::Arc;
 

@@ -1,7 +1,7 @@
 //! What is told of a race as it runs.
 
-use mp_settings::KeyAndId;
 use mp_seqpool::Verifier;
+use mp_settings::KeyAndId;
 use mp_tx::{Key, Sig, TxId};
 
 /// What is told of a race as it runs, by each of its threads. A call may hold a worker back, and changes no answer.

@@ -23,10 +23,10 @@ use crate::scenario::Scenario;
 use crate::task::Task;
 use crate::told::{Notes, Refused};
 use crate::worker::{Worker, work};
-use mp_settings::KeyAndId;
 use mp_history::{AuditFault, Entry, Front, NewName, PoolName, audit};
 use mp_memory::{Memory, NoMemory};
 use mp_mempool::{Mempool, OpenRefusal, Pass};
+use mp_settings::KeyAndId;
 use std::sync::Wait;
 use std::thread::{Threads, map_vec};
 

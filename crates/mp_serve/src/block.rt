@@ -4,9 +4,9 @@ ghost use Rattle.std.specs.Prelude.{◌≡◌, map, unwrap_or};
 ghost use Rattle.mp_settings.specs.Settings.{block_bytes_of};
 ghost use Rattle.mp_serve.specs.Inside.Ask.{to_block};
 
-use mp_settings::{Settings, block_bytes_at};
 use mp_memory::Memory;
 use mp_names::BlockBytes;
+use mp_settings::{Settings, block_bytes_at};
 use mp_tx::Tx;
 use std::marker::Model;
 use std::sync::Arc;

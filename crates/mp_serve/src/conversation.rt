@@ -15,7 +15,6 @@ use crate::pool::ServedPool;
 use crate::request::Request;
 use crate::signatures::Signatures;
 use crate::texts::{Text, forgotten_line, ok_line, read_line, show_line, undecodable_line};
-use mp_settings::{Settings, ledger_at, make_ledger};
 use mp_lines::Line;
 use mp_memory::{Memory, NoMemory};
 use mp_names::{
@@ -23,6 +22,7 @@ use mp_names::{
     Reason, Setting,
 };
 use mp_seqpool::{Command, Ids};
+use mp_settings::{Settings, ledger_at, make_ledger};
 use mp_tx::{OutRef, Output, Tx, TxFault, TxId};
 use std::sync::Arc;
 

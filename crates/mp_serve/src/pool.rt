@@ -10,10 +10,10 @@ use crate::refused::{Counts, count_if_refused, count_one, none_counted};
 use crate::request::Request;
 use crate::signatures::Signatures;
 use crate::texts::{Text, back_refused_line, stats_line};
-use mp_settings::Settings;
 use mp_memory::{Memory, NoMemory};
 use mp_names::Names;
 use mp_seqpool::{Command, Config, SeqPool};
+use mp_settings::Settings;
 use mp_tx::TxId;
 use std::marker::Model;
 

@@ -1,7 +1,7 @@
 //! Which signatures a pool accepts.
 
-use mp_settings::KeyAndId;
 use mp_seqpool::Verifier;
+use mp_settings::KeyAndId;
 use mp_tx::{Key, Sig, TxId};
 
 /// Which signatures a pool accepts.
