@@ -1,19 +1,13 @@
-//! Tests pools for what no contract says: growths that are refused, threads, what is shared and dropped, and answers that were worked out
-//! by hand. It prints each case that is found otherwise, and for each part how many held.
+//! Tests the sequential pool, histories and versions for what no contract says: growths that are refused, threads, what is shared, and
+//! answers that were worked out by hand. It prints each case that is found otherwise, and for each part how many held.
 #![tactic(auto)]
 
 mod history;
-mod mempool;
-mod peers;
-mod rows;
-mod samples;
 mod seqpool;
-mod told;
-mod verifier;
 mod versions;
 
 use mp_memory::Memory;
-use samples::{Samples, all_samples};
+use mp_pool_samples::samples::{Samples, all_samples};
 use std::io;
 use std::sync::Wait;
 use std::thread::Threads;
@@ -22,8 +16,6 @@ fn check_all<R: Print + Threads + Wait + Sync>(rt: &R, samples: &Samples) -> io:
     println!(rt; "seqpool {}", seqpool::held(rt, samples)?)?;
     println!(rt; "history {}", history::held(rt, samples)?)?;
     println!(rt; "versions {}", versions::held(rt, samples)?)?;
-    println!(rt; "mempool {}", mempool::held(rt, samples)?)?;
-    println!(rt; "peers {}", peers::held(rt, samples)?)?;
     Ok(())
 }
 

@@ -5,21 +5,15 @@ mod asking;
 mod making;
 mod steps;
 
-use crate::samples::{AFTER_FIRST, GUARDED, PART, REMOVE_FIRST, Samples};
 use crate::seqpool::answers::held_answers;
 use crate::seqpool::asking::held_calls;
 use crate::seqpool::making::{held_copies, held_makings};
-use crate::told::with_digit;
-use mp_seqpool::{Config, SeqPool};
+use mp_pool_samples::samples::{AFTER_FIRST, GUARDED, PART, REMOVE_FIRST, Samples};
+use mp_pool_samples::told::with_digit;
+use mp_seqpool::SeqPool;
 use mp_testing::Seen;
 use std::io;
 pub use steps::{pool_of_three, prepare};
-
-/// How pools are set up here.
-pub const CONFIG: Config = Config {
-    limit: 1_000_000,
-    last: 0,
-};
 
 /// The kind of a command, or of the reply to it.
 #[derive(Clone, Copy)]

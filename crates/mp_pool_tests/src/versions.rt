@@ -6,12 +6,12 @@ mod pages;
 mod reading;
 mod sharing;
 
-use crate::samples::Samples;
 use crate::versions::board::held_boards;
 use crate::versions::calls::held_calls;
 use crate::versions::pages::held_pages;
 use crate::versions::reading::held_readings;
 use crate::versions::sharing::held_shares;
+use mp_pool_samples::samples::Samples;
 use std::io;
 use std::sync::Wait;
 use std::thread::Threads;

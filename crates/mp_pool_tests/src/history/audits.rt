@@ -1,49 +1,13 @@
 //! Audits that were worked out by hand.
 use crate::history::entries::{Telling, idle_entries, three_entries};
-use crate::rows::{TWO_OR_MORE, Trial, count_trial};
-use crate::samples::{PART, Samples};
-use crate::seqpool::CONFIG;
-use crate::told::{Told, read_fault};
-use crate::verifier::ACCEPTS_ALL;
-use mp_history::{Entry, audit};
+use mp_history::Entry;
+use mp_pool_samples::rows::{TWO_OR_MORE, Trial, count_trial};
+use mp_pool_samples::samples::{PART, Samples};
+use mp_pool_samples::told::Told;
+use mp_pool_samples::{CONFIG, tell};
 use mp_seqpool::Config;
 use mp_testing::{Call, Seen, TrialFault, count, under_each_refusal};
-use mp_tx::Ledger;
 use std::io;
-
-fn tell_upon(
-    samples: &Samples,
-    ledger: &Ledger,
-    config: Config,
-    callers: u32,
-    entries: &[Entry],
-) -> Told {
-    match audit(
-        samples.memory,
-        config,
-        ledger,
-        callers,
-        entries,
-        &ACCEPTS_ALL,
-    ) {
-        Ok(pool) => Told::Legal(pool.len(), pool.last_ticket()),
-        Err(fault) => read_fault(fault),
-    }
-}
-
-/// What an audit of the entries tells, upon the ledger state of the sample.
-pub fn tell(
-    samples: &Samples,
-    ledger: usize,
-    config: Config,
-    callers: u32,
-    entries: &[Entry],
-) -> Told {
-    match samples.ledger(ledger) {
-        Some(ledger) => tell_upon(samples, ledger, config, callers, entries),
-        None => Told::Otherwise,
-    }
-}
 
 const ONE_CHANGE: Config = Config { limit: 1, last: 0 };
 

@@ -2,12 +2,11 @@
 ghost use Rattle.std.specs.Prelude.{◌≡◌};
 ghost use Rattle.mp_history.specs.PoolName.{head_of};
 
-use crate::history::audits::tell;
-use crate::samples::{HUNDRED, Samples};
-use crate::seqpool::CONFIG;
-use crate::told::Told;
 use mp_history::{Caller, CommitRight, Entry, Front, History, NewName, PoolName, look};
 use mp_memory::{Memory, NoMemory};
+use mp_pool_samples::samples::{HUNDRED, Samples};
+use mp_pool_samples::told::Told;
+use mp_pool_samples::{CONFIG, tell};
 use mp_seqpool::{Command, Reply, SeqPool};
 use mp_testing::{Seen, count};
 use std::io;

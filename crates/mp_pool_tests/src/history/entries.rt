@@ -1,8 +1,8 @@
 //! Histories of two submits and a removal: the first submit spends an opening output, the second what the first pays, and the
 //! removal takes out the first, so the second goes with it.
-use crate::samples::{NOTHING, REMOVE_FIRST, Samples, THREE};
 use mp_history::Entry;
 use mp_memory::{Memory, NoMemory};
+use mp_pool_samples::samples::{NOTHING, REMOVE_FIRST, Samples, THREE};
 use mp_seqpool::{Reply, Tickets};
 
 /// What the entries of a history tell.

@@ -2,11 +2,12 @@
 ghost use Rattle.std.specs.Prelude.{◌≡◌, ◌≤◌};
 ghost use Rattle.mp_history.specs.PoolName.{head_of};
 
-use crate::rows::{ONE, Trial, count_trial};
-use crate::samples::{PART, Samples};
-use crate::seqpool::{CONFIG, look_at};
+use crate::seqpool::look_at;
 use mp_history::{Caller, History, NewName, PoolName};
 use mp_memory::{Memory, NoMemory};
+use mp_pool_samples::CONFIG;
+use mp_pool_samples::rows::{ONE, Trial, count_trial};
+use mp_pool_samples::samples::{PART, Samples};
 use mp_seqpool::SeqPool;
 use mp_testing::{Call, Seen, under_each_refusal};
 use std::io;

@@ -1,9 +1,9 @@
 //! Answers to what no scenario can ask for, worked out by hand. A scenario's remove names a transaction at least, and its sync
 //! can't give an output of a reference that paid otherwise before.
-use crate::samples::{GUARDED, OF_100, Samples};
 use crate::seqpool::look_at;
 use crate::seqpool::steps::play_some;
-use crate::told::{Told, read_answer};
+use mp_pool_samples::samples::{GUARDED, OF_100, Samples};
+use mp_pool_samples::told::{Told, read_answer};
 use mp_seqpool::Played;
 use mp_testing::{Seen, count};
 use std::io;

@@ -1,9 +1,9 @@
 //! What the pool is asked under refusals of memory.
-use crate::rows::{Growths, MANY, NINE, THREE, Trial, count_trial};
-use crate::samples::Samples;
 use crate::seqpool::steps::{call, call_after_drops, pool_for, step, try_command, try_upon_others};
 use crate::seqpool::{Kind, look_at};
-use crate::told::Told;
+use mp_pool_samples::rows::{Growths, MANY, NINE, THREE, Trial, count_trial};
+use mp_pool_samples::samples::Samples;
+use mp_pool_samples::told::Told;
 use mp_seqpool::{Command, SeqPool};
 use mp_testing::{Call, Seen, under_each_refusal};
 use std::io;

@@ -1,10 +1,10 @@
 //! What is shared, copied and made under refusals of memory.
-use crate::rows::{Growths, MANY, NONE, SOME, TWO, Trial, count_trial};
-use crate::samples::Samples;
 use crate::seqpool::steps::{execute, new_pool, pool_for, pool_of_three};
 use crate::seqpool::{Kind, look_at};
-use crate::told::{Told, read_reply};
 use mp_memory::NoMemory;
+use mp_pool_samples::rows::{Growths, MANY, NONE, SOME, TWO, Trial, count_trial};
+use mp_pool_samples::samples::Samples;
+use mp_pool_samples::told::{Told, read_reply};
 use mp_seqpool::{Command, Reply, SeqPool};
 use mp_testing::{Call, Seen, under_each_refusal};
 use std::io;

@@ -2,11 +2,11 @@
 ghost use Rattle.std.specs.Prelude.{◌≡◌, IfOk};
 ghost use Rattle.mp_seqpool.specs.Prepared.{IsPrepared};
 
-use crate::samples::{OF_120, Samples, THREE};
-use crate::seqpool::{CONFIG, Kind};
-use crate::told::{Told, read_answer, read_refusal, read_reply};
-use crate::verifier::ACCEPTS_ALL;
+use crate::seqpool::Kind;
 use mp_memory::{Memory, NoMemory};
+use mp_pool_samples::samples::{OF_120, Samples, THREE};
+use mp_pool_samples::told::{Told, read_answer, read_refusal, read_reply};
+use mp_pool_samples::{ACCEPTS_ALL, CONFIG};
 use mp_rules::precheck;
 use mp_seqpool::{Command, Played, Prepared, Refusal, Reply, SeqPool, play};
 use mp_tx::{Output, Tx};

@@ -3,13 +3,13 @@ ghost use Rattle.std.specs.Prelude.{◌≡◌, IfSome};
 ghost use Rattle.mp_seqpool.specs.PoolLaws.{IsLawful};
 ghost use Rattle.mp_seqpool.specs.Config.{renewed};
 ghost use Rattle.mp_history.specs.PoolName.{head_of};
-ghost use Rattle.mp_pool_tests.specs.Names.{any};
+ghost use Rattle.mp_pool_samples.specs.Names.{any};
 
-use crate::rows::{SOME, Trial, count_trial};
-use crate::samples::{PART, Samples};
-use crate::seqpool::CONFIG;
 use mp_history::{History, NewName, PoolName};
 use mp_memory::{Memory, NoMemory};
+use mp_pool_samples::CONFIG;
+use mp_pool_samples::rows::{SOME, Trial, count_trial};
+use mp_pool_samples::samples::{PART, Samples};
 use mp_seqpool::SeqPool;
 use mp_testing::{Call, Seen, count, under_each_refusal};
 use mp_versions::{Board, Shown, Snapshot, Version};

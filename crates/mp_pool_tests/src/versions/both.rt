@@ -4,11 +4,12 @@ ghost use Rattle.std.specs.Coded.{codes};
 ghost use Rattle.std.specs.FinMap as finite;
 ghost use Rattle.mp_seqpool.specs.Prepared.{IsPrepared, leads_to};
 
-use crate::samples::Samples;
-use crate::seqpool::{CONFIG, prepare};
-use crate::told::with_digit;
+use crate::seqpool::prepare;
 use mp_items::Run;
 use mp_memory::{Memory, NoMemory};
+use mp_pool_samples::CONFIG;
+use mp_pool_samples::samples::Samples;
+use mp_pool_samples::told::with_digit;
 use mp_seqpool::{Command, Prepared, SeqPool};
 use mp_testing::Seen;
 use mp_tx::Ledger;

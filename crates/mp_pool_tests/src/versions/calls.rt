@@ -1,9 +1,9 @@
 //! Each call that may want memory: at each refused growth it says so and the version stays, and then the same call answers.
-use crate::rows::{Growths, NONE, THREE_OR_MORE, Trial, count_trial};
-use crate::samples::{GUARDED, NARROW, REMOVE_FIRST, Samples, THREE};
 use crate::seqpool::{pool_of_three, prepare};
 use crate::versions::both::{Both, look_at, next, whole};
 use mp_memory::{Memory, NoMemory};
+use mp_pool_samples::rows::{Growths, NONE, THREE_OR_MORE, Trial, count_trial};
+use mp_pool_samples::samples::{GUARDED, NARROW, REMOVE_FIRST, Samples, THREE};
 use mp_seqpool::Command;
 use mp_testing::{Call, MAX_GROWTHS, Seen, under_each_refusal};
 use mp_versions::Version;

@@ -1,7 +1,7 @@
 //! Where chunks and pages end. A page has 2,048 items where all its chunks are full, and up to 32 more stand in the open chunk.
-use crate::samples::Samples;
 use crate::versions::both::{Both, start, step};
 use mp_memory::{Memory, NoMemory};
+use mp_pool_samples::samples::Samples;
 use mp_seqpool::Command;
 use mp_testing::{Seen, count, ledger, opening, transaction};
 use mp_versions::{Version, laws};

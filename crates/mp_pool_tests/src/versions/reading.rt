@@ -1,10 +1,10 @@
 //! What is read of a version that was made one from another. It has 129 transactions of 181 bytes each, without those under the
 //! tickets 64 and 65.
-use crate::samples::{ALL, REMOVE_TWO, Samples};
 use crate::versions::both::{Both, asked, step};
 use crate::versions::pages::chunk_len;
 use mp_items::{Run, RunWithin};
 use mp_memory::{Memory, NoMemory};
+use mp_pool_samples::samples::{ALL, REMOVE_TWO, Samples};
 use mp_seqpool::SeqPool;
 use mp_testing::{Seen, count};
 use mp_versions::Version;

@@ -2,10 +2,10 @@
 //! 32 transactions and 1.
 ghost use Rattle.mp_seqpool.specs.Prepared.{IsPrepared};
 
-use crate::samples::{ALL, HUNDRED, REMOVE_SEVENTIETH, Samples};
 use crate::seqpool::prepare;
 use crate::versions::both::{Both, asked, next};
 use mp_memory::{Memory, NoMemory};
+use mp_pool_samples::samples::{ALL, HUNDRED, REMOVE_SEVENTIETH, Samples};
 use mp_seqpool::{Command, Prepared};
 use mp_testing::{Seen, count};
 use mp_versions::Version;

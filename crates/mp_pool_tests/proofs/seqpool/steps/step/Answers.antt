@@ -1,4 +1,4 @@
-use Rattle.mp_pool_tests.proofs.Signed.{signed}
+use Rattle.mp_pool_samples.proofs.Signed.{signed}
 use Rattle.mp_pool_tests.proofs.seqpool.steps.step.Goals as goal
 
 pub step-requires : goal.step-requires

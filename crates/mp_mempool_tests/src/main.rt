@@ -1,0 +1,29 @@
+//! Tests the pool that callers share, and what is read of it for peers, for what no contract says: growths that are refused, threads, what
+//! is dropped, and answers that were worked out by hand. It prints each case that is found otherwise, and for each part how many held.
+#![tactic(auto)]
+
+mod mempool;
+mod peers;
+
+use mp_memory::Memory;
+use mp_pool_samples::samples::{Samples, all_samples};
+use std::io;
+use std::sync::Wait;
+use std::thread::Threads;
+
+fn check_all<R: Print + Threads + Wait + Sync>(rt: &R, samples: &Samples) -> io::Result<()> {
+    println!(rt; "mempool {}", mempool::held(rt, samples)?)?;
+    println!(rt; "peers {}", peers::held(rt, samples)?)?;
+    Ok(())
+}
+
+fn samples_of(memory: Option<Memory>) -> Option<Samples> {
+    all_samples(memory?)
+}
+
+fn main(rt: HostRuntime) -> io::Result<()> {
+    match samples_of(Memory::new(rt.alloc()).ok()) {
+        Some(samples) => check_all(&rt, &samples),
+        None => println!(rt; "no samples"),
+    }
+}

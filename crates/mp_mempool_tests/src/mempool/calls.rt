@@ -1,0 +1,182 @@
+//! Calls on a pool, as data.
+use crate::mempool::heard::{Heard, read_answer, read_kept, read_snapshot};
+use mp_history::PoolName;
+use mp_memory::Memory;
+use mp_mempool::{Mempool, Pass, Receipt, Refusal};
+use mp_pool_samples::AcceptsAll;
+use mp_pool_samples::samples::Samples;
+use mp_seqpool::Command;
+use mp_versions::Shown;
+use std::sync::Wait;
+
+/// What one caller does.
+#[derive(Clone, Copy)]
+pub enum Call {
+    /// It asks for the sample.
+    Ask(usize),
+    /// It asks for the samples from the first number to before the second, and hears of the last one.
+    AskAll(usize, usize),
+    /// It asks for what would stay upon the ledger state of the sample.
+    SnapshotFor(usize),
+    Snapshot,
+    /// It reads what it has seen, without a look at the pool.
+    Seen,
+    /// It reads where its last entry stands.
+    Last,
+    /// It learns what that caller has seen.
+    Learn(usize),
+    /// From now on the refusal of that growth waits.
+    Refuse(u64),
+    /// It asks whether the refusal has come. None waits any more.
+    Met,
+    /// It looks at each pass.
+    Passes,
+}
+
+/// The passes of all callers.
+pub type Passes<N> = Vec<Pass<N>, Memory>;
+
+/// The command is asked of the pool.
+pub fn ask<N: PoolName>(
+    rt: &impl Wait,
+    mempool: &Mempool<N, AcceptsAll>,
+    pass: &mut Pass<N>,
+    command: &Command,
+) -> Result<Receipt, Refusal<N>> {
+    match command {
+        Command::Submit(tx) => mempool.submit(rt, pass, tx),
+        Command::Remove(ids) => mempool.remove(rt, pass, ids),
+        Command::Sync(ledger) => mempool.sync(rt, pass, ledger),
+    }
+}
+
+// What is heard of the last one.
+fn ask_all<N: PoolName>(
+    rt: &impl Wait,
+    mempool: &Mempool<N, AcceptsAll>,
+    pass: &mut Pass<N>,
+    commands: &[Command],
+) -> Heard {
+    let mut heard = Heard::Nobody;
+    for command in commands {
+        heard = read_answer(&ask(rt, mempool, pass, command));
+    }
+    heard
+}
+
+fn keep<N: PoolName>(
+    mempool: &Mempool<N, AcceptsAll>,
+    pass: &mut Pass<N>,
+    samples: &Samples,
+    number: usize,
+) -> Heard {
+    match samples.ledger(number) {
+        Some(ledger) => read_kept(&mempool.reader().snapshot_for(samples.memory, pass, ledger)),
+        None => Heard::Nobody,
+    }
+}
+
+fn read_last<N: PoolName>(pass: &Pass<N>) -> Heard {
+    match pass.last() {
+        Some(place) => Heard::Last(place),
+        None => Heard::NoLast,
+    }
+}
+
+// What a caller does with its own pass.
+fn use_pass<N: PoolName>(
+    rt: &impl Wait,
+    mempool: &Mempool<N, AcceptsAll>,
+    pass: &mut Pass<N>,
+    samples: &Samples,
+    asked: Call,
+) -> Heard {
+    match asked {
+        Call::Ask(number) => {
+            let commands = samples.commands(number, number.saturating_add(1));
+            ask_all(rt, mempool, pass, commands)
+        }
+        Call::AskAll(from, to) => ask_all(rt, mempool, pass, samples.commands(from, to)),
+        Call::SnapshotFor(number) => keep(mempool, pass, samples, number),
+        Call::Snapshot => read_snapshot(&mempool.reader().snapshot(pass)),
+        Call::Seen => read_snapshot(&pass.snapshot()),
+        Call::Last => read_last(pass),
+        _ => Heard::Nobody,
+    }
+}
+
+fn learn<N: PoolName>(
+    mempool: &Mempool<N, AcceptsAll>,
+    pass: Option<&mut Pass<N>>,
+    shown: Shown<N>,
+) -> Heard {
+    match pass {
+        Some(pass) => {
+            mempool.reader().learn(pass, shown);
+            Heard::Done
+        }
+        None => Heard::Nobody,
+    }
+}
+
+fn share_seen<N: PoolName>(passes: &[Pass<N>], from: usize) -> Option<Shown<N>> {
+    passes.get(from)?.shown().share().ok()
+}
+
+fn learn_from<N: PoolName>(
+    mempool: &Mempool<N, AcceptsAll>,
+    passes: &mut Passes<N>,
+    caller: usize,
+    from: usize,
+) -> Heard {
+    match share_seen(passes, from) {
+        Some(shown) => learn(mempool, passes.get_mut(caller), shown),
+        None => Heard::Nobody,
+    }
+}
+
+fn is_fresh<N: PoolName>(place: usize, pass: &Pass<N>) -> bool {
+    pass.caller() as usize == place && pass.last().is_none() && pass.front().len() == 0
+}
+
+// Whether these are the passes of the callers 0, 1, .. before any change.
+fn all_fresh<N: PoolName>(passes: &[Pass<N>]) -> Heard {
+    for (place, pass) in passes.iter().enumerate() {
+        if !is_fresh(place, pass) {
+            return Heard::Unlike(place);
+        }
+    }
+    Heard::Fresh(passes.len())
+}
+
+fn refuse(memory: Memory, nth: u64) -> Heard {
+    memory.refuse(nth);
+    Heard::Done
+}
+
+fn is_met(memory: Memory) -> Heard {
+    let is_met = !memory.waits();
+    memory.refuse(0);
+    Heard::Met(is_met)
+}
+
+/// What the caller hears.
+pub fn make<N: PoolName>(
+    rt: &impl Wait,
+    mempool: &Mempool<N, AcceptsAll>,
+    passes: &mut Passes<N>,
+    samples: &Samples,
+    caller: usize,
+    asked: Call,
+) -> Heard {
+    match asked {
+        Call::Learn(from) => learn_from(mempool, passes, caller, from),
+        Call::Refuse(nth) => refuse(samples.memory, nth),
+        Call::Met => is_met(samples.memory),
+        Call::Passes => all_fresh(passes),
+        _ => match passes.get_mut(caller) {
+            Some(pass) => use_pass(rt, mempool, pass, samples, asked),
+            None => Heard::Nobody,
+        },
+    }
+}

@@ -1,0 +1,177 @@
+//! Each call at each refused growth: where there is no memory nothing changes, and then the same call is answered.
+use crate::mempool::calls::Call;
+use crate::mempool::heard::{Heard, NO_MEMORY};
+use crate::mempool::pools::{LONG, Line, MAX_GROWTHS, Played, play};
+use mp_pool_samples::samples::{ALL, CHAINED, EVEN, MERGED, PART, REMOVE_SECOND, RIVAL, Samples};
+use mp_pool_samples::told::Told;
+use mp_testing::{Seen, count};
+use std::io;
+use std::sync::Wait;
+
+// Both transactions that stand before the call.
+const BOTH: Heard = Heard::Sees(2, 2, 12);
+
+// A call on a pool in which two transactions stand, what is heard of it, and what is heard of a submit of sample 0 after it.
+type Case = (Call, Heard, Heard);
+
+const SUBMIT: Call = Call::Ask(0);
+
+const NEXT: Heard = Heard::Entered(3, Told::Accepted(3));
+
+// Each case, and whether the call is answered without some growths: a submit alone is where only the look before the lock has no
+// memory.
+static ROWS: [(&str, Case, bool); 4] = [
+    (
+        "a submit at refused growths",
+        (
+            SUBMIT,
+            Heard::Entered(2, Told::Accepted(3)),
+            Heard::Refused(Told::AlreadyInPool(3)),
+        ),
+        true,
+    ),
+    (
+        "a remove at refused growths",
+        (
+            Call::Ask(REMOVE_SECOND),
+            Heard::Entered(2, Told::Removed(1, 2)),
+            NEXT,
+        ),
+        false,
+    ),
+    (
+        "a sync at refused growths",
+        (
+            Call::Ask(PART),
+            Heard::Entered(2, Told::Synced(0, 12)),
+            NEXT,
+        ),
+        false,
+    ),
+    (
+        "a snapshot for a state at refused growths",
+        (
+            Call::SnapshotFor(ALL),
+            Heard::Kept(2, 12, 362),
+            Heard::Entered(2, Told::Accepted(3)),
+        ),
+        false,
+    ),
+];
+
+// The call is answered although that growth is refused. Where there is no such growth, something else is heard of the last line.
+fn answered(rt: &impl Wait, samples: &Samples, case: Case, nth: u64) -> Played {
+    let (call, wanted, _) = case;
+    let lines: [Line; 5] = [
+        (0, Call::Ask(1), Heard::Entered(0, Told::Accepted(1))),
+        (0, Call::Ask(CHAINED), Heard::Entered(1, Told::Accepted(2))),
+        (0, Call::Refuse(nth), Heard::Done),
+        (0, call, wanted),
+        (0, Call::Met, Heard::Met(true)),
+    ];
+    play(rt, samples, 2, LONG, &lines)
+}
+
+// The call is refused, both callers see what stood before it, and then it is answered, and so is the next change.
+fn refused(rt: &impl Wait, samples: &Samples, case: Case, nth: u64) -> Played {
+    let (call, wanted, next) = case;
+    let lines: [Line; 10] = [
+        (0, Call::Ask(1), Heard::Entered(0, Told::Accepted(1))),
+        (0, Call::Ask(CHAINED), Heard::Entered(1, Told::Accepted(2))),
+        (0, Call::Refuse(nth), Heard::Done),
+        (0, call, NO_MEMORY),
+        (0, Call::Met, Heard::Met(true)),
+        (0, Call::Seen, BOTH),
+        (0, Call::Last, Heard::Last(1)),
+        (1, Call::Snapshot, BOTH),
+        (0, call, wanted),
+        (0, SUBMIT, next),
+    ];
+    play(rt, samples, 2, LONG, &lines)
+}
+
+// What a refused growth comes to.
+#[derive(Clone, Copy)]
+enum Outcome {
+    // There is no such growth.
+    Unmet,
+    Answered,
+    Refused,
+    Wrong,
+}
+
+fn try_growth(rt: &impl Wait, samples: &Samples, case: Case, nth: u64) -> Outcome {
+    match answered(rt, samples, case, nth) {
+        Played::Otherwise(4, Heard::Met(false)) => Outcome::Unmet,
+        Played::AsTold => Outcome::Answered,
+        _ if refused(rt, samples, case, nth).is_as_told() => Outcome::Refused,
+        _ => Outcome::Wrong,
+    }
+}
+
+// How many growths are refused, up to the five that are wanted, and whether the call is answered without some; or `None` where a
+// trial goes wrong.
+fn try_all(rt: &impl Wait, samples: &Samples, case: Case) -> Option<Seen> {
+    let mut refused: u64 = 0;
+    let mut answered: u64 = 0;
+    for nth in 1..MAX_GROWTHS {
+        match try_growth(rt, samples, case, nth) {
+            Outcome::Unmet => return Some([refused.min(5), answered.min(1), 0, 0, 0, 0]),
+            Outcome::Answered => answered = answered.saturating_add(1),
+            Outcome::Refused => refused = refused.saturating_add(1),
+            Outcome::Wrong => return None,
+        }
+    }
+    None
+}
+
+// How many growths a submit makes that spends both outputs of another, which stands in the pool. 0 where it goes wrong.
+fn growths_of(rt: &impl Wait, samples: &Samples, parent: usize, child: usize) -> u64 {
+    for nth in 1..MAX_GROWTHS {
+        let lines: [Line; 4] = [
+            (0, Call::Ask(parent), Heard::Entered(0, Told::Accepted(1))),
+            (0, Call::Refuse(nth), Heard::Done),
+            (0, Call::Ask(child), Heard::Entered(1, Told::Accepted(2))),
+            (0, Call::Met, Heard::Met(true)),
+        ];
+        match play(rt, samples, 1, LONG, &lines) {
+            Played::Otherwise(3, Heard::Met(false)) => return nth,
+            Played::AsTold | Played::Otherwise(2, _) => {}
+            _ => return 0,
+        }
+    }
+    0
+}
+
+// The look before the lock finds each output that is named, in order: scripts aren't run again under the lock, so it makes no
+// difference whether the two outputs differ.
+fn see_scripts(rt: &impl Wait, samples: &Samples) -> Seen {
+    let differing = growths_of(rt, samples, RIVAL, MERGED);
+    let even = growths_of(rt, samples, EVEN, EVEN + 1);
+    [
+        differing.wrapping_sub(even),
+        u64::from(differing > 1),
+        0,
+        0,
+        0,
+        0,
+    ]
+}
+
+/// How many cases hold.
+pub fn held_growths(rt: &(impl Print + Wait), samples: &Samples) -> io::Result<u64> {
+    let mut held = 0u64;
+    for (name, case, is_answered) in &ROWS {
+        let seen = try_all(rt, samples, *case);
+        let wanted = [5, u64::from(*is_answered), 0, 0, 0, 0];
+        held = held.wrapping_add(count(rt, name, seen, wanted)?);
+    }
+    let scripts = see_scripts(rt, samples);
+    held = held.wrapping_add(count(
+        rt,
+        "scripts that run once",
+        Some(scripts),
+        [0, 1, 0, 0, 0, 0],
+    )?);
+    Ok(held)
+}

@@ -1,0 +1,110 @@
+//! What callers hear, as plain data.
+use mp_history::PoolName;
+use mp_items::{Item, Run};
+use mp_memory::NoMemory;
+use mp_mempool::{Receipt, Refusal, SnapshotFor};
+use mp_pool_samples::told::{Told, read_refusal, read_reply, with_digit};
+use mp_testing::Seen;
+use mp_versions::Snapshot;
+
+/// What a caller hears. Tickets are told as the digits of a number: 1 and 2 are 12, 0 is none, and `MANY` are more than 19.
+#[derive(Clone, Copy)]
+pub enum Heard {
+    /// The place of the entry, and the reply.
+    Entered(u64, Told),
+    Refused(Told),
+    Foreign,
+    /// What would stay: the entries of the history, the tickets, and the bytes.
+    Kept(u64, u64, u64),
+    /// What is seen: the entries of the history, how many transactions there are, and their tickets.
+    Sees(u64, usize, u64),
+    /// The place of the caller's last entry.
+    Last(u64),
+    /// The caller has made no entry.
+    NoLast,
+    /// Whether the refusal of memory has come.
+    Met(bool),
+    /// So many passes, each with its place as its number, have seen nothing.
+    Fresh(usize),
+    /// The pass at this place isn't so.
+    Unlike(usize),
+    /// There is nothing to tell.
+    Done,
+    /// There is no such caller or sample.
+    Nobody,
+}
+
+/// More than 19 tickets.
+pub const MANY: u64 = u64::MAX;
+
+/// There was no memory.
+pub const NO_MEMORY: Heard = Heard::Refused(Told::NoMemory);
+
+// What is told, from an entry at this place on; without one it is 0.
+fn told_from(told: Told, place: u64) -> Seen {
+    let [kind, first, second, ..] = told.seen();
+    [kind, first, second, place, 0, 0]
+}
+
+impl Heard {
+    /// What is heard as numbers, of which the first says of which kind it is. From the fifth on they are 0.
+    pub fn seen(self) -> Seen {
+        let [kind, first, second, third] = match self {
+            Heard::Entered(place, told) => return told_from(told, place.saturating_add(1)),
+            Heard::Refused(told) => return told_from(told, 0),
+            Heard::Foreign => [20, 0, 0, 0],
+            Heard::Kept(number, tickets, bytes) => [21, number, tickets, bytes],
+            Heard::Sees(number, count, tickets) => [22, number, count as u64, tickets],
+            Heard::Last(place) => [23, place, 0, 0],
+            Heard::NoLast => [24, 0, 0, 0],
+            Heard::Met(is_met) => [25, u64::from(is_met), 0, 0],
+            Heard::Fresh(count) => [26, count as u64, 0, 0],
+            Heard::Unlike(place) => [27, place as u64, 0, 0],
+            Heard::Done => [28, 0, 0, 0],
+            Heard::Nobody => [29, 0, 0, 0],
+        };
+        [kind, first, second, third, 0, 0]
+    }
+}
+
+/// What is heard by the answer to a change.
+pub fn read_answer<N: PoolName>(answer: &Result<Receipt, Refusal<N>>) -> Heard {
+    match answer {
+        Ok(receipt) => Heard::Entered(receipt.place, read_reply(&receipt.entry.reply)),
+        Err(Refusal::Pool(refusal)) => Heard::Refused(read_refusal(refusal)),
+        Err(Refusal::Foreign(_)) => Heard::Foreign,
+    }
+}
+
+fn digits_of(items: &[Item]) -> u64 {
+    let mut digits = 0;
+    for item in items {
+        digits = with_digit(digits, item.ticket);
+    }
+    digits
+}
+
+/// What is heard of what would stay.
+pub fn read_kept(kept: &Result<SnapshotFor, NoMemory>) -> Heard {
+    match kept {
+        Ok(kept) => Heard::Kept(kept.number, digits_of(kept.items.as_slice()), kept.bytes),
+        Err(NoMemory) => NO_MEMORY,
+    }
+}
+
+fn digits_in(run: Run<'_>) -> u64 {
+    let mut digits = 0;
+    for item in run {
+        digits = with_digit(digits, item.ticket);
+    }
+    digits
+}
+
+/// What is seen in the snapshot.
+pub fn read_snapshot<N: PoolName>(snapshot: &Snapshot<'_, N>) -> Heard {
+    Heard::Sees(
+        snapshot.number(),
+        snapshot.size().0,
+        digits_in(snapshot.txs()),
+    )
+}

@@ -1,0 +1,104 @@
+//! What callers are told, what they see of one another's changes, and what a pool that is dropped lets go of.
+use crate::mempool::calls::Call;
+use crate::mempool::heard::Heard;
+use crate::mempool::pools::{LONG, Line, play};
+use mp_pool_samples::samples::{ALL, CHAINED, PART, REMOVE_SECOND, RIVAL, SUBMITS, Samples};
+use mp_pool_samples::told::Told;
+use mp_seqpool::Command;
+use mp_testing::{Seen, count};
+use std::io;
+use std::sync::{Arc, Wait};
+
+// The pool has room for four changes. The second caller has seen what refuses it.
+const ANSWERS: [Line; 8] = [
+    (0, Call::Ask(1), Heard::Entered(0, Told::Accepted(1))),
+    (1, Call::Ask(RIVAL), Heard::Refused(Told::InputMissing(0))),
+    (1, Call::Seen, Heard::Sees(1, 1, 1)),
+    (0, Call::Ask(1), Heard::Refused(Told::AlreadyInPool(1))),
+    (
+        1,
+        Call::Ask(REMOVE_SECOND),
+        Heard::Entered(1, Told::Removed(1, 0)),
+    ),
+    (0, Call::Ask(0), Heard::Entered(2, Told::Accepted(2))),
+    (1, Call::Ask(ALL), Heard::Entered(3, Told::Synced(2, 0))),
+    (0, Call::Ask(1), Heard::Refused(Told::HistoryFull)),
+];
+
+// The first caller makes two changes. The second learns the first of them from it, tries another ledger state, which
+// changes nothing, and makes the third change. The third looks after each, and is told nothing. The fourth doesn't look,
+// so the first can't learn from it. At last the fourth looks, and the first learns, while the next growth would be
+// refused: neither makes one.
+const SIGHT: [Line; 19] = [
+    (0, Call::Ask(1), Heard::Entered(0, Told::Accepted(1))),
+    (0, Call::Snapshot, Heard::Sees(1, 1, 1)),
+    (1, Call::Learn(0), Heard::Done),
+    (1, Call::Seen, Heard::Sees(1, 1, 1)),
+    (2, Call::Snapshot, Heard::Sees(1, 1, 1)),
+    (0, Call::Ask(0), Heard::Entered(1, Told::Accepted(2))),
+    (2, Call::Snapshot, Heard::Sees(2, 2, 12)),
+    (1, Call::Seen, Heard::Sees(1, 1, 1)),
+    (1, Call::SnapshotFor(PART), Heard::Kept(2, 2, 181)),
+    (1, Call::Snapshot, Heard::Sees(2, 2, 12)),
+    (1, Call::Ask(2), Heard::Entered(2, Told::Accepted(3))),
+    (2, Call::Snapshot, Heard::Sees(3, 3, 123)),
+    (0, Call::Learn(3), Heard::Done),
+    (0, Call::Seen, Heard::Sees(2, 2, 12)),
+    (0, Call::Refuse(1), Heard::Done),
+    (3, Call::Snapshot, Heard::Sees(3, 3, 123)),
+    (0, Call::Learn(3), Heard::Done),
+    (0, Call::Seen, Heard::Sees(3, 3, 123)),
+    (0, Call::Met, Heard::Met(false)),
+];
+
+// Two transactions go, one of them because of the other, and one stays.
+const DROPPED: [Line; 6] = [
+    (0, Call::Ask(1), Heard::Entered(0, Told::Accepted(1))),
+    (1, Call::Ask(CHAINED), Heard::Entered(1, Told::Accepted(2))),
+    (0, Call::Ask(0), Heard::Entered(2, Told::Accepted(3))),
+    (
+        1,
+        Call::Ask(REMOVE_SECOND),
+        Heard::Entered(3, Told::Removed(1, 2)),
+    ),
+    (2, Call::Snapshot, Heard::Sees(4, 1, 3)),
+    (0, Call::Ask(PART), Heard::Entered(4, Told::Synced(3, 0))),
+];
+
+/// How many owners the transactions have that are submitted, all together.
+pub fn count_owners(commands: &[Command]) -> u64 {
+    let mut owners: usize = 0;
+    for command in commands {
+        if let Command::Submit(tx) = command {
+            owners = owners.saturating_add(Arc::strong_count(tx));
+        }
+    }
+    owners as u64
+}
+
+// How many owners the transactions have before the pool is made and once it is dropped, and whether all was as told.
+fn see_dropped(rt: &impl Wait, samples: &Samples) -> Seen {
+    let commands = samples.commands(0, SUBMITS);
+    let before = count_owners(commands);
+    let played = play(rt, samples, 3, LONG, &DROPPED);
+    [
+        before,
+        count_owners(commands),
+        u64::from(played.is_as_told()),
+        0,
+        0,
+        0,
+    ]
+}
+
+/// How many cases hold.
+pub fn held_tables(rt: &(impl Print + Wait), samples: &Samples) -> io::Result<u64> {
+    let played = play(rt, samples, 2, 4, &ANSWERS).seen();
+    let answers = count(rt, "places and refusals", Some(played), [0; 6])?;
+    let played = play(rt, samples, 4, LONG, &SIGHT).seen();
+    let sight = count(rt, "a change is seen by all", Some(played), [0; 6])?;
+    let owned = SUBMITS as u64;
+    let seen = see_dropped(rt, samples);
+    let dropped = count(rt, "a dropped pool", Some(seen), [owned, owned, 1, 0, 0, 0])?;
+    Ok(answers.wrapping_add(sight).wrapping_add(dropped))
+}

@@ -1,0 +1,73 @@
+//! What is read of a pool for peers and for blocks: what is offered where transactions come and go, limits that let nothing through,
+//! how many owners the transactions have while an offer or a block is there, and each refused growth.
+ghost use Rattle.std.specs.Prelude.{◌≡◌};
+ghost use Rattle.mp_history.specs.PoolName.{head_of};
+ghost use Rattle.mp_pool_samples.specs.Names.{any};
+
+mod asks;
+mod growths;
+mod rows;
+mod seen;
+
+use crate::peers::asks::make;
+use crate::peers::rows::ROWS;
+use mp_history::{NewName, PoolName};
+use mp_mempool::{Config, Mempool, Pass};
+use mp_peer::PeerReader;
+use mp_pool_samples::samples::{ALL, Samples};
+use mp_pool_samples::{ACCEPTS_ALL, AcceptsAll};
+use mp_testing::count;
+use mp_tx::Ledger;
+use std::io;
+use std::marker::Brand;
+use std::sync::Wait;
+
+const CONFIG: Config = Config {
+    limit: 1_000,
+    last: 0,
+};
+
+// Makes each row's call in turn, and counts the rows that hold.
+fn play<N: PoolName>(
+    rt: &(impl Wait + Print),
+    mempool: &Mempool<N, AcceptsAll>,
+    passes: &mut [Pass<N>],
+    samples: &Samples,
+) -> io::Result<u64> {
+    let Some(pass) = passes.first_mut() else {
+        return Ok(0);
+    };
+    let mut reader = PeerReader::new();
+    let mut held = 0u64;
+    for (name, ask, wanted) in &ROWS {
+        let found = make(rt, mempool, pass, &mut reader, samples, *ask);
+        held = held.wrapping_add(count(rt, name, found, *wanted)?);
+    }
+    Ok(held)
+}
+
+// How many rows hold on a new pool of one caller.
+fn of_name<N: PoolName>(
+    rt: &(impl Wait + Print),
+    name: NewName,
+    samples: &Samples,
+    ledger: &Ledger,
+) -> io::Result<u64>
+    requires name { name ≡ head_of N.book N.root }
+    requires callers { N.callers ≡ 1 }
+    requires accepts { N.accepts ≡ any }
+{
+    let memory = samples.memory;
+    match Mempool::<N, _>::open(rt, memory, name, CONFIG, ledger, ACCEPTS_ALL, 1) {
+        Ok((mempool, mut passes)) => play(rt, &mempool, &mut passes, samples),
+        Err(_) => Ok(0),
+    }
+}
+
+/// How many cases hold.
+pub fn held(rt: &(impl Wait + Print), samples: &Samples) -> io::Result<u64> {
+    match samples.ledger(ALL) {
+        Some(ledger) => of_name::<Brand>(rt, NewName::new(), samples, ledger),
+        None => Ok(0),
+    }
+}

@@ -1,0 +1,66 @@
+//! Calls on the pool and on the reader of one peer, as data.
+use crate::mempool::ask;
+use crate::peers::growths::{Trial, try_call};
+use crate::peers::seen::{see_block, see_offer};
+use mp_history::PoolName;
+use mp_mempool::{Mempool, Pass};
+use mp_peer::PeerReader;
+use mp_pool_samples::AcceptsAll;
+use mp_pool_samples::samples::Samples;
+use mp_testing::Seen;
+use std::sync::Wait;
+
+/// What is asked.
+#[derive(Clone, Copy)]
+pub enum Ask {
+    /// The sample is asked for.
+    Change(usize),
+    /// Another peer comes, which has been offered nothing.
+    NewPeer,
+    /// At most so many items, and at most so many bytes.
+    Offer(u64, u64),
+    /// At most so many bytes.
+    Forge(u64),
+    /// The call is tried under each refusal.
+    Try(Trial),
+}
+
+// The place of the entry.
+fn change<N: PoolName>(
+    rt: &impl Wait,
+    mempool: &Mempool<N, AcceptsAll>,
+    pass: &mut Pass<N>,
+    samples: &Samples,
+    number: usize,
+) -> Option<Seen> {
+    match ask(rt, mempool, pass, samples.command(number)?) {
+        Ok(receipt) => Some([receipt.place, 0, 0, 0, 0, 0]),
+        Err(_) => None,
+    }
+}
+
+fn renew(reader: &mut PeerReader) -> Seen {
+    *reader = PeerReader::new();
+    [reader.cursor(), 0, 0, 0, 0, 0]
+}
+
+/// What is seen of the answer: of a change it is the place of its entry. None where it is refused.
+pub fn make<N: PoolName>(
+    rt: &impl Wait,
+    mempool: &Mempool<N, AcceptsAll>,
+    pass: &mut Pass<N>,
+    reader: &mut PeerReader,
+    samples: &Samples,
+    asked: Ask,
+) -> Option<Seen> {
+    match asked {
+        Ask::Change(number) => change(rt, mempool, pass, samples, number),
+        Ask::NewPeer => Some(renew(reader)),
+        Ask::Offer(count, bytes) => {
+            let snapshot = mempool.reader().snapshot(pass);
+            see_offer(samples, reader, &snapshot, count, bytes)
+        }
+        Ask::Forge(bytes) => see_block(samples, &mempool.reader().snapshot(pass), bytes),
+        Ask::Try(trial) => try_call(samples, pass, trial),
+    }
+}

@@ -1,0 +1,56 @@
+//! An offer and a block under the refusal of each growth.
+use crate::peers::seen::{owners, see_block, see_offer};
+use mp_history::PoolName;
+use mp_mempool::Pass;
+use mp_peer::PeerReader;
+use mp_pool_samples::samples::Samples;
+use mp_testing::{Call, Seen, under_each_refusal};
+
+/// What is tried.
+#[derive(Clone, Copy)]
+pub enum Trial {
+    /// An offer of at most so many items, and at most so many bytes, to a new peer.
+    Offer(u64, u64),
+    /// A block of at most so many bytes.
+    Block(u64),
+}
+
+#[derive(Drop)]
+struct Trying<'a, N: PoolName> {
+    samples: &'a Samples,
+    pass: &'a Pass<N>,
+    trial: Trial,
+}
+
+impl<N: PoolName> Call for Trying<'_, N> {
+    type Value = PeerReader;
+
+    fn make(&self) -> Option<PeerReader> {
+        Some(PeerReader::new())
+    }
+
+    fn call(&self, reader: &mut PeerReader) -> Option<Seen> {
+        let snapshot = self.pass.snapshot();
+        match self.trial {
+            Trial::Offer(count, bytes) => see_offer(self.samples, reader, &snapshot, count, bytes),
+            Trial::Block(bytes) => see_block(self.samples, &snapshot, bytes),
+        }
+    }
+
+    fn look(&self, reader: &PeerReader) -> Seen {
+        [reader.cursor(), owners(self.samples), 0, 0, 0, 0]
+    }
+}
+
+/// What the call answers, with the number of its growths as the last number, if each refusal left the cursor as it was, and the
+/// same call was then answered.
+pub fn try_call<N: PoolName>(samples: &Samples, pass: &Pass<N>, trial: Trial) -> Option<Seen> {
+    let trying = Trying {
+        samples,
+        pass,
+        trial,
+    };
+    let done = under_each_refusal(&samples.memory, &trying).ok()?;
+    let [tickets, places, shared, fourth, fifth, _] = done.answer;
+    Some([tickets, places, shared, fourth, fifth, done.growths])
+}

@@ -1,0 +1,77 @@
+//! What is seen of offers and of blocks, as numbers.
+use crate::mempool::count_owners;
+use mp_history::PoolName;
+use mp_items::Item;
+use mp_peer::{PeerReader, forge};
+use mp_pool_samples::samples::Samples;
+use mp_pool_samples::told::with_digit;
+use mp_seqpool::Command;
+use mp_testing::Seen;
+use mp_tx::TxId;
+use mp_versions::Snapshot;
+
+// So many samples are submitted, from the first on: a list of all of them takes more than one growth.
+const SUBMITTED: usize = 6;
+
+/// How many owners the transactions have, all together.
+pub fn owners(samples: &Samples) -> u64 {
+    count_owners(samples.commands(0, SUBMITTED))
+}
+
+fn submits(command: &Command, id: &TxId) -> bool {
+    match command {
+        Command::Submit(tx) => tx.id() == id,
+        _ => false,
+    }
+}
+
+// The place of the item's transaction among the samples, from 1, or 0.
+fn place_of(samples: &Samples, item: &Item) -> u64 {
+    let id = item.tx.id();
+    let commands = samples.commands(0, SUBMITTED);
+    match commands.iter().position(|command| submits(command, id)) {
+        Some(place) => (place as u64).saturating_add(1),
+        None => 0,
+    }
+}
+
+// The tickets as the digits of a number, and so the places of the transactions: 1 and 2 are 12.
+fn digits(samples: &Samples, items: &[Item]) -> (u64, u64) {
+    let mut tickets = 0u64;
+    let mut places = 0u64;
+    for item in items {
+        tickets = with_digit(tickets, item.ticket);
+        places = with_digit(places, place_of(samples, item));
+    }
+    (tickets, places)
+}
+
+/// What is offered: the tickets, the transactions, how many owners they have more, and the cursor. None where there was no
+/// memory.
+pub fn see_offer<N: PoolName>(
+    samples: &Samples,
+    reader: &mut PeerReader,
+    snapshot: &Snapshot<'_, N>,
+    count: u64,
+    bytes: u64,
+) -> Option<Seen> {
+    let before = owners(samples);
+    let items = reader.offer(samples.memory, snapshot, count, bytes).ok()?;
+    let shared = owners(samples).wrapping_sub(before);
+    let (tickets, places) = digits(samples, items.as_slice());
+    Some([tickets, places, shared, reader.cursor(), 0, 0])
+}
+
+/// The block: the tickets, the transactions, how many owners they have more, the bytes, and the entries of the history. None where
+/// there was no memory.
+pub fn see_block<N: PoolName>(
+    samples: &Samples,
+    snapshot: &Snapshot<'_, N>,
+    bytes: u64,
+) -> Option<Seen> {
+    let before = owners(samples);
+    let block = forge(samples.memory, snapshot, bytes).ok()?;
+    let shared = owners(samples).wrapping_sub(before);
+    let (tickets, places) = digits(samples, block.items.as_slice());
+    Some([tickets, places, shared, block.bytes, block.number, 0])
+}
