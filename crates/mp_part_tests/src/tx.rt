@@ -1,6 +1,6 @@
 //! Transactions: which of their calls take memory. A transaction of its parts and its bytes take one growth each. A decoded
 //! one takes one for each list of parts, and two for each bundle, script and datum; the script of one operator that gives true
-//! and the list of no items take none.
+//! and the list of no items take none. References and policy scripts take one more, to be kept apart.
 use crate::rows::{Row, without_growth};
 use mp_memory::{Memory, NoMemory};
 use mp_script::{Data, Script};
@@ -133,13 +133,14 @@ fn output_shared(memory: Memory) -> Option<[u64; 1]> {
 
 /// What takes memory, and what takes none: bytes of no transaction that end before its first part or count more parts than
 /// there are, and a share.
-pub fn growths(memory: Memory) -> [Row; 11] {
+pub fn growths(memory: Memory) -> [Row; 12] {
     [
         Row::seen("growth 1 of parts", made(memory, 1), [1, 0, 0]),
-        Row::seen("growth 2 of parts", made(memory, 2), [0, 1, 406]),
+        Row::seen("growth 2 of parts", made(memory, 2), [1, 0, 0]),
+        Row::seen("growth 3 of parts", made(memory, 3), [0, 1, 406]),
         Row::seen("growth 1 of bytes", encoded(memory, 1), [1, 0, 0, 0]),
         Row::seen("growth 2 of bytes", encoded(memory, 2), [0, 1, 406, 406]),
-        Row::tried("a decoded one", tried(memory), [406, 0, u64::MAX], 13),
+        Row::tried("a decoded one", tried(memory), [406, 0, u64::MAX], 14),
         Row::seen("no bytes", no_transaction(memory, &[]), [1]),
         Row::seen("a version alone", no_transaction(memory, &[1]), [1]),
         Row::seen("an unknown version", no_transaction(memory, &[3]), [1]),

@@ -1,14 +1,14 @@
 //! The outputs that a transaction names.
 
 use mp_memory::Memory;
-use mp_tx::Output;
+use mp_tx::{Few, Output};
 use std::marker::Model;
 
 /// The outputs that a transaction names: those that its inputs spend, in their order, and those that its references lead to.
 /// Their bundles are shared with the map that they come from.
 #[derive(Debug, Drop)]
 pub struct Resolved {
-    spent: Vec<Output, Memory>,
+    spent: Few<Output>,
     referenced: Vec<Output, Memory>,
 }
 
@@ -33,7 +33,10 @@ impl Resolved {
         requires referenced { length referenced.items ≤ 256 }
         ensures { result ≡ record { spent = spent.items; referenced = referenced.items } }
     {
-        Resolved { spent, referenced }
+        Resolved {
+            spent: Few::of(spent),
+            referenced,
+        }
     }
 
     /// What the inputs spend, in their order.
@@ -41,7 +44,7 @@ impl Resolved {
         ensures same { result.now ≡ self.now.spent }
         ensures few { length result.now ≤ 256 }
     {
-        &self.spent
+        self.spent.as_slice()
     }
 
     /// What the references lead to, in their order.

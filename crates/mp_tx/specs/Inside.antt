@@ -1,9 +1,12 @@
 pub mod Base
 pub mod BlockFault
 pub mod Changes
+pub mod Extras
+pub mod Few
 pub mod Layers
 pub mod Ledger
 pub mod LedgerFault
+pub mod Lent
 pub mod Outputs
 pub mod Parts
 pub mod Reference

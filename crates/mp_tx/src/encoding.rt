@@ -4,13 +4,13 @@ ghost use Rattle.std.specs.Prelude.{◌≡◌, ◌++◌, length, OnOk};
 ghost use Rattle.std.specs.Int.{w16, to_be_bytes};
 ghost use Rattle.mp_bytes.specs.Spelling.{sized, counted};
 ghost use Rattle.mp_tx.specs.Spelling.{ref_bytes, input_bytes, entry_bytes, bundle_bytes, output_bytes, signature_bytes, interval_bytes, version_of, references_bytes, body};
-ghost use Rattle.mp_tx.specs.TxFault.{parts_of};
+ghost use Rattle.mp_tx.specs.Inside.Lent.{lent};
 
 use crate::input::Input;
 use crate::output::Output;
+use crate::parts::Parts;
 use crate::reference::OutRef;
 use crate::signature::Signature;
-use crate::tx::TxParts;
 use mp_bundle::{Bundle, Entry};
 use mp_memory::{Memory, NoMemory};
 use mp_script::Script;
@@ -183,14 +183,14 @@ fn version_of(references: &[OutRef]) -> u8
 
 /// Puts everything before the signatures behind what is there.
 #[tactic(auto, unfolding(crate::specs::Spelling::body))]
-pub fn put_body(out: &mut Vec<u8, Memory>, parts: &TxParts) -> Result<(), NoMemory>
-    ensures { OnOk result (out.new.items ≡ out.old.items ++ body (parts_of parts.now)) }
+pub fn put_body(out: &mut Vec<u8, Memory>, parts: &Parts<'_>) -> Result<(), NoMemory>
+    ensures { OnOk result (out.new.items ≡ out.old.items ++ body (lent parts.now)) }
 {
-    out.push(version_of(&parts.references))?;
-    put_inputs(out, &parts.inputs)?;
-    put_references(out, &parts.references)?;
-    put_outputs(out, &parts.outputs)?;
+    out.push(version_of(parts.references))?;
+    put_inputs(out, parts.inputs)?;
+    put_references(out, parts.references)?;
+    put_outputs(out, parts.outputs)?;
     put_interval(out, parts.from, parts.to)?;
-    put_bundle(out, &parts.forge)?;
-    put_scripts(out, &parts.scripts)
+    put_bundle(out, parts.forge)?;
+    put_scripts(out, parts.scripts)
 }

@@ -4,13 +4,16 @@
 mod block_fault;
 mod decoding;
 mod encoding;
+mod extras;
 mod fault;
+mod few;
 mod input;
 pub mod laws;
 mod ledger;
 mod ledger_fault;
 mod order;
 mod output;
+mod parts;
 mod reference;
 mod salt;
 mod signature;
@@ -19,6 +22,7 @@ mod typed;
 
 pub use block_fault::BlockFault;
 pub use fault::TxFault;
+pub use few::Few;
 pub use input::Input;
 pub use ledger::{Ledger, MAX_BLOCK_BYTES};
 pub use ledger_fault::LedgerFault;

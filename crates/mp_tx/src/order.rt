@@ -5,13 +5,14 @@ ghost use Rattle.std.specs.Option.{option_copied};
 ghost use Rattle.mp_tx.specs.Reference.{ref_cmp, same_ref};
 ghost use Rattle.mp_tx.specs.Rising.{follows, rises};
 ghost use Rattle.mp_tx.specs.Transaction.{spent_refs, script_cmp, signature_cmp, spends, spends_none};
-ghost use Rattle.mp_tx.specs.TxFault.{parts_of, all_rise, order_fault};
+ghost use Rattle.mp_tx.specs.TxFault.{all_rise, order_fault};
+ghost use Rattle.mp_tx.specs.Inside.Lent.{lent};
 
 use crate::fault::TxFault;
 use crate::input::Input;
+use crate::parts::Parts;
 use crate::reference::OutRef;
 use crate::signature::Signature;
-use crate::tx::TxParts;
 use mp_script::Script;
 
 /// Whether a reference is greater than the one before it, if there is one.
@@ -113,13 +114,13 @@ fn signatures_rise(signatures: &[Signature]) -> bool
     true
 }
 
-fn all_rise(parts: &TxParts) -> bool
-    ensures { result ≡ all_rise (parts_of parts.now) }
+fn all_rise(parts: &Parts<'_>) -> bool
+    ensures { result ≡ all_rise (lent parts.now) }
 {
-    inputs_rise(&parts.inputs)
-        && references_rise(&parts.references)
-        && scripts_rise(&parts.scripts)
-        && signatures_rise(&parts.signatures)
+    inputs_rise(parts.inputs)
+        && references_rise(parts.references)
+        && scripts_rise(parts.scripts)
+        && signatures_rise(parts.signatures)
 }
 
 fn spends_none(inputs: &[Input], references: &[OutRef]) -> bool
@@ -131,13 +132,13 @@ fn spends_none(inputs: &[Input], references: &[OutRef]) -> bool
 }
 
 /// The fault in how the parts stand to each other, if there is one.
-pub fn order_fault(parts: &TxParts) -> Option<TxFault>
-    ensures { result ≡ order_fault (parts_of parts.now) }
+pub fn order_fault(parts: &Parts<'_>) -> Option<TxFault>
+    ensures { result ≡ order_fault (lent parts.now) }
 {
     if !all_rise(parts) {
         return Some(TxFault::NotRising);
     }
-    if !spends_none(&parts.inputs, &parts.references) {
+    if !spends_none(parts.inputs, parts.references) {
         return Some(TxFault::ReferenceSpent);
     }
     if parts.to < parts.from {

@@ -4,10 +4,13 @@ ghost use Rattle.std.specs.Prelude.{◌≡◌, ◌&&◌, nat_le, length};
 
 use crate::decoding::read_parts;
 use crate::encoding::{put_body, put_signatures};
+use crate::extras::{Extras, keep_apart};
 use crate::fault::TxFault;
+use crate::few::Few;
 use crate::input::Input;
 use crate::order::order_fault;
 use crate::output::Output;
+use crate::parts::Parts;
 use crate::reference::{OutRef, TxId};
 use crate::signature::Signature;
 use crate::typed::look_at;
@@ -44,10 +47,37 @@ pub struct TxParts {
     pub signatures: Vec<Signature, Memory>,
 }
 
+impl TxParts {
+    ghost use Rattle.std.specs.Prelude.{◌≡◌};
+    ghost use Rattle.mp_tx.specs.TxFault.{parts_of};
+    ghost use Rattle.mp_tx.specs.Inside.Lent.{lent};
+
+    fn lend(&self) -> Parts<'_>
+        ensures { lent result ≡ parts_of self.now }
+    {
+        Parts {
+            inputs: &self.inputs,
+            references: &self.references,
+            outputs: &self.outputs,
+            from: self.from,
+            to: self.to,
+            forge: &self.forge,
+            scripts: &self.scripts,
+            signatures: &self.signatures,
+        }
+    }
+}
+
 /// A transaction of the extended UTXO model with native tokens (Chakravarty et al.). Its id and size are kept from construction.
 #[derive(Debug, Drop)]
 pub struct Tx {
-    parts: TxParts,
+    inputs: Few<Input>,
+    outputs: Few<Output>,
+    from: u64,
+    to: u64,
+    forge: Bundle,
+    extras: Option<Box<Extras, Memory>>,
+    signatures: Vec<Signature, Memory>,
     id: TxId,
     size: u64,
 }
@@ -64,10 +94,10 @@ impl Model for Tx {
     ghost invariant = { IsTied };
 }
 
-fn has_few_parts(parts: &TxParts) -> bool
-    ensures { result ≡ (nat_le (length parts.now.inputs.items) 256
-        && nat_le (length parts.now.references.items) 256
-        && nat_le (length parts.now.outputs.items) 256) }
+fn has_few_parts(parts: &Parts<'_>) -> bool
+    ensures { result ≡ (nat_le (length parts.now.inputs.now) 256
+        && nat_le (length parts.now.references.now) 256
+        && nat_le (length parts.now.outputs.now) 256) }
 {
     parts.inputs.len() <= MAX_PARTS
         && parts.references.len() <= MAX_PARTS
@@ -81,6 +111,7 @@ impl Tx {
     ghost use Rattle.mp_tx.specs.Spelling.{spelling, id_of, size_of};
     ghost use Rattle.mp_tx.specs.Parts.{IsTransaction, Spells};
     ghost use Rattle.mp_tx.specs.TxFault.{parts_of, IsPartsFault, IsBytesFault};
+    ghost use Rattle.mp_tx.specs.Inside.Lent.{lent};
 
     /// The transaction of these parts.
     ///
@@ -94,24 +125,61 @@ impl Tx {
         ensures fits { IfOk result IsTransaction }
         ensures fault { IfErr result (IsPartsFault (parts_of parts)) }
     {
-        if let Some(fault) = order_fault(&parts) {
+        let lent = parts.lend();
+        if let Some(fault) = order_fault(&lent) {
             return Err(fault);
         }
-        if !has_few_parts(&parts) {
+        if !has_few_parts(&lent) {
             return Err(TxFault::TooLarge);
         }
         let mut bytes = Vec::with_capacity(memory, MAX_BYTES)?;
-        put_body(&mut bytes, &parts)?;
+        put_body(&mut bytes, &lent)?;
         let id = digest(&bytes);
-        put_signatures(&mut bytes, &parts.signatures)?;
+        put_signatures(&mut bytes, lent.signatures)?;
         if bytes.len() > MAX_BYTES {
             return Err(TxFault::TooLarge);
         }
         let size = bytes.len() as u64;
-        Ok(Tx { parts, id, size })
+        Ok(Tx::keep(memory, parts, id, size)?)
     }
 
-    /// The transaction that the bytes spell, in format 1 or format 2. Nothing that isn't kept takes memory.
+    // The transaction of parts that may stand together, with their id and size.
+    fn keep(memory: Memory, parts: TxParts, id: TxId, size: u64) -> Result<Tx, NoMemory>
+        requires fits { IsTransaction (parts_of parts) }
+        requires id { id ≡ id_of (parts_of parts) }
+        requires size { size ≡ size_of (parts_of parts) }
+        ensures { IfOk result (λ t. t ≡ parts_of parts) }
+    {
+        Ok(Tx {
+            inputs: Few::of(parts.inputs),
+            outputs: Few::of(parts.outputs),
+            from: parts.from,
+            to: parts.to,
+            forge: parts.forge,
+            extras: keep_apart(memory, parts.references, parts.scripts)?,
+            signatures: parts.signatures,
+            id,
+            size,
+        })
+    }
+
+    fn lend(&self) -> Parts<'_>
+        ensures { lent result ≡ self.now }
+    {
+        Parts {
+            inputs: self.inputs.as_slice(),
+            references: self.references(),
+            outputs: self.outputs.as_slice(),
+            from: self.from,
+            to: self.to,
+            forge: &self.forge,
+            scripts: self.scripts(),
+            signatures: &self.signatures,
+        }
+    }
+
+    /// The transaction that the bytes spell, in format 1 or format 2. Nothing takes memory but what is kept,
+    /// and for a moment the room of a lone input and a lone output.
     ///
     /// # Errors
     /// `TooLarge` where there are over 16,384 bytes, and else the first fault from the left: each field whose bytes aren't all
@@ -124,11 +192,7 @@ impl Tx {
         ensures exact { IfErr result (IsBytesFault bytes.now) }
     {
         let (parts, body) = read_parts(memory, bytes)?;
-        Ok(Tx {
-            parts,
-            id: digest(body),
-            size: bytes.len() as u64,
-        })
+        Ok(Tx::keep(memory, parts, digest(body), bytes.len() as u64)?)
     }
 
     /// Its bytes, which `decode` reads back, made in one growth of just their number. Want of memory is the only error.
@@ -136,10 +200,11 @@ impl Tx {
         ensures spelling { IfOk result (λ v. v.items ≡ spelling self.now) }
         ensures spells { IfOk result (λ v. Spells v.items self.now) }
     {
-        look_at(&self.parts);
+        let parts = self.lend();
+        look_at(&parts);
         let mut bytes = Vec::with_capacity(memory, self.size as usize)?;
-        put_body(&mut bytes, &self.parts)?;
-        put_signatures(&mut bytes, &self.parts.signatures)?;
+        put_body(&mut bytes, &parts)?;
+        put_signatures(&mut bytes, parts.signatures)?;
         Ok(bytes)
     }
 
@@ -163,7 +228,7 @@ impl Tx {
         ensures inputs { result.now ≡ self.now.inputs }
         ensures fits { IsTransaction self.now }
     {
-        &self.parts.inputs
+        self.inputs.as_slice()
     }
 
     /// The outputs that it looks at and doesn't spend (CIP-31), in rising order.
@@ -171,7 +236,10 @@ impl Tx {
         ensures references { result.now ≡ self.now.references }
         ensures fits { IsTransaction self.now }
     {
-        &self.parts.references
+        match &self.extras {
+            Some(extras) => &extras.references,
+            None => &[],
+        }
     }
 
     /// What it pays, in the order in which its parts had them.
@@ -179,7 +247,7 @@ impl Tx {
         ensures outputs { result.now ≡ self.now.outputs }
         ensures fits { IsTransaction self.now }
     {
-        &self.parts.outputs
+        self.outputs.as_slice()
     }
 
     /// The first tick at which it may be applied.
@@ -187,7 +255,7 @@ impl Tx {
         ensures from { result ≡ self.now.from }
         ensures fits { IsTransaction self.now }
     {
-        self.parts.from
+        self.from
     }
 
     /// The last tick at which it may be applied.
@@ -195,14 +263,14 @@ impl Tx {
         ensures to { result ≡ self.now.to }
         ensures fits { IsTransaction self.now }
     {
-        self.parts.to
+        self.to
     }
 
     /// What it forges, and burns where a quantity is negative.
     pub fn forge(&self) -> &Bundle
         ensures { result.now ≡ self.now.forge }
     {
-        &self.parts.forge
+        &self.forge
     }
 
     /// The policy scripts that it carries, in rising order of their bytes.
@@ -210,7 +278,10 @@ impl Tx {
         ensures scripts { result.now ≡ self.now.scripts }
         ensures fits { IsTransaction self.now }
     {
-        &self.parts.scripts
+        match &self.extras {
+            Some(extras) => &extras.scripts,
+            None => &[],
+        }
     }
 
     /// Who has signed it, in rising order.
@@ -218,6 +289,6 @@ impl Tx {
         ensures signatures { result.now ≡ self.now.signatures }
         ensures fits { IsTransaction self.now }
     {
-        &self.parts.signatures
+        &self.signatures
     }
 }

@@ -3,14 +3,14 @@
 ghost use Rattle.std.specs.Prelude.{◌≡◌, ◌<◌, ◌^◌, length, All};
 ghost use Rattle.mp_script.specs.Script.{IsScript};
 ghost use Rattle.mp_tx.specs.Parts.{IsRef, IsSignature};
-ghost use Rattle.mp_tx.specs.TxFault.{parts_of};
+ghost use Rattle.mp_tx.specs.Inside.Lent.{lent};
 ghost use Rattle.mp_tx.specs.Inside.Parts.{IsTypedInput, IsTypedValue, IsTypedOutput, AreTyped};
 
 use crate::input::Input;
 use crate::output::Output;
+use crate::parts::Parts;
 use crate::reference::OutRef;
 use crate::signature::Signature;
-use crate::tx::TxParts;
 use mp_bundle::{Bundle, Entry};
 use mp_script::Script;
 
@@ -124,15 +124,15 @@ fn look_at_signatures(signatures: &[Signature])
 }
 
 /// What the types of all parts say.
-pub fn look_at(parts: &TxParts)
-    ensures { AreTyped (parts_of parts.now) }
+pub fn look_at(parts: &Parts<'_>)
+    ensures { AreTyped (lent parts.now) }
 {
-    look_at_inputs(&parts.inputs);
-    look_at_refs(&parts.references);
-    look_at_outputs(&parts.outputs);
+    look_at_inputs(parts.inputs);
+    look_at_refs(parts.references);
+    look_at_outputs(parts.outputs);
     look_at_tick(parts.from);
     look_at_tick(parts.to);
-    look_at_bundle(&parts.forge);
-    look_at_scripts(&parts.scripts);
-    look_at_signatures(&parts.signatures);
+    look_at_bundle(parts.forge);
+    look_at_scripts(parts.scripts);
+    look_at_signatures(parts.signatures);
 }

@@ -4,9 +4,9 @@ use Rattle.mp_rules.specs.declared.resolved.Resolved.TheInside.{Inside}
 use Rattle.mp_rules.specs.Resolved.{Resolved}
 
 abbrev pub resolved : Inside → Resolved
-resolved r = record { spent = r.spent.items; referenced = r.referenced.items }
+resolved r = record { spent = r.spent; referenced = r.referenced.items }
 
 -- no more than a transaction has inputs and references
 pub record IsFew (r : Inside) : Type 0 where
-  pub spent : length r.spent.items ≤ 256
+  pub spent : length r.spent ≤ 256
   pub referenced : length r.referenced.items ≤ 256

@@ -1,5 +1,5 @@
 -- What the types of parts alone say of them. How many and how long they are isn't among it.
-use Rattle.std.specs.Prelude.{◌≡◌, ℕ, ◌<◌, ◌^◌, List, length}
+use Rattle.std.specs.Prelude.{◌≡◌, ◌<◌, ◌^◌, List, length}
 use Rattle.std.specs.List.{All}
 use Rattle.mp_bundle.specs.Bundle.{Entry, IsBundle}
 use Rattle.mp_script.specs.Datum.{IsDatum}

@@ -1,13 +1,22 @@
--- What a transaction keeps beside its parts.
+-- What a transaction keeps.
 use Rattle.std.specs.Prelude.{◌≡◌}
 use Rattle.mp_tx.specs.declared.tx.Tx.TheInside.{Inside}
 use Rattle.mp_tx.specs.Transaction.{Transaction}
 use Rattle.mp_tx.specs.Spelling.{id_of, size_of}
 use Rattle.mp_tx.specs.Parts.{IsTransaction}
-use Rattle.mp_tx.specs.TxFault.{parts_of}
+use Rattle.mp_tx.specs.Inside.Extras.{references_in, scripts_in}
 
 abbrev pub transaction : Inside → Transaction
-transaction t = parts_of t.parts
+transaction t = record {
+  inputs = t.inputs;
+  references = references_in t.extras;
+  outputs = t.outputs;
+  from = t.from;
+  to = t.to;
+  forge = t.forge;
+  scripts = scripts_in t.extras;
+  signatures = t.signatures.items;
+}
 
 -- the id and the size are those of the parts
 pub record IsTied (t : Inside) : Type 0 where

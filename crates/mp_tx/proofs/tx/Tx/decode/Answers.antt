@@ -1,7 +1,8 @@
-use Rattle.std.proofs.Common.{arith, sym, ap, ◌∙◌}
+use Rattle.std.proofs.Common.{arith, sym, ap, subst, ◌∙◌}
 use Rattle.std.proofs.lemmas.Result.{err_from_is_err_and}
 use Rattle.sha2.specs.Sha256.{sha256}
 use Rattle.mp_tx.specs.Spelling.{id_of}
+use Rattle.mp_tx.specs.Parts.{Spells}
 use Rattle.mp_tx.specs.TxFault.{parts_of}
 use Rattle.mp_tx.proofs.PartsFaults.{only_memory}
 use Rattle.mp_tx.proofs.TxReading.{transaction_was, transaction_again, size_is}
@@ -12,15 +13,20 @@ returns-in_err-parts-clause-only c t s =
     let p = err_from_is_err_and c.from_residual.result c.from_residual.ensures.1 in
     rw (p.1, p.2) (only_memory c.in_err-parts.field-0.0 (λ other. let e = sym (transaction_again c.args.bytes.now t s) ∙ c.in_err-parts.ensures.read other in Prim.cc))
 
-pub invariant_of-result : goal.invariant_of-result
+pub keep-requires-clause-fits : goal.keep-requires-clause-fits
+keep-requires-clause-fits c =
+    (transaction_was c.args.bytes.now (parts_of c.in_ok-parts.parts) (λ i. omega (arith, c.type_inv.bytes i)) c.in_ok-parts.ensures.read).spells.fits
+
+pub keep-requires-clause-id : goal.keep-requires-clause-id
 unfolding id_of
-invariant_of-result c =
+keep-requires-clause-id c = c.digest.ensures ∙ ap sha256 c.in_ok-parts.ensures.body
+
+pub keep-requires-clause-size : goal.keep-requires-clause-size
+keep-requires-clause-size c =
     let w = transaction_was c.args.bytes.now (parts_of c.in_ok-parts.parts) (λ i. omega (arith, c.type_inv.bytes i)) c.in_ok-parts.ensures.read in
-    record {
-      fits = w.spells.fits;
-      id = c.digest.ensures ∙ ap sha256 c.in_ok-parts.ensures.body;
-      size = sym (size_is c.args.bytes.now (parts_of c.in_ok-parts.parts) w.spells.spelled);
-    }
+    sym (size_is c.args.bytes.now (parts_of c.in_ok-parts.parts) w.spells.spelled)
 
 pub returns-clause-found : goal.returns-clause-found
-returns-clause-found c = (transaction_was c.args.bytes.now (parts_of c.in_ok-parts.parts) (λ i. omega (arith, c.type_inv.bytes i)) c.in_ok-parts.ensures.read).spells
+returns-clause-found c =
+    let w = transaction_was c.args.bytes.now (parts_of c.in_ok-parts.parts) (λ i. omega (arith, c.type_inv.bytes i)) c.in_ok-parts.ensures.read in
+    subst (Spells c.args.bytes.now) (sym c.in_ok-keep.ensures) w.spells

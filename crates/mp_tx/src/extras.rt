@@ -1,0 +1,34 @@
+//! What few transactions have.
+
+ghost use Rattle.std.specs.Prelude.{◌≡◌, IfOk};
+ghost use Rattle.mp_tx.specs.Inside.Extras.{references_in, scripts_in};
+
+use crate::reference::OutRef;
+use mp_memory::{Memory, NoMemory};
+use mp_script::Script;
+
+/// What few transactions have: references, and policy scripts.
+#[derive(Debug, Drop)]
+pub struct Extras {
+    pub references: Vec<OutRef, Memory>,
+    pub scripts: Vec<Script, Memory>,
+}
+
+/// References and policy scripts apart, in one growth, or in none where there are neither.
+pub fn keep_apart(
+    memory: Memory,
+    references: Vec<OutRef, Memory>,
+    scripts: Vec<Script, Memory>,
+) -> Result<Option<Box<Extras, Memory>>, NoMemory>
+    ensures references { IfOk result (λ extras. references_in extras ≡ references.items) }
+    ensures scripts { IfOk result (λ extras. scripts_in extras ≡ scripts.items) }
+{
+    if references.is_empty() && scripts.is_empty() {
+        return Ok(None);
+    }
+    let extras = Extras {
+        references,
+        scripts,
+    };
+    Ok(Some(Box::new(memory, extras)?))
+}

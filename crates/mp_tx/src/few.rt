@@ -1,0 +1,69 @@
+//! Lists that seldom have more than one item.
+
+ghost use Rattle.std.specs.Prelude.{◌≡◌};
+ghost use Rattle.mp_tx.specs.Inside.Few.{those};
+
+use mp_memory::Memory;
+use std::marker::Model;
+
+// One item, which is seen as a slice. It is a type of its own, since the checker has no rule for the drop of an enum with an array.
+#[derive(Debug, Drop)]
+struct Lone<T> {
+    item: [T; 1],
+}
+
+#[derive(Debug, Drop)]
+enum Kept<T> {
+    One(Lone<T>),
+    Several(Vec<T, Memory>),
+}
+
+/// A list that doesn't grow. One item stands in the list itself, and takes no memory. Contracts see the items.
+#[derive(Debug, Drop)]
+pub struct Few<T> {
+    kept: Kept<T>,
+}
+
+impl<T> Model for Few<T> {
+    ghost use Rattle.std.specs.Prelude.{List};
+
+    ghost Value = { List T };
+
+    ghost use Rattle.mp_tx.specs.Inside.Few.{those};
+
+    ghost view = { λ f. those f.kept };
+}
+
+fn keep_exact<T: Drop>(items: Vec<T, Memory>) -> Kept<T>
+    ensures { those result ≡ items.items }
+{
+    let mut items = items;
+    if items.len() == 1 {
+        if let Some(only) = items.pop() {
+            return Kept::One(Lone { item: [only] });
+        }
+    }
+    items.shrink_to_fit();
+    Kept::Several(items)
+}
+
+impl<T: Drop> Few<T> {
+    /// These items, in exact room. It takes no memory, and that of a lone item is given back.
+    pub fn of(items: Vec<T, Memory>) -> Few<T>
+        ensures { result ≡ items.items }
+    {
+        Few {
+            kept: keep_exact(items),
+        }
+    }
+
+    /// The items, in their order.
+    pub fn as_slice(&self) -> &[T]
+        ensures { result.now ≡ self.now }
+    {
+        match &self.kept {
+            Kept::One(only) => &only.item,
+            Kept::Several(items) => items,
+        }
+    }
+}
