@@ -1,6 +1,7 @@
 pub mod Base
 pub mod BlockFault
 pub mod Changes
+pub mod Empty
 pub mod Extras
 pub mod Few
 pub mod Layers

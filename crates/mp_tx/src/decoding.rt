@@ -12,18 +12,19 @@ ghost use Rattle.std.specs.Prelude.{◌≡◌, IfOk};
 ghost use Rattle.mp_bytes.specs.Reading.{seen};
 ghost use Rattle.mp_tx.specs.Spelling.{body};
 ghost use Rattle.mp_tx.specs.TxFault.{parts_of};
+ghost use Rattle.mp_tx.specs.Inside.Empty.{AreEmpty};
 ghost use Rattle.mp_tx.specs.Reading.{Reads, version_read, body_read, transaction_of};
 
 use crate::fault::TxFault;
 use crate::tx::{MAX_BYTES, TxParts};
 use bundle::read_bundle;
 use field::{read_byte, read_interval};
-use input::read_inputs;
+use input::fill_inputs;
 use mp_memory::Memory;
-use output::read_outputs;
-use policy::read_policies;
-use reference::read_references;
-use signature::read_signatures;
+use output::fill_outputs;
+use policy::fill_policies;
+use reference::fill_references;
+use signature::fill_signatures;
 
 // Format 1 or format 2.
 #[tactic(auto, unfolding(crate::specs::Reading::version_read))]
@@ -37,46 +38,47 @@ fn read_version(bytes: &[u8]) -> Result<(u8, &[u8]), TxFault>
     }
 }
 
-// What stands before the signatures, without signatures.
+// Puts what stands before the signatures into parts that are empty, and gives the bytes after it.
 #[tactic(auto, unfolding(crate::specs::Reading::body_read))]
-fn read_body(memory: Memory, bytes: &[u8]) -> Result<(TxParts, &[u8]), TxFault>
-    ensures { Reads (λ x. (parts_of x.0, x.1.now)) result (body_read bytes.now) }
+fn fill_body<'a>(
+    memory: Memory,
+    parts: &mut TxParts,
+    bytes: &'a [u8],
+) -> Result<&'a [u8], TxFault>
+    requires { AreEmpty parts.old }
+    ensures read { Reads (λ rest. (parts_of parts.new, rest.now)) result (body_read bytes.now) }
+    ensures signatures { parts.new.signatures ≡ parts.old.signatures }
 {
     let (version, rest) = read_version(bytes)?;
-    let (inputs, rest) = read_inputs(memory, rest)?;
-    let (references, rest) = read_references(memory, version, &inputs, rest)?;
-    let (outputs, rest) = read_outputs(memory, rest)?;
-    let ((from, to), rest) = read_interval(rest)?;
+    let rest = fill_inputs(memory, &mut parts.inputs, rest)?;
+    let rest = fill_references(&mut parts.references, version, &parts.inputs, rest)?;
+    let rest = fill_outputs(memory, &mut parts.outputs, rest)?;
+    let (interval, rest) = read_interval(rest)?;
+    (parts.from, parts.to) = interval;
     let (forge, rest) = read_bundle(memory, rest)?;
-    let (scripts, rest) = read_policies(memory, rest)?;
-    let parts = TxParts {
-        inputs,
-        references,
-        outputs,
-        from,
-        to,
-        forge,
-        scripts,
-        signatures: Vec::new(memory),
-    };
-    Ok((parts, rest))
+    parts.forge = forge;
+    fill_policies(memory, &mut parts.scripts, rest)
 }
 
-/// The parts of the transaction that the bytes spell, and the bytes before its signatures.
+/// Puts the transaction that the bytes spell into parts that are empty, and gives the bytes before its signatures.
 #[tactic(auto, unfolding(crate::specs::Reading::transaction_of))]
-pub fn read_parts(memory: Memory, bytes: &[u8]) -> Result<(TxParts, &[u8]), TxFault>
-    ensures read { Reads (λ x. parts_of x.0) result (transaction_of bytes.now) }
-    ensures body { IfOk result (λ x. x.1.now ≡ body (parts_of x.0)) }
+pub fn fill_parts<'a>(
+    memory: Memory,
+    parts: &mut TxParts,
+    bytes: &'a [u8],
+) -> Result<&'a [u8], TxFault>
+    requires { AreEmpty parts.old }
+    ensures read { Reads (λ _. parts_of parts.new) result (transaction_of bytes.now) }
+    ensures body { IfOk result (λ before. before.now ≡ body (parts_of parts.new)) }
 {
     if bytes.len() > MAX_BYTES {
         return Err(TxFault::TooLarge);
     }
-    let (mut parts, rest) = read_body(memory, bytes)?;
+    let rest = fill_body(memory, parts, bytes)?;
     let body = &bytes[..bytes.len() - rest.len()];
-    let (signatures, rest) = read_signatures(memory, rest)?;
-    if !rest.is_empty() {
+    let left = fill_signatures(&mut parts.signatures, rest)?;
+    if !left.is_empty() {
         return Err(TxFault::Trailing);
     }
-    parts.signatures = signatures;
-    Ok((parts, body))
+    Ok(body)
 }

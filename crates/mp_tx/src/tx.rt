@@ -2,7 +2,7 @@
 
 ghost use Rattle.std.specs.Prelude.{◌≡◌, ◌&&◌, nat_le, length};
 
-use crate::decoding::read_parts;
+use crate::decoding::fill_parts;
 use crate::encoding::{put_body, put_signatures};
 use crate::extras::{Extras, keep_apart};
 use crate::fault::TxFault;
@@ -50,7 +50,24 @@ pub struct TxParts {
 impl TxParts {
     ghost use Rattle.std.specs.Prelude.{◌≡◌};
     ghost use Rattle.mp_tx.specs.TxFault.{parts_of};
+    ghost use Rattle.mp_tx.specs.Inside.Empty.{AreEmpty};
     ghost use Rattle.mp_tx.specs.Inside.Lent.{lent};
+
+    // No parts yet.
+    fn empty(memory: Memory) -> TxParts
+        ensures { AreEmpty result }
+    {
+        TxParts {
+            inputs: Vec::new(memory),
+            references: Vec::new(memory),
+            outputs: Vec::new(memory),
+            from: 0,
+            to: 0,
+            forge: Bundle::empty(),
+            scripts: Vec::new(memory),
+            signatures: Vec::new(memory),
+        }
+    }
 
     fn lend(&self) -> Parts<'_>
         ensures { lent result ≡ parts_of self.now }
@@ -191,7 +208,8 @@ impl Tx {
             IfErr result (λ e. e ≡ faults.NoMemory) }
         ensures exact { IfErr result (IsBytesFault bytes.now) }
     {
-        let (parts, body) = read_parts(memory, bytes)?;
+        let mut parts = TxParts::empty(memory);
+        let body = fill_parts(memory, &mut parts, bytes)?;
         Ok(Tx::keep(memory, parts, digest(body), bytes.len() as u64)?)
     }
 

@@ -60,13 +60,17 @@ fn put_inputs<'a>(
     Ok(rest)
 }
 
-/// At most 256 inputs.
-pub fn read_inputs(memory: Memory, bytes: &[u8]) -> Result<(Vec<Input, Memory>, &[u8]), TxFault>
-    ensures { Reads (λ x. (x.0.items, x.1.now)) result
+/// Puts at most 256 inputs into a vector that is empty, and gives the bytes after them.
+pub fn fill_inputs<'a>(
+    memory: Memory,
+    inputs: &mut Vec<Input, Memory>,
+    bytes: &'a [u8],
+) -> Result<&'a [u8], TxFault>
+    requires { inputs.old.items ≡ [] }
+    ensures { Reads (λ rest. (inputs.new.items, rest.now)) result
         (few_read (λ i. i.from) input_read bytes.now) }
 {
     let (count, rest) = read_count(bytes)?;
-    let mut inputs = Vec::with_capacity(memory, count as usize)?;
-    let rest = put_inputs(memory, &mut inputs, count, rest)?;
-    Ok((inputs, rest))
+    inputs.reserve_exact(count as usize)?;
+    put_inputs(memory, inputs, count, rest)
 }

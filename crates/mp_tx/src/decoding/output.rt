@@ -51,12 +51,17 @@ fn put_outputs<'a>(
     Ok(rest)
 }
 
-/// At most 256 outputs.
-pub fn read_outputs(memory: Memory, bytes: &[u8]) -> Result<(Vec<Output, Memory>, &[u8]), TxFault>
-    ensures { Reads (λ x. (x.0.items, x.1.now)) result (few_read itself output_read bytes.now) }
+/// Puts at most 256 outputs into a vector that is empty, and gives the bytes after them.
+pub fn fill_outputs<'a>(
+    memory: Memory,
+    outputs: &mut Vec<Output, Memory>,
+    bytes: &'a [u8],
+) -> Result<&'a [u8], TxFault>
+    requires { outputs.old.items ≡ [] }
+    ensures { Reads (λ rest. (outputs.new.items, rest.now)) result
+        (few_read itself output_read bytes.now) }
 {
     let (count, rest) = read_count(bytes)?;
-    let mut outputs = Vec::with_capacity(memory, count as usize)?;
-    let rest = put_outputs(memory, &mut outputs, count, rest)?;
-    Ok((outputs, rest))
+    outputs.reserve_exact(count as usize)?;
+    put_outputs(memory, outputs, count, rest)
 }

@@ -54,13 +54,18 @@ fn put_policies<'a>(
     Ok(rest)
 }
 
-/// The policy scripts.
-pub fn read_policies(memory: Memory, bytes: &[u8]) -> Result<(Vec<Script, Memory>, &[u8]), TxFault>
-    ensures { Reads (λ x. (x.0.items, x.1.now)) result (counted_read itself policy_read bytes.now) }
+/// Puts the policy scripts into a vector that is empty, and gives the bytes after them.
+pub fn fill_policies<'a>(
+    memory: Memory,
+    scripts: &mut Vec<Script, Memory>,
+    bytes: &'a [u8],
+) -> Result<&'a [u8], TxFault>
+    requires { scripts.old.items ≡ [] }
+    ensures { Reads (λ rest. (scripts.new.items, rest.now)) result
+        (counted_read itself policy_read bytes.now) }
 {
     let (count, rest) = split_count(bytes).ok_or(TxFault::Truncated)?;
     let most = rest.len() / LEAST_POLICY_BYTES;
-    let mut scripts = Vec::with_capacity(memory, most.min(count as usize))?;
-    let rest = put_policies(memory, &mut scripts, count, rest)?;
-    Ok((scripts, rest))
+    scripts.reserve_exact(most.min(count as usize))?;
+    put_policies(memory, scripts, count, rest)
 }

@@ -59,19 +59,20 @@ fn put_references<'a>(
     Ok(rest)
 }
 
-/// The references: none in format 1, and 1 to 256 in format 2.
+/// Puts the references into a vector that is empty, and gives the bytes after them: none in format 1, and 1 to 256 in format 2.
 #[tactic(auto, unfolding(crate::specs::Reading::references_read))]
-pub fn read_references<'a>(
-    memory: Memory,
+pub fn fill_references<'a>(
+    references: &mut Vec<OutRef, Memory>,
     version: u8,
     inputs: &[Input],
     bytes: &'a [u8],
-) -> Result<(Vec<OutRef, Memory>, &'a [u8]), TxFault>
-    ensures { Reads (λ x. (x.0.items, x.1.now)) result
+) -> Result<&'a [u8], TxFault>
+    requires { references.old.items ≡ [] }
+    ensures { Reads (λ rest. (references.new.items, rest.now)) result
         (references_read version inputs.now bytes.now) }
 {
     if version == FORMAT_WITHOUT_REFERENCES {
-        return Ok((Vec::new(memory), bytes));
+        return Ok(bytes);
     }
     let (count, rest) = split_count(bytes).ok_or(TxFault::Truncated)?;
     if count == 0 {
@@ -80,7 +81,6 @@ pub fn read_references<'a>(
     if count as usize > MAX_PARTS {
         return Err(TxFault::TooLarge);
     }
-    let mut references = Vec::with_capacity(memory, count as usize)?;
-    let rest = put_references(&mut references, inputs, count, rest)?;
-    Ok((references, rest))
+    references.reserve_exact(count as usize)?;
+    put_references(references, inputs, count, rest)
 }

@@ -53,17 +53,17 @@ fn put_signatures<'a>(
     Ok(rest)
 }
 
-/// The signatures.
-pub fn read_signatures(
-    memory: Memory,
-    bytes: &[u8],
-) -> Result<(Vec<Signature, Memory>, &[u8]), TxFault>
-    ensures { Reads (λ x. (x.0.items, x.1.now)) result
+/// Puts the signatures into a vector that is empty, and gives the bytes after them.
+pub fn fill_signatures<'a>(
+    signatures: &mut Vec<Signature, Memory>,
+    bytes: &'a [u8],
+) -> Result<&'a [u8], TxFault>
+    requires { signatures.old.items ≡ [] }
+    ensures { Reads (λ rest. (signatures.new.items, rest.now)) result
         (counted_read itself signature_read bytes.now) }
 {
     let (count, rest) = split_count(bytes).ok_or(TxFault::Truncated)?;
     let most = rest.len() / SIGNATURE_BYTES;
-    let mut signatures = Vec::with_capacity(memory, most.min(count as usize))?;
-    let rest = put_signatures(&mut signatures, count, rest)?;
-    Ok((signatures, rest))
+    signatures.reserve_exact(most.min(count as usize))?;
+    put_signatures(signatures, count, rest)
 }
