@@ -11,10 +11,11 @@ use Rattle.mp_history.specs.Entry.{Entry}
 use Rattle.mp_history.specs.Log.{IsLegal, entered, state_after}
 use Rattle.mp_history.proofs.Logs.{pool_of-append}
 use Rattle.mp_versions.proofs.Histories.{number_of}
-use Rattle.mp_mempool.specs.Pass.{Pass}
+use Rattle.mp_reader.specs.Pass.{Pass}
+use Rattle.mp_reader.specs.Seen.{IsSeen, seen}
 use Rattle.mp_mempool.specs.declared.refusal.Refusal.{Refusal}
 use Rattle.mp_mempool.specs.declared.refusal.Refusal.TheVariants.{Pool, Foreign}
-use Rattle.mp_mempool.specs.Answers.{IsEntered, IsRefused, IsRefusedAt, IsSeen, seen}
+use Rattle.mp_mempool.specs.Answers.{IsEntered, IsRefused, IsRefusedAt}
 use Rattle.mp_settings.specs.Verifier.{is_key_and_id}
 use Rattle.mp_driver.specs.Inside.ScenarioPool.{IsLast, IsAlone, GoesOnBehind, IsSequential}
 

@@ -2,7 +2,7 @@
 
 ghost use Rattle.std.specs.Prelude.{◌≡◌, ◌≤◌, [], ◌∷◌, length, Some, IfOk, IfErr, OnOk};
 ghost use Rattle.mp_history.specs.Log.{IsLegalLog};
-ghost use Rattle.mp_mempool.specs.Pass as told;
+ghost use Rattle.mp_reader.specs.Pass as told;
 ghost use Rattle.mp_driver.specs.Halt.{IsBad, TellsOf};
 ghost use Rattle.mp_driver.specs.Inside.ScenarioPool.{GoesOnBehind, IsSequential};
 

@@ -1,12 +1,12 @@
 -- Whose entries stand where in a history.
-use Rattle.std.proofs.Common.{◌≡◌, ◌≢◌, ℕ, zero, suc, ◌+◌, ◌<◌, ◌≤◌, true, false, cond, List, [], ◌∷◌, ◌++◌, length, get_or, refl, sym, ap, ap₂, subst, ◌∙◌, arith, not-suc-le-zero, eqb-true}
+use Rattle.std.proofs.Common.{◌≡◌, ◌≢◌, ℕ, zero, suc, ◌+◌, ◌<◌, ◌≤◌, true, false, cond, List, [], ◌∷◌, ◌++◌, length, get_or, refl, sym, ap, subst, ◌∙◌, arith, not-suc-le-zero, eqb-true}
 use Rattle.std.specs.Prelude.{◌==◌, Option, None, Some, option_map, IfSome, IsSomeAnd, slice_get, All}
 use Rattle.std.specs.Option.{option_or}
 use Rattle.mp_history.specs.Entry.{Entry}
 use Rattle.mp_history.specs.Log.{Log, Begins, last_of}
 use Rattle.mp_history.proofs.Law.{eqb-refl}
-use Rattle.mp_mempool.specs.Pass.{Pass, IsEntryOf, IsOwn}
-use Rattle.mp_mempool.specs.Answers.{AreOthers, IsForeign, continued}
+use Rattle.mp_reader.specs.Pass.{Pass, IsEntryOf, IsOwn}
+use Rattle.mp_mempool.specs.Answers.{AreOthers, IsForeign}
 
 -- an entry of the caller stands at this place
 abbrev Own : ℕ → List Entry → ℕ → Type 0
@@ -96,10 +96,6 @@ pub others : (c : ℕ) (last : Option ℕ) (front log : Log) → IfSome last (Is
 others c last front log own b known =
     let at : last_of c (front.entries ++ b.entries.0) ≡ last = ap (last_of c) b.entries.1 ∙ known in
     record { alone = alone c front.entries b.entries.0 last at (own-last-within c front.entries last own); known = at }
-
--- the history is what was seen and what comes then
-pub goes_on : (front log : Log) (b : Begins front log) → log ≡ continued front b.entries.0
-goes_on front log b = sym (ap₂ (λ o es. record { opening = o; entries = es }) b.opening b.entries.1)
 
 -- what its caller made stays
 pub stays : (c : ℕ) (last : Option ℕ) (front log : Log) → Begins front log → IfSome last (IsEntryOf c front) → IfSome last (IsEntryOf c log)

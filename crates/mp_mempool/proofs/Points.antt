@@ -1,9 +1,7 @@
 -- The states at the points of a history.
-use Rattle.std.proofs.Common.{◌≡◌, ◌≢◌, ℕ, ◌<◌, List, [], ◌++◌, length, refl, sym, ap, ap₂, subst, ◌∙◌, append-nil}
+use Rattle.std.proofs.Common.{◌≡◌, ◌≢◌, ℕ, List, ◌++◌, length, refl, sym, ap, ap₂, subst, ◌∙◌}
 use Rattle.std.specs.Prelude.{Ok, Err, Some}
-use Rattle.mp_tx.specs.Ledger.{LedgerState}
 use Rattle.mp_rules.specs.Verifier.{Accepts}
-use Rattle.mp_resync.specs.Keep.{keep, bytes_of}
 use Rattle.mp_seqpool.specs.declared.refusal.Refusal as pool
 use Rattle.mp_seqpool.specs.declared.refusal.Refusal.TheVariants as refusals
 use Rattle.mp_seqpool.specs.Command.{Command}
@@ -11,13 +9,12 @@ use Rattle.mp_seqpool.specs.SlowPool.{answer}
 use Rattle.mp_seqpool.specs.SlowPool as slow
 use Rattle.mp_history.specs.Entry.{Entry}
 use Rattle.mp_history.specs.Log.{Log, Begins, IsLegalLog, entered, last_of, state_after}
-use Rattle.mp_mempool.specs.Pass.{Pass, IsOwn}
+use Rattle.mp_reader.specs.Pass.{Pass, IsOwn}
+use Rattle.mp_reader.specs.Seen.{continued}
+use Rattle.mp_reader.proofs.Seeing.{goes_on}
 use Rattle.mp_mempool.specs.declared.refusal.Refusal.TheVariants.{Pool}
-use Rattle.mp_mempool.specs.Answers.{IsEntered, IsRefusedAt, IsRefused, IsSeen, IsSnapshotFor, continued, with_entry}
-use Rattle.mp_versions.specs.Version.{Version}
-use Rattle.mp_versions.proofs.Histories.{number_of}
-use Rattle.mp_mempool.specs.declared.snapshot_for.SnapshotFor.{SnapshotFor}
-use Rattle.mp_mempool.proofs.Entries.{others, goes_on}
+use Rattle.mp_mempool.specs.Answers.{IsEntered, IsRefusedAt, IsRefused, with_entry}
+use Rattle.mp_mempool.proofs.Entries.{others}
 
 module _ (accepts : Accepts) where
   -- what a receipt says
@@ -60,24 +57,6 @@ module _ (accepts : Accepts) where
         refused = subst (λ l. answer accepts (state_after accepts l) c ≡ Err refusal) (sym (ap (λ p. p.front) is)) refused;
       }
 
-  -- what a read says
-  pub is_seen : (callers : ℕ) (before after : Pass) (log : Log) → Begins before.front log → IsLegalLog accepts callers log
-      → after ≡ record before { front = log } → IsSeen accepts callers before after
-  is_seen callers before after log b legal is = record {
-    more = b.entries.0;
-    pass = is ∙ ap (λ l. record before { front = l }) (goes_on before.front log b);
-    legal = subst (IsLegalLog accepts callers) (sym (ap (λ p. p.front) is)) legal;
-  }
-
-  -- what was seen stands where it stood
-  pub is_seen_anew : (callers : ℕ) (before after : Pass) → Begins before.front after.front → IsLegalLog accepts callers after.front
-      → after ≡ record before { front = after.front } → IsSeen accepts callers before after
-  is_seen_anew callers before after b legal same = is_seen callers before after after.front b legal same
-
-  -- nothing more was seen
-  pub is_seen_still : (callers : ℕ) (pass : Pass) → IsLegalLog accepts callers pass.front → IsSeen accepts callers pass pass
-  is_seen_still callers pass legal = is_seen callers pass pass pass.front (record { opening = refl; entries = ([], append-nil pass.front.entries) }) legal refl
-
   -- Refusals of calls.
 
   -- another refusal, at the whole history
@@ -90,13 +69,3 @@ module _ (accepts : Accepts) where
   refusal_told N callers before after log (refusals.AlreadyInPool k) c other own b known legal is refused = is_refused callers before after log c (refusals.AlreadyInPool k) own b known legal refused is
   refusal_told N callers before after log (refusals.Full need free) c other own b known legal is refused = is_refused callers before after log c (refusals.Full need free) own b known legal refused is
   refusal_told N callers before after log (refusals.Invalid fault) c other own b known legal is refused = is_refused callers before after log c (refusals.Invalid fault) own b known legal refused is
-
--- what stays valid upon another ledger state, of a version
-pub is_snapshot_for : (a accepts : Accepts) (callers : ℕ) (log front_now : Log) (v : Version) (ledger : LedgerState) (s : SnapshotFor) → a ≡ accepts → IsLegalLog accepts callers log
-    → v.pool ≡ state_after accepts log → front_now ≡ log
-    → s.items ≡ keep a ledger v.pool.items → s.bytes ≡ bytes_of s.items → s.number ≡ v.pool.changes → IsSnapshotFor accepts front_now ledger s
-is_snapshot_for a accepts callers log front_now v ledger s same legal state front items bytes number = record {
-  items = items ∙ ap₂ (λ b p. keep b ledger p.items) same state ∙ ap (λ l. keep accepts ledger (state_after accepts l).items) (sym front);
-  bytes = bytes;
-  number = number ∙ ap (λ p. p.changes) state ∙ number_of accepts callers log legal ∙ ap (λ l. length l.entries) (sym front);
-}

@@ -1,8 +1,6 @@
 -- How calls are answered: as the slow pool answers at a point of one history, which extends all that the caller had seen.
 use Rattle.std.specs.Prelude.{◌≡◌, ◌≢◌, ℕ, ◌<◌, List, ◌++◌, length, All, Some, IfSome, Ok, Err}
-use Rattle.mp_tx.specs.Ledger.{LedgerState}
 use Rattle.mp_rules.specs.Verifier.{Accepts}
-use Rattle.mp_resync.specs.Keep.{keep, bytes_of}
 use Rattle.mp_seqpool.specs.declared.refusal.Refusal as pool
 use Rattle.mp_seqpool.specs.declared.refusal.Refusal.TheVariants as refusals
 use Rattle.mp_seqpool.specs.Refusal as sequential
@@ -10,18 +8,10 @@ use Rattle.mp_seqpool.specs.Command.{Command}
 use Rattle.mp_seqpool.specs.SlowPool.{answer}
 use Rattle.mp_history.specs.Entry.{Entry}
 use Rattle.mp_history.specs.Log.{Log, Begins, IsLegalLog, entered, last_of, state_after}
-use Rattle.mp_mempool.specs.declared.snapshot_for.SnapshotFor.{SnapshotFor}
+use Rattle.mp_reader.specs.Pass.{Pass, IsEntryOf}
+use Rattle.mp_reader.specs.Seen.{continued, seen}
 use Rattle.mp_mempool.specs.declared.refusal.Refusal.{Refusal}
 use Rattle.mp_mempool.specs.declared.refusal.Refusal.TheVariants.{Pool, Foreign}
-use Rattle.mp_mempool.specs.Pass.{Pass, IsEntryOf}
-
--- the history with more entries
-abbrev pub continued : Log → List Entry → Log
-continued log es = record log { entries = log.entries ++ es }
-
--- the caller has seen these entries too
-abbrev pub seen : Pass → List Entry → Pass
-seen p others = record p { front = continued p.front others }
 
 -- the caller has seen these entries, and then made its own
 abbrev pub with_entry : Pass → List Entry → Entry → Pass
@@ -75,21 +65,8 @@ module _ (accepts : Accepts) (callers : ℕ) where
   IsRefused before command (Pool refusal) after = IsRefusedAt before command refusal after
   IsRefused before command (Foreign front) after = IsForeign before front × (after ≡ before)
 
-  -- What a caller comes to have seen without a call that changes anything.
-  pub record IsSeen (before after : Pass) : Type 0 where
-    -- what was entered since
-    pub more : List Entry
-    pub pass : after ≡ seen before more
-    pub legal : IsLegalLog accepts callers after.front
-
 -- the refusal tells of this history, or its caller has now seen it; where memory is wanting, its pass knows all its entries there
 abbrev pub IsOfLog : {N : Type 0} → Log → Refusal N → Pass → Type 0
 IsOfLog log (Pool refusals.NoMemory) after = last_of after.caller log.entries ≡ after.last
 IsOfLog log (Pool refusal) after = after.front ≡ log
 IsOfLog log (Foreign front) after = front ≡ log
-
--- What stays valid upon another ledger state, of the state after a history.
-pub record IsSnapshotFor (accepts : Accepts) (log : Log) (ledger : LedgerState) (s : SnapshotFor) : Type 0 where
-  pub items : s.items ≡ keep accepts ledger (state_after accepts log).items
-  pub bytes : s.bytes ≡ bytes_of s.items
-  pub number : s.number ≡ length log.entries

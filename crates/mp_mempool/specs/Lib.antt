@@ -2,4 +2,3 @@ pub mod Answers
 pub mod Inside
 pub mod Successor
 pub mod Opening
-pub mod Pass

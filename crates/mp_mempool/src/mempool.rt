@@ -11,15 +11,13 @@ ghost use Rattle.mp_mempool.specs.Inside.Heir.{IsHeir};
 
 use crate::config::Config;
 use crate::opening::{Parts, open_fault, open_parts};
-use crate::pass::Pass;
-use crate::reader::Reader;
-use crate::receipt::Receipt;
 use crate::refusal::{OpenRefusal, Refusal, SuccessorRefusal};
 use crate::successor::{Heir, prepare};
 use crate::under_lock::{remove_in, submit_in, sync_in};
 use mp_history::{History, NewName, PoolName};
 use mp_locked::Locked;
 use mp_memory::{Memory, NoMemory};
+use mp_reader::{Pass, Reader, Receipt};
 use mp_rules::Verifier;
 use mp_seqpool::{Command, Ids};
 use mp_tx::{Ledger, Tx};

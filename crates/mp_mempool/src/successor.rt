@@ -9,11 +9,11 @@ ghost use Rattle.mp_mempool.specs.Successor.{numbers, AreAll, AreBadAt, IsKnownT
 ghost use Rattle.mp_mempool.specs.Inside.Heir.{IsHeir};
 
 use crate::opening::{Desk, open_fault, set_desk};
-use crate::pass::Pass;
 use crate::refusal::{OpenRefusal, SuccessorRefusal};
 use mp_history::{CommitRight, Front, History, NewName, PoolName};
 use mp_locked::Locked;
 use mp_memory::{Memory, NoMemory};
+use mp_reader::Pass;
 use mp_versions::Shown;
 use std::sync::{Arc, Wait};
 

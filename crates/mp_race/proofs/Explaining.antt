@@ -7,8 +7,8 @@ use Rattle.mp_rules.specs.Verifier.{Accepts}
 use Rattle.mp_seqpool.specs.Pool.{Pool}
 use Rattle.mp_history.specs.Entry.{Entry}
 use Rattle.mp_history.specs.Log.{Log, Begins, IsLegalLog, last_of}
-use Rattle.mp_mempool.specs.declared.receipt.Receipt.{Receipt}
-use Rattle.mp_mempool.specs.Pass.{Pass}
+use Rattle.mp_reader.specs.declared.receipt.Receipt.{Receipt}
+use Rattle.mp_reader.specs.Pass.{Pass}
 use Rattle.mp_race.specs.Task.{Task}
 use Rattle.mp_race.specs.Race.{own, dealt, Plays}
 use Rattle.mp_race.specs.Inside.Work.{upto, made, Stands, HasDone, HasReceipts, AreNumbered}

@@ -11,9 +11,10 @@ use Rattle.mp_seqpool.specs.Pool.{Pool}
 use Rattle.mp_seqpool.specs.SlowPool.{answer}
 use Rattle.mp_history.specs.Entry.{Entry}
 use Rattle.mp_history.specs.Log.{Log, Begins, state_after}
-use Rattle.mp_mempool.specs.declared.receipt.Receipt.{Receipt}
-use Rattle.mp_mempool.specs.Pass.{Pass}
-use Rattle.mp_mempool.specs.Answers.{IsEntered, IsRefusedAt, IsSeen, AreOthers, seen, with_entry, continued}
+use Rattle.mp_reader.specs.declared.receipt.Receipt.{Receipt}
+use Rattle.mp_reader.specs.Pass.{Pass}
+use Rattle.mp_reader.specs.Seen.{IsSeen, seen, continued}
+use Rattle.mp_mempool.specs.Answers.{IsEntered, IsRefusedAt, AreOthers, with_entry}
 use Rattle.mp_race.specs.Task.{Task, Change, Read}
 use Rattle.mp_race.specs.Race.{own, dealt, Plays}
 use Rattle.mp_race.specs.Inside.Work.{upto, made, Stands, IsUnused, Does, HasReceipts}

@@ -4,9 +4,9 @@ use Rattle.mp_rules.specs.Verifier.{Accepts}
 use Rattle.mp_history.specs.Log.{IsLegalLog}
 use Rattle.mp_seqpool.specs.declared.refusal.Refusal as sequential
 use Rattle.mp_seqpool.specs.declared.refusal.Refusal.TheVariants as refusals
+use Rattle.mp_reader.specs.Pass.{Pass}
 use Rattle.mp_mempool.specs.declared.refusal.Refusal.{Refusal}
 use Rattle.mp_mempool.specs.declared.refusal.Refusal.TheVariants.{Pool, Foreign}
-use Rattle.mp_mempool.specs.Pass.{Pass}
 use Rattle.mp_settings.specs.Verifier.{is_key_and_id}
 
 -- the last of so many entries

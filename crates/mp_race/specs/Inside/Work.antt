@@ -5,9 +5,10 @@ use Rattle.mp_seqpool.specs.declared.refusal.Refusal.{Refusal}
 use Rattle.mp_seqpool.specs.Pool.{Pool}
 use Rattle.mp_history.specs.Entry.{Entry}
 use Rattle.mp_history.specs.Log.{Log, last_of}
-use Rattle.mp_mempool.specs.declared.receipt.Receipt.{Receipt}
-use Rattle.mp_mempool.specs.Pass.{Pass}
-use Rattle.mp_mempool.specs.Answers.{IsEntered, IsRefusedAt, IsSeen}
+use Rattle.mp_reader.specs.declared.receipt.Receipt.{Receipt}
+use Rattle.mp_reader.specs.Pass.{Pass}
+use Rattle.mp_reader.specs.Seen.{IsSeen}
+use Rattle.mp_mempool.specs.Answers.{IsEntered, IsRefusedAt}
 use Rattle.mp_race.specs.Task.{Task, Change, Read}
 use Rattle.mp_race.specs.Race.{own, dealt, Plays}
 

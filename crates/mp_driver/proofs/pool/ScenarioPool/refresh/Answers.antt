@@ -1,6 +1,6 @@
 use Rattle.std.proofs.Common.{sym, ap, subst, ◌∙◌}
 use Rattle.mp_history.specs.Log.{state_after}
-use Rattle.mp_mempool.specs.Pass.{Pass}
+use Rattle.mp_reader.specs.Pass.{Pass}
 use Rattle.mp_settings.specs.Verifier.{is_key_and_id}
 use Rattle.mp_driver.specs.Inside.ScenarioPool.{IsAlone}
 use Rattle.mp_driver.proofs.Alone.{nothing_told}

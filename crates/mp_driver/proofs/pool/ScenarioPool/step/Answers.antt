@@ -4,8 +4,8 @@ use Rattle.mp_seqpool.specs.Inside.Command.{command_of}
 use Rattle.mp_seqpool.specs.Pool.{Pool}
 use Rattle.mp_seqpool.specs.SlowPool.{answer, next}
 use Rattle.mp_history.specs.Log.{state_after}
-use Rattle.mp_mempool.specs.declared.receipt.Receipt.{Receipt}
-use Rattle.mp_mempool.specs.Pass.{Pass}
+use Rattle.mp_reader.specs.declared.receipt.Receipt.{Receipt}
+use Rattle.mp_reader.specs.Pass.{Pass}
 use Rattle.mp_settings.specs.Verifier.{is_key_and_id}
 use Rattle.mp_driver.specs.Inside.ScenarioPool.{IsAlone, GoesOnBehind}
 use Rattle.mp_driver.proofs.Alone.{count, goes, stays, behind, refused_stays}

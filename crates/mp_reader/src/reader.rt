@@ -2,7 +2,7 @@
 ghost use Rattle.std.specs.Prelude.{◌≡◌, ◌<◌, ◌≤◌, length, IfSome, IfOk, OnOk, OnErr};
 ghost use Rattle.mp_rules.specs.Checked.{IsChecked};
 ghost use Rattle.mp_history.specs.Log.{Begins, IsLegalLog};
-ghost use Rattle.mp_mempool.specs.Answers.{IsSeen, IsSnapshotFor};
+ghost use Rattle.mp_reader.specs.Seen.{IsSeen, IsSnapshotFor};
 
 use crate::early::check_early;
 use crate::pass::Pass;
@@ -41,7 +41,7 @@ fn see<N: PoolName>(pass: &mut Pass<N>, shown: Shown<N>)
 
 impl<N: PoolName, V: Verifier> Reader<N, V> {
     /// What reads by this board.
-    pub(crate) fn of(memory: Memory, verifier: V, board: Board<N>) -> Reader<N, V>
+    pub fn of(memory: Memory, verifier: V, board: Board<N>) -> Reader<N, V>
         requires { V.accepts verifier ≡ N.accepts }
     {
         Reader {
@@ -52,26 +52,26 @@ impl<N: PoolName, V: Verifier> Reader<N, V> {
     }
 
     /// Where the pool's memory comes from.
-    pub(crate) fn memory(&self) -> Memory {
+    pub fn memory(&self) -> Memory {
         self.memory
     }
 
     /// What decides which signatures are good.
-    pub(crate) fn verifier(&self) -> &V
+    pub fn verifier(&self) -> &V
         ensures { V.accepts result.now ≡ N.accepts }
     {
         &self.verifier
     }
 
     /// What decides which signatures are good, when the pool has handed over.
-    pub(crate) fn into_verifier(self) -> V
+    pub fn into_verifier(self) -> V
         ensures { V.accepts result ≡ N.accepts }
     {
         self.verifier
     }
 
     /// The board on which versions are shown.
-    pub(crate) fn board(&self) -> &Board<N> {
+    pub fn board(&self) -> &Board<N> {
         &self.board
     }
 
@@ -113,7 +113,7 @@ impl<N: PoolName, V: Verifier> Reader<N, V> {
     }
 
     /// What is found of the transaction before the lock is taken.
-    pub(crate) fn check_early(&self, pass: &Pass<N>, tx: &Tx) -> Option<Checked>
+    pub fn check_early(&self, pass: &Pass<N>, tx: &Tx) -> Option<Checked>
         ensures { IfSome result (IsChecked N.accepts tx.now) }
     {
         let version = self.newest(pass).version();

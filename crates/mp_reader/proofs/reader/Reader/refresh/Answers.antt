@@ -1,5 +1,5 @@
-use Rattle.mp_mempool.proofs.Points.{is_seen_still}
-use Rattle.mp_mempool.proofs.reader.Reader.refresh.Goals as goal
+use Rattle.mp_reader.proofs.Seeing.{is_seen_still}
+use Rattle.mp_reader.proofs.reader.Reader.refresh.Goals as goal
 
 pub returns-in-None : goal.returns-in-None
 returns-in-None g c = record { seen = is_seen_still g.N.PoolName.accepts g.N.PoolName.callers c.args.pass.now c.look_at.ensures }

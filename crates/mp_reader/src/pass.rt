@@ -2,7 +2,7 @@
 ghost use Rattle.std.specs.Prelude.{◌≡◌, ◌≢◌, ◌<◌, ◌≤◌, true, false, length};
 ghost use Rattle.mp_history.specs.Log.{Begins, IsLegalLog, entered, last_of};
 ghost use Rattle.mp_locked.specs.Ready.{IsReady};
-ghost use Rattle.mp_mempool.specs.Pass.{IsOwn, pass_of};
+ghost use Rattle.mp_reader.specs.Pass.{IsOwn, pass_of};
 
 use crate::reader::Reader;
 use crate::receipt::Receipt;
@@ -25,7 +25,7 @@ pub struct Pass<N: PoolName> {
 impl<N: PoolName> Model for Pass<N> {
     ghost use Rattle.std.specs.Coded.{codes};
     ghost use Rattle.std.specs.FinMap as finite;
-    ghost use Rattle.mp_mempool.specs.Pass as told;
+    ghost use Rattle.mp_reader.specs.Pass as told;
 
     ghost Value = { told.Pass };
 
@@ -41,11 +41,11 @@ impl<N: PoolName> Pass<N> {
     ghost use mathlib.Core.Option.{none};
     ghost use Rattle.std.specs.Prelude.{None, Some, ⊤, length, IsSome, IfSome};
     ghost use Rattle.std.specs.Borrow.{sem};
-    ghost use Rattle.mp_mempool.specs.contracts.pass.Pass.{the_row};
-    ghost use Rattle.mp_mempool.specs.Answers.{IsSeen};
+    ghost use Rattle.mp_reader.specs.contracts.pass.Pass.{the_row};
+    ghost use Rattle.mp_reader.specs.Seen.{IsSeen};
 
     /// The pass of a caller that hasn't made an entry.
-    pub(crate) fn of(caller: Caller<N>, shown: Shown<N>) -> Pass<N>
+    pub fn of(caller: Caller<N>, shown: Shown<N>) -> Pass<N>
         requires { caller.last ≡ None }
         ensures { result ≡ pass_of shown caller }
     {
@@ -53,7 +53,7 @@ impl<N: PoolName> Pass<N> {
     }
 
     /// Whether the pass knows all entries of its caller. Nobody has seen more than the lock's history has.
-    pub(crate) fn knows_all(&self, locked: &mut Locked<N>) -> bool
+    pub fn knows_all(&self, locked: &mut Locked<N>) -> bool
         ensures same { locked.new ≡ locked.old }
         ensures begins { Begins self.now.front locked.new.log }
         ensures own { IsOwn self.now }
@@ -67,7 +67,7 @@ impl<N: PoolName> Pass<N> {
 
     /// Commits the caller's entry and takes the step; the caller has then seen the version after it. Nothing else enters an
     /// entry, so each leaves its place here.
-    pub(crate) fn commit(
+    pub fn commit(
         &mut self,
         history: &History<N>,
         locked: &mut Locked<N>,
@@ -92,7 +92,7 @@ impl<N: PoolName> Pass<N> {
     }
 
     /// The caller has seen the version, which extends what it had seen.
-    pub(crate) fn see(&mut self, shown: Shown<N>)
+    pub fn see(&mut self, shown: Shown<N>)
         requires { Begins self.old.front shown }
         ensures { self.new ≡ record self.old { front = shown } }
     {
@@ -115,7 +115,7 @@ impl<N: PoolName> Pass<N> {
     }
 
     /// The token of the caller.
-    pub(crate) fn token(&self) -> &Caller<N>
+    pub fn token(&self) -> &Caller<N>
         ensures { result.now.number ≡ self.now.caller }
     {
         &self.caller

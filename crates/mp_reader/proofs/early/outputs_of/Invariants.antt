@@ -1,5 +1,5 @@
 use Rattle.std.proofs.Common.{◌≡◌, length, vec_len}
-use Rattle.mp_mempool.proofs.early.outputs_of.Given as goal
+use Rattle.mp_reader.proofs.early.outputs_of.Given as goal
 
 -- there is an output for each reference so far
 abbrev pub invariant-loop-reference : goal.invariant-loop-reference

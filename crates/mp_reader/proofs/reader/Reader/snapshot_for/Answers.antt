@@ -1,8 +1,8 @@
 use Rattle.std.proofs.Common.{ap}
-use Rattle.mp_mempool.specs.Pass.{Pass}
 use Rattle.mp_locked.proofs.Preparing.{signed_after}
-use Rattle.mp_mempool.proofs.Points.{is_snapshot_for}
-use Rattle.mp_mempool.proofs.reader.Reader.snapshot_for.Goals as goal
+use Rattle.mp_reader.specs.Pass.{Pass}
+use Rattle.mp_reader.proofs.Seeing.{is_snapshot_for}
+use Rattle.mp_reader.proofs.reader.Reader.snapshot_for.Goals as goal
 
 pub snapshot_upon-requires : goal.snapshot_upon-requires
 snapshot_upon-requires g c =

@@ -1,0 +1,44 @@
+-- What reads say.
+use Rattle.std.proofs.Common.{◌≡◌, ℕ, [], length, refl, sym, ap, ap₂, subst, ◌∙◌, append-nil}
+use Rattle.mp_tx.specs.Ledger.{LedgerState}
+use Rattle.mp_rules.specs.Verifier.{Accepts}
+use Rattle.mp_resync.specs.Keep.{keep, bytes_of}
+use Rattle.mp_history.specs.Log.{Log, Begins, IsLegalLog, state_after}
+use Rattle.mp_versions.specs.Version.{Version}
+use Rattle.mp_versions.proofs.Histories.{number_of}
+use Rattle.mp_reader.specs.declared.snapshot_for.SnapshotFor.{SnapshotFor}
+use Rattle.mp_reader.specs.Pass.{Pass}
+use Rattle.mp_reader.specs.Seen.{IsSeen, IsSnapshotFor, continued}
+
+-- the history is what was seen and what comes then
+pub goes_on : (front log : Log) (b : Begins front log) → log ≡ continued front b.entries.0
+goes_on front log b = sym (ap₂ (λ o es. record { opening = o; entries = es }) b.opening b.entries.1)
+
+module _ (accepts : Accepts) where
+  -- what a read says
+  pub is_seen : (callers : ℕ) (before after : Pass) (log : Log) → Begins before.front log → IsLegalLog accepts callers log
+      → after ≡ record before { front = log } → IsSeen accepts callers before after
+  is_seen callers before after log b legal is = record {
+    more = b.entries.0;
+    pass = is ∙ ap (λ l. record before { front = l }) (goes_on before.front log b);
+    legal = subst (IsLegalLog accepts callers) (sym (ap (λ p. p.front) is)) legal;
+  }
+
+  -- what was seen stands where it stood
+  pub is_seen_anew : (callers : ℕ) (before after : Pass) → Begins before.front after.front → IsLegalLog accepts callers after.front
+      → after ≡ record before { front = after.front } → IsSeen accepts callers before after
+  is_seen_anew callers before after b legal same = is_seen callers before after after.front b legal same
+
+  -- nothing more was seen
+  pub is_seen_still : (callers : ℕ) (pass : Pass) → IsLegalLog accepts callers pass.front → IsSeen accepts callers pass pass
+  is_seen_still callers pass legal = is_seen callers pass pass pass.front (record { opening = refl; entries = ([], append-nil pass.front.entries) }) legal refl
+
+-- what stays valid upon another ledger state, of a version
+pub is_snapshot_for : (a accepts : Accepts) (callers : ℕ) (log front_now : Log) (v : Version) (ledger : LedgerState) (s : SnapshotFor) → a ≡ accepts → IsLegalLog accepts callers log
+    → v.pool ≡ state_after accepts log → front_now ≡ log
+    → s.items ≡ keep a ledger v.pool.items → s.bytes ≡ bytes_of s.items → s.number ≡ v.pool.changes → IsSnapshotFor accepts front_now ledger s
+is_snapshot_for a accepts callers log front_now v ledger s same legal state front items bytes number = record {
+  items = items ∙ ap₂ (λ b p. keep b ledger p.items) same state ∙ ap (λ l. keep accepts ledger (state_after accepts l).items) (sym front);
+  bytes = bytes;
+  number = number ∙ ap (λ p. p.changes) state ∙ number_of accepts callers log legal ∙ ap (λ l. length l.entries) (sym front);
+}
