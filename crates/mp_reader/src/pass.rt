@@ -67,12 +67,7 @@ impl<N: PoolName> Pass<N> {
 
     /// Commits the caller's entry and takes the step; the caller has then seen the version after it. Nothing else enters an
     /// entry, so each leaves its place here.
-    pub fn commit(
-        &mut self,
-        history: &History<N>,
-        locked: &mut Locked<N>,
-        ready: Ready,
-    ) -> Receipt
+    pub fn commit(&mut self, history: &History<N>, locked: &mut Locked<N>, ready: Ready) -> Receipt
         requires { IsReady N.accepts N.callers locked.old self.old.caller ready }
         ensures log { locked.new.log ≡ entered locked.old.log ready.outcome.entry }
         ensures place { result.place ≡ length locked.old.log.entries }

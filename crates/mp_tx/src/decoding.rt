@@ -40,11 +40,7 @@ fn read_version(bytes: &[u8]) -> Result<(u8, &[u8]), TxFault>
 
 // Puts what stands before the signatures into parts that are empty, and gives the bytes after it.
 #[tactic(auto, unfolding(crate::specs::Reading::body_read))]
-fn fill_body<'a>(
-    memory: Memory,
-    parts: &mut TxParts,
-    bytes: &'a [u8],
-) -> Result<&'a [u8], TxFault>
+fn fill_body<'a>(memory: Memory, parts: &mut TxParts, bytes: &'a [u8]) -> Result<&'a [u8], TxFault>
     requires { AreEmpty parts.old }
     ensures read { Reads (λ rest. (parts_of parts.new, rest.now)) result (body_read bytes.now) }
     ensures signatures { parts.new.signatures ≡ parts.old.signatures }
