@@ -13,9 +13,9 @@ use mp_versions::{Shown, Snapshot};
 use std::marker::Model;
 
 /// The token of one caller of the pool: with it the caller asks, and it holds what the caller has seen. It comes with the pool,
-/// one for each caller; it can't be cloned, and nothing else makes one. It never goes back: what it holds is only replaced by
-/// what extends it. Contracts see the caller's number, the place of the last entry that it made, and the history that it has
-/// seen.
+/// one for each caller; it can't be cloned, and to make one takes the caller's token, which the pool gives to nobody else. It
+/// never goes back: what it holds is only replaced by what extends it. Contracts see the caller's number, the place of the last
+/// entry that it made, and the history that it has seen.
 #[derive(Drop)]
 pub struct Pass<N: PoolName> {
     caller: Caller<N>,
