@@ -16,11 +16,10 @@ use crate::refusal::Refusal;
 use mp_history::{History, PoolName};
 use mp_locked::{Locked, Ready};
 use mp_memory::{Memory, NoMemory};
-use mp_reader::{Pass, Receipt};
+use mp_reader::{Pass, Reader, Receipt};
 use mp_rules::{Checked, Verifier};
 use mp_seqpool::Ids;
 use mp_tx::{Ledger, Tx};
-use mp_versions::Board;
 use std::sync::{Arc, Wait};
 
 // The pass knows all entries of its caller; or else a front shows one that it doesn't know.
@@ -49,10 +48,10 @@ fn wants_memory(refusal: &mp_seqpool::Refusal) -> bool
 }
 
 // Enters a step that is ready, and shows the version after it, which the pass then holds. It can't fail.
-fn enter<N: PoolName>(
+fn enter<N: PoolName, V: Verifier>(
     rt: &impl Wait,
     history: &History<N>,
-    board: &Board<N>,
+    reader: &Reader<N, V>,
     locked: &mut Locked<N>,
     pass: &mut Pass<N>,
     ready: Ready,
@@ -67,14 +66,14 @@ fn enter<N: PoolName>(
 {
     let _last = pass.last();
     let receipt = pass.commit(history, locked, ready);
-    locked.show_waiting(rt, board);
+    reader.show_waiting(rt, locked);
     receipt
 }
 
 // Gives the pass the version of the whole history, and shows the version that waits. Without memory the pass is as it was.
-fn bring_up<N: PoolName>(
+fn bring_up<N: PoolName, V: Verifier>(
     rt: &impl Wait,
-    board: &Board<N>,
+    reader: &Reader<N, V>,
     locked: &mut Locked<N>,
     pass: &mut Pass<N>,
 ) -> Result<(), NoMemory>
@@ -89,15 +88,15 @@ fn bring_up<N: PoolName>(
     let _front = locked.front();
     let shown = locked.newest().share()?;
     pass.see(shown);
-    locked.show_waiting(rt, board);
+    reader.show_waiting(rt, locked);
     Ok(())
 }
 
 // Gives the pass the version at which the sequential pool refuses. Where memory is wanting for that, or was wanting before,
 // the pass is as it was.
-fn refuse<N: PoolName>(
+fn refuse<N: PoolName, V: Verifier>(
     rt: &impl Wait,
-    board: &Board<N>,
+    reader: &Reader<N, V>,
     locked: &mut Locked<N>,
     pass: &mut Pass<N>,
     refusal: mp_seqpool::Refusal,
@@ -113,7 +112,7 @@ fn refuse<N: PoolName>(
     if wants_memory(&refusal) {
         return Refusal::Pool(refusal);
     }
-    match bring_up(rt, board, locked, pass) {
+    match bring_up(rt, reader, locked, pass) {
         Ok(()) => Refusal::Pool(refusal),
         Err(NoMemory) => Refusal::Pool(mp_seqpool::Refusal::NoMemory),
     }
@@ -147,8 +146,8 @@ pub fn submit_in<N: PoolName, V: Verifier>(
         checked,
         reader.verifier(),
     ) {
-        Ok(ready) => Ok(enter(rt, &mempool.history, reader.board(), locked, pass, ready)),
-        Err(refusal) => Err(refuse(rt, reader.board(), locked, pass, refusal)),
+        Ok(ready) => Ok(enter(rt, &mempool.history, reader, locked, pass, ready)),
+        Err(refusal) => Err(refuse(rt, reader, locked, pass, refusal)),
     }
 }
 
@@ -172,8 +171,8 @@ pub fn remove_in<N: PoolName, V: Verifier>(
     require_known(locked, pass)?;
     let reader = &mempool.reader;
     match locked.prepare_remove(reader.memory(), pass.token(), ids, reader.verifier()) {
-        Ok(ready) => Ok(enter(rt, &mempool.history, reader.board(), locked, pass, ready)),
-        Err(refusal) => Err(refuse(rt, reader.board(), locked, pass, refusal)),
+        Ok(ready) => Ok(enter(rt, &mempool.history, reader, locked, pass, ready)),
+        Err(refusal) => Err(refuse(rt, reader, locked, pass, refusal)),
     }
 }
 
@@ -197,7 +196,7 @@ pub fn sync_in<N: PoolName, V: Verifier>(
     require_known(locked, pass)?;
     let reader = &mempool.reader;
     match locked.prepare_sync(reader.memory(), pass.token(), ledger, reader.verifier()) {
-        Ok(ready) => Ok(enter(rt, &mempool.history, reader.board(), locked, pass, ready)),
-        Err(refusal) => Err(refuse(rt, reader.board(), locked, pass, refusal)),
+        Ok(ready) => Ok(enter(rt, &mempool.history, reader, locked, pass, ready)),
+        Err(refusal) => Err(refuse(rt, reader, locked, pass, refusal)),
     }
 }

@@ -1,5 +1,5 @@
 -- What reads say.
-use Rattle.std.proofs.Common.{◌≡◌, ℕ, [], length, refl, sym, ap, ap₂, subst, ◌∙◌, append-nil}
+use Rattle.std.proofs.Common.{◌≡◌, ℕ, [], length, Result, Ok, Err, IfOk, refl, sym, ap, ap₂, subst, ◌∙◌, append-nil}
 use Rattle.mp_tx.specs.Ledger.{LedgerState}
 use Rattle.mp_rules.specs.Verifier.{Accepts}
 use Rattle.mp_resync.specs.Keep.{keep, bytes_of}
@@ -34,11 +34,12 @@ module _ (accepts : Accepts) where
   is_seen_still callers pass legal = is_seen callers pass pass pass.front (record { opening = refl; entries = ([], append-nil pass.front.entries) }) legal refl
 
 -- what stays valid upon another ledger state, of a version
-pub is_snapshot_for : (a accepts : Accepts) (callers : ℕ) (log front_now : Log) (v : Version) (ledger : LedgerState) (s : SnapshotFor) → a ≡ accepts → IsLegalLog accepts callers log
-    → v.pool ≡ state_after accepts log → front_now ≡ log
-    → s.items ≡ keep a ledger v.pool.items → s.bytes ≡ bytes_of s.items → s.number ≡ v.pool.changes → IsSnapshotFor accepts front_now ledger s
-is_snapshot_for a accepts callers log front_now v ledger s same legal state front items bytes number = record {
-  items = items ∙ ap₂ (λ b p. keep b ledger p.items) same state ∙ ap (λ l. keep accepts ledger (state_after accepts l).items) (sym front);
+pub is_snapshot_for : {E : Type 0} (a accepts : Accepts) (callers : ℕ) (log : Log) (v : Version) (ledger : LedgerState) (r : Result SnapshotFor E) → a ≡ accepts → IsLegalLog accepts callers log
+    → v.pool ≡ state_after accepts log
+    → IfOk r (λ s. s.items ≡ keep a ledger v.pool.items) → IfOk r (λ s. s.bytes ≡ bytes_of s.items) → IfOk r (λ s. s.number ≡ v.pool.changes) → IfOk r (IsSnapshotFor accepts log ledger)
+is_snapshot_for a accepts callers log v ledger (Ok s) same legal state items bytes number = record {
+  items = items ∙ ap₂ (λ b p. keep b ledger p.items) same state;
   bytes = bytes;
-  number = number ∙ ap (λ p. p.changes) state ∙ number_of accepts callers log legal ∙ ap (λ l. length l.entries) (sym front);
+  number = number ∙ ap (λ p. p.changes) state ∙ number_of accepts callers log legal;
 }
+is_snapshot_for a accepts callers log v ledger (Err e) same legal state items bytes number = tt

@@ -8,13 +8,15 @@ use crate::early::check_early;
 use crate::pass::Pass;
 use crate::snapshot_for::{SnapshotFor, snapshot_upon};
 use mp_history::PoolName;
+use mp_locked::Locked;
 use mp_memory::{Memory, NoMemory};
 use mp_rules::{Checked, Verifier};
 use mp_tx::{Ledger, Tx};
 use mp_versions::{Board, Shown, Snapshot};
+use std::sync::Wait;
 
 /// What reads the pool: it has the board on which versions are shown, and neither the lock nor anything of what the lock guards.
-/// So whatever a call here does, it waits for nobody and enters nothing.
+/// So whatever a call here does that reads, it waits for nobody and enters nothing.
 #[derive(Drop)]
 pub struct Reader<N: PoolName, V: Verifier> {
     memory: Memory,
@@ -70,9 +72,11 @@ impl<N: PoolName, V: Verifier> Reader<N, V> {
         self.verifier
     }
 
-    /// The board on which versions are shown.
-    pub fn board(&self) -> &Board<N> {
-        &self.board
+    /// Shows on the board the version that waits under the lock, if one does. Where memory is wanting it waits on.
+    pub fn show_waiting(&self, rt: &impl Wait, locked: &mut Locked<N>)
+        ensures { locked.new ≡ locked.old }
+    {
+        locked.show_waiting(rt, &self.board);
     }
 
     // The newest version that is shown, where it is longer than the pass's own.
@@ -155,6 +159,18 @@ impl<N: PoolName, V: Verifier> Reader<N, V> {
         look_at(pass);
     }
 
+    // What of the version's transactions would stay valid upon the ledger state.
+    fn try_upon(
+        &self,
+        memory: Memory,
+        shown: &Shown<N>,
+        ledger: &Ledger,
+    ) -> Result<SnapshotFor, NoMemory>
+        ensures { IfOk result (IsSnapshotFor N.accepts shown.now ledger.now) }
+    {
+        snapshot_upon(memory, shown.version(), ledger, &self.verifier)
+    }
+
     /// What of the newest version's transactions would stay valid upon another ledger state: each that is valid upon it after
     /// those kept before it. The pool is as it was, and the pass then holds that version. It takes no lock.
     ///
@@ -171,7 +187,7 @@ impl<N: PoolName, V: Verifier> Reader<N, V> {
         ensures err { OnErr result (pass.new ≡ pass.old) }
     {
         let shown = self.share_newest(pass)?;
-        let kept = snapshot_upon(memory, shown.version(), ledger, &self.verifier)?;
+        let kept = self.try_upon(memory, &shown, ledger)?;
         pass.see(shown);
         Ok(kept)
     }

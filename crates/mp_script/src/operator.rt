@@ -161,7 +161,9 @@ fn plain_of<'a>(code: u8) -> Result<Operator<'a>, ScriptFault>
 fn int_at(bytes: &[u8]) -> Result<(Operator<'_>, &[u8]), ScriptFault>
     ensures { seen (λ x. (operator_of x.0, x.1.now)) result ≡ int_read bytes.now }
 {
-    let (number, rest) = split_number(bytes).ok_or(ScriptFault::Truncated)?;
+    let Some((number, rest)) = split_number(bytes) else {
+        return Err(ScriptFault::Truncated);
+    };
     Ok((Operator::Int(number), rest))
 }
 
@@ -169,8 +171,12 @@ fn int_at(bytes: &[u8]) -> Result<(Operator<'_>, &[u8]), ScriptFault>
 fn octets_at(bytes: &[u8]) -> Result<(Operator<'_>, &[u8]), ScriptFault>
     ensures { seen (λ x. (operator_of x.0, x.1.now)) result ≡ bytes_read bytes.now }
 {
-    let (len, rest) = bytes.split_first().ok_or(ScriptFault::Truncated)?;
-    let (octets, rest) = split_run(rest, *len as usize).ok_or(ScriptFault::Truncated)?;
+    let Some((len, rest)) = bytes.split_first() else {
+        return Err(ScriptFault::Truncated);
+    };
+    let Some((octets, rest)) = split_run(rest, *len as usize) else {
+        return Err(ScriptFault::Truncated);
+    };
     Ok((Operator::Bytes(octets), rest))
 }
 
@@ -180,7 +186,9 @@ fn octets_at(bytes: &[u8]) -> Result<(Operator<'_>, &[u8]), ScriptFault>
 pub fn operator_at(bytes: &[u8]) -> Result<(Operator<'_>, &[u8]), ScriptFault>
     ensures { seen (λ x. (operator_of x.0, x.1.now)) result ≡ operator_read bytes.now }
 {
-    let (code, rest) = bytes.split_first().ok_or(ScriptFault::Truncated)?;
+    let Some((code, rest)) = bytes.split_first() else {
+        return Err(ScriptFault::Truncated);
+    };
     match *code {
         INT => int_at(rest),
         BYTES => octets_at(rest),

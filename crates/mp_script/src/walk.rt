@@ -23,7 +23,9 @@ pub const MAX_DEPTH: u8 = 16;
 fn number_end(bytes: &[u8]) -> Result<&[u8], DataFault>
     ensures { seen (λ rest. rest.now) result ≡ rest_of (number_read bytes.now) }
 {
-    let (_number, rest) = split_number(bytes).ok_or(DataFault::Truncated)?;
+    let Some((_number, rest)) = split_number(bytes) else {
+        return Err(DataFault::Truncated);
+    };
     Ok(rest)
 }
 
@@ -31,7 +33,9 @@ fn number_end(bytes: &[u8]) -> Result<&[u8], DataFault>
 fn octets_end(bytes: &[u8]) -> Result<&[u8], DataFault>
     ensures { seen (λ rest. rest.now) result ≡ rest_of (octets_read bytes.now) }
 {
-    let (_octets, rest) = split_sized(bytes).ok_or(DataFault::Truncated)?;
+    let Some((_octets, rest)) = split_sized(bytes) else {
+        return Err(DataFault::Truncated);
+    };
     Ok(rest)
 }
 
@@ -54,7 +58,9 @@ fn list_end(bytes: &[u8], most_depth: u8) -> Result<&[u8], DataFault>
     ensures { seen (λ rest. rest.now) result ≡
         rest_of (list_read (datum_read most_depth) bytes.now) }
 {
-    let (count, rest) = split_count(bytes).ok_or(DataFault::Truncated)?;
+    let Some((count, rest)) = split_count(bytes) else {
+        return Err(DataFault::Truncated);
+    };
     items_end(rest, count, most_depth)
 }
 
@@ -63,7 +69,9 @@ fn list_end(bytes: &[u8], most_depth: u8) -> Result<&[u8], DataFault>
 pub fn datum_end(bytes: &[u8], most_depth: u8) -> Result<&[u8], DataFault>
     ensures { seen (λ rest. rest.now) result ≡ rest_of (datum_read most_depth bytes.now) }
 {
-    let (tag, rest) = bytes.split_first().ok_or(DataFault::Truncated)?;
+    let Some((tag, rest)) = bytes.split_first() else {
+        return Err(DataFault::Truncated);
+    };
     if most_depth == 0 {
         return Err(DataFault::TooDeep);
     }

@@ -1,6 +1,10 @@
 //! Transactions.
 
-ghost use Rattle.std.specs.Prelude.{◌≡◌, ◌&&◌, nat_le, length};
+ghost use Rattle.std.specs.Prelude.{◌≡◌, ◌&&◌, nat_le, length, IfOk, IfErr, OnOk};
+ghost use Rattle.mp_tx.specs.Spelling.{id_of, size_of};
+ghost use Rattle.mp_tx.specs.Parts.{IsTransaction};
+ghost use Rattle.mp_tx.specs.TxFault.{IsPartsFault};
+ghost use Rattle.mp_tx.specs.Inside.Lent.{lent};
 
 use crate::decoding::fill_parts;
 use crate::encoding::{put_body, put_signatures};
@@ -121,6 +125,30 @@ fn has_few_parts(parts: &Parts<'_>) -> bool
         && parts.outputs.len() <= MAX_PARTS
 }
 
+// The id and the size of the transaction of these parts.
+fn measure(memory: Memory, parts: &Parts<'_>) -> Result<(TxId, u64), TxFault>
+    ensures fits { OnOk result (IsTransaction (lent parts.now)) }
+    ensures id { IfOk result (λ m. m.0 ≡ id_of (lent parts.now)) }
+    ensures size { IfOk result (λ m. m.1 ≡ size_of (lent parts.now)) }
+    ensures fault { IfErr result (IsPartsFault (lent parts.now)) }
+{
+    if let Some(fault) = order_fault(parts) {
+        return Err(fault);
+    }
+    if !has_few_parts(parts) {
+        return Err(TxFault::TooLarge);
+    }
+    let mut bytes = Vec::with_capacity(memory, MAX_BYTES)?;
+    put_body(&mut bytes, parts)?;
+    let id = digest(&bytes);
+    put_signatures(&mut bytes, parts.signatures)?;
+    if bytes.len() > MAX_BYTES {
+        return Err(TxFault::TooLarge);
+    }
+    let size = bytes.len() as u64;
+    Ok((id, size))
+}
+
 impl Tx {
     ghost use Rattle.std.specs.Prelude.{◌≡◌, ◌≤◌, IfOk, IfErr};
     ghost use Rattle.mp_tx.specs.declared.fault.TxFault.TheVariants as faults;
@@ -142,21 +170,7 @@ impl Tx {
         ensures fits { IfOk result IsTransaction }
         ensures fault { IfErr result (IsPartsFault (parts_of parts)) }
     {
-        let lent = parts.lend();
-        if let Some(fault) = order_fault(&lent) {
-            return Err(fault);
-        }
-        if !has_few_parts(&lent) {
-            return Err(TxFault::TooLarge);
-        }
-        let mut bytes = Vec::with_capacity(memory, MAX_BYTES)?;
-        put_body(&mut bytes, &lent)?;
-        let id = digest(&bytes);
-        put_signatures(&mut bytes, lent.signatures)?;
-        if bytes.len() > MAX_BYTES {
-            return Err(TxFault::TooLarge);
-        }
-        let size = bytes.len() as u64;
+        let (id, size) = measure(memory, &parts.lend())?;
         Ok(Tx::keep(memory, parts, id, size)?)
     }
 

@@ -17,14 +17,22 @@ const LEAST_ENTRY_BYTES: usize = 41;
 fn read_entry(before: Option<Token>, bytes: &[u8]) -> Result<(Entry, &[u8]), TxFault>
     ensures { seen (λ x. (x.0, x.1.now)) result ≡ entry_read before bytes.now }
 {
-    let (policy, rest) = split_array::<32>(bytes).ok_or(TxFault::Truncated)?;
+    let Some((policy, rest)) = split_array::<32>(bytes) else {
+        return Err(TxFault::Truncated);
+    };
     let (len, rest) = read_byte(rest)?;
     if len as usize > MAX_NAME_BYTES {
         return Err(TxFault::BadBundle);
     }
-    let (name, rest) = split_run(rest, len as usize).ok_or(TxFault::Truncated)?;
-    let (quantity, rest) = split_number(rest).ok_or(TxFault::Truncated)?;
-    let token = Token::of(policy, name).ok_or(TxFault::BadBundle)?;
+    let Some((name, rest)) = split_run(rest, len as usize) else {
+        return Err(TxFault::Truncated);
+    };
+    let Some((quantity, rest)) = split_number(rest) else {
+        return Err(TxFault::Truncated);
+    };
+    let Some(token) = Token::of(policy, name) else {
+        return Err(TxFault::BadBundle);
+    };
     let entry = (token, quantity);
     if !may_follow(before, &entry) {
         return Err(TxFault::BadBundle);
@@ -62,7 +70,9 @@ fn put_entries<'a>(
 pub fn read_bundle(memory: Memory, bytes: &[u8]) -> Result<(Bundle, &[u8]), TxFault>
     ensures { Reads (λ x. (x.0, x.1.now)) result (bundle_read bytes.now) }
 {
-    let (count, rest) = split_count(bytes).ok_or(TxFault::Truncated)?;
+    let Some((count, rest)) = split_count(bytes) else {
+        return Err(TxFault::Truncated);
+    };
     let most = rest.len() / LEAST_ENTRY_BYTES;
     let mut entries = Vec::with_capacity(memory, most.min(count as usize))?;
     let rest = put_entries(&mut entries, count, rest)?;

@@ -16,7 +16,9 @@ use mp_script::{Data, DataFault, Script, ScriptFault};
 pub fn read_byte(bytes: &[u8]) -> Result<(u8, &[u8]), TxFault>
     ensures { seen (λ x. (x.0, x.1.now)) result ≡ byte_read bytes.now }
 {
-    let (byte, rest) = bytes.split_first().ok_or(TxFault::Truncated)?;
+    let Some((byte, rest)) = bytes.split_first() else {
+        return Err(TxFault::Truncated);
+    };
     Ok((*byte, rest))
 }
 
@@ -25,8 +27,12 @@ pub fn read_byte(bytes: &[u8]) -> Result<(u8, &[u8]), TxFault>
 pub fn read_ref(bytes: &[u8]) -> Result<(OutRef, &[u8]), TxFault>
     ensures { seen (λ x. (x.0, x.1.now)) result ≡ ref_read bytes.now }
 {
-    let (id, rest) = split_array::<32>(bytes).ok_or(TxFault::Truncated)?;
-    let (index, rest) = split_count(rest).ok_or(TxFault::Truncated)?;
+    let Some((id, rest)) = split_array::<32>(bytes) else {
+        return Err(TxFault::Truncated);
+    };
+    let Some((index, rest)) = split_count(rest) else {
+        return Err(TxFault::Truncated);
+    };
     Ok((OutRef { id: *id, index }, rest))
 }
 
@@ -34,7 +40,9 @@ pub fn read_ref(bytes: &[u8]) -> Result<(OutRef, &[u8]), TxFault>
 pub fn read_count(bytes: &[u8]) -> Result<(u16, &[u8]), TxFault>
     ensures { seen (λ x. (x.0, x.1.now)) result ≡ few_count_read bytes.now }
 {
-    let (count, rest) = split_count(bytes).ok_or(TxFault::Truncated)?;
+    let Some((count, rest)) = split_count(bytes) else {
+        return Err(TxFault::Truncated);
+    };
     if count as usize > MAX_PARTS {
         return Err(TxFault::TooLarge);
     }
@@ -46,7 +54,9 @@ pub fn read_count(bytes: &[u8]) -> Result<(u16, &[u8]), TxFault>
 pub fn read_script(memory: Memory, bytes: &[u8]) -> Result<(Script, &[u8]), TxFault>
     ensures { Reads (λ x. (x.0, x.1.now)) result (script_read bytes.now) }
 {
-    let (text, rest) = split_sized(bytes).ok_or(TxFault::Truncated)?;
+    let Some((text, rest)) = split_sized(bytes) else {
+        return Err(TxFault::Truncated);
+    };
     match Script::decode(memory, text) {
         Ok(script) => Ok((script, rest)),
         Err(ScriptFault::NoMemory) => Err(TxFault::NoMemory),
@@ -59,7 +69,9 @@ pub fn read_script(memory: Memory, bytes: &[u8]) -> Result<(Script, &[u8]), TxFa
 pub fn read_data(memory: Memory, bytes: &[u8]) -> Result<(Data, &[u8]), TxFault>
     ensures { Reads (λ x. (x.0, x.1.now)) result (data_read bytes.now) }
 {
-    let (text, rest) = split_sized(bytes).ok_or(TxFault::Truncated)?;
+    let Some((text, rest)) = split_sized(bytes) else {
+        return Err(TxFault::Truncated);
+    };
     match Data::decode(memory, text) {
         Ok(datum) => Ok((datum, rest)),
         Err(DataFault::NoMemory) => Err(TxFault::NoMemory),
@@ -72,8 +84,12 @@ pub fn read_data(memory: Memory, bytes: &[u8]) -> Result<(Data, &[u8]), TxFault>
 pub fn read_interval(bytes: &[u8]) -> Result<((u64, u64), &[u8]), TxFault>
     ensures { seen (λ x. (x.0, x.1.now)) result ≡ interval_read bytes.now }
 {
-    let (from, rest) = split_unsigned(bytes).ok_or(TxFault::Truncated)?;
-    let (to, rest) = split_unsigned(rest).ok_or(TxFault::Truncated)?;
+    let Some((from, rest)) = split_unsigned(bytes) else {
+        return Err(TxFault::Truncated);
+    };
+    let Some((to, rest)) = split_unsigned(rest) else {
+        return Err(TxFault::Truncated);
+    };
     if to < from {
         return Err(TxFault::BadInterval);
     }

@@ -16,8 +16,12 @@ fn read_output(memory: Memory, bytes: &[u8]) -> Result<(Output, &[u8]), TxFault>
     ensures { (before : Option told.Output) →
         Reads (λ x. (x.0, x.1.now)) result (output_read before bytes.now) }
 {
-    let (address, rest) = split_array::<32>(bytes).ok_or(TxFault::Truncated)?;
-    let (datum_hash, rest) = split_array::<32>(rest).ok_or(TxFault::Truncated)?;
+    let Some((address, rest)) = split_array::<32>(bytes) else {
+        return Err(TxFault::Truncated);
+    };
+    let Some((datum_hash, rest)) = split_array::<32>(rest) else {
+        return Err(TxFault::Truncated);
+    };
     let (value, rest) = read_bundle(memory, rest)?;
     let output = Output {
         address: *address,

@@ -64,7 +64,9 @@ pub fn fill_policies<'a>(
     ensures { Reads (λ rest. (scripts.new.items, rest.now)) result
         (counted_read itself policy_read bytes.now) }
 {
-    let (count, rest) = split_count(bytes).ok_or(TxFault::Truncated)?;
+    let Some((count, rest)) = split_count(bytes) else {
+        return Err(TxFault::Truncated);
+    };
     let most = rest.len() / LEAST_POLICY_BYTES;
     scripts.reserve_exact(most.min(count as usize))?;
     put_policies(memory, scripts, count, rest)

@@ -74,7 +74,9 @@ pub fn fill_references<'a>(
     if version == FORMAT_WITHOUT_REFERENCES {
         return Ok(bytes);
     }
-    let (count, rest) = split_count(bytes).ok_or(TxFault::Truncated)?;
+    let Some((count, rest)) = split_count(bytes) else {
+        return Err(TxFault::Truncated);
+    };
     if count == 0 {
         return Err(TxFault::NoReferences);
     }

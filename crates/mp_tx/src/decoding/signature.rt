@@ -16,8 +16,12 @@ const SIGNATURE_BYTES: usize = 96;
 fn read_signature(before: Option<Signature>, bytes: &[u8]) -> Result<(Signature, &[u8]), TxFault>
     ensures { seen (λ x. (x.0, x.1.now)) result ≡ signature_read before bytes.now }
 {
-    let (key, rest) = split_array::<32>(bytes).ok_or(TxFault::Truncated)?;
-    let (sig, rest) = split_array::<64>(rest).ok_or(TxFault::Truncated)?;
+    let Some((key, rest)) = split_array::<32>(bytes) else {
+        return Err(TxFault::Truncated);
+    };
+    let Some((sig, rest)) = split_array::<64>(rest) else {
+        return Err(TxFault::Truncated);
+    };
     let signature = Signature {
         key: *key,
         sig: *sig,
@@ -62,7 +66,9 @@ pub fn fill_signatures<'a>(
     ensures { Reads (λ rest. (signatures.new.items, rest.now)) result
         (counted_read itself signature_read bytes.now) }
 {
-    let (count, rest) = split_count(bytes).ok_or(TxFault::Truncated)?;
+    let Some((count, rest)) = split_count(bytes) else {
+        return Err(TxFault::Truncated);
+    };
     let most = rest.len() / SIGNATURE_BYTES;
     signatures.reserve_exact(most.min(count as usize))?;
     put_signatures(signatures, count, rest)

@@ -157,6 +157,24 @@ impl Outputs {
         Ok(())
     }
 
+    // Notes the references as spent and then the outputs as made, up to the first fault.
+    fn note_block(
+        &self,
+        changes: &mut Changes,
+        spent: &[OutRef],
+        made: Vec<(OutRef, Output), Memory>,
+    ) -> Result<(), BlockFault>
+        requires { changes.old.entries ≡ [] }
+        ensures ok { OnOk result (changed self.now changes.new.entries
+            ≡ with_outputs (without self.now spent.now) made.items) }
+        ensures there { OnOk result (AreThere self.now spent.now) }
+        ensures free { OnOk result (AreFree (without self.now spent.now) made.items) }
+        ensures fault { IfErr result (IsOfBoth self.now spent.now made.items) }
+    {
+        self.spend(changes, spent)?;
+        self.make(changes, made)
+    }
+
     // The outputs after the changes. Layers that aren't long enough for these are joined with them, and so is the table.
     fn changed(&self, memory: Memory, changes: Changes) -> Result<Outputs, NoMemory>
         ensures { IfOk result (λ o. o ≡ changed self.now changes.entries) }
@@ -186,8 +204,7 @@ impl Outputs {
     {
         let room = spent.len().saturating_add(made.len());
         let mut changes = IndexMap::with_capacity_and_hasher(memory, room, self.salt())?;
-        self.spend(&mut changes, spent)?;
-        self.make(&mut changes, made)?;
+        self.note_block(&mut changes, spent, made)?;
         if changes.is_empty() {
             return Ok(self.share()?);
         }

@@ -6,5 +6,5 @@ use Rattle.mp_tx.proofs.decoding.field.read_data.Goals as goal
 pub returns-in-Ok : goal.returns-in-Ok
 unfolding data_read
 returns-in-Ok c =
-    let whole = datum_is_ok c.in_ok-text.text.now c.in-Ok.ensures.found.1 in
+    let whole = datum_is_ok c.in-Some.text.now c.in-Ok.ensures.found.1 in
     search rules
