@@ -31,7 +31,6 @@ use table::{OUTPUTS, Table, count_owners, fill};
 const TURNS: u64 = 40;
 
 /// What all rounds begin with, and what came of all commands.
-#[derive(Drop)]
 pub struct Trial {
     memory: Memory,
     ledger: Ledger,
@@ -39,6 +38,19 @@ pub struct Trial {
     counts: Counts,
     callers: u32,
     receipts: Mutex<Vec<Receipt, Memory>>,
+}
+
+impl Drop for Trial {
+    fn drop(self) {
+        let Trial {
+            memory: _,
+            ledger: _,
+            table: _,
+            counts: _,
+            callers: _,
+            receipts: _,
+        } = self;
+    }
 }
 
 // What all rounds have come to so far, and the seed of the next one.

@@ -22,9 +22,15 @@ type Shared = Arc<Entries, Memory>;
 
 /// A finite map from tokens to quantities that aren't zero, from -(2^63 - 1) to 2^63 - 1. Contracts see its entries, in the
 /// rising order of their tokens. Several owners may share them, and the bundle of no token keeps none.
-#[derive(Debug, Drop)]
+#[derive(Debug)]
 pub struct Bundle {
     entries: Option<Shared>,
+}
+
+impl Drop for Bundle {
+    fn drop(self) {
+        let Bundle { entries: _ } = self;
+    }
 }
 
 impl Model for Bundle {

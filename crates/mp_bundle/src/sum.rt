@@ -15,11 +15,20 @@ use std::marker::Model;
 /// tokens a stranger picks. First each token without a total gets one of zero, which no reader can tell from none. Only this
 /// takes memory, and a refusal half way leaves each total as it was. Then each quantity is added to a total that is there,
 /// which can't fail.
-#[derive(Drop)]
 pub struct Sum {
     coin: i128,
     totals: Totals,
     added: u64,
+}
+
+impl Drop for Sum {
+    fn drop(self) {
+        let Sum {
+            coin: _,
+            totals: _,
+            added: _,
+        } = self;
+    }
 }
 
 impl Model for Sum {

@@ -5,10 +5,16 @@ use mp_memory::{Memory, NoMemory};
 use std::marker::Model;
 use std::sync::Arc;
 
-#[derive(Debug, Drop)]
+#[derive(Debug)]
 struct Digested {
     bytes: Vec<u8, Memory>,
     hash: Hash,
+}
+
+impl Drop for Digested {
+    fn drop(self) {
+        let Digested { bytes: _, hash: _ } = self;
+    }
 }
 
 impl Model for Digested {
@@ -31,9 +37,15 @@ enum Kept {
 }
 
 /// Bytes with their SHA-256 digest (FIPS 180-4), which is computed once. Contracts see the bytes.
-#[derive(Debug, Drop)]
+#[derive(Debug)]
 pub struct HashedBytes {
     kept: Kept,
+}
+
+impl Drop for HashedBytes {
+    fn drop(self) {
+        let HashedBytes { kept: _ } = self;
+    }
 }
 
 impl Model for HashedBytes {

@@ -24,10 +24,18 @@ const CALLERS: u32 = 1;
 /// A pool that threads may share, with the pass of its one caller: it began empty and came by the caller's commands to what it
 /// holds. Its verifier accepts a signature that is the key followed by the id. A call takes it and gives it back, unless
 /// memory is wanting or an entry was seen that no command made.
-#[derive(Drop)]
 pub struct ScenarioPool<N: PoolName> {
     mempool: Mempool<N, KeyAndId>,
     pass: Pass<N>,
+}
+
+impl<N: PoolName> Drop for ScenarioPool<N> {
+    fn drop(self) {
+        let ScenarioPool {
+            mempool: _,
+            pass: _,
+        } = self;
+    }
 }
 
 impl<N: PoolName> Model for ScenarioPool<N> {

@@ -37,12 +37,22 @@ pub enum Stage<N: PoolName> {
 }
 
 /// What a scenario has come to.
-#[derive(Drop)]
 pub struct Scene<N: PoolName> {
     pub names: Names,
     pub settings: Settings,
     pub peer: PeerReader,
     pub stage: Stage<N>,
+}
+
+impl<N: PoolName> Drop for Scene<N> {
+    fn drop(self) {
+        let Scene {
+            names: _,
+            settings: _,
+            peer: _,
+            stage: _,
+        } = self;
+    }
 }
 
 // The pool, which opens with the first command. The stage is lost until the pool is put back.

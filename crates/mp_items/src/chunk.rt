@@ -9,9 +9,14 @@ use std::sync::Arc;
 pub const MAX_ITEMS: usize = 32;
 
 /// Items that change at once, and are shared as one where they don't.
-#[derive(Drop)]
 pub struct Chunk {
     items: Arc<Vec<Item, Memory>, Memory>,
+}
+
+impl Drop for Chunk {
+    fn drop(self) {
+        let Chunk { items: _ } = self;
+    }
 }
 
 impl Model for Chunk {

@@ -5,10 +5,16 @@ use mp_tx::Tx;
 use std::sync::Arc;
 
 /// A transaction, and the ticket that it has in the pool.
-#[derive(Debug, Drop)]
+#[derive(Debug)]
 pub struct Item {
     pub ticket: u64,
     pub tx: Arc<Tx, Memory>,
+}
+
+impl Drop for Item {
+    fn drop(self) {
+        let Item { ticket: _, tx: _ } = self;
+    }
 }
 
 impl Item {

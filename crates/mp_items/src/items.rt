@@ -5,9 +5,14 @@ use mp_memory::Memory;
 use std::marker::Model;
 
 /// Items in order. A contract sees the transactions with their tickets.
-#[derive(Drop)]
 pub struct Items {
     items: Vec<Item, Memory>,
+}
+
+impl Drop for Items {
+    fn drop(self) {
+        let Items { items: _ } = self;
+    }
 }
 
 impl Model for Items {

@@ -20,10 +20,18 @@ pub use removal::without;
 pub use searching::has;
 
 /// The items of pages, and behind them those of an open chunk: the newest, or none.
-#[derive(Drop)]
 pub struct Layout {
     pub pages: Pages,
     pub newest: Chunk,
+}
+
+impl Drop for Layout {
+    fn drop(self) {
+        let Layout {
+            pages: _,
+            newest: _,
+        } = self;
+    }
 }
 
 impl Layout {

@@ -9,9 +9,14 @@ use std::sync::Arc;
 pub const MAX_CHUNKS: usize = 64;
 
 /// Chunks that are shared as one where none of them changes.
-#[derive(Drop)]
 pub struct Page {
     chunks: Arc<Vec<Chunk, Memory>, Memory>,
+}
+
+impl Drop for Page {
+    fn drop(self) {
+        let Page { chunks: _ } = self;
+    }
 }
 
 impl Model for Page {

@@ -6,9 +6,14 @@ use std::marker::Model;
 use std::sync::Arc;
 
 /// Pages that are shared as one where none of them changes.
-#[derive(Drop)]
 pub struct Pages {
     pages: Arc<Vec<Page, Memory>, Memory>,
+}
+
+impl Drop for Pages {
+    fn drop(self) {
+        let Pages { pages: _ } = self;
+    }
 }
 
 impl Model for Pages {

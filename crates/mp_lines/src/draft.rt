@@ -28,7 +28,6 @@ use std::sync::Arc;
 const NO_ID: TxId = [0; 32];
 
 /// Fields put together: inputs, references and policy scripts rise, and payments and signers keep their order.
-#[derive(Drop)]
 pub struct Draft {
     inputs: Vec<Input, Memory>,
     references: Vec<OutRef, Memory>,
@@ -38,6 +37,21 @@ pub struct Draft {
     forge: Option<Bundle>,
     scripts: Vec<Script, Memory>,
     signers: Vec<Signer, Memory>,
+}
+
+impl Drop for Draft {
+    fn drop(self) {
+        let Draft {
+            inputs: _,
+            references: _,
+            payments: _,
+            from: _,
+            to: _,
+            forge: _,
+            scripts: _,
+            signers: _,
+        } = self;
+    }
 }
 
 impl Model for Draft {

@@ -26,7 +26,6 @@ use std::sync::{Arc, Wait};
 /// What a pool's lock guards: the right to lengthen its history, the sequential pool after it, the newest version, and for each
 /// caller the place of its last entry. Contracts see the history, and the room that the sequential pool has for its next step:
 /// all else is what the history leads to, as the readers say.
-#[derive(Drop)]
 pub struct Locked<N: PoolName> {
     pool: SeqPool,
     right: CommitRight<N>,
@@ -35,6 +34,18 @@ pub struct Locked<N: PoolName> {
     waiting: Option<Shown<N>>,
     // By caller, the place of its last entry.
     places: Vec<Option<u64>, Memory>,
+}
+
+impl<N: PoolName> Drop for Locked<N> {
+    fn drop(self) {
+        let Locked {
+            pool: _,
+            right: _,
+            newest: _,
+            waiting: _,
+            places: _,
+        } = self;
+    }
 }
 
 impl<N: PoolName> Model for Locked<N> {
@@ -140,7 +151,13 @@ impl<N: PoolName> Locked<N> {
         requires places { places.items ≡ replicate M.callers None }
         ensures { result.log ≡ right }
     {
-        let Locked { mut pool, .. } = self;
+        let Locked {
+            mut pool,
+            right: _,
+            newest: _,
+            waiting: _,
+            places: _,
+        } = self;
         pool.renew(limit);
         Locked::open(pool, right, newest, places)
     }

@@ -36,11 +36,20 @@ use std::sync::{Arc, Mutex, Wait};
 /// extends what it held.
 ///
 /// Any number of threads may share a pool, each with passes of its own.
-#[derive(Drop)]
 pub struct Mempool<N: PoolName, V: Verifier> {
     pub(crate) history: History<N>,
     pub(crate) reader: Reader<N, V>,
     locked: Mutex<Locked<N>>,
+}
+
+impl<N: PoolName, V: Verifier + Drop> Drop for Mempool<N, V> {
+    fn drop(self) {
+        let Mempool {
+            history: _,
+            reader: _,
+            locked: _,
+        } = self;
+    }
 }
 
 /// A successor with its passes; or why the pool doesn't hand over, and the pool with the passes as they were.

@@ -13,13 +13,22 @@ use mp_tx::TxId;
 use std::marker::Model;
 
 /// Bindings with their names. Contracts see the list of them, in the order in which they were declared.
-#[derive(Drop)]
 pub struct BindingTable {
     bindings: Vec<NamedBinding, Memory>,
     // Where the first binding with a name stands.
     names: PlaceTable,
     // Where the first transaction with an id stands.
     ids: PlaceTable,
+}
+
+impl Drop for BindingTable {
+    fn drop(self) {
+        let BindingTable {
+            bindings: _,
+            names: _,
+            ids: _,
+        } = self;
+    }
 }
 
 impl Model for BindingTable {

@@ -7,10 +7,15 @@ use std::marker::Model;
 use std::sync::Arc;
 
 /// A transaction, and its outputs with the script and the datum of each.
-#[derive(Drop)]
 pub struct DeclaredTx {
     tx: Arc<Tx, Memory>,
     payments: Vec<Payment, Memory>,
+}
+
+impl Drop for DeclaredTx {
+    fn drop(self) {
+        let DeclaredTx { tx: _, payments: _ } = self;
+    }
 }
 
 impl Model for DeclaredTx {

@@ -20,9 +20,14 @@ use std::marker::Model;
 pub const COIN: &[u8] = b"coin";
 
 /// A name.
-#[derive(Drop)]
 pub struct Name {
     bytes: Vec<u8, Memory>,
+}
+
+impl Drop for Name {
+    fn drop(self) {
+        let Name { bytes: _ } = self;
+    }
 }
 
 impl Model for Name {
@@ -69,31 +74,58 @@ pub enum Binding {
     Made(DeclaredTx),
 }
 
-#[derive(Drop)]
 pub struct NamedBinding {
     pub name: Name,
     pub binding: Binding,
 }
 
-#[derive(Drop)]
+impl Drop for NamedBinding {
+    fn drop(self) {
+        let NamedBinding {
+            name: _,
+            binding: _,
+        } = self;
+    }
+}
+
 pub struct NamedScript {
     pub name: Name,
     pub script: Script,
 }
 
-#[derive(Drop)]
+impl Drop for NamedScript {
+    fn drop(self) {
+        let NamedScript { name: _, script: _ } = self;
+    }
+}
+
 pub struct NamedDatum {
     pub name: Name,
     pub datum: Data,
 }
 
+impl Drop for NamedDatum {
+    fn drop(self) {
+        let NamedDatum { name: _, datum: _ } = self;
+    }
+}
+
 /// What is declared so far: outputs and transactions, scripts, and data. The scripts `yes` and `no` and the datum `unit` are
 /// declared beforehand.
-#[derive(Drop)]
 pub struct Names {
     bindings: BindingTable,
     scripts: Vec<NamedScript, Memory>,
     datums: Vec<NamedDatum, Memory>,
+}
+
+impl Drop for Names {
+    fn drop(self) {
+        let Names {
+            bindings: _,
+            scripts: _,
+            datums: _,
+        } = self;
+    }
 }
 
 impl Model for Names {

@@ -16,9 +16,14 @@ use mp_tx::{OutRef, Output};
 use std::marker::Model;
 
 /// The outputs of a ledger state, in the order in which they were named. No reference stands twice.
-#[derive(Drop)]
 pub struct Outputs {
     entries: Vec<(OutRef, Output), Memory>,
+}
+
+impl Drop for Outputs {
+    fn drop(self) {
+        let Outputs { entries: _ } = self;
+    }
 }
 
 impl Model for Outputs {

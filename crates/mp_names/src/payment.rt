@@ -6,11 +6,20 @@ use mp_script::{Data, Script};
 use mp_tx::Output;
 
 /// An output with the whole of what it names by hashes: the script that locks it, and its datum.
-#[derive(Drop)]
 pub struct Payment {
     pub value: Bundle,
     pub script: Script,
     pub datum: Data,
+}
+
+impl Drop for Payment {
+    fn drop(self) {
+        let Payment {
+            value: _,
+            script: _,
+            datum: _,
+        } = self;
+    }
 }
 
 impl Payment {

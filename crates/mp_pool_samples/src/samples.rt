@@ -84,12 +84,21 @@ pub const REMOVE_THIRD: usize = 159;
 pub type Commands = Vec<Command, Memory>;
 
 /// All samples.
-#[derive(Drop)]
 pub struct Samples {
     pub memory: Memory,
     commands: Commands,
     /// Other outputs for the guarded transaction than those of the ledger state with 120 coin.
     pub others: Vec<Output, Memory>,
+}
+
+impl Drop for Samples {
+    fn drop(self) {
+        let Samples {
+            memory: _,
+            commands: _,
+            others: _,
+        } = self;
+    }
 }
 
 impl Samples {

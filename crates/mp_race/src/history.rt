@@ -12,12 +12,20 @@ use mp_memory::{Memory, NoMemory};
 type Text = Vec<u8, Memory>;
 
 /// A history, as its text tells it.
-#[derive(Drop)]
 pub struct History {
     /// How many workers there were.
     pub workers: u32,
     /// The entries, in order.
     pub told: Vec<Told, Memory>,
+}
+
+impl Drop for History {
+    fn drop(self) {
+        let History {
+            workers: _,
+            told: _,
+        } = self;
+    }
 }
 
 // The line of an entry.

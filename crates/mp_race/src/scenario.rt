@@ -21,11 +21,20 @@ use std::marker::Model;
 
 /// What a race runs: the pool that it opens, and the tasks that it deals to its workers. Contracts see the configuration, the
 /// ledger state and the tasks.
-#[derive(Drop)]
 pub struct Scenario {
     pub(crate) config: Config,
     pub(crate) ledger: Ledger,
     pub(crate) tasks: Vec<Task, Memory>,
+}
+
+impl Drop for Scenario {
+    fn drop(self) {
+        let Scenario {
+            config: _,
+            ledger: _,
+            tasks: _,
+        } = self;
+    }
 }
 
 impl Model for Scenario {

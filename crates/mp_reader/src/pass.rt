@@ -16,10 +16,18 @@ use std::marker::Model;
 /// one for each caller; it can't be cloned, and to make one takes the caller's token, which the pool gives to nobody else. It
 /// never goes back: what it holds is only replaced by what extends it. Contracts see the caller's number, the place of the last
 /// entry that it made, and the history that it has seen.
-#[derive(Drop)]
 pub struct Pass<N: PoolName> {
     caller: Caller<N>,
     shown: Shown<N>,
+}
+
+impl<N: PoolName> Drop for Pass<N> {
+    fn drop(self) {
+        let Pass {
+            caller: _,
+            shown: _,
+        } = self;
+    }
 }
 
 impl<N: PoolName> Model for Pass<N> {

@@ -17,12 +17,21 @@ use std::sync::Wait;
 
 /// What reads the pool: it has the board on which versions are shown, and neither the lock nor anything of what the lock guards.
 /// So whatever a call here does that reads, it waits for nobody and enters nothing.
-#[derive(Drop)]
 pub struct Reader<N: PoolName, V: Verifier> {
     memory: Memory,
     verifier: V,
     board: Board<N>,
     ghost accepts: { V.accepts verifier ≡ N.accepts },
+}
+
+impl<N: PoolName, V: Verifier + Drop> Drop for Reader<N, V> {
+    fn drop(self) {
+        let Reader {
+            memory: _,
+            verifier: _,
+            board: _,
+        } = self;
+    }
 }
 
 // What the pass holds is legal. That costs nothing when it runs.
@@ -69,7 +78,12 @@ impl<N: PoolName, V: Verifier> Reader<N, V> {
     pub fn into_verifier(self) -> V
         ensures { V.accepts result ≡ N.accepts }
     {
-        self.verifier
+        let Reader {
+            memory: _,
+            verifier,
+            board: _,
+        } = self;
+        verifier
     }
 
     /// Shows on the board the version that waits under the lock, if one does. Where memory is wanting it waits on.

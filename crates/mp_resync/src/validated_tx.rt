@@ -7,10 +7,16 @@ use std::marker::Model;
 use std::sync::Arc;
 
 /// A transaction that was found valid, and the outputs that it named then.
-#[derive(Debug, Drop)]
+#[derive(Debug)]
 pub struct ValidatedTx {
     pub tx: Arc<Tx, Memory>,
     pub resolved: Resolved,
+}
+
+impl Drop for ValidatedTx {
+    fn drop(self) {
+        let ValidatedTx { tx: _, resolved: _ } = self;
+    }
 }
 
 impl Model for ValidatedTx {

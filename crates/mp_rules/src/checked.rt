@@ -14,11 +14,21 @@ use std::marker::Model;
 
 /// What was found of a transaction's signatures and scripts upon outputs that it is thought to name. It serves as long as
 /// the transaction names these outputs; where it names others, scripts are run again.
-#[derive(Debug, Drop)]
+#[derive(Debug)]
 pub struct Checked {
     resolved: Resolved,
     signature: Option<Invalid>,
     script: Option<Invalid>,
+}
+
+impl Drop for Checked {
+    fn drop(self) {
+        let Checked {
+            resolved: _,
+            signature: _,
+            script: _,
+        } = self;
+    }
 }
 
 impl Model for Checked {

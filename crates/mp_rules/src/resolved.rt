@@ -6,10 +6,19 @@ use std::marker::Model;
 
 /// The outputs that a transaction names: those that its inputs spend, in their order, and those that its references lead to.
 /// Their bundles are shared with the map that they come from.
-#[derive(Debug, Drop)]
+#[derive(Debug)]
 pub struct Resolved {
     spent: Few<Output>,
     referenced: Vec<Output, Memory>,
+}
+
+impl Drop for Resolved {
+    fn drop(self) {
+        let Resolved {
+            spent: _,
+            referenced: _,
+        } = self;
+    }
 }
 
 impl Model for Resolved {

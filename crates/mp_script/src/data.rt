@@ -12,9 +12,15 @@ use mp_memory::{Memory, NoMemory};
 use std::marker::Model;
 
 /// A datum: a whole number, bytes, or a list of data, up to a depth of 16. Contracts see its bytes.
-#[derive(Debug, Drop)]
+#[derive(Debug)]
 pub struct Data {
     spelled: HashedBytes,
+}
+
+impl Drop for Data {
+    fn drop(self) {
+        let Data { spelled: _ } = self;
+    }
 }
 
 impl Model for Data {

@@ -11,9 +11,15 @@ use mp_memory::{Memory, NoMemory};
 use std::marker::Model;
 
 /// A script: one expression of up to 1,024 operators, up to a depth of 64. Contracts see its bytes.
-#[derive(Debug, Drop)]
+#[derive(Debug)]
 pub struct Script {
     spelled: HashedBytes,
+}
+
+impl Drop for Script {
+    fn drop(self) {
+        let Script { spelled: _ } = self;
+    }
 }
 
 impl Model for Script {

@@ -5,9 +5,15 @@ use mp_tx::TxId;
 use std::marker::Model;
 
 /// The ids of transactions, in any order. One may stand twice. A contract sees the list of them.
-#[derive(Debug, Drop)]
+#[derive(Debug)]
 pub struct Ids {
     ids: Vec<TxId, Memory>,
+}
+
+impl Drop for Ids {
+    fn drop(self) {
+        let Ids { ids: _ } = self;
+    }
 }
 
 impl Model for Ids {

@@ -34,7 +34,6 @@ use std::sync::Arc;
 ///
 /// What its transactions spend and make, and the tickets of their ids, are kept in tables, so that a
 /// submit takes no walk over the pool. A contract sees what the pool holds, and the room that was made in its tables.
-#[derive(Drop)]
 pub struct SeqPool {
     memory: Memory,
     config: Config,
@@ -44,6 +43,21 @@ pub struct SeqPool {
     last: u64,
     bytes: u64,
     changes: u64,
+}
+
+impl Drop for SeqPool {
+    fn drop(self) {
+        let SeqPool {
+            memory: _,
+            config: _,
+            overlay: _,
+            tickets: _,
+            items: _,
+            last: _,
+            bytes: _,
+            changes: _,
+        } = self;
+    }
 }
 
 impl Model for SeqPool {

@@ -17,7 +17,6 @@ use mp_names::{Binding, LineFault, Name, Names, Payment, Reason};
 use mp_tx::{BlockFault, Ledger, OutRef, Output};
 
 /// What a pool is to open with.
-#[derive(Drop)]
 pub struct Beginning {
     /// Which signatures it will accept.
     pub signatures: Signatures,
@@ -25,6 +24,16 @@ pub struct Beginning {
     pub outs: u64,
     /// All outputs, at no tick in particular.
     pub ledger: Ledger,
+}
+
+impl Drop for Beginning {
+    fn drop(self) {
+        let Beginning {
+            signatures: _,
+            outs: _,
+            ledger: _,
+        } = self;
+    }
 }
 
 type Entries = Vec<(OutRef, Output), Memory>;

@@ -24,11 +24,20 @@ pub struct NewBlock {
 }
 
 /// A block's transactions, with the tick and the bytes of a block, 1 to 2^39, of the ledger state after it.
-#[derive(Drop)]
 pub struct Block {
     tick: u64,
     block_bytes: u64,
     txs: Txs,
+}
+
+impl Drop for Block {
+    fn drop(self) {
+        let Block {
+            tick: _,
+            block_bytes: _,
+            txs: _,
+        } = self;
+    }
 }
 
 impl Model for Block {

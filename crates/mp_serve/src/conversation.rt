@@ -36,13 +36,23 @@ pub enum Stage {
 }
 
 /// What a conversation has come to.
-#[derive(Drop)]
 pub struct Conversation {
     pub names: Names,
     pub settings: Settings,
     /// The last ticket that the peer was offered.
     pub cursor: u64,
     pub stage: Stage,
+}
+
+impl Drop for Conversation {
+    fn drop(self) {
+        let Conversation {
+            names: _,
+            settings: _,
+            cursor: _,
+            stage: _,
+        } = self;
+    }
 }
 
 // What came of the first request: the pool that opened for it, the line, and the peer's cursor.

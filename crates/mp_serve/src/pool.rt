@@ -19,12 +19,22 @@ use std::marker::Model;
 
 /// The pool of a conversation, which one thread has, with the ledger states that it had before, at most 2,160. When it has made as
 /// many changes as it may, it counts them anew, so that it goes on for as long as it is asked; its last ticket stays.
-#[derive(Drop)]
 pub struct ServedPool {
     pool: SeqPool,
     signatures: Signatures,
     former: States,
     refused: Counts,
+}
+
+impl Drop for ServedPool {
+    fn drop(self) {
+        let ServedPool {
+            pool: _,
+            signatures: _,
+            former: _,
+            refused: _,
+        } = self;
+    }
 }
 
 impl Model for ServedPool {

@@ -27,10 +27,15 @@ use mp_tx::{Ledger, Tx};
 use std::sync::Arc;
 
 // Items of a pool, and how many bytes their transactions have together.
-#[derive(Drop)]
 struct Found {
     items: Vec<Item, Memory>,
     bytes: u64,
+}
+
+impl Drop for Found {
+    fn drop(self) {
+        let Found { items: _, bytes: _ } = self;
+    }
 }
 
 // Of these the first ones, at most so many, as long as they fit into so many bytes together.

@@ -8,9 +8,14 @@ use mp_tx::{OutRef, Output};
 use std::marker::Model;
 
 /// The opening outputs so far, numbered from 0 under the id of zeros.
-#[derive(Drop)]
 pub struct Openings {
     entries: Vec<(OutRef, Output), Memory>,
+}
+
+impl Drop for Openings {
+    fn drop(self) {
+        let Openings { entries: _ } = self;
+    }
 }
 
 impl Model for Openings {

@@ -3,9 +3,15 @@ use mp_memory::{Memory, NoMemory};
 use std::marker::Model;
 
 /// Tickets that rise, so none stands twice. A contract sees the list of them.
-#[derive(Debug, Drop)]
+#[derive(Debug)]
 pub struct Tickets {
     tickets: Vec<u64, Memory>,
+}
+
+impl Drop for Tickets {
+    fn drop(self) {
+        let Tickets { tickets: _ } = self;
+    }
 }
 
 impl Model for Tickets {

@@ -8,10 +8,19 @@ use mp_memory::{Memory, NoMemory};
 use mp_script::Script;
 
 /// What few transactions have: references, and policy scripts.
-#[derive(Debug, Drop)]
+#[derive(Debug)]
 pub struct Extras {
     pub references: Vec<OutRef, Memory>,
     pub scripts: Vec<Script, Memory>,
+}
+
+impl Drop for Extras {
+    fn drop(self) {
+        let Extras {
+            references: _,
+            scripts: _,
+        } = self;
+    }
 }
 
 /// References and policy scripts apart, in one growth, or in none where there are neither.

@@ -19,9 +19,15 @@ enum Kept<T> {
 }
 
 /// A list that doesn't grow. One item stands in the list itself, and takes no memory. Contracts see the items.
-#[derive(Debug, Drop)]
+#[derive(Debug)]
 pub struct Few<T> {
     kept: Kept<T>,
+}
+
+impl<T: Drop> Drop for Few<T> {
+    fn drop(self) {
+        let Few { kept: _ } = self;
+    }
 }
 
 impl<T> Model for Few<T> {

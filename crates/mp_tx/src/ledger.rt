@@ -29,11 +29,20 @@ type Entry = (OutRef, Output);
 /// A ledger state: a tick, the bytes that a block may have, and a finite map from references to outputs. Several owners may
 /// share the map. Looking an output up takes no walk over the others: the map is a table whose places depend on a salt, with
 /// a few smaller ones above it where the state came about by blocks.
-#[derive(Drop)]
 pub struct Ledger {
     tick: u64,
     block_bytes: u64,
     outputs: Outputs,
+}
+
+impl Drop for Ledger {
+    fn drop(self) {
+        let Ledger {
+            tick: _,
+            block_bytes: _,
+            outputs: _,
+        } = self;
+    }
 }
 
 impl Model for Ledger {

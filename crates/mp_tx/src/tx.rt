@@ -31,7 +31,7 @@ pub const MAX_PARTS: usize = 256;
 pub const MAX_BYTES: usize = 16_384;
 
 /// What a transaction is made of. Inputs, references, policy scripts and signatures are to rise; outputs keep their order.
-#[derive(Debug, Drop)]
+#[derive(Debug)]
 pub struct TxParts {
     /// What it spends. They rise by what they spend.
     pub inputs: Vec<Input, Memory>,
@@ -49,6 +49,21 @@ pub struct TxParts {
     pub scripts: Vec<Script, Memory>,
     /// Who has signed it. They rise by key, and then by the signature.
     pub signatures: Vec<Signature, Memory>,
+}
+
+impl Drop for TxParts {
+    fn drop(self) {
+        let TxParts {
+            inputs: _,
+            references: _,
+            outputs: _,
+            from: _,
+            to: _,
+            forge: _,
+            scripts: _,
+            signatures: _,
+        } = self;
+    }
 }
 
 impl TxParts {
@@ -73,6 +88,36 @@ impl TxParts {
         }
     }
 
+    // The transaction of parts that may stand together, with their id and size.
+    fn keep(self, memory: Memory, id: TxId, size: u64) -> Result<Tx, NoMemory>
+        requires fits { IsTransaction (parts_of self) }
+        requires id { id ≡ id_of (parts_of self) }
+        requires size { size ≡ size_of (parts_of self) }
+        ensures { IfOk result (λ t. t ≡ parts_of self) }
+    {
+        let TxParts {
+            inputs,
+            references,
+            outputs,
+            from,
+            to,
+            forge,
+            scripts,
+            signatures,
+        } = self;
+        Ok(Tx {
+            inputs: Few::of(inputs),
+            outputs: Few::of(outputs),
+            from,
+            to,
+            forge,
+            extras: keep_apart(memory, references, scripts)?,
+            signatures,
+            id,
+            size,
+        })
+    }
+
     fn lend(&self) -> Parts<'_>
         ensures { lent result ≡ parts_of self.now }
     {
@@ -90,7 +135,7 @@ impl TxParts {
 }
 
 /// A transaction of the extended UTXO model with native tokens (Chakravarty et al.). Its id and size are kept from construction.
-#[derive(Debug, Drop)]
+#[derive(Debug)]
 pub struct Tx {
     inputs: Few<Input>,
     outputs: Few<Output>,
@@ -101,6 +146,22 @@ pub struct Tx {
     signatures: Vec<Signature, Memory>,
     id: TxId,
     size: u64,
+}
+
+impl Drop for Tx {
+    fn drop(self) {
+        let Tx {
+            inputs: _,
+            outputs: _,
+            from: _,
+            to: _,
+            forge: _,
+            extras: _,
+            signatures: _,
+            id: _,
+            size: _,
+        } = self;
+    }
 }
 
 impl Model for Tx {
@@ -171,27 +232,7 @@ impl Tx {
         ensures fault { IfErr result (IsPartsFault (parts_of parts)) }
     {
         let (id, size) = measure(memory, &parts.lend())?;
-        Ok(Tx::keep(memory, parts, id, size)?)
-    }
-
-    // The transaction of parts that may stand together, with their id and size.
-    fn keep(memory: Memory, parts: TxParts, id: TxId, size: u64) -> Result<Tx, NoMemory>
-        requires fits { IsTransaction (parts_of parts) }
-        requires id { id ≡ id_of (parts_of parts) }
-        requires size { size ≡ size_of (parts_of parts) }
-        ensures { IfOk result (λ t. t ≡ parts_of parts) }
-    {
-        Ok(Tx {
-            inputs: Few::of(parts.inputs),
-            outputs: Few::of(parts.outputs),
-            from: parts.from,
-            to: parts.to,
-            forge: parts.forge,
-            extras: keep_apart(memory, parts.references, parts.scripts)?,
-            signatures: parts.signatures,
-            id,
-            size,
-        })
+        Ok(parts.keep(memory, id, size)?)
     }
 
     fn lend(&self) -> Parts<'_>
@@ -224,7 +265,7 @@ impl Tx {
     {
         let mut parts = TxParts::empty(memory);
         let body = fill_parts(memory, &mut parts, bytes)?;
-        Ok(Tx::keep(memory, parts, digest(body), bytes.len() as u64)?)
+        Ok(parts.keep(memory, digest(body), bytes.len() as u64)?)
     }
 
     /// Its bytes, which `decode` reads back, made in one growth of just their number. Want of memory is the only error.

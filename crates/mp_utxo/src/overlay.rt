@@ -15,7 +15,6 @@ use std::sync::Arc;
 /// The ledger is shared, and not copied. For each reference that was spent or made the overlay keeps what became of it last,
 /// in a table with the salt of the ledger that it was made over. So what a transaction spends and a later one makes again is there
 /// again, and an output that was made is found through its transaction.
-#[derive(Drop)]
 pub struct Overlay {
     ledger: Ledger,
     applied: Vec<Applied, Memory>,
@@ -24,6 +23,18 @@ pub struct Overlay {
     looks_inside: bool,
     // How many of the places are vacant.
     vacant: usize,
+}
+
+impl Drop for Overlay {
+    fn drop(self) {
+        let Overlay {
+            ledger: _,
+            applied: _,
+            changes: _,
+            looks_inside: _,
+            vacant: _,
+        } = self;
+    }
 }
 
 impl Model for Overlay {

@@ -10,10 +10,18 @@ use std::sync::atomic::{AtomicUsize, Ordering};
 /// The versions that were shown, for all threads at once, and a hint which of them is the newest.
 /// A version that was shown stays as long as the board. What a reader gets is a `Shown`, whose type
 /// says that it is a true one: no clause rests on the hint.
-#[derive(Drop)]
 pub struct Board<N: PoolName> {
     shown: boxcar::Vec<Shown<N>, Memory>,
     newest: AtomicUsize,
+}
+
+impl<N: PoolName> Drop for Board<N> {
+    fn drop(self) {
+        let Board {
+            shown: _,
+            newest: _,
+        } = self;
+    }
 }
 
 impl<N: PoolName> Board<N> {

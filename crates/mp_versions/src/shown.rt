@@ -12,10 +12,18 @@ use std::sync::Arc;
 
 /// A version that callers may hold, with its front: the history is legal, and the version is the
 /// slow pool after it. Contracts see it as that history.
-#[derive(Drop)]
 pub struct Shown<N: PoolName> {
     version: Arc<Version, Memory>,
     front: Front<N>,
+}
+
+impl<N: PoolName> Drop for Shown<N> {
+    fn drop(self) {
+        let Shown {
+            version: _,
+            front: _,
+        } = self;
+    }
 }
 
 impl<N: PoolName> Model for Shown<N> {

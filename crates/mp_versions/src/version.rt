@@ -23,7 +23,6 @@ use std::sync::Arc;
 
 /// A state of the pool, which stays as it is. It shares nearly everything with the version that it
 /// was made from. Contracts see it as the slow pool's state and the chunks that make up its items.
-#[derive(Drop)]
 pub struct Version {
     pub(crate) layout: Layout,
     ledger: Ledger,
@@ -32,6 +31,20 @@ pub struct Version {
     count: usize,
     bytes: u64,
     changes: u64,
+}
+
+impl Drop for Version {
+    fn drop(self) {
+        let Version {
+            layout: _,
+            ledger: _,
+            config: _,
+            last: _,
+            count: _,
+            bytes: _,
+            changes: _,
+        } = self;
+    }
 }
 
 impl Model for Version {

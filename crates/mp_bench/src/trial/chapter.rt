@@ -9,11 +9,20 @@ use mp_versions::Snapshot;
 use std::sync::{Mutex, Wait};
 
 /// What a snapshot says: how many entries there were, the last ticket, and the transactions under their tickets.
-#[derive(Drop)]
 pub struct View {
     pub number: u64,
     pub last: u64,
     pub held: Vec<(u64, TxId), Memory>,
+}
+
+impl Drop for View {
+    fn drop(self) {
+        let View {
+            number: _,
+            last: _,
+            held: _,
+        } = self;
+    }
 }
 
 impl View {
@@ -42,11 +51,20 @@ impl View {
 }
 
 /// What came of one pool: with what it opened, what was entered, and what it had in the end.
-#[derive(Drop)]
 pub struct Chapter {
     pub opening: View,
     pub entries: Vec<Entry, Memory>,
     pub closing: View,
+}
+
+impl Drop for Chapter {
+    fn drop(self) {
+        let Chapter {
+            opening: _,
+            entries: _,
+            closing: _,
+        } = self;
+    }
 }
 
 // Whether the places are 0, 1, .., so many.

@@ -35,10 +35,18 @@ pub struct Plan {
 }
 
 /// What came of a pool and of its successor.
-#[derive(Drop)]
 pub struct Tale {
     pub before: Chapter,
     pub after: Chapter,
+}
+
+impl Drop for Tale {
+    fn drop(self) {
+        let Tale {
+            before: _,
+            after: _,
+        } = self;
+    }
 }
 
 // All callers play to the end.

@@ -14,12 +14,20 @@ pub const OUTPUTS: u64 = 128;
 const FEW: u64 = 2_000;
 
 /// What callers ask for.
-#[derive(Drop)]
 pub struct Table {
     /// For each output two submits that spend it, and one that spends what the first pays; and a remove of up to three of them.
     pub changes: Commands,
     /// Syncs with ledger states with all outputs or some.
     pub syncs: Commands,
+}
+
+impl Drop for Table {
+    fn drop(self) {
+        let Table {
+            changes: _,
+            syncs: _,
+        } = self;
+    }
 }
 
 // Gives the id of the first.

@@ -16,7 +16,6 @@ use std::marker::{Model, PhantomData};
 /// The right to lengthen the pool's history. There is one for each history: it comes with it, it
 /// can't be cloned, and nothing else makes one. Contracts see it as the whole history, since nobody
 /// else can enter anything: `covers` says so of each front.
-#[derive(Drop)]
 pub struct CommitRight<N: PoolName> {
     // A word of the book that no history has: an exchange upon it sees the book as it is.
     own: Word<Noted, u64, Law>,
@@ -25,6 +24,18 @@ pub struct CommitRight<N: PoolName> {
     // The pen that enters the next entry.
     pen: Pen,
     of: PhantomData<N>,
+}
+
+impl<N: PoolName> Drop for CommitRight<N> {
+    fn drop(self) {
+        let CommitRight {
+            own: _,
+            count: _,
+            seen: _,
+            pen: _,
+            of: _,
+        } = self;
+    }
 }
 
 impl<N: PoolName> Model for CommitRight<N> {

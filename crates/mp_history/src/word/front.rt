@@ -10,11 +10,20 @@ use std::marker::{Model, PhantomData};
 
 /// A beginning of the pool's history that was seen. Contracts see it as the state that the pool
 /// opened with and the entries; the program keeps their number alone.
-#[derive(Drop)]
 pub struct Front<N: PoolName> {
     pub(crate) count: u64,
     pub(crate) seen: Seen<Noted, u64, Law>,
     pub(crate) of: PhantomData<N>,
+}
+
+impl<N: PoolName> Drop for Front<N> {
+    fn drop(self) {
+        let Front {
+            count: _,
+            seen: _,
+            of: _,
+        } = self;
+    }
 }
 
 impl<N: PoolName> Model for Front<N> {

@@ -19,11 +19,16 @@ use std::marker::PhantomData;
 /// The pool's history: one word, the number of its entries. The entries themselves are seen by
 /// contracts alone, and take no memory. All callers may share it; who has the commit right
 /// lengthens it.
-#[derive(Drop)]
 pub struct History<N: PoolName> {
     head: Word<Noted, u64, Law>,
     of: PhantomData<N>,
     ghost head_is: { head ≡ head_of N.book N.root },
+}
+
+impl<N: PoolName> Drop for History<N> {
+    fn drop(self) {
+        let History { head: _, of: _ } = self;
+    }
 }
 
 impl<N: PoolName> History<N> {

@@ -16,11 +16,19 @@ use mp_tx::Ledger;
 use mp_versions::Version;
 
 /// A pool, and the version of it.
-#[derive(Drop)]
 pub struct Both {
     pub pool: SeqPool,
     pub version: Version,
     ghost same: { version.pool ≡ pool.pool } by { Prim.hlevel (codes, finite.code) },
+}
+
+impl Drop for Both {
+    fn drop(self) {
+        let Both {
+            pool: _,
+            version: _,
+        } = self;
+    }
 }
 
 /// The pool with a version that is made of all of it.

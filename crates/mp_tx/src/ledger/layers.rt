@@ -15,9 +15,14 @@ use std::sync::Arc;
 pub const RATIO: usize = 8;
 
 /// Changes that several owners may share.
-#[derive(Drop)]
 pub struct Layer {
     changes: Arc<Changes, Memory>,
+}
+
+impl Drop for Layer {
+    fn drop(self) {
+        let Layer { changes: _ } = self;
+    }
 }
 
 impl Model for Layer {
@@ -56,9 +61,14 @@ impl Layer {
 }
 
 /// Layers of changes, newest first. Several owners may share them.
-#[derive(Drop)]
 pub struct Layers {
     layers: Option<Arc<Vec<Layer, Memory>, Memory>>,
+}
+
+impl Drop for Layers {
+    fn drop(self) {
+        let Layers { layers: _ } = self;
+    }
 }
 
 impl Model for Layers {

@@ -21,10 +21,15 @@ use std::sync::Arc;
 /// A finite map from references to outputs, made of a table and of layers of changes above it, which several maps may share.
 /// The table and each layer is at least RATIO times as long as the layers above it. So there are few layers, and what a block
 /// costs is, over many blocks, in proportion to the block.
-#[derive(Drop)]
 pub struct Outputs {
     base: Arc<Base, Memory>,
     layers: Layers,
+}
+
+impl Drop for Outputs {
+    fn drop(self) {
+        let Outputs { base: _, layers: _ } = self;
+    }
 }
 
 impl Model for Outputs {
