@@ -16,7 +16,7 @@ use mp_versions::{Board, Shown, Snapshot};
 use std::sync::Wait;
 
 /// What reads the pool: it has the board on which versions are shown, and neither the lock nor anything of what the lock guards.
-/// So whatever a call here does that reads, it waits for nobody and enters nothing.
+/// So no call here enters anything, and each waits for nobody but `show_waiting`, which takes what only the pool has.
 pub struct Reader<N: PoolName, V: Verifier> {
     memory: Memory,
     verifier: V,

@@ -186,7 +186,7 @@ fn has_few_parts(parts: &Parts<'_>) -> bool
         && parts.outputs.len() <= MAX_PARTS
 }
 
-// The id and the size of the transaction of these parts.
+// The id and the size of the transaction that these parts make, or the first fault of theirs.
 fn measure(memory: Memory, parts: &Parts<'_>) -> Result<(TxId, u64), TxFault>
     ensures fits { OnOk result (IsTransaction (lent parts.now)) }
     ensures id { IfOk result (λ m. m.0 ≡ id_of (lent parts.now)) }
