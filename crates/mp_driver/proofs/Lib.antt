@@ -1,2 +1,2 @@
-pub mod Alone
+pub mod Lawful
 pub mod Progress

@@ -1,17 +1,16 @@
 -- How far a run has come.
 use Rattle.std.proofs.Common.{◌≡◌, ℕ, ◌+◌, ◌≤◌, List, [], ◌∷◌, ◌++◌, length, take, refl, sym, ap, subst, ◌∙◌, arith, append_assoc, append-nil, length-append}
-use Rattle.std.specs.Prelude.{Option, None, Some, option_and_then, Err}
+use Rattle.std.specs.Prelude.{Option, None, Some, Result, Err}
 use Rattle.std.specs.Io.KnownBytes.{Appends}
 use Rattle.std.proofs.Math.Seq.{take-append_seam, take-append-add}
 use Rattle.std.proofs.lemmas.List.{take-append-le}
 use Rattle.mp_text.specs.Lines.{lines_of}
 use Rattle.mp_text.specs.Output.{AppendsFront}
 use Rattle.mp_answers.proofs.Appending.{Appends-nothing, Appends-more}
-use Rattle.mp_driver.specs.declared.halt.Halt.{Halt}
-use Rattle.mp_driver.specs.declared.halt.Halt.TheVariants.{NoMemory, Bad, Missing}
-use Rattle.mp_driver.specs.Scene.{Scene, empty_scene, line_step, follow, outcome, reached}
-use Rattle.mp_driver.specs.Missing.{entries_told}
-use Rattle.mp_driver.specs.Halt.{IsForBadLine, TellsOf}
+use Rattle.mp_names.specs.declared.fault.LineFault.{LineFault}
+use Rattle.mp_names.specs.declared.fault.LineFault.TheVariants.{NoMemory, Bad}
+use Rattle.mp_names.specs.Fault.{IsBad}
+use Rattle.mp_driver.specs.Scene.{Scene, empty_scene, line_step, follow, outcome}
 use Rattle.mp_driver.specs.Ending.{outcome_of, fault_of, stop_of, AreDone, Answers, Ended}
 
 -- The lines that are done wrote a text, which is what the writer got, and what is told of all starts with it.
@@ -20,11 +19,10 @@ pub record Progress (old now : Option (List ℕ)) (all rest : List (List ℕ)) (
   pub text : List ℕ
   pub whole : all ≡ lines ++ rest
   pub told : (more : List (List ℕ)) → outcome_of (lines ++ more) ≡ (text ++ (outcome s n more).0, (outcome s n more).1)
-  pub there : (more : List (List ℕ)) → reached empty_scene (lines ++ more) ≡ reached s more
   pub wrote : Appends old now text
 
 pub begins : (o : Option (List ℕ)) (all : List (List ℕ)) → Progress o o all all empty_scene 1
-begins o all = record { lines = []; text = []; whole = refl; told = λ more. refl; there = λ more. refl; wrote = Appends-nothing o }
+begins o all = record { lines = []; text = []; whole = refl; told = λ more. refl; wrote = Appends-nothing o }
 
 -- what a line that is good makes of what is told
 good : (s t : Scene) (n : ℕ) (line answer : List ℕ) (more : List (List ℕ)) → line_step s line ≡ Some (t, answer) → outcome s n (line ∷ more) ≡ (answer ++ (outcome t (n + 1) more).0, (outcome t (n + 1) more).1)
@@ -38,31 +36,31 @@ goes_on old now new all rest s t n line answer p step more_written = record {
   whole = p.whole ∙ sym (append_assoc p.lines (line ∷ []) rest);
   told = λ more. ap outcome_of (append_assoc p.lines (line ∷ []) more) ∙ p.told (line ∷ more) ∙ ap (λ o. (p.text ++ o.0, o.1)) (good s t n line answer more step)
       ∙ ap (λ x. (x, (outcome t (n + 1) more).1)) (sym (append_assoc p.text answer (outcome t (n + 1) more).0));
-  there = λ more. ap (reached empty_scene) (append_assoc p.lines (line ∷ []) more) ∙ p.there (line ∷ more) ∙ ap (option_and_then (λ u. reached u.0 more)) step;
   wrote = Appends-more old now new p.text answer p.wrote more_written;
 }
 
--- the lines that are done, and the scene after them
-stops : (old now : Option (List ℕ)) (all rest : List (List ℕ)) (s : Scene) (n : ℕ) → Progress old now all rest s n
-    → (k : ℕ) × Answers old now (take k all) × (reached empty_scene (take k all) ≡ Some s)
+-- the lines that are done
+stops : (old now : Option (List ℕ)) (all rest : List (List ℕ)) (s : Scene) (n : ℕ) → Progress old now all rest s n → (k : ℕ) × Answers old now (take k all)
 stops old now all rest s n p =
     let front : take (length p.lines) all ≡ p.lines = ap (take (length p.lines)) p.whole ∙ take-append_seam p.lines rest in
     let e : outcome_of (take (length p.lines) all) ≡ (p.text ++ [], None) = ap outcome_of (front ∙ sym (append-nil p.lines)) ∙ p.told [] in (
       length p.lines,
       (subst (Appends old now) (sym (ap (λ o. o.0) e ∙ append-nil p.text)) p.wrote, ap (λ o. o.1) e),
-      ap (reached empty_scene) (front ∙ sym (append-nil p.lines)) ∙ p.there [],
     )
 
+-- what the result has where it is Ok
+abbrev pub value_of : {X E : Type 0} → Result X E → Type 0
+value_of {X} r = X
+
 -- a line that isn't answered
-pub halts : {N : Type 0} (bytes : List ℕ) (old now : Option (List ℕ)) (rest : List (List ℕ)) (s : Scene) (n : ℕ) (line : List ℕ) (halt : Halt N)
-    → AreDone bytes → Progress old now (lines_of bytes) (line ∷ rest) s n → (IsForBadLine halt → line_step s line ≡ None) → TellsOf (entries_told s) halt
-    → Ended bytes old now (Err (fault_of (stop_of n halt)))
-halts bytes old now rest s n line NoMemory short p bad h = let k = stops old now (lines_of bytes) (line ∷ rest) s n p in (k.0, k.1)
-halts bytes old now rest s n line (Bad reason) short p bad h =
+pub halts : (X : Type 0) (bytes : List ℕ) (old now : Option (List ℕ)) (rest : List (List ℕ)) (s : Scene) (n : ℕ) (line : List ℕ) (fault : LineFault)
+    → AreDone bytes → Progress old now (lines_of bytes) (line ∷ rest) s n → (IsBad {X = X} (Err fault) → line_step s line ≡ None)
+    → Ended bytes old now (Err (fault_of (stop_of n fault)))
+halts X bytes old now rest s n line NoMemory short p bad = stops old now (lines_of bytes) (line ∷ rest) s n p
+halts X bytes old now rest s n line (Bad reason) short p bad =
     let e : outcome_of (lines_of bytes) ≡ (p.text ++ [], Some n) =
     ap outcome_of p.whole ∙ p.told (line ∷ rest) ∙ ap (λ t. (p.text ++ (follow n (λ u. outcome u (n + 1) rest) t).0, (follow n (λ u. outcome u (n + 1) rest) t).1)) (bad tt) in
     (short, subst (Appends old now) (sym (ap (λ o. o.0) e ∙ append-nil p.text)) p.wrote, ap (λ o. o.1) e)
-halts bytes old now rest s n line (Missing e) short p bad h = let k = stops old now (lines_of bytes) (line ∷ rest) s n p in (k.0, k.1, (s, k.2, h))
 
 -- a front of an answer
 pub is_cut : (old now new : Option (List ℕ)) (all rest : List (List ℕ)) (s t : Scene) (n : ℕ) (line answer : List ℕ) → Progress old now all (line ∷ rest) s n → line_step s line ≡ Some (t, answer) → AppendsFront now new answer

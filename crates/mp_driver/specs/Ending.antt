@@ -3,37 +3,34 @@ use Rattle.std.specs.Prelude.{◌≡◌, ℕ, ◌≤◌, ◌^◌, List, length, 
 use Rattle.std.specs.Io.KnownBytes.{Appends, Keeps}
 use Rattle.mp_text.specs.Lines.{lines_of}
 use Rattle.mp_text.specs.Output.{AppendsFront}
+use Rattle.mp_names.specs.declared.fault.LineFault.{LineFault}
+use Rattle.mp_names.specs.declared.fault.LineFault.TheVariants as line
 use Rattle.mp_names.specs.declared.reason.Reason.{Reason}
 use Rattle.mp_driver.specs.declared.fault.Fault.{Fault}
-use Rattle.mp_driver.specs.declared.fault.Fault.TheVariants.{NoMemory, BadLine, ReadFault, WriteFault, MissingEntry}
-use Rattle.mp_driver.specs.declared.halt.Halt.{Halt}
-use Rattle.mp_driver.specs.declared.halt.Halt.TheVariants as halts
+use Rattle.mp_driver.specs.declared.fault.Fault.TheVariants.{NoMemory, BadLine, ReadFault, WriteFault}
 use Rattle.mp_driver.specs.declared.stop.Stop.{Stop}
 use Rattle.mp_driver.specs.declared.stop.Stop.TheVariants as stop
 use Rattle.mp_driver.specs.Scene.{empty_scene, outcome}
-use Rattle.mp_driver.specs.Missing.{IsMissingAfter}
 
 -- the text of lines up to the first bad one, and the number of that one, from 1
 abbrev pub outcome_of : List (List ℕ) → List ℕ × Option ℕ
 outcome_of lines = outcome empty_scene 1 lines
 
 -- the bad line that ends it, if one does
-abbrev pub bad_line_of : {N : Type 0} → Stop N → Option (ℕ × Reason)
+abbrev pub bad_line_of : Stop → Option (ℕ × Reason)
 bad_line_of (stop.BadLine n reason) = Some (n, reason)
 bad_line_of other = None
 
 -- the fault that a run ends with, where the answers to its text end so
-abbrev pub fault_of : {N : Type 0} → Stop N → Fault N
+abbrev pub fault_of : Stop → Fault
 fault_of stop.NoMemory = NoMemory
 fault_of (stop.BadLine n reason) = BadLine n
 fault_of stop.Write = WriteFault
-fault_of (stop.Missing e) = MissingEntry e
 
 -- where the line with this number isn't answered
-abbrev pub stop_of : {N : Type 0} → ℕ → Halt N → Stop N
-stop_of n halts.NoMemory = stop.NoMemory
-stop_of n (halts.Bad reason) = stop.BadLine n reason
-stop_of n (halts.Missing e) = stop.Missing e
+abbrev pub stop_of : ℕ → LineFault → Stop
+stop_of n line.NoMemory = stop.NoMemory
+stop_of n (line.Bad reason) = stop.BadLine n reason
 
 -- no more than 2^24 bytes are done
 abbrev pub AreDone : List ℕ → Type 0
@@ -43,21 +40,20 @@ AreDone bytes = length bytes ≤ 2 ^ 24
 abbrev pub Answers : Option (List ℕ) → Option (List ℕ) → List (List ℕ) → Type 0
 Answers old new lines = Appends old new (outcome_of lines).0 × ((outcome_of lines).1 ≡ None)
 
--- all answers; those before the first bad line; nothing; a front of the answers, and not all; those of some first lines, none of them
--- bad; and the same, where an entry was seen that none of these answers told of
-abbrev pub Ended : {N : Type 0} → List ℕ → Option (List ℕ) → Option (List ℕ) → Result (Unit {0}) (Fault N) → Type 0
+-- all answers; those before the first bad line; nothing; a front of the answers, and not all; and those of some first lines, none of
+-- them bad
+abbrev pub Ended : List ℕ → Option (List ℕ) → Option (List ℕ) → Result (Unit {0}) Fault → Type 0
 Ended bytes old new (Ok u) = AreDone bytes × Answers old new (lines_of bytes)
 Ended bytes old new (Err (BadLine n)) = AreDone bytes × Appends old new (outcome_of (lines_of bytes)).0 × ((outcome_of (lines_of bytes)).1 ≡ Some n)
 Ended bytes old new (Err ReadFault) = Keeps old new
 Ended bytes old new (Err WriteFault) = AreDone bytes × AppendsFront old new (outcome_of (lines_of bytes)).0
 Ended bytes old new (Err NoMemory) = (k : ℕ) × Answers old new (take k (lines_of bytes))
-Ended bytes old new (Err (MissingEntry e)) = (k : ℕ) × Answers old new (take k (lines_of bytes)) × IsMissingAfter (take k (lines_of bytes)) e
 
 -- how the run ends where the answers to its text end so
-abbrev pub ended_so : {N : Type 0} → Result (Unit {0}) (Stop N) → Result (Unit {0}) (Fault N)
+abbrev pub ended_so : Result (Unit {0}) Stop → Result (Unit {0}) Fault
 ended_so (Ok u) = Ok u
 ended_so (Err stop) = Err (fault_of stop)
 
 -- the same of the answers to a text, which also tell what is wrong with a bad line
-abbrev pub AreAnswers : {N : Type 0} → List ℕ → Option (List ℕ) → Option (List ℕ) → Result (Unit {0}) (Stop N) → Type 0
+abbrev pub AreAnswers : List ℕ → Option (List ℕ) → Option (List ℕ) → Result (Unit {0}) Stop → Type 0
 AreAnswers bytes old new result = Ended bytes old new (ended_so result)

@@ -113,8 +113,3 @@ follow n others (Some step) = (step.1 ++ (others step.0).0, (others step.0).1)
 abbrev pub outcome : Scene → ℕ → List (List ℕ) → List ℕ × Option ℕ
 outcome s n [] = ([], None)
 outcome s n (line ∷ lines) = follow n (λ t. outcome t (n + 1) lines) (line_step s line)
-
--- the scene after the lines, if none of them is bad
-abbrev pub reached : Scene → List (List ℕ) → Option Scene
-reached s [] = Some s
-reached s (line ∷ lines) = option_and_then (λ step. reached step.0 lines) (line_step s line)

@@ -4,22 +4,18 @@ ghost use Rattle.std.specs.Prelude.{◌≡◌};
 ghost use Rattle.mp_driver.specs.Ending.{bad_line_of, fault_of};
 
 use crate::fault::Fault;
-use crate::missing_entry::MissingEntry;
-use mp_history::PoolName;
 use mp_names::Reason;
 
 /// Why the answers to a text end before it does.
-#[derive(Drop)]
-pub enum Stop<'a, N: PoolName> {
+#[derive(Clone, Copy)]
+pub enum Stop<'a> {
     NoMemory,
     /// The number of the bad line, from 1, and what is wrong with it.
     BadLine(u64, Reason<'a>),
     Write,
-    /// What was seen that no answer told of.
-    Missing(MissingEntry<N>),
 }
 
-impl<'a, N: PoolName> Stop<'a, N> {
+impl<'a> Stop<'a> {
     /// The number of the bad line and what is wrong with it, if it is for one.
     pub fn bad_line(&self) -> Option<(u64, Reason<'a>)>
         ensures { result ≡ bad_line_of self.now }
@@ -31,14 +27,13 @@ impl<'a, N: PoolName> Stop<'a, N> {
     }
 
     /// The fault that a run ends with.
-    pub fn into_fault(self) -> Fault<N>
-        ensures { result ≡ fault_of self.entry }
+    pub fn to_fault(&self) -> Fault
+        ensures { result ≡ fault_of self.now }
     {
         match self {
             Stop::NoMemory => Fault::NoMemory,
-            Stop::BadLine(number, _) => Fault::BadLine(number),
+            Stop::BadLine(number, _) => Fault::BadLine(*number),
             Stop::Write => Fault::WriteFault,
-            Stop::Missing(entry) => Fault::MissingEntry(entry),
         }
     }
 }

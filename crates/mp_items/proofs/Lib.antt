@@ -7,6 +7,7 @@ pub mod Finding
 pub mod Ids
 pub mod Leaving
 pub mod Lengths
+pub mod Moving
 pub mod Parting
 pub mod Parts
 pub mod Withins

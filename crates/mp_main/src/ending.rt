@@ -7,7 +7,7 @@ ghost use Rattle.clap.specs.Words.{kind_of};
 use clap::Error;
 use clap::error::ErrorKind;
 use mp_driver::Stop;
-use mp_history::{AuditFault, PoolName};
+use mp_history::AuditFault;
 use mp_names::Reason;
 use mp_race::Fault;
 use std::process::ExitCode;
@@ -31,20 +31,15 @@ fn explain(rt: &HostRuntime, explains: bool, bad_line: Option<(u64, Reason<'_>)>
 }
 
 /// After the answers to a text: 0, or 1 and the fault's line. Where it explains, what is wrong with a bad line stands behind it.
-pub fn end_answers<N: PoolName>(
-    rt: &HostRuntime,
-    explains: bool,
-    ended: Result<(), Stop<'_, N>>,
-) -> ExitCode
-    ensures done { IfOk ended.entry (λ _. exit_status result ≡ 0) }
-    ensures fault { IfErr ended.entry (λ _. exit_status result ≡ 1) }
+pub fn end_answers(rt: &HostRuntime, explains: bool, ended: Result<(), Stop<'_>>) -> ExitCode
+    ensures done { IfOk ended (λ _. exit_status result ≡ 0) }
+    ensures fault { IfErr ended (λ _. exit_status result ≡ 1) }
 {
     match ended {
         Ok(()) => ExitCode::SUCCESS,
         Err(stop) => {
-            let bad_line = stop.bad_line();
-            let _ = rt.eprintln(stop.into_fault());
-            explain(rt, explains, bad_line);
+            let _ = rt.eprintln(stop.to_fault());
+            explain(rt, explains, stop.bad_line());
             ExitCode::FAILURE
         }
     }

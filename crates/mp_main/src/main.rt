@@ -4,10 +4,6 @@
 //! conversation. It ends with status 0, with 1 at a fault, and with 2 where the command line is refused.
 #![tactic(auto)]
 
-ghost use Rattle.std.specs.Prelude.{◌≡◌, ◌≤◌, length};
-ghost use Rattle.mp_history.specs.PoolName.{head_of};
-ghost use Rattle.mp_settings.specs.Verifier.{is_key_and_id};
-
 mod audits;
 mod conversation;
 mod ending;
@@ -20,20 +16,15 @@ use conversation::converse;
 use ending::{end_answers, end_unparsed, end_unworded};
 use mp_command_line::{Asked, Input, parse_words};
 use mp_driver::answer_text;
-use mp_history::{NewName, PoolName};
-use mp_memory::Memory;
-use mp_text::MAX_BYTES;
 use races::race_scenario;
-use std::marker::Brand;
 use std::process::ExitCode;
-use std::sync::Wait;
 use std::{env, io};
 use texts::read_text;
 
 fn main(rt: HostRuntime) -> ExitCode {
     match read_words(&rt) {
         Ok(words) => match parse_words(rt.alloc(), &words) {
-            Ok(Asked::Run { input }) => run_scenario(&rt, &rt, input),
+            Ok(Asked::Run { input }) => run_scenario(&rt, input),
             Ok(
                 Asked::Race {
                     input,
@@ -61,29 +52,12 @@ fn read_words(rt: &HostRuntime) -> io::Result<Vec<String>> {
 }
 
 /// Runs a scenario, and writes its answers to standard output.
-fn run_scenario(rt: &HostRuntime, waits: &impl Wait, input: Input<'_>) -> ExitCode {
+fn run_scenario(rt: &HostRuntime, input: Input<'_>) -> ExitCode {
     match read_text(rt, input.file) {
         Ok((memory, text)) => {
-            answer::<Brand>(rt, waits, memory, NewName::new(), input.explains, &text)
+            let ended = answer_text(memory, &text, &mut rt.stdout());
+            end_answers(rt, input.explains, ended)
         }
         Err(code) => code,
     }
-}
-
-/// Answers the scenario, by a pool under the name.
-fn answer<N: PoolName>(
-    rt: &HostRuntime,
-    waits: &impl Wait,
-    memory: Memory,
-    name: NewName,
-    explains: bool,
-    text: &[u8],
-) -> ExitCode
-    requires name { name ≡ head_of N.book N.root }
-    requires callers { N.callers ≡ 1 }
-    requires accepts { N.accepts ≡ is_key_and_id }
-    requires short { length text.now ≤ MAX_BYTES }
-{
-    let ended = answer_text::<N, _>(waits, memory, name, text, &mut rt.stdout());
-    end_answers(rt, explains, ended)
 }

@@ -19,7 +19,8 @@ use Rattle.mp_history.specs.Log.{Log, IsLegalLog, commands, state_after}
 use Rattle.mp_history.proofs.Prefixes.{prefix_trans}
 use Rattle.mp_items.specs.Reading.{within}
 use Rattle.mp_items.proofs.Withins.{longest_within}
-use Rattle.mp_peer.specs.Offers.{offer, IsLongestOffer}
+use Rattle.mp_items.specs.Offers.{offer}
+use Rattle.mp_peer.specs.Offers.{IsLongestOffer}
 use Rattle.mp_peer.specs.Blocks.{IsValidBlock}
 
 pub first_ones : {A : Type 0} (n : ℕ) (xs : List A) → IsPrefix (take n xs) xs

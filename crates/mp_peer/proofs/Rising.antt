@@ -12,7 +12,7 @@ use Rattle.mp_resync.specs.Keep.{tickets}
 use Rattle.mp_seqpool.specs.Pool.{Pool}
 use Rattle.mp_seqpool.specs.PoolLaws.{IsLawful}
 use Rattle.mp_seqpool.proofs.Keeping.{orderly-of}
-use Rattle.mp_peer.specs.Offers.{moved}
+use Rattle.mp_items.specs.Offers.{moved}
 
 -- ---- tickets that rise, by turns
 
@@ -73,10 +73,6 @@ contains-after cursor (i ∷ is) x (suc k, lt, e) above =
     after-step (λ l. Contains l x) cursor i is (λ _. contains-more x i (after is cursor) rest) rest
 
 -- ---- where a cursor stands
-
-pub moved-append : (cursor : ℕ) (xs ys : List (ℕ × Transaction)) → moved cursor (xs ++ ys) ≡ moved (moved cursor xs) ys
-moved-append cursor [] ys = refl
-moved-append cursor (x ∷ xs) ys = moved-append x.0 xs ys
 
 pub rising-left : (low : ℕ) (xs ys : List (ℕ × Transaction)) → IsRisingFrom low (xs ++ ys) → IsRisingFrom low xs
 rising-left low [] ys r = tt

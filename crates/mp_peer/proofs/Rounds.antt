@@ -12,10 +12,12 @@ use Rattle.mp_seqpool.specs.PoolLaws.{IsLawful}
 use Rattle.mp_seqpool.proofs.Keeping.{All-unmap}
 use Rattle.mp_history.specs.Log.{Log, Begins, IsLegalLog, state_after}
 use Rattle.mp_versions.proofs.Histories.{lasts}
-use Rattle.mp_peer.specs.Offers.{Offer, moved, offer_at, offered, cursor_after, IsEachOfferedOnce}
+use Rattle.mp_items.specs.Offers.{moved}
+use Rattle.mp_items.proofs.Moving.{moved-append}
+use Rattle.mp_peer.specs.Offers.{Offer, offer_at, offered, cursor_after, IsEachOfferedOnce}
 use Rattle.mp_peer.proofs.Beginnings.{begins_after, lawful-state}
 use Rattle.mp_peer.proofs.Fronts.{legal-beginning}
-use Rattle.mp_peer.proofs.Rising.{rising-lawful, rising-after, rising-left, rising-joined, increasing, moved-append, moved-bound, in_offer}
+use Rattle.mp_peer.proofs.Rising.{rising-lawful, rising-after, rising-left, rising-joined, increasing, moved-bound, in_offer}
 
 -- the cursor is the ticket offered last
 last_one : (accepts : Accepts) (cursor : ℕ) (offers : List Offer) → cursor_after accepts cursor offers ≡ moved cursor (offered accepts cursor offers)

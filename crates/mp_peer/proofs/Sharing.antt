@@ -1,13 +1,10 @@
 -- Items of a run, one after the other.
 use Rattle.std.proofs.Common.{◌≡◌, ◌≢◌, ℕ, suc, ◌+◌, ◌-◌, ◌<◌, List, [], ◌∷◌, ◌++◌, take, length, refl, length-append, sym, ap, ◌∙◌, arith, append_assoc}
 use Rattle.std.specs.Prelude.{Result, Ok, Err, OnErr}
-use Rattle.std.proofs.lemmas.List.{map-append}
 use Rattle.std.proofs.lemmas.List.Sums.{sum_by-cons}
 use Rattle.mp_tx.specs.Transaction.{Transaction}
 use Rattle.mp_tx.specs.Spelling.{size_of}
 use Rattle.mp_resync.specs.Keep.{transactions, bytes_of}
-use Rattle.mp_items.specs.declared.item.Item.{Item}
-use Rattle.mp_items.specs.Item.{item_of, items_of}
 
 -- with one item more the items so far, and those that may still come, are the same
 pub one_taken : (count at : ℕ) (done all left rest : List (ℕ × Transaction)) (i : ℕ × Transaction) → at < count → left ≡ i ∷ rest → done ++ take (count - at) left ≡ all
@@ -32,9 +29,6 @@ some_left count at done all left rest i lt first before none =
     let long : length done + length (i ∷ take (count - (at + 1)) rest) ≡ 0 = sym (length-append done (i ∷ take (count - (at + 1)) rest)) ∙ ap length here in
     let more : length (i ∷ take (count - (at + 1)) rest) ≡ suc (length (take (count - (at + 1)) rest)) = refl in
     omega arith
-
-pub items-last : (items : List Item) (i : Item) → items_of (items ++ i ∷ []) ≡ items_of items ++ item_of i ∷ []
-items-last items i = map-append item_of items (i ∷ [])
 
 pub bytes-first : (i : ℕ × Transaction) (is : List (ℕ × Transaction)) → bytes_of (i ∷ is) ≡ size_of i.1 + bytes_of is
 bytes-first i is = sum_by-cons size_of i.1 (transactions is)

@@ -1,22 +1,12 @@
 -- What a peer is offered of a pool.
-use Rattle.std.specs.Prelude.{◌≡◌, ℕ, ◌≤◌, List, [], ◌∷◌, ◌++◌, length, take, All, Contains}
+use Rattle.std.specs.Prelude.{◌≡◌, ℕ, ◌≤◌, List, [], ◌∷◌, ◌++◌, length, All, Contains}
 use Rattle.std.specs.List.Sorted.{IsStrictlyIncreasing}
 use mathlib.Core.List.{IsPrefix}
 use Rattle.mp_tx.specs.Transaction.{Transaction}
 use Rattle.mp_rules.specs.Verifier.{Accepts}
-use Rattle.mp_tickets.specs.Tickets.{after}
 use Rattle.mp_resync.specs.Keep.{tickets, bytes_of}
 use Rattle.mp_history.specs.Log.{Log, Begins, state_after}
-use Rattle.mp_items.specs.Reading.{within}
-
--- of what comes after the cursor the first items, at most so many, as long as they fit into so many bytes together
-abbrev pub offer : ℕ → ℕ → ℕ → List (ℕ × Transaction) → List (ℕ × Transaction)
-offer cursor count bytes items = take count (within bytes (after items cursor))
-
--- where the cursor stands after these items: at the last ticket, or where it was
-abbrev pub moved : ℕ → List (ℕ × Transaction) → ℕ
-moved cursor [] = cursor
-moved cursor (i ∷ is) = moved i.0 is
+use Rattle.mp_items.specs.Offers.{offer, moved}
 
 -- the longest beginning of at most so many items, whose sizes sum to at most so many bytes
 pub record IsLongestOffer (count bytes : ℕ) (items offered : List (ℕ × Transaction)) : Type 0 where

@@ -1,16 +1,9 @@
 //! Runs of scenarios: devices that fail, as many bytes as an input may have, the texts of faults, and refusals of memory.
-ghost use Rattle.std.specs.Prelude.{◌≡◌};
-ghost use Rattle.mp_history.specs.PoolName.{head_of};
-ghost use Rattle.mp_settings.specs.Verifier.{is_key_and_id};
-
 use mp_driver::{Fault, run};
-use mp_history::{NewName, PoolName};
 use mp_memory::Memory;
 use mp_testing::{FailingReader, FailingWriter, MAX_GROWTHS, Seen, count};
 use std::alloc::Global;
 use std::io;
-use std::marker::Brand;
-use std::sync::Wait;
 
 const SCENARIO: &[u8] = b"out g0 100\ntx a in=g0 out=100\nsubmit a\nsnapshot\n";
 
@@ -57,33 +50,12 @@ const TEXTS: [(u64, &str); 4] = [
 // How a run ends: well, or with the number of a fault, and its line or 0.
 type Ended = Result<(), (u64, u64)>;
 
-// A run on a pool under the name.
-fn run_named<N: PoolName, R: io::Read, W: io::Write>(
-    rt: &impl Wait,
-    memory: Memory,
-    name: NewName,
-    reader: &mut R,
-    writer: &mut W,
-) -> Ended
-    requires name { name ≡ head_of N.book N.root }
-    requires callers { N.callers ≡ 1 }
-    requires accepts { N.accepts ≡ is_key_and_id }
-{
-    match run::<N, R, W>(rt, memory, name, reader, writer) {
+fn run_new<R: io::Read, W: io::Write>(memory: Memory, reader: &mut R, writer: &mut W) -> Ended {
+    match run(memory, reader, writer) {
         Ok(()) => Ok(()),
         Err(Fault::BadLine(line)) => Err((2, line)),
         Err(fault) => Err((fault.number(), 0)),
     }
-}
-
-// A run on a pool of its own.
-fn run_new<R: io::Read, W: io::Write>(
-    rt: &impl Wait,
-    memory: Memory,
-    reader: &mut R,
-    writer: &mut W,
-) -> Ended {
-    run_named::<Brand, R, W>(rt, memory, NewName::new(), reader, writer)
 }
 
 // The fault, its line, how much was written, and whether that is a front of the text.
@@ -103,27 +75,21 @@ fn see(ended: Ended, written: &[u8], text: &[u8]) -> Seen {
 // How many bytes a device takes or gives at once, and which of its calls fails.
 type Device = (usize, u64);
 
-fn fail_at(
-    rt: &impl Wait,
-    memory: Memory,
-    alloc: Global,
-    (given, read): Device,
-    (taken, write): Device,
-) -> Seen {
+fn fail_at(memory: Memory, alloc: Global, (given, read): Device, (taken, write): Device) -> Seen {
     let mut reader = FailingReader::of(SCENARIO);
     reader.at_once = given;
     reader.fails_at = read;
     let mut writer = FailingWriter::new(alloc);
     writer.at_once = taken;
     writer.fails_at = write;
-    let ended = run_new(rt, memory, &mut reader, &mut writer);
+    let ended = run_new(memory, &mut reader, &mut writer);
     see(ended, &writer.taken, TEXT)
 }
 
-fn held_failures(rt: &(impl Print + Wait), memory: Memory, alloc: Global) -> io::Result<u64> {
+fn held_failures(rt: &impl Print, memory: Memory, alloc: Global) -> io::Result<u64> {
     let mut held: u64 = 0;
     for (read, write, fault, written) in FAILURES {
-        let seen = fail_at(rt, memory, alloc, (11, read), (4, write));
+        let seen = fail_at(memory, alloc, (11, read), (4, write));
         let wanted = [fault, 0, written, 1, 0, 0];
         held = held.saturating_add(count(rt, "a failing device", Some(seen), wanted)?);
     }
@@ -131,10 +97,10 @@ fn held_failures(rt: &(impl Print + Wait), memory: Memory, alloc: Global) -> io:
 }
 
 // One byte is read and written at once: 48 reads give the scenario and one more finds its end, and 32 writes take the text.
-fn held_reads(rt: &(impl Print + Wait), memory: Memory, alloc: Global) -> io::Result<u64> {
+fn held_reads(rt: &impl Print, memory: Memory, alloc: Global) -> io::Result<u64> {
     let mut held: u64 = 0;
     for read in 1..=50 {
-        let seen = fail_at(rt, memory, alloc, (1, read), (1, 0));
+        let seen = fail_at(memory, alloc, (1, read), (1, 0));
         let [fault, written] = if read <= 49 { [3, 0] } else { [0, 32] };
         let wanted = [fault, 0, written, 1, 0, 0];
         held = held.saturating_add(count(rt, "reads of one byte", Some(seen), wanted)?);
@@ -142,10 +108,10 @@ fn held_reads(rt: &(impl Print + Wait), memory: Memory, alloc: Global) -> io::Re
     Ok(held)
 }
 
-fn held_writes(rt: &(impl Print + Wait), memory: Memory, alloc: Global) -> io::Result<u64> {
+fn held_writes(rt: &impl Print, memory: Memory, alloc: Global) -> io::Result<u64> {
     let mut held: u64 = 0;
     for write in 1..34u64 {
-        let seen = fail_at(rt, memory, alloc, (1, 0), (1, write));
+        let seen = fail_at(memory, alloc, (1, 0), (1, write));
         let fault = if write <= 32 { 4 } else { 0 };
         let wanted = [fault, 0, write - 1, 1, 0, 0];
         held = held.saturating_add(count(rt, "writes of one byte", Some(seen), wanted)?);
@@ -153,18 +119,18 @@ fn held_writes(rt: &(impl Print + Wait), memory: Memory, alloc: Global) -> io::R
     Ok(held)
 }
 
-fn read_long(rt: &impl Wait, memory: Memory, alloc: Global, filler: usize) -> Seen {
+fn read_long(memory: Memory, alloc: Global, filler: usize) -> Seen {
     let mut reader = FailingReader::of(b"out g0 100\n");
     reader.filler = filler;
     let mut writer = FailingWriter::new(alloc);
-    let ended = run_new(rt, memory, &mut reader, &mut writer);
+    let ended = run_new(memory, &mut reader, &mut writer);
     see(ended, &writer.taken, b"")
 }
 
-fn held_lengths(rt: &(impl Print + Wait), memory: Memory, alloc: Global) -> io::Result<u64> {
+fn held_lengths(rt: &impl Print, memory: Memory, alloc: Global) -> io::Result<u64> {
     let mut held: u64 = 0;
     for (filler, fault, line) in LENGTHS {
-        let seen = read_long(rt, memory, alloc, filler);
+        let seen = read_long(memory, alloc, filler);
         let wanted = [fault, line, 0, 1, 0, 0];
         held = held.saturating_add(count(rt, "a long input", Some(seen), wanted)?);
     }
@@ -172,7 +138,7 @@ fn held_lengths(rt: &(impl Print + Wait), memory: Memory, alloc: Global) -> io::
 }
 
 // The fault with the number, at line 7.
-fn fault_with(number: u64) -> Fault<Brand> {
+fn fault_with(number: u64) -> Fault {
     match number {
         1 => Fault::NoMemory,
         2 => Fault::BadLine(7),
@@ -181,7 +147,7 @@ fn fault_with(number: u64) -> Fault<Brand> {
     }
 }
 
-fn is_text(alloc: Global, fault: &Fault<Brand>, text: &str) -> bool {
+fn is_text(alloc: Global, fault: &Fault, text: &str) -> bool {
     match fault.to_string(alloc) {
         Ok(told) => told.as_str() == text,
         Err(_) => false,
@@ -308,18 +274,18 @@ fn is_right(ended: Ended, written: &[u8], text: &[u8]) -> bool {
     }
 }
 
-fn is_right_run(rt: &impl Wait, memory: Memory, alloc: Global, case: Case) -> bool {
+fn is_right_run(memory: Memory, alloc: Global, case: Case) -> bool {
     let mut writer = FailingWriter::new(alloc);
     let mut reader = FailingReader::of(case.scenario);
-    let ended = run_new(rt, memory, &mut reader, &mut writer);
+    let ended = run_new(memory, &mut reader, &mut writer);
     is_right(ended, &writer.taken, case.text)
 }
 
 // How many growths the case makes, each of which is refused once; none where a run isn't right.
-fn growths_of(rt: &impl Wait, memory: Memory, alloc: Global, case: Case) -> Option<u64> {
+fn growths_of(memory: Memory, alloc: Global, case: Case) -> Option<u64> {
     for nth in 1..MAX_GROWTHS {
         memory.refuse(nth);
-        let right = is_right_run(rt, memory, alloc, case);
+        let right = is_right_run(memory, alloc, case);
         let is_met = !memory.waits();
         memory.refuse(0);
         if !right {
@@ -333,27 +299,27 @@ fn growths_of(rt: &impl Wait, memory: Memory, alloc: Global, case: Case) -> Opti
 }
 
 // The case as it runs where nothing is refused, and under each refusal.
-fn see_case(rt: &impl Wait, memory: Memory, alloc: Global, case: Case) -> Option<Seen> {
+fn see_case(memory: Memory, alloc: Global, case: Case) -> Option<Seen> {
     let mut writer = FailingWriter::new(alloc);
     let mut reader = FailingReader::of(case.scenario);
-    let ended = run_new(rt, memory, &mut reader, &mut writer);
+    let ended = run_new(memory, &mut reader, &mut writer);
     let [fault, ..] = see(ended, &writer.taken, case.text);
     let is_whole = u64::from(writer.taken.as_slice() == case.text);
-    let are_many = u64::from(FEWEST <= growths_of(rt, memory, alloc, case)?);
+    let are_many = u64::from(FEWEST <= growths_of(memory, alloc, case)?);
     Some([fault, is_whole, are_many, 0, 0, 0])
 }
 
-fn held_refusals(rt: &(impl Print + Wait), memory: Memory, alloc: Global) -> io::Result<u64> {
+fn held_refusals(rt: &impl Print, memory: Memory, alloc: Global) -> io::Result<u64> {
     let mut held: u64 = 0;
     for case in CASES {
-        let seen = see_case(rt, memory, alloc, case);
+        let seen = see_case(memory, alloc, case);
         held = held.saturating_add(count(rt, case.name, seen, [0, 1, 1, 0, 0, 0])?);
     }
     Ok(held)
 }
 
 /// How many cases hold.
-pub fn held(rt: &(impl Print + Wait), memory: Memory, alloc: Global) -> io::Result<u64> {
+pub fn held(rt: &impl Print, memory: Memory, alloc: Global) -> io::Result<u64> {
     let failures = held_failures(rt, memory, alloc)?;
     let reads = held_reads(rt, memory, alloc)?;
     let writes = held_writes(rt, memory, alloc)?;

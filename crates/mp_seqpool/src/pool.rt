@@ -190,7 +190,7 @@ impl SeqPool {
     ghost use Rattle.mp_tickets.specs.Tickets.{IsRising, shown};
     ghost use Rattle.mp_resync.specs.ValidatedTx as resync;
     ghost use Rattle.mp_resync.specs.ValidatedTx.{ticketed};
-    ghost use Rattle.mp_resync.specs.Keep.{transactions, tickets};
+    ghost use Rattle.mp_resync.specs.Keep.{transactions, tickets, dropped};
     ghost use Rattle.mp_resync.specs.Kept.{IsKeptOf};
     ghost use Rattle.mp_seqpool.specs.Inside.Chained.{all_accepted};
     ghost use Rattle.mp_seqpool.specs.Inside.NamedLeaves.{tickets_named, TakesNamed};
@@ -460,6 +460,24 @@ impl SeqPool {
         let adopted = ledger.share()?;
         let left = self.revalidate(ledger, &[], verifier)?;
         Ok(sync_step(adopted, left)?)
+    }
+
+    /// The tickets of the transactions that a sync to the ledger state would drop. The pool stays as it is, and may have made as many
+    /// changes as there may be.
+    ///
+    /// # Errors
+    /// `NoMemory`.
+    pub fn dropped_upon<V: Verifier>(
+        &self,
+        ledger: &Ledger,
+        verifier: &V,
+    ) -> Result<Tickets, NoMemory>
+        requires { AreSigned (V.accepts verifier.now) self.now.pool }
+        ensures { IfOk result (λ gone. gone
+            ≡ dropped (V.accepts verifier.now) ledger.now self.now.pool.items) }
+    {
+        let tried = self.revalidate(ledger, &[], verifier)?;
+        Ok(tried.dropped)
     }
 
     // Puts the item last.

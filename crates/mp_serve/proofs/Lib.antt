@@ -1,4 +1,3 @@
-pub mod Firsts
 pub mod Pools
 pub mod Counts
 pub mod Lines

@@ -1,23 +1,14 @@
 -- What a served pool keeps, whatever it is asked.
 use Rattle.std.proofs.Common.{◌≡◌, ℕ, ◌<◌, ◌≤◌, ◌^◌, Bool, true, false, cond, refl, sym, ap, subst, ◌∙◌, arith}
 use Rattle.std.specs.Prelude.{nat_le, is_ok, List, Result, Ok, Err, OnOk, OnErr}
-use Rattle.std.specs.FinMap.{get}
 use Rattle.std.proofs.lemmas.Bool.Decides.{nat_tests}
-use Rattle.mp_tx.specs.Ledger.{LedgerState}
-use Rattle.mp_tickets.specs.Tickets.{IsRising}
 use Rattle.mp_rules.specs.Verifier.{Accepts}
-use Rattle.mp_resync.specs.Keep.{keep, dropped}
 use Rattle.mp_seqpool.specs.declared.refusal.Refusal.{Refusal}
-use Rattle.mp_seqpool.specs.declared.refusal.Refusal.TheVariants as refusals
-use Rattle.mp_seqpool.specs.declared.command.Reply.{Reply}
-use Rattle.mp_seqpool.specs.declared.command.Reply.TheVariants.{Synced}
 use Rattle.mp_seqpool.specs.Command.{Command, Submit, Remove, Sync}
 use Rattle.mp_seqpool.specs.Config.{renewed}
 use Rattle.mp_seqpool.specs.Pool.{Pool}
 use Rattle.mp_seqpool.specs.PoolLaws.{IsLawful}
-use Rattle.mp_seqpool.specs.SlowPool.{answer, done, next, reply_synced}
-use Rattle.mp_seqpool.specs.Prepared.{apart}
-use Rattle.mp_seqpool.proofs.Apart.{apart_dropped}
+use Rattle.mp_seqpool.specs.SlowPool.{answer, done, next}
 use Rattle.mp_seqpool.proofs.Histories.{lawful-next, lawful-renewed, next-refused}
 use Rattle.mp_serve.specs.Request.{counted_anew}
 use Rattle.mp_serve.specs.Inside.Pool.{IsReady}
@@ -67,20 +58,6 @@ module _ (accepts : Accepts) where
   served-next p c s =
       let same : (next accepts p c).limit ≡ p.limit = limit-next p c in
       served_anew (next accepts p c) (lawful-next accepts p c s.lawful) (subst (λ n. 1 ≤ n) (sym same) s.least) (subst (λ n. n ≤ 2 ^ 32) (sym same) s.most)
-
-  -- where one more change may be made, a sync is replied to
-  pub synced : (p : Pool) (l : LedgerState) (reply : Reply) → p.changes < p.limit → answer accepts p (Sync l) ≡ Ok reply → reply ≡ reply_synced accepts l p
-  unfolding answer
-  synced p l reply lt e =
-      let is : Ok (reply_synced accepts l p) ≡ Ok reply =
-      sym (ap (λ b. cond b (Err refusals.HistoryFull) (Ok (reply_synced accepts l p))) (under p.changes p.limit lt)) ∙ e in
-      Prim.cc
-
-  -- what isn't dropped is kept
-  pub kept : (p : Pool) (l : LedgerState) (stay gone : List ℕ) → IsRising p.items → Synced stay gone ≡ reply_synced accepts l p → apart gone p.items ≡ keep accepts l p.items
-  kept p l stay gone rising e =
-      let same : gone ≡ dropped accepts l p.items = Prim.cc in
-      ap (λ g. apart g p.items) same ∙ apart_dropped accepts (get l.utxo) l.tick 0 p.items rising
 
   -- whether it obeyed or had no memory for it
   pub served_either : {X E : Type 0} (r : Result X E) (old new : Pool) (c : Command)

@@ -13,7 +13,6 @@ mod forgetting;
 mod obeying;
 mod output;
 mod pool;
-mod reading;
 mod refused;
 mod request;
 mod serving;

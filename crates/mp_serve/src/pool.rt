@@ -5,11 +5,11 @@ use crate::beginning::{Beginning, at_tick};
 use crate::block::Block;
 use crate::extending::{Extended, extend};
 use crate::obeying::{check, obey};
-use crate::reading::{kept_line, query_line};
 use crate::refused::{Counts, count_if_refused, count_one, none_counted};
 use crate::request::Request;
 use crate::signatures::Signatures;
 use crate::texts::{Text, back_refused_line, stats_line};
+use mp_answers::{kept_line, query_line};
 use mp_memory::{Memory, NoMemory};
 use mp_names::Names;
 use mp_seqpool::{Command, Config, SeqPool};
@@ -196,7 +196,7 @@ impl ServedPool {
             Request::Read(query) => {
                 return query_line(memory, names, cursor, &self.pool, *query);
             }
-            Request::Try(ledger) => kept_line(memory, names, signatures, &self.pool, ledger)?,
+            Request::Try(ledger) => kept_line(memory, names, &self.pool, ledger, &signatures)?,
             Request::Check(tx) => check(memory, names, signatures, &mut self.pool, tx)?,
             Request::Count => stats_line(memory, &self.pool, &self.refused)?,
         };

@@ -5,7 +5,7 @@ use Rattle.mp_text.specs.Lines.{lines_of}
 use Rattle.mp_text.specs.Output.{AppendsFront}
 use Rattle.mp_driver.specs.Ending.{AreAnswers}
 use Rattle.mp_driver.specs.Inside.Scene.{scene_of}
-use Rattle.mp_driver.proofs.Progress.{Progress, begins, goes_on, is_cut, halts}
+use Rattle.mp_driver.proofs.Progress.{Progress, begins, goes_on, is_cut, value_of, halts}
 use Rattle.mp_driver.proofs.running.answer_from.Goals as goal
 
 pub loop-line-init : goal.loop-line-init
@@ -44,7 +44,7 @@ returns-in-Err g c =
     let now : Option (List ℕ) = g.W.Write.contents c.loop-line.writer in
     let all : List (List ℕ) = lines_of c.args.text.now in
     subst (λ s. AreAnswers c.args.text.now old now (Err s)) (sym c.stop_at.ensures) (
-    halts c.args.text.now old now (lines_of c.in-Some.after.now) (scene_of c.loop-line.scene) c.loop-line.number c.in-Some.line.now c.in-Err.halt c.requires.short
+    halts (value_of c.read_line.result) c.args.text.now old now (lines_of c.in-Some.after.now) (scene_of c.loop-line.scene) c.loop-line.number c.in-Some.line.now c.in-Err.fault c.requires.short
     (subst (λ r. Progress old now all r (scene_of c.loop-line.scene) c.loop-line.number) c.in-Some.ensures.first c.loop-line.invariant.0)
-    c.in-Err.ensures.bad c.in-Err.ensures.halt
+    c.in-Err.ensures.bad
     )

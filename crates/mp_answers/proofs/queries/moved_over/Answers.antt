@@ -1,0 +1,12 @@
+use Rattle.std.proofs.Common.{[], ◌∷◌, sym, ap, ◌∙◌}
+use Rattle.std.proofs.lemmas.List.{map-append}
+use Rattle.mp_items.specs.Item.{item_of, items_of}
+use Rattle.mp_items.specs.Offers.{moved}
+use Rattle.mp_items.proofs.Moving.{moved-append}
+use Rattle.mp_answers.proofs.queries.moved_over.Goals as goal
+
+pub returns-in-Some : goal.returns-in-Some
+returns-in-Some c =
+    let others = c.in-Some.field-0-1.now in
+    let item = c.in-Some.item.now in
+    sym (ap (moved c.args.cursor) (ap items_of c.in-Some.ensures.cases.0 ∙ map-append item_of others (item ∷ [])) ∙ moved-append c.args.cursor (items_of others) (item_of item ∷ []))
