@@ -6,8 +6,7 @@ use Rattle.mp_tickets.specs.Tickets.{after, item_at}
 use Rattle.mp_resync.specs.Keep.{bytes_of}
 use Rattle.mp_seqpool.specs.Pool.{Pool}
 use Rattle.mp_seqpool.specs.SlowPool.{ticket_of}
-use Rattle.mp_items.specs.Offers.{offer, moved}
-use Rattle.mp_items.specs.Reading.{within}
+use Rattle.mp_seqpool.specs.Reading.{within, offer, moved}
 use Rattle.mp_names.specs.Names.{Names, name_of}
 use Rattle.mp_lines.specs.declared.query.Query.{Query}
 use Rattle.mp_lines.specs.declared.query.Query.TheVariants.{Snapshot, After, Lookup, Has, Take, Forge, Offer}

@@ -3,14 +3,14 @@
 ghost use Rattle.std.specs.Prelude.{◌≡◌, ◌++◌, option_map, OnOk};
 ghost use Rattle.std.specs.Arc.{arc_value};
 ghost use Rattle.mp_resync.specs.Keep.{bytes_of};
-ghost use Rattle.mp_items.specs.Item.{items_of};
+ghost use Rattle.mp_seqpool.specs.Item.{items_of};
 ghost use Rattle.mp_answers.specs.AnswerText.{item_text, items_text};
 ghost use Rattle.mp_answers.specs.QueryText.{sized_text, found_text, has_text};
 
 use crate::words::{put_number, put_word};
-use mp_items::Item;
 use mp_memory::{Memory, NoMemory};
 use mp_names::Names;
+use mp_seqpool::Item;
 use mp_tx::Tx;
 use std::sync::Arc;
 

@@ -8,8 +8,8 @@ use Rattle.mp_tx.specs.Transaction.{Transaction}
 use Rattle.mp_tickets.specs.Tickets.{IsRisingFrom, IsRising, has_ticket, after}
 use Rattle.mp_tickets.proofs.Rising.{after-append, after-none, after-all}
 use Rattle.mp_seqpool.specs.Prepared.{apart}
-use Rattle.mp_items.specs.Item.{item_of, items_of}
-use Rattle.mp_items.specs.declared.item.Item.{Item}
+use Rattle.mp_seqpool.specs.Item.{item_of, items_of}
+use Rattle.mp_seqpool.specs.declared.item.Item.{Item}
 use Rattle.mp_items.specs.Pages.{flattened, joined, IsFilled, IsPage, last_by, first_by, first_ticket, last_ticket}
 use Rattle.mp_items.proofs.Parts.{last_by-append, flattened-append, Climbs, FirstFails}
 

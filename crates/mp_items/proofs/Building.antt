@@ -3,8 +3,8 @@ use Rattle.std.specs.Prelude.{Result, Ok, Err, IfOk}
 use Rattle.std.proofs.Common.{◌≡◌, ℕ, ◌<◌, ◌≤◌, List, [], ◌∷◌, ◌++◌, length, sym, ap, ◌∙◌, subst, arith}
 use Rattle.std.proofs.lemmas.List.{append-nil, append_assoc, length-map, map_push}
 use Rattle.mp_tx.specs.Transaction.{Transaction}
-use Rattle.mp_items.specs.Item.{item_of, items_of}
-use Rattle.mp_items.specs.declared.item.Item.{Item}
+use Rattle.mp_seqpool.specs.Item.{item_of, items_of}
+use Rattle.mp_seqpool.specs.declared.item.Item.{Item}
 use Rattle.std.proofs.lemmas.List.Elements.{All-nil}
 use Rattle.std.specs.List.{All}
 use Rattle.mp_items.specs.Inside.Built.{IsBuilt}

@@ -4,8 +4,8 @@ use Rattle.std.specs.Prelude.{◌||◌, Some, is_some}
 use Rattle.std.specs.List.{list_any}
 use Rattle.mp_tx.specs.Transaction.{Transaction}
 use Rattle.mp_seqpool.specs.SlowPool.{ticket_of}
-use Rattle.mp_items.specs.declared.item.Item.{Item}
-use Rattle.mp_items.specs.Item.{item_of, items_of}
+use Rattle.mp_seqpool.specs.declared.item.Item.{Item}
+use Rattle.mp_seqpool.specs.Item.{item_of, items_of}
 use Rattle.mp_items.specs.Pages.{flattened, chunks_of, joined, is_of, has_id}
 
 pub any_seen : (p : ℕ × Transaction → Bool) (items : List Item) → list_any (λ i. p (item_of i)) items ≡ list_any p (items_of items)

@@ -7,7 +7,6 @@ pub mod Finding
 pub mod Ids
 pub mod Leaving
 pub mod Lengths
-pub mod Moving
 pub mod Parting
 pub mod Parts
 pub mod Withins

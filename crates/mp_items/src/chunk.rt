@@ -1,7 +1,7 @@
 //! Items that are shared as one.
 
-use crate::item::Item;
 use mp_memory::{Memory, NoMemory};
+use mp_seqpool::Item;
 use std::marker::Model;
 use std::sync::Arc;
 
@@ -23,7 +23,7 @@ impl Model for Chunk {
     ghost use Rattle.std.specs.Prelude.{ℕ, List};
     ghost use Rattle.std.specs.Arc.{arc_value};
     ghost use Rattle.mp_tx.specs.Transaction.{Transaction};
-    ghost use Rattle.mp_items.specs.Item.{items_of};
+    ghost use Rattle.mp_seqpool.specs.Item.{items_of};
 
     ghost Value = { List (ℕ × Transaction) };
 
@@ -32,7 +32,7 @@ impl Model for Chunk {
 
 impl Chunk {
     ghost use Rattle.std.specs.Prelude.{◌≡◌, IfOk};
-    ghost use Rattle.mp_items.specs.Item.{items_of};
+    ghost use Rattle.mp_seqpool.specs.Item.{items_of};
     ghost use Rattle.mp_items.specs.Pages.{first_ticket, last_ticket};
 
     /// A chunk of these items.

@@ -1,7 +1,7 @@
 //! Items of their own.
 
-use crate::item::Item;
 use mp_memory::Memory;
+use mp_seqpool::Item;
 use std::marker::Model;
 
 /// Items in order. A contract sees the transactions with their tickets.
@@ -18,7 +18,7 @@ impl Drop for Items {
 impl Model for Items {
     ghost use Rattle.std.specs.Prelude.{ℕ, List};
     ghost use Rattle.mp_tx.specs.Transaction.{Transaction};
-    ghost use Rattle.mp_items.specs.Item.{items_of};
+    ghost use Rattle.mp_seqpool.specs.Item.{items_of};
 
     ghost Value = { List (ℕ × Transaction) };
 
@@ -27,7 +27,7 @@ impl Model for Items {
 
 impl Items {
     ghost use Rattle.std.specs.Prelude.{◌≡◌};
-    ghost use Rattle.mp_items.specs.Item.{items_of};
+    ghost use Rattle.mp_seqpool.specs.Item.{items_of};
 
     /// These items.
     pub fn of(items: Vec<Item, Memory>) -> Items

@@ -2,7 +2,6 @@
 #![tactic(auto)]
 
 mod chunk;
-mod item;
 mod items;
 pub mod laws;
 pub mod layout;
@@ -12,9 +11,9 @@ mod run;
 mod run_back;
 
 pub use chunk::Chunk;
-pub use item::Item;
 pub use items::Items;
 pub use layout::Layout;
+pub use mp_seqpool::Item;
 pub use page::Page;
 pub use pages::Pages;
 pub use run::{Run, RunWithin};

@@ -3,14 +3,14 @@ ghost use Rattle.std.specs.Prelude.{◌≡◌, [], ◌++◌, length};
 ghost use Rattle.std.specs.List.{All};
 ghost use Rattle.std.specs.Iterator.{at_most};
 ghost use Rattle.std.specs.Map.Iter.{TakesFirst};
-ghost use Rattle.mp_items.specs.Item.{items_of, shown};
-ghost use Rattle.mp_items.specs.Reading.{within};
+ghost use Rattle.mp_seqpool.specs.Item.{items_of, shown};
+ghost use Rattle.mp_seqpool.specs.Reading.{within};
 ghost use Rattle.mp_items.specs.Pages.{flattened, joined, IsFilled, AreFilled};
 ghost use Rattle.mp_items.specs.Inside.Run.{run_of};
 
 use crate::chunk::Chunk;
-use crate::item::Item;
 use crate::page::Page;
+use mp_seqpool::Item;
 use std::marker::Model;
 
 /// Goes over items in order, and takes no memory. A contract sees those that are left.
@@ -136,7 +136,7 @@ pub struct RunWithin<'a> {
 impl<'a> Model for RunWithin<'a> {
     ghost use Rattle.std.specs.Prelude.{ℕ, List};
     ghost use Rattle.mp_tx.specs.Transaction.{Transaction};
-    ghost use Rattle.mp_items.specs.Reading.{within};
+    ghost use Rattle.mp_seqpool.specs.Reading.{within};
 
     ghost Value = { List (ℕ × Transaction) };
 

@@ -3,13 +3,13 @@ ghost use Rattle.std.specs.Prelude.{◌≡◌, [], ◌++◌, length, reverse};
 ghost use Rattle.std.specs.List.{All};
 ghost use Rattle.std.specs.Iterator.{at_most};
 ghost use Rattle.std.specs.Map.Iter.{TakesFirst};
-ghost use Rattle.mp_items.specs.Item.{items_of, shown};
+ghost use Rattle.mp_seqpool.specs.Item.{items_of, shown};
 ghost use Rattle.mp_items.specs.Pages.{flattened, joined, IsFilled, AreFilled};
 ghost use Rattle.mp_items.specs.Inside.Run.{run_up_to};
 
 use crate::chunk::Chunk;
-use crate::item::Item;
 use crate::page::Page;
+use mp_seqpool::Item;
 use std::marker::Model;
 
 /// Goes over items from the newest back, and takes no memory. A contract sees those that are left, the newest first.

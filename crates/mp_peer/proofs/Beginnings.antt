@@ -17,9 +17,8 @@ use Rattle.mp_seqpool.specs.PoolLaws.{IsLawful}
 use Rattle.mp_seqpool.proofs.Histories.{lawful-after}
 use Rattle.mp_history.specs.Log.{Log, IsLegalLog, commands, state_after}
 use Rattle.mp_history.proofs.Prefixes.{prefix_trans}
-use Rattle.mp_items.specs.Reading.{within}
+use Rattle.mp_seqpool.specs.Reading.{within, offer}
 use Rattle.mp_items.proofs.Withins.{longest_within}
-use Rattle.mp_items.specs.Offers.{offer}
 use Rattle.mp_peer.specs.Offers.{IsLongestOffer}
 use Rattle.mp_peer.specs.Blocks.{IsValidBlock}
 

@@ -12,7 +12,7 @@ use Rattle.mp_resync.specs.Keep.{tickets}
 use Rattle.mp_seqpool.specs.Pool.{Pool}
 use Rattle.mp_seqpool.specs.PoolLaws.{IsLawful}
 use Rattle.mp_seqpool.proofs.Keeping.{orderly-of}
-use Rattle.mp_items.specs.Offers.{moved}
+use Rattle.mp_seqpool.specs.Reading.{moved}
 
 -- ---- tickets that rise, by turns
 

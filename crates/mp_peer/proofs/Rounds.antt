@@ -12,8 +12,8 @@ use Rattle.mp_seqpool.specs.PoolLaws.{IsLawful}
 use Rattle.mp_seqpool.proofs.Keeping.{All-unmap}
 use Rattle.mp_history.specs.Log.{Log, Begins, IsLegalLog, state_after}
 use Rattle.mp_versions.proofs.Histories.{lasts}
-use Rattle.mp_items.specs.Offers.{moved}
-use Rattle.mp_items.proofs.Moving.{moved-append}
+use Rattle.mp_seqpool.specs.Reading.{moved}
+use Rattle.mp_seqpool.proofs.Moving.{moved-append}
 use Rattle.mp_peer.specs.Offers.{Offer, offer_at, offered, cursor_after, IsEachOfferedOnce}
 use Rattle.mp_peer.proofs.Beginnings.{begins_after, lawful-state}
 use Rattle.mp_peer.proofs.Fronts.{legal-beginning}

@@ -6,7 +6,7 @@ use Rattle.mp_tx.specs.Transaction.{Transaction}
 use Rattle.mp_rules.specs.Verifier.{Accepts}
 use Rattle.mp_resync.specs.Keep.{tickets, bytes_of}
 use Rattle.mp_history.specs.Log.{Log, Begins, state_after}
-use Rattle.mp_items.specs.Offers.{offer, moved}
+use Rattle.mp_seqpool.specs.Reading.{offer, moved}
 
 -- the longest beginning of at most so many items, whose sizes sum to at most so many bytes
 pub record IsLongestOffer (count bytes : ℕ) (items offered : List (ℕ × Transaction)) : Type 0 where

@@ -2,8 +2,8 @@
 ghost use Rattle.std.specs.Prelude.{◌≡◌, ◌≢◌, ◌<◌, ◌^◌, [], length, IfOk, OnErr};
 ghost use Rattle.mp_resync.specs.Keep.{bytes_of};
 ghost use Rattle.mp_history.specs.Log.{state_after};
-ghost use Rattle.mp_items.specs.Item.{items_of};
-ghost use Rattle.mp_items.specs.Reading.{within};
+ghost use Rattle.mp_seqpool.specs.Item.{items_of};
+ghost use Rattle.mp_seqpool.specs.Reading.{within};
 
 use crate::first_items::share_first;
 use mp_history::PoolName;

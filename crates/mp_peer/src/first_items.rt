@@ -1,6 +1,6 @@
 //! The first items of a run, as items of their own.
 ghost use Rattle.std.specs.Prelude.{◌≡◌, ◌≢◌, [], take, IfOk, OnOk, OnErr};
-ghost use Rattle.mp_items.specs.Item.{items_of};
+ghost use Rattle.mp_seqpool.specs.Item.{items_of};
 
 use mp_items::{Item, Items, RunWithin};
 use mp_memory::{Memory, NoMemory};

@@ -5,8 +5,7 @@ ghost use Rattle.mp_tx.specs.Transaction.{Transaction};
 ghost use Rattle.mp_rules.specs.Verifier.{Accepts};
 ghost use Rattle.mp_tickets.specs.Tickets.{after};
 ghost use Rattle.mp_history.specs.Log.{Log, IsLegalLog, state_after};
-ghost use Rattle.mp_items.specs.Offers.{offer};
-ghost use Rattle.mp_items.specs.Reading.{within};
+ghost use Rattle.mp_seqpool.specs.Reading.{within, offer};
 ghost use Rattle.mp_peer.specs.Offers.{Offer, IsLongestOffer, AreOffersOf, IsEachOfferedOnce};
 ghost use Rattle.mp_peer.specs.Blocks.{IsValidBlock};
 

@@ -1,7 +1,7 @@
 //! What a peer is offered of a pool.
 ghost use Rattle.std.specs.Prelude.{◌≡◌, ◌≢◌, [], IfOk, OnErr};
 ghost use Rattle.mp_history.specs.Log.{state_after};
-ghost use Rattle.mp_items.specs.Offers.{moved, offer};
+ghost use Rattle.mp_seqpool.specs.Reading.{moved, offer};
 
 use crate::first_items::share_first;
 use mp_history::PoolName;

@@ -6,4 +6,6 @@ pub mod PoolLaws
 pub mod Config
 pub mod Refusal
 pub mod Inside
+pub mod Item
+pub mod Reading
 pub mod Dependents

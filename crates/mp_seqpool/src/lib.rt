@@ -4,6 +4,7 @@
 mod command;
 mod config;
 mod ids;
+mod item;
 pub mod laws;
 mod leaving;
 mod playing;
@@ -15,6 +16,7 @@ mod tickets_by_id;
 pub use command::{Answer, Command, Reply};
 pub use config::Config;
 pub use ids::Ids;
+pub use item::Item;
 pub use mp_resync::ValidatedTx;
 pub use mp_rules::{Checked, Invalid, Verifier};
 pub use mp_tickets::{Iter, Tickets};

@@ -18,8 +18,8 @@ use Rattle.mp_rules.specs.Checked.{IsSigned}
 use Rattle.mp_resync.specs.Keep.{transactions, is_valid, keep_upon, keep, bytes_of}
 use Rattle.mp_resync.proofs.Keeping.{kept_last}
 use Rattle.mp_items.proofs.ByteSums.{sum-last}
-use Rattle.mp_items.specs.declared.item.Item.{Item}
-use Rattle.mp_items.specs.Item.{shown}
+use Rattle.mp_seqpool.specs.declared.item.Item.{Item}
+use Rattle.mp_seqpool.specs.Item.{shown}
 use Rattle.mp_trial.specs.declared.kept.Kept.{Kept}
 use Rattle.mp_trial.specs.Inside.Kept.{Keeps, KeepsOrStays, Tries, HasTried}
 

@@ -3,7 +3,7 @@ ghost use Rattle.std.specs.Prelude.{◌≡◌, ◌+◌, ◌≤◌, ◌^◌, All,
 ghost use Rattle.mp_tx.specs.Spelling.{size_of};
 ghost use Rattle.mp_rules.specs.Checked.{IsSigned};
 ghost use Rattle.mp_resync.specs.Keep.{keep, bytes_of, transactions};
-ghost use Rattle.mp_items.specs.Item.{item_of};
+ghost use Rattle.mp_seqpool.specs.Item.{item_of};
 ghost use Rattle.mp_trial.specs.Inside.Kept.{HasTried, IsBegun, Keeps, Tries};
 
 use mp_items::{Item, Items, Run};

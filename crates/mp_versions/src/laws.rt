@@ -1,7 +1,7 @@
 //! What holds of versions.
 
 ghost use Rattle.std.specs.Prelude.{◌≡◌, ◌≤◌, length, slice_get, option_map, All, flat_map};
-ghost use Rattle.mp_items.specs.Item.{items_of};
+ghost use Rattle.mp_seqpool.specs.Item.{items_of};
 
 use crate::version::Version;
 use mp_items::Item;

@@ -6,7 +6,7 @@ ghost use Rattle.mp_tickets.specs.Tickets.{after, item_at};
 ghost use Rattle.mp_seqpool.specs.SlowPool.{bytes_held, ticket_of};
 ghost use Rattle.mp_seqpool.specs.PoolLaws.{Lasts};
 ghost use Rattle.mp_history.specs.Log.{state_after};
-ghost use Rattle.mp_items.specs.Reading.{within};
+ghost use Rattle.mp_seqpool.specs.Reading.{within};
 
 use crate::shown::Shown;
 use mp_history::PoolName;

@@ -8,7 +8,7 @@ ghost use Rattle.mp_seqpool.specs.Config.{renewed};
 ghost use Rattle.mp_seqpool.specs.SlowPool.{HasPlace, bytes_held, pool_with, pool_upon, ticket_of};
 ghost use Rattle.mp_seqpool.specs.Prepared.{IsPrepared, apart, left_by, leads_to};
 ghost use Rattle.mp_items.specs.Layout.{items_in, IsLaid};
-ghost use Rattle.mp_items.specs.Reading.{within};
+ghost use Rattle.mp_seqpool.specs.Reading.{within};
 ghost use Rattle.mp_versions.specs.Inside.Version.{IsRestOf};
 
 use mp_items::layout::{

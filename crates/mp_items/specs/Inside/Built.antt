@@ -2,7 +2,7 @@
 use Rattle.std.specs.Prelude.{◌≡◌, ℕ, ◌≤◌, List, ◌++◌, length}
 use Rattle.std.specs.List.{All}
 use Rattle.mp_tx.specs.Transaction.{Transaction}
-use Rattle.mp_items.specs.Item.{items_of}
+use Rattle.mp_seqpool.specs.Item.{items_of}
 use Rattle.mp_items.specs.Pages.{flattened, joined, IsFilled, AreFilled}
 use Rattle.mp_items.specs.declared.layout.building.Built.{Built}
 

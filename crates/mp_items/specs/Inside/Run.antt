@@ -1,9 +1,9 @@
 -- Runs, whose items lie in items, chunks and pages.
 use Rattle.std.specs.Prelude.{ℕ, List, ◌++◌}
 use Rattle.mp_tx.specs.Transaction.{Transaction}
-use Rattle.mp_items.specs.Item.{items_of}
+use Rattle.mp_seqpool.specs.Item.{items_of}
 use Rattle.mp_items.specs.Pages.{flattened, joined}
-use Rattle.mp_items.specs.declared.item.Item.{Item}
+use Rattle.mp_seqpool.specs.declared.item.Item.{Item}
 
 -- items, then chunks, then pages, then the newest items
 abbrev pub run_of : List Item → List (List (ℕ × Transaction)) → List (List (List (ℕ × Transaction))) → List Item → List (ℕ × Transaction)

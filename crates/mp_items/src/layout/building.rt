@@ -3,17 +3,16 @@
 ghost use Rattle.std.specs.Prelude.{◌≡◌, [], ◌∷◌, ◌++◌, ◌<◌, List, length, ℕ, OnOk, IfOk};
 ghost use Rattle.mp_tx.specs.Transaction.{Transaction};
 ghost use Rattle.mp_tickets.specs.Tickets.{IsRising};
-ghost use Rattle.mp_items.specs.Item.{item_of};
+ghost use Rattle.mp_seqpool.specs.Item.{item_of};
 ghost use Rattle.mp_items.specs.Layout.{items_in, IsLaid};
 ghost use Rattle.mp_items.specs.Inside.Built.{IsBuilt};
 
 use crate::chunk::{Chunk, MAX_ITEMS};
-use crate::item::Item;
 use crate::layout::Layout;
 use crate::page::{MAX_CHUNKS, Page};
 use crate::pages::Pages;
 use mp_memory::{Memory, NoMemory};
-use mp_seqpool::SeqPool;
+use mp_seqpool::{Item, SeqPool};
 use std::mem;
 use std::sync::Arc;
 

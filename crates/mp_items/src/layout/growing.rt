@@ -1,16 +1,16 @@
 //! One item more.
 
 ghost use Rattle.std.specs.Prelude.{◌≡◌, ◌<◌, [], ◌∷◌, ◌++◌, length, All, IfOk};
-ghost use Rattle.mp_items.specs.Item.{item_of, items_of};
+ghost use Rattle.mp_seqpool.specs.Item.{item_of, items_of};
 ghost use Rattle.mp_items.specs.Layout.{items_in, IsLaid};
 ghost use Rattle.mp_items.specs.Pages.{flattened, joined, IsFilled, AreFilled};
 
 use crate::chunk::{Chunk, MAX_ITEMS};
-use crate::item::Item;
 use crate::layout::Layout;
 use crate::page::{MAX_CHUNKS, Page};
 use crate::pages::Pages;
 use mp_memory::{Memory, NoMemory};
+use mp_seqpool::Item;
 
 // The pages before the one that the next chunk goes to, and the chunks that it has.
 fn end_of(pages: &[Page]) -> (&[Page], &[Chunk])

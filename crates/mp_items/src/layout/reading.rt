@@ -4,17 +4,17 @@ ghost use Rattle.std.specs.Prelude.{◌≡◌, ◌≤◌, ◌+◌, ◌^◌, ◌+
 ghost use Rattle.std.specs.Option.{ForSome};
 ghost use Rattle.std.specs.List.Sorted.{IsStrictlyIncreasing};
 ghost use Rattle.mp_tickets.specs.Tickets.{IsRising, after, item_at, among};
-ghost use Rattle.mp_items.specs.Item.{items_of, shown};
+ghost use Rattle.mp_seqpool.specs.Item.{items_of, shown};
 ghost use Rattle.mp_resync.specs.Keep.{bytes_of};
 ghost use Rattle.mp_items.specs.Layout.{items_in, chunks_in, filled_chunks, IsLaid};
 ghost use Rattle.mp_items.specs.Pages.{flattened, chunks_of, joined, IsFilled, AreFilled, size_in};
 
 use crate::chunk::Chunk;
-use crate::item::Item;
 use crate::layout::Layout;
 use crate::page::Page;
 use crate::run::Run;
 use crate::run_back::RunBack;
+use mp_seqpool::Item;
 
 // The items with greater tickets.
 fn items_after(items: &[Item], ticket: u64) -> &[Item]

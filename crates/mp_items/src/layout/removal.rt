@@ -5,17 +5,17 @@ ghost use Rattle.std.specs.Bool.{OnFalse};
 ghost use Rattle.std.specs.List.Sorted.{IsStrictlyIncreasing};
 ghost use Rattle.mp_tickets.specs.Tickets.{IsRising, has_ticket};
 ghost use Rattle.mp_seqpool.specs.Prepared.{apart};
-ghost use Rattle.mp_items.specs.Item.{items_of};
+ghost use Rattle.mp_seqpool.specs.Item.{items_of};
 ghost use Rattle.mp_items.specs.Pages.{flattened, joined, IsFilled, IsPage, AreFilled};
 ghost use Rattle.mp_items.specs.Layout.{items_in, filled_chunks, IsLaid};
 ghost use Rattle.mp_items.specs.Inside.Left.{IsLeftPage};
 
 use crate::chunk::Chunk;
-use crate::item::Item;
 use crate::layout::Layout;
 use crate::page::Page;
 use crate::pages::Pages;
 use mp_memory::{Memory, NoMemory};
+use mp_seqpool::Item;
 
 // Whether one of the tickets is from `first` to `last`.
 fn any_within(tickets: &[u64], first: u64, last: u64) -> bool

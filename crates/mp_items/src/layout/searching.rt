@@ -2,14 +2,14 @@
 
 ghost use Rattle.std.specs.Prelude.{◌≡◌};
 ghost use Rattle.std.specs.List.{list_any};
-ghost use Rattle.mp_items.specs.Item.{item_of};
+ghost use Rattle.mp_seqpool.specs.Item.{item_of};
 ghost use Rattle.mp_items.specs.Layout.{items_in};
 ghost use Rattle.mp_items.specs.Pages.{has_id, is_of};
 
 use crate::chunk::Chunk;
-use crate::item::Item;
 use crate::layout::Layout;
 use crate::page::Page;
+use mp_seqpool::Item;
 use mp_tx::TxId;
 
 // Whether the item's transaction has this id.

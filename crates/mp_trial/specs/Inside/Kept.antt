@@ -6,7 +6,7 @@ use Rattle.mp_tx.specs.Ledger.{LedgerState}
 use Rattle.mp_utxo.specs.Overlay.{unspent}
 use Rattle.mp_rules.specs.Verifier.{Accepts}
 use Rattle.mp_resync.specs.Keep.{transactions, is_valid, keep, bytes_of}
-use Rattle.mp_items.specs.Item.{items_of}
+use Rattle.mp_seqpool.specs.Item.{items_of}
 use Rattle.mp_trial.specs.declared.kept.Kept.{Kept}
 
 -- nothing was kept upon the ledger state

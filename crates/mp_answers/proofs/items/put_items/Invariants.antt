@@ -1,5 +1,5 @@
 use Rattle.std.proofs.Common.{◌≡◌, ◌++◌, take}
-use Rattle.mp_items.specs.Item.{items_of}
+use Rattle.mp_seqpool.specs.Item.{items_of}
 use Rattle.mp_answers.specs.AnswerText.{items_text}
 use Rattle.mp_answers.proofs.items.put_items.Given as goal
 

@@ -4,8 +4,8 @@ use Rattle.mp_tx.specs.Transaction.{Transaction}
 use Rattle.mp_tx.specs.Spelling.{size_of}
 use Rattle.mp_tickets.specs.Tickets.{shown}
 use Rattle.mp_resync.specs.ValidatedTx.{ValidatedTx, ticketed}
-use Rattle.mp_items.specs.Item.{items_of}
-use Rattle.mp_items.proofs.Moving.{items-last}
+use Rattle.mp_seqpool.specs.Item.{items_of}
+use Rattle.mp_seqpool.proofs.Moving.{items-last}
 use Rattle.mp_answers.proofs.Firsts.{goes_on}
 use Rattle.mp_answers.proofs.queries.first_within.Goals as goal
 

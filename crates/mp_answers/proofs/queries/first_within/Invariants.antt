@@ -1,8 +1,8 @@
 use Rattle.std.proofs.Common.{◌≡◌, ◌-◌, ◌≤◌, ◌++◌, length, take}
 use Rattle.mp_resync.specs.ValidatedTx.{ticketed}
 use Rattle.mp_resync.specs.Keep.{bytes_of}
-use Rattle.mp_items.specs.Item.{items_of}
-use Rattle.mp_items.specs.Reading.{within}
+use Rattle.mp_seqpool.specs.Item.{items_of}
+use Rattle.mp_seqpool.specs.Reading.{within}
 use Rattle.mp_answers.proofs.queries.first_within.Given as goal
 
 -- the items so far, and those of the rest that still fit, are all

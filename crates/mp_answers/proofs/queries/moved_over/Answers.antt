@@ -1,8 +1,8 @@
 use Rattle.std.proofs.Common.{[], ◌∷◌, sym, ap, ◌∙◌}
 use Rattle.std.proofs.lemmas.List.{map-append}
-use Rattle.mp_items.specs.Item.{item_of, items_of}
-use Rattle.mp_items.specs.Offers.{moved}
-use Rattle.mp_items.proofs.Moving.{moved-append}
+use Rattle.mp_seqpool.specs.Item.{item_of, items_of}
+use Rattle.mp_seqpool.specs.Reading.{moved}
+use Rattle.mp_seqpool.proofs.Moving.{moved-append}
 use Rattle.mp_answers.proofs.queries.moved_over.Goals as goal
 
 pub returns-in-Some : goal.returns-in-Some

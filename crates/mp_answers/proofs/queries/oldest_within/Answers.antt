@@ -1,7 +1,7 @@
 use Rattle.std.proofs.Common.{◌≡◌, take, ap, subst, ◌∙◌}
 use Rattle.std.specs.Prelude.{IfOk}
-use Rattle.mp_items.specs.Item.{items_of}
-use Rattle.mp_items.specs.Reading.{within}
+use Rattle.mp_seqpool.specs.Item.{items_of}
+use Rattle.mp_seqpool.specs.Reading.{within}
 use Rattle.mp_answers.proofs.Firsts.{all_within}
 use Rattle.mp_answers.proofs.queries.oldest_within.Goals as goal
 

@@ -1,8 +1,8 @@
 use Rattle.std.proofs.Common.{◌≡◌, ◌≢◌, ◌≤◌, [], ap, refl, ◌∙◌, arith}
 use Rattle.mp_resync.specs.Keep.{bytes_of}
 use Rattle.mp_history.specs.Log.{state_after}
-use Rattle.mp_items.specs.Item.{items_of}
-use Rattle.mp_items.specs.Reading.{within}
+use Rattle.mp_seqpool.specs.Item.{items_of}
+use Rattle.mp_seqpool.specs.Reading.{within}
 use Rattle.mp_peer.proofs.Beginnings.{light_run, all_of_run}
 use Rattle.mp_peer.proofs.Sharing.{on_err}
 use Rattle.mp_peer.proofs.block.forge.Goals as goal

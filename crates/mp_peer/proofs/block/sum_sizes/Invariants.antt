@@ -1,6 +1,6 @@
 use Rattle.std.proofs.Common.{◌≡◌, ◌+◌, drop}
 use Rattle.mp_resync.specs.Keep.{bytes_of}
-use Rattle.mp_items.specs.Item.{items_of}
+use Rattle.mp_seqpool.specs.Item.{items_of}
 use Rattle.mp_peer.proofs.block.sum_sizes.Given as goal
 
 -- with those of the items that are left they are all

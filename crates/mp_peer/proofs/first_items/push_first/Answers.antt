@@ -1,7 +1,7 @@
 use Rattle.std.proofs.Common.{◌++◌, ◌-◌, ◌+◌, take, ap, ◌∙◌, [], ◌∷◌}
 use Rattle.std.proofs.lemmas.Map.Iter.{rest_more}
-use Rattle.mp_items.specs.Item.{shown, items_of}
-use Rattle.mp_items.proofs.Moving.{items-last}
+use Rattle.mp_seqpool.specs.Item.{shown, items_of}
+use Rattle.mp_seqpool.proofs.Moving.{items-last}
 use Rattle.mp_peer.proofs.Sharing.{one_taken, some_left, on_err}
 use Rattle.mp_peer.proofs.first_items.push_first.Goals as goal
 

@@ -1,7 +1,7 @@
 use Rattle.std.proofs.Common.{◌≤◌, ◌^◌, map, sym, ap, subst, ◌∙◌}
 use Rattle.std.proofs.lemmas.Map.Iter.{iter_end}
 use Rattle.std.proofs.lemmas.Map.Views.{All-turn}
-use Rattle.mp_items.specs.Item.{shown}
+use Rattle.mp_seqpool.specs.Item.{shown}
 use Rattle.mp_rules.specs.Checked.{IsSigned}
 use Rattle.mp_resync.specs.Keep.{bytes_of}
 use Rattle.mp_trial.specs.Inside.Kept.{HasTried}

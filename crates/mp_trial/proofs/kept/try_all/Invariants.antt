@@ -1,5 +1,5 @@
 use Rattle.std.proofs.Common.{map}
-use Rattle.mp_items.specs.Item.{shown}
+use Rattle.mp_seqpool.specs.Item.{shown}
 use Rattle.mp_trial.specs.Inside.Kept.{HasTried}
 use Rattle.mp_trial.proofs.kept.try_all.Given as goal
 

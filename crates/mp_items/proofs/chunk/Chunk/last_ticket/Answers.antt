@@ -1,6 +1,6 @@
 use Rattle.std.proofs.Common.{ap, sym, ◌∙◌}
 use Rattle.std.proofs.lemmas.List.{map_push}
-use Rattle.mp_items.specs.Item.{item_of, items_of}
+use Rattle.mp_seqpool.specs.Item.{item_of, items_of}
 use Rattle.mp_items.specs.Pages.{last_ticket}
 use Rattle.mp_items.proofs.Parts.{last_by-push}
 use Rattle.mp_items.proofs.Blocks.{ticket_in}

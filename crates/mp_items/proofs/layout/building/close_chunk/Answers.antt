@@ -2,7 +2,7 @@ use Rattle.std.proofs.Common.{◌≡◌, ◌<◌, [], length, sym, ap, subst, �
 use Rattle.std.specs.List.{All}
 use Rattle.std.proofs.lemmas.List.{length_push}
 use Rattle.std.proofs.lemmas.List.Elements.{All-push}
-use Rattle.mp_items.specs.Item.{items_of}
+use Rattle.mp_seqpool.specs.Item.{items_of}
 use Rattle.mp_items.specs.Pages.{IsFilled}
 use Rattle.mp_items.proofs.Building.{chunk_closed, chunk_filled}
 use Rattle.mp_items.proofs.layout.building.close_chunk.Goals as goal

@@ -1,6 +1,6 @@
 use Rattle.std.proofs.Common.{length, sym, ap, subst, arith}
 use Rattle.std.proofs.lemmas.List.{length-map}
-use Rattle.mp_items.specs.Item.{item_of}
+use Rattle.mp_seqpool.specs.Item.{item_of}
 use Rattle.mp_items.specs.Pages.{AreFilled}
 use Rattle.mp_items.proofs.layout.building.finished.Goals as goal
 

@@ -1,6 +1,6 @@
 use Rattle.std.proofs.Common.{length, sym, ap, ◌∙◌, arith}
 use Rattle.std.proofs.lemmas.List.{length-map}
-use Rattle.mp_items.specs.Item.{item_of}
+use Rattle.mp_seqpool.specs.Item.{item_of}
 use Rattle.mp_items.proofs.Lengths.{part_length}
 use Rattle.mp_items.proofs.layout.counting.count_in.Goals as goal
 

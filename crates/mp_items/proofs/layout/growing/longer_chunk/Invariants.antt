@@ -1,5 +1,5 @@
 use Rattle.std.proofs.Common.{◌≡◌, take}
-use Rattle.mp_items.specs.Item.{items_of}
+use Rattle.mp_seqpool.specs.Item.{items_of}
 use Rattle.mp_items.proofs.layout.growing.longer_chunk.Given as goal
 
 -- the items so far

@@ -1,8 +1,8 @@
 use Rattle.std.proofs.Common.{ap, ◌∙◌, rules, nat_le}
 use Rattle.std.proofs.lemmas.List.{take_rest}
 use Rattle.std.proofs.lemmas.List.Sorted.{IsPartitionedBy-leb, IsPartitionPoint-from_clause}
-use Rattle.mp_items.specs.Item.{items_of}
-use Rattle.mp_items.specs.declared.item.Item.{Item}
+use Rattle.mp_seqpool.specs.Item.{items_of}
+use Rattle.mp_seqpool.specs.declared.item.Item.{Item}
 use Rattle.mp_items.proofs.Parts.{climbs, passes, fails}
 use Rattle.mp_items.proofs.Blocks.{items_climb, after_items}
 use Rattle.mp_items.proofs.layout.reading.items_after.Goals as goal

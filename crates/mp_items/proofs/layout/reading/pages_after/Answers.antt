@@ -4,7 +4,7 @@ use Rattle.std.specs.List.{All}
 use Rattle.std.proofs.lemmas.List.{append_assoc, nil_from_length}
 use Rattle.std.proofs.lemmas.List.Sorted.{IsPartitionedBy-leb, IsPartitionPoint-from_clause}
 use Rattle.mp_tickets.specs.Tickets.{IsRising, after}
-use Rattle.mp_items.specs.Item.{items_of}
+use Rattle.mp_seqpool.specs.Item.{items_of}
 use Rattle.mp_items.specs.Pages.{flattened, joined, IsFilled, IsPage, last_by, last_ticket}
 use Rattle.mp_items.proofs.Parts.{climbs, flat_flat}
 use Rattle.mp_items.proofs.Blocks.{blocks_climb, all_ends, page_ends}

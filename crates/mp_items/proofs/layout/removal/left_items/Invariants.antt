@@ -1,6 +1,6 @@
 use Rattle.std.proofs.Common.{◌≡◌, take}
 use Rattle.mp_seqpool.specs.Prepared.{apart}
-use Rattle.mp_items.specs.Item.{items_of}
+use Rattle.mp_seqpool.specs.Item.{items_of}
 use Rattle.mp_items.proofs.layout.removal.left_items.Given as goal
 
 -- what is left of the items so far

@@ -19,7 +19,7 @@ impl Drop for Item {
 
 impl Item {
     ghost use Rattle.std.specs.Prelude.{◌≡◌, IfOk};
-    ghost use Rattle.mp_items.specs.Item.{item_of};
+    ghost use Rattle.mp_seqpool.specs.Item.{item_of};
 
     /// The same item, which shares its transaction.
     ///

@@ -3,7 +3,7 @@ use Rattle.std.specs.Prelude.{ℕ, List, map}
 use Rattle.std.specs.Arc.{arc_value}
 use Rattle.std.specs.Borrow.{Bor}
 use Rattle.mp_tx.specs.Transaction.{Transaction}
-use Rattle.mp_items.specs.declared.item.Item.{Item}
+use Rattle.mp_seqpool.specs.declared.item.Item.{Item}
 
 abbrev pub item_of : Item → ℕ × Transaction
 item_of i = (i.ticket, arc_value i.tx)
