@@ -550,11 +550,7 @@ impl SeqPool {
         ensures pool { self.new.pool ≡ leads_to self.old.pool prepared }
         ensures reply { result ≡ prepared.reply }
     {
-        let Prepared {
-            command: _,
-            reply,
-            effect,
-        } = prepared;
+        let (reply, effect) = prepared.into_parts();
         match effect {
             Effect::Append(node, applied) => self.append(node, applied),
             Effect::Keep(overlay, _kept) => self.leave(overlay, &reply),

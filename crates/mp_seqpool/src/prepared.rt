@@ -24,11 +24,20 @@ pub enum Effect {
 
 /// A step of the pool that is ready to be taken: all that can be refused is behind it, and it holds the memory that it needs.
 /// To take it is `SeqPool::finish`; where it is dropped instead, nothing has happened.
-#[derive(Drop)]
 pub struct Prepared {
     pub(crate) command: Command,
     pub(crate) reply: Reply,
     pub(crate) effect: Effect,
+}
+
+impl Drop for Prepared {
+    fn drop(self) {
+        let Prepared {
+            command: _,
+            reply: _,
+            effect: _,
+        } = self;
+    }
 }
 
 impl Model for Prepared {
@@ -50,6 +59,21 @@ impl Model for Prepared {
 impl Prepared {
     ghost use Rattle.std.specs.Prelude.{◌≡◌};
     ghost use Rattle.mp_seqpool.specs.Inside.Command.{command_of};
+    ghost use Rattle.mp_seqpool.specs.Inside.Effect.{effect_of, IsOfOne};
+
+    // What it replies, and what it does.
+    pub(crate) fn into_parts(self) -> (Reply, Effect)
+        ensures reply { result.0 ≡ self.reply }
+        ensures effect { effect_of result.1 ≡ self.effect }
+        ensures one { IsOfOne result.1 }
+    {
+        let Prepared {
+            command: _,
+            reply,
+            effect,
+        } = self;
+        (reply, effect)
+    }
 
     /// What was asked.
     pub fn command(&self) -> &Command
