@@ -32,8 +32,8 @@ fn explain(rt: &HostRuntime, explains: bool, bad_line: Option<(u64, Reason<'_>)>
 
 /// After the answers to a text: 0, or 1 and the fault's line. Where it explains, what is wrong with a bad line stands behind it.
 pub fn end_answers(rt: &HostRuntime, explains: bool, ended: Result<(), Stop<'_>>) -> ExitCode
-    ensures done { IfOk ended (λ _. exit_status result ≡ 0) }
-    ensures fault { IfErr ended (λ _. exit_status result ≡ 1) }
+    ensures done { IfOk ended.entry (λ _. exit_status result ≡ 0) }
+    ensures fault { IfErr ended.entry (λ _. exit_status result ≡ 1) }
 {
     match ended {
         Ok(()) => ExitCode::SUCCESS,
