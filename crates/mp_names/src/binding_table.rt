@@ -1,6 +1,6 @@
 //! Bindings in the order in which they were declared, found by name or by id without a walk.
 
-ghost use Rattle.std.specs.Prelude.{◌≡◌, ◌<◌, ◌+◌, nat_eq, slice_get, option_and_then, option_copied, option_map, vec_len, vec_capacity, Some, [], ◌∷◌, ◌++◌, length, IfOk, OnOk};
+ghost use Rattle.std.specs.Prelude.{◌≡◌, ◌<◌, ◌+◌, nat_eq, slice_get, option_and_then, option_copied, option_map, vec_len, vec_capacity, Some, [], ◌∷◌, ◌++◌, length, IfOk, OnOk, OnErr};
 ghost use Rattle.std.specs.Cmp.Lexicographic.{pointwise};
 ghost use Rattle.indexmap.specs.IndexMap.{spare};
 ghost use Rattle.mp_names.specs.Inside.BindingTable.{has_name, has_tx_id, bound_id, left_by};
@@ -12,21 +12,31 @@ use mp_memory::{Memory, NoMemory};
 use mp_tx::TxId;
 use std::marker::Model;
 
-/// Bindings with their names. Contracts see the list of them, in the order in which they were declared.
-pub struct BindingTable {
-    bindings: Vec<NamedBinding, Memory>,
+/// Where bindings stand in the list of them.
+struct Places {
     // Where the first binding with a name stands.
     names: PlaceTable,
     // Where the first transaction with an id stands.
     ids: PlaceTable,
 }
 
+impl Drop for Places {
+    fn drop(self) {
+        let Places { names: _, ids: _ } = self;
+    }
+}
+
+/// Bindings with their names. Contracts see the list of them, in the order in which they were declared.
+pub struct BindingTable {
+    bindings: Vec<NamedBinding, Memory>,
+    places: Places,
+}
+
 impl Drop for BindingTable {
     fn drop(self) {
         let BindingTable {
             bindings: _,
-            names: _,
-            ids: _,
+            places: _,
         } = self;
     }
 }
@@ -41,12 +51,22 @@ impl Model for BindingTable {
 
     ghost view = { λ t. t.bindings.items };
 
-    ghost invariant = { λ t. ArePlaced has_name t.names.entries t.bindings.items
-        × ArePlaced has_tx_id t.ids.entries t.bindings.items };
+    ghost invariant = { λ t. ArePlaced has_name t.places.names.entries t.bindings.items
+        × ArePlaced has_tx_id t.places.ids.entries t.bindings.items };
 }
 
 // The bytes of a name, and of an id where there is one.
 type Keys = (Vec<u8, Memory>, Option<Vec<u8, Memory>>);
+
+fn no_places_yet(memory: Memory) -> Places
+    ensures names { result.names.entries ≡ [] }
+    ensures ids { result.ids.entries ≡ [] }
+{
+    Places {
+        names: no_places(memory),
+        ids: no_places(memory),
+    }
+}
 
 fn binding_at(bindings: &[NamedBinding], place: Option<usize>) -> Option<&NamedBinding>
     ensures { option_copied result ≡ option_and_then (slice_get bindings.now) place }
@@ -64,24 +84,6 @@ fn id_bytes(memory: Memory, binding: &Binding) -> Result<Option<Vec<u8, Memory>>
     }
 }
 
-// Makes room for one more in each.
-fn make_room(
-    bindings: &mut Vec<NamedBinding, Memory>,
-    names: &mut PlaceTable,
-    ids: &mut PlaceTable,
-) -> Result<(), NoMemory>
-    ensures bindings { bindings.new.items ≡ bindings.old.items }
-    ensures names { names.new.entries ≡ names.old.entries }
-    ensures ids { ids.new.entries ≡ ids.old.entries }
-    ensures room { OnOk result (vec_len bindings.new < vec_capacity bindings.new) }
-    ensures spare { OnOk result (0 < spare names.new × 0 < spare ids.new) }
-{
-    bindings.reserve(1)?;
-    names.reserve(1)?;
-    ids.reserve(1)?;
-    Ok(())
-}
-
 // The bytes under which a binding is found: its name's, and its id's.
 fn keys_of(memory: Memory, named: &NamedBinding) -> Result<Keys, NoMemory>
     ensures name { IfOk result (λ k. k.0.items ≡ named.now.name) }
@@ -92,46 +94,26 @@ fn keys_of(memory: Memory, named: &NamedBinding) -> Result<Keys, NoMemory>
     Ok((word, id))
 }
 
-// Makes room for one more in each, and gives the bytes under which the binding is found.
-fn prepare(
-    bindings: &mut Vec<NamedBinding, Memory>,
-    names: &mut PlaceTable,
-    ids: &mut PlaceTable,
+// Notes the place under the binding's keys, each unless a place is noted there. After an `Err` nothing is noted.
+fn note_keys(
+    memory: Memory,
+    places: &mut Places,
     named: &NamedBinding,
-) -> Result<Keys, NoMemory>
-    ensures bindings { bindings.new.items ≡ bindings.old.items }
-    ensures names { names.new.entries ≡ names.old.entries }
-    ensures ids { ids.new.entries ≡ ids.old.entries }
-    ensures room { OnOk result (vec_len bindings.new < vec_capacity bindings.new) }
-    ensures spare { OnOk result (0 < spare names.new × 0 < spare ids.new) }
-    ensures name { IfOk result (λ k. k.0.items ≡ named.now.name) }
-    ensures id { IfOk result (λ k. option_map (λ v. v.items) k.1 ≡ bound_id named.now.binding) }
+    place: usize,
+) -> Result<(), NoMemory>
+    ensures names { OnOk result (Notes places.old.names.entries (Some named.now.name) place
+        places.new.names.entries) }
+    ensures ids { OnOk result (Notes places.old.ids.entries (bound_id named.now.binding) place
+        places.new.ids.entries) }
+    ensures same { OnErr result (places.new.names.entries ≡ places.old.names.entries
+        × places.new.ids.entries ≡ places.old.ids.entries) }
 {
-    make_room(bindings, names, ids)?;
-    keys_of(*bindings.allocator(), named)
-}
-
-// Puts it last, and notes its place under its keys.
-fn enter(
-    bindings: &mut Vec<NamedBinding, Memory>,
-    names: &mut PlaceTable,
-    ids: &mut PlaceTable,
-    keys: Keys,
-    named: NamedBinding,
-)
-    requires room { vec_len bindings.old < vec_capacity bindings.old }
-    requires spare { 0 < spare names.old × 0 < spare ids.old }
-    ensures bindings { bindings.new.items ≡ bindings.old.items ++ named ∷ [] }
-    ensures names { Notes names.old.entries (Some keys.0.items) (length bindings.old.items)
-        names.new.entries }
-    ensures ids { Notes ids.old.entries (option_map (λ v. v.items) keys.1)
-        (length bindings.old.items) ids.new.entries }
-{
-    let place = bindings.len();
-    let (word, id) = keys;
-    note(names, word, place);
-    note_if_any(ids, id, place);
-    bindings.push_reserved(named);
+    places.names.reserve(1)?;
+    places.ids.reserve(1)?;
+    let (word, id) = keys_of(memory, named)?;
+    note(&mut places.names, word, place);
+    note_if_any(&mut places.ids, id, place);
+    Ok(())
 }
 
 // Notes the place under the name, unless a place is noted there.
@@ -141,22 +123,6 @@ fn note_name(places: &mut PlaceTable, name: &Name, place: usize) -> Result<(), N
     places.reserve(1)?;
     let word = name.to_bytes()?;
     note(places, word, place);
-    Ok(())
-}
-
-// Notes the place under the transaction's id, if it is one, unless a place is noted there.
-fn note_id(
-    memory: Memory,
-    places: &mut PlaceTable,
-    binding: &Binding,
-    place: usize,
-) -> Result<(), NoMemory>
-    ensures { OnOk result (Notes places.old.entries (bound_id binding.now) place
-        places.new.entries) }
-{
-    places.reserve(1)?;
-    let id = id_bytes(memory, binding)?;
-    note_if_any(places, id, place);
     Ok(())
 }
 
@@ -171,28 +137,43 @@ fn places_of(memory: Memory, names: &[Name]) -> Result<PlaceTable, NoMemory>
     Ok(places)
 }
 
-// Where the first binding with a name, and the first with an id, stand among those whose names aren't noted.
+// Notes where the bindings whose names aren't noted will stand once the others are gone.
+fn note_left(
+    memory: Memory,
+    bindings: &[NamedBinding],
+    goes: &PlaceTable,
+    places: &mut Places,
+) -> Result<(), NoMemory>
+    requires { places.old.names.entries ≡ [] × places.old.ids.entries ≡ [] }
+    ensures names { OnOk result (ArePlaced has_name places.new.names.entries
+        (left_by goes.now.entries bindings.now)) }
+    ensures ids { OnOk result (ArePlaced has_tx_id places.new.ids.entries
+        (left_by goes.now.entries bindings.now)) }
+{
+    let mut place = 0;
+    for named in bindings {
+        if !is_noted(goes, named.name.as_bytes()) {
+            note_keys(memory, places, named, place)?;
+            place += 1;
+        }
+    }
+    Ok(())
+}
+
+// Where those will stand.
 fn places_left(
     memory: Memory,
     bindings: &[NamedBinding],
     goes: &PlaceTable,
-) -> Result<(PlaceTable, PlaceTable), NoMemory>
-    ensures names { IfOk result (λ places. ArePlaced has_name places.0.entries
+) -> Result<Places, NoMemory>
+    ensures names { IfOk result (λ places. ArePlaced has_name places.names.entries
         (left_by goes.now.entries bindings.now)) }
-    ensures ids { IfOk result (λ places. ArePlaced has_tx_id places.1.entries
+    ensures ids { IfOk result (λ places. ArePlaced has_tx_id places.ids.entries
         (left_by goes.now.entries bindings.now)) }
 {
-    let mut names = no_places(memory);
-    let mut ids = no_places(memory);
-    let mut place = 0;
-    for named in bindings {
-        if !is_noted(goes, named.name.as_bytes()) {
-            note_name(&mut names, &named.name, place)?;
-            note_id(memory, &mut ids, &named.binding, place)?;
-            place += 1;
-        }
-    }
-    Ok((names, ids))
+    let mut places = no_places_yet(memory);
+    note_left(memory, bindings, goes, &mut places)?;
+    Ok(places)
 }
 
 // Takes out those whose names are noted. Gives how many.
@@ -216,8 +197,7 @@ impl BindingTable {
     {
         BindingTable {
             bindings: Vec::new(memory),
-            names: no_places(memory),
-            ids: no_places(memory),
+            places: no_places_yet(memory),
         }
     }
 
@@ -225,14 +205,14 @@ impl BindingTable {
     pub fn get(&self, word: &[u8]) -> Option<&NamedBinding>
         ensures { option_copied result ≡ find (λ n. pointwise nat_eq word.now n.name) self.now }
     {
-        binding_at(&self.bindings, place_under(&self.names, word))
+        binding_at(&self.bindings, place_under(&self.places.names, word))
     }
 
     /// The first binding of a transaction with this id.
     pub fn get_by_id(&self, id: &TxId) -> Option<&NamedBinding>
         ensures { option_copied result ≡ find (λ n. has_id id.now n.binding) self.now }
     {
-        binding_at(&self.bindings, place_under(&self.ids, id))
+        binding_at(&self.bindings, place_under(&self.places.ids, id))
     }
 
     /// Puts the binding last. After an `Err` the table is as it was.
@@ -240,15 +220,23 @@ impl BindingTable {
         ensures ok { OnOk result (self.new ≡ self.old ++ named ∷ []) }
         ensures err { OnErr result (self.new ≡ self.old) }
     {
-        let keys = prepare(&mut self.bindings, &mut self.names, &mut self.ids, &named)?;
-        enter(
-            &mut self.bindings,
-            &mut self.names,
-            &mut self.ids,
-            keys,
-            named,
-        );
+        self.bindings.reserve(1)?;
+        let place = self.bindings.len();
+        note_keys(*self.bindings.allocator(), &mut self.places, &named, place)?;
+        self.bindings.push_reserved(named);
         Ok(())
+    }
+
+    // Takes out the bindings whose names are noted.
+    fn forget_noted(&mut self, goes: &PlaceTable) -> Result<usize, NoMemory>
+        ensures left { OnOk result (self.new ≡ left_by goes.now.entries self.old) }
+        ensures count { IfOk result (λ n. n + length self.new ≡ length self.old) }
+        ensures err { OnErr result (self.new ≡ self.old) }
+    {
+        let places = places_left(*self.bindings.allocator(), &self.bindings, goes)?;
+        let count = take_out(&mut self.bindings, goes);
+        self.places = places;
+        Ok(count)
     }
 
     /// Takes out the bindings with these names; the others stay in their order. Gives how many went. After an `Err` the table
@@ -259,12 +247,7 @@ impl BindingTable {
         ensures count { IfOk result (λ n. n + length self.new ≡ length self.old) }
         ensures err { OnErr result (self.new ≡ self.old) }
     {
-        let memory = *self.bindings.allocator();
-        let noted = places_of(memory, goes)?;
-        let (names, ids) = places_left(memory, &self.bindings, &noted)?;
-        let count = take_out(&mut self.bindings, &noted);
-        self.names = names;
-        self.ids = ids;
-        Ok(count)
+        let noted = places_of(*self.bindings.allocator(), goes)?;
+        self.forget_noted(&noted)
     }
 }

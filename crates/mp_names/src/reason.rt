@@ -95,6 +95,18 @@ impl<'a> Reason<'a> {
             Reason::Byte(_) => ("it has the byte ", NOTHING, ""),
         }
     }
+
+    // What is told behind that.
+    fn tell_more<W: fmt::Write>(&self, f: &mut fmt::Formatter<W>) -> fmt::Result {
+        match *self {
+            Reason::Byte(byte) => put_byte(f, byte),
+            Reason::Number { least, most, .. } => put_range(f, least, most),
+            Reason::ScriptBytes(_, fault) => write!(f, "{fault}"),
+            Reason::DataBytes(_, fault) => write!(f, "{fault}"),
+            Reason::Repeats { earlier, .. } => put_told(f, ("", earlier, "'")),
+            _ => Ok(()),
+        }
+    }
 }
 
 // The bytes of a line that isn't bad for its bytes are a text.
@@ -120,13 +132,6 @@ fn put_byte<W: fmt::Write>(f: &mut fmt::Formatter<W>, byte: u8) -> fmt::Result {
 impl fmt::Display for Reason<'_> {
     fn fmt<W: fmt::Write>(&self, f: &mut fmt::Formatter<W>) -> fmt::Result {
         put_told(f, self.tell())?;
-        match *self {
-            Reason::Byte(byte) => put_byte(f, byte),
-            Reason::Number { least, most, .. } => put_range(f, least, most),
-            Reason::ScriptBytes(_, fault) => write!(f, "{fault}"),
-            Reason::DataBytes(_, fault) => write!(f, "{fault}"),
-            Reason::Repeats { earlier, .. } => put_told(f, ("", earlier, "'")),
-            _ => Ok(()),
-        }
+        self.tell_more(f)
     }
 }
