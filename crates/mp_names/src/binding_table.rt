@@ -1,8 +1,7 @@
 //! Bindings in the order in which they were declared, found by name or by id without a walk.
 
-ghost use Rattle.std.specs.Prelude.{◌≡◌, ◌<◌, ◌+◌, nat_eq, slice_get, option_and_then, option_copied, option_map, vec_len, vec_capacity, Some, [], ◌∷◌, ◌++◌, length, IfOk, OnOk, OnErr};
+ghost use Rattle.std.specs.Prelude.{◌≡◌, ◌+◌, nat_eq, slice_get, option_and_then, option_copied, option_map, Some, [], length, IfOk, OnOk, OnErr};
 ghost use Rattle.std.specs.Cmp.Lexicographic.{pointwise};
-ghost use Rattle.indexmap.specs.IndexMap.{spare};
 ghost use Rattle.mp_names.specs.Inside.BindingTable.{has_name, has_tx_id, bound_id, left_by};
 ghost use Rattle.mp_names.specs.Inside.PlaceTable.{Notes, ArePlaced};
 
@@ -23,6 +22,21 @@ struct Places {
 impl Drop for Places {
     fn drop(self) {
         let Places { names: _, ids: _ } = self;
+    }
+}
+
+impl Places {
+    ghost use Rattle.std.specs.Prelude.{◌≡◌, []};
+
+    // No place.
+    fn new(memory: Memory) -> Places
+        ensures names { result.names.entries ≡ [] }
+        ensures ids { result.ids.entries ≡ [] }
+    {
+        Places {
+            names: no_places(memory),
+            ids: no_places(memory),
+        }
     }
 }
 
@@ -57,16 +71,6 @@ impl Model for BindingTable {
 
 // The bytes of a name, and of an id where there is one.
 type Keys = (Vec<u8, Memory>, Option<Vec<u8, Memory>>);
-
-fn no_places_yet(memory: Memory) -> Places
-    ensures names { result.names.entries ≡ [] }
-    ensures ids { result.ids.entries ≡ [] }
-{
-    Places {
-        names: no_places(memory),
-        ids: no_places(memory),
-    }
-}
 
 fn binding_at(bindings: &[NamedBinding], place: Option<usize>) -> Option<&NamedBinding>
     ensures { option_copied result ≡ option_and_then (slice_get bindings.now) place }
@@ -137,7 +141,7 @@ fn places_of(memory: Memory, names: &[Name]) -> Result<PlaceTable, NoMemory>
     Ok(places)
 }
 
-// Notes where the bindings whose names aren't noted will stand once the others are gone.
+// Notes, where nothing is noted yet, where the bindings that don't go will stand once the others are gone.
 fn note_left(
     memory: Memory,
     bindings: &[NamedBinding],
@@ -160,7 +164,7 @@ fn note_left(
     Ok(())
 }
 
-// Where those will stand.
+// Where the bindings that don't go will stand once the others are gone.
 fn places_left(
     memory: Memory,
     bindings: &[NamedBinding],
@@ -171,7 +175,7 @@ fn places_left(
     ensures ids { IfOk result (λ places. ArePlaced has_tx_id places.ids.entries
         (left_by goes.now.entries bindings.now)) }
 {
-    let mut places = no_places_yet(memory);
+    let mut places = Places::new(memory);
     note_left(memory, bindings, goes, &mut places)?;
     Ok(places)
 }
@@ -197,7 +201,7 @@ impl BindingTable {
     {
         BindingTable {
             bindings: Vec::new(memory),
-            places: no_places_yet(memory),
+            places: Places::new(memory),
         }
     }
 
