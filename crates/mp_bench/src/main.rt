@@ -16,7 +16,8 @@ use blocks::time_blocks;
 use measurement::{Asked, MEASUREMENTS, Measurement, SIZES, STEPS, Work};
 use mp_memory::Memory;
 use mp_tx::Ledger;
-use round::{Round, Tally, encoded, fill, opening, time_alone};
+use round::{Round, Tally, fill, opening, time_alone};
+use samples::all_bytes;
 use shared::time_shared;
 use std::env::{self, Env};
 use std::rt::Clock;
@@ -27,29 +28,24 @@ use verifier::Spinning;
 
 const ROUNDS: u32 = 9;
 
-fn time<R: Clock + Threads + Wait + Sync>(
-    rt: &R,
-    memory: Memory,
-    round: &Round<'_>,
-) -> Option<Duration> {
+fn time<R: Clock + Threads + Wait + Sync>(rt: &R, round: &Round<'_>) -> Option<Duration> {
     match round.work {
-        Work::Decode | Work::Check | Work::Pool => time_alone(rt, memory, round),
-        Work::Blocks => time_blocks(rt, memory, round.ledger, round.size),
-        _ => time_shared(rt, memory, round.ledger, 1_001, round),
+        Work::Decode | Work::Check | Work::Pool => time_alone(rt, round),
+        Work::Blocks => time_blocks(rt, round.memory, round.ledger, round.size),
+        _ => time_shared(rt, 1_001, round),
     }
 }
 
 // What the steps take in the best of several rounds, once all is made.
 fn best<R: Clock + Threads + Wait + Sync>(
     rt: &R,
-    memory: Memory,
     filled: Option<()>,
     round: &Round<'_>,
 ) -> Option<Duration> {
     filled?;
     let mut best = Duration::MAX;
     for _ in 0..ROUNDS {
-        best = best.min(time(rt, memory, round)?);
+        best = best.min(time(rt, round)?);
     }
     Some(best)
 }
@@ -64,9 +60,10 @@ fn best_upon<R: Clock + Threads + Wait + Sync>(
     let (_, work, _, asked, answered) = *measurement;
     let (mut before, mut commands) = (Vec::new(memory), Vec::new(memory));
     let filled = fill(memory, &mut before, &mut commands, measurement, size);
-    let bytes = encoded(memory, &commands);
+    let bytes = all_bytes(memory, &commands);
     let (verifier, tally) = (Spinning::new(), Tally::new());
     let round = Round {
+        memory,
         work,
         asked,
         size,
@@ -78,7 +75,7 @@ fn best_upon<R: Clock + Threads + Wait + Sync>(
         verifier: &verifier,
         tally: &tally,
     };
-    best(rt, memory, filled, &round)
+    best(rt, filled, &round)
 }
 
 fn time_at<R: Clock + Threads + Wait + Sync>(

@@ -34,7 +34,9 @@ pub enum Asked {
     First,
     /// Submits of the next thousand.
     Next,
-    /// The same, where each is signed.
+    /// The bytes of these are decoded, and each is submitted at once.
+    Arriving,
+    /// Submits of the next thousand, where each is signed.
     Signed,
     /// Removes of the first thousand transactions, one by one.
     Remove,
@@ -51,15 +53,23 @@ pub enum Asked {
 pub type Measurement = (&'static str, Work, bool, Asked, u64);
 
 /// All of them, in the order in which they are taken.
-pub static MEASUREMENTS: [Measurement; 13] = [
+pub static MEASUREMENTS: [Measurement; 15] = [
     ("decode", Work::Decode, false, Asked::First, STEPS),
     ("check", Work::Check, false, Asked::First, STEPS),
     ("ledger-block", Work::Blocks, false, Asked::Nothing, STEPS),
     ("pool-submit", Work::Pool, true, Asked::Next, STEPS),
+    ("pool-arrival", Work::Pool, true, Asked::Arriving, STEPS),
     ("pool-remove", Work::Pool, true, Asked::Remove, STEPS),
     ("pool-sync", Work::Pool, true, Asked::Sync, 1),
     ("pool-sync-all", Work::Pool, true, Asked::Stay, 1),
     ("mempool-submit", Work::OneThread, true, Asked::Next, STEPS),
+    (
+        "mempool-arrival",
+        Work::OneThread,
+        true,
+        Asked::Arriving,
+        STEPS,
+    ),
     ("mempool-again", Work::OneThread, true, Asked::First, 0),
     (
         "mempool-threads-1",

@@ -1,7 +1,9 @@
 //! Rounds: what they begin with, and the steps of one thread.
 
 use crate::measurement::{Asked, Measurement, STEPS, Work};
-use crate::samples::{Commands, MANY, ledger_by, push_remove, push_submits, push_sync};
+use crate::samples::{
+    Bytes, Commands, MANY, ledger_by, push_remove, push_submits, push_sync, submit_of,
+};
 use crate::verifier::Spinning;
 use mp_memory::Memory;
 use mp_rules::check;
@@ -33,15 +35,16 @@ impl Tally {
 /// What a round begins with.
 #[derive(Clone, Copy)]
 pub struct Round<'a> {
+    pub memory: Memory,
     pub work: Work,
     pub asked: Asked,
     pub size: u64,
     pub ledger: &'a Ledger,
     /// What a pool is asked before the time is taken.
     pub before: &'a [Command],
-    /// What is asked then, the bytes of the first transaction, and how much of it is answered.
+    /// What is asked then, the bytes of its transactions, and how much of it is answered.
     pub commands: &'a [Command],
-    pub bytes: &'a [u8],
+    pub bytes: &'a [Bytes],
     pub answered: u64,
     pub verifier: &'a Spinning,
     pub tally: &'a Tally,
@@ -72,7 +75,7 @@ fn push_asked(
     let last = size.saturating_add(STEPS);
     match asked {
         Asked::First => push_submits(memory, commands, 0, STEPS, false),
-        Asked::Next => push_submits(memory, commands, size, last, false),
+        Asked::Next | Asked::Arriving => push_submits(memory, commands, size, last, false),
         Asked::Signed => push_submits(memory, commands, size, last, true),
         Asked::Remove => push_removes(memory, commands, before),
         Asked::Sync => push_sync(memory, commands, 2, MANY, size),
@@ -97,23 +100,15 @@ pub fn fill(
 /// The ledger state that has the outputs that are spent.
 pub fn opening(memory: Memory, asked: Asked, size: u64) -> Option<Ledger> {
     let outputs = match asked {
-        Asked::Next | Asked::Signed => size.saturating_add(STEPS),
+        Asked::Next | Asked::Arriving | Asked::Signed => size.saturating_add(STEPS),
         _ => size,
     };
     ledger_by(memory, 1, MANY, outputs)
 }
 
-/// The bytes of the first transaction, or none where there isn't one.
-pub fn encoded(memory: Memory, commands: &[Command]) -> Vec<u8, Memory> {
-    let Some(Command::Submit(tx)) = commands.first() else {
-        return Vec::new(memory);
-    };
-    tx.encode(memory).unwrap_or(Vec::new(memory))
-}
-
-fn count_decoded(memory: Memory, bytes: &[u8]) -> u64 {
+fn count_decoded(memory: Memory, all: &[Bytes]) -> u64 {
     let mut decoded: u64 = 0;
-    for _ in 0..STEPS {
+    for bytes in all {
         if Tx::decode(memory, bytes).is_ok() {
             decoded = decoded.saturating_add(1);
         }
@@ -128,10 +123,10 @@ fn is_valid(memory: Memory, ledger: &Ledger, command: &Command, verifier: &Spinn
     }
 }
 
-fn count_valid(memory: Memory, round: &Round<'_>) -> u64 {
+fn count_valid(round: &Round<'_>) -> u64 {
     let mut valid: u64 = 0;
     for command in round.commands {
-        if is_valid(memory, round.ledger, command, round.verifier) {
+        if is_valid(round.memory, round.ledger, command, round.verifier) {
             valid = valid.saturating_add(1);
         }
     }
@@ -152,10 +147,29 @@ fn count_answered(pool: &mut SeqPool, commands: &[Command], verifier: &Spinning)
     answered
 }
 
-fn take_steps(memory: Memory, round: &Round<'_>, pool: &mut SeqPool) -> u64 {
-    match round.work {
-        Work::Decode => count_decoded(memory, round.bytes),
-        Work::Check => count_valid(memory, round),
+// Whether what arrives is taken in.
+fn is_taken(memory: Memory, pool: &mut SeqPool, bytes: &[u8], verifier: &Spinning) -> bool {
+    match submit_of(memory, bytes) {
+        Some(command) => is_answered(pool, &command, verifier),
+        None => false,
+    }
+}
+
+fn count_taken(pool: &mut SeqPool, round: &Round<'_>) -> u64 {
+    let mut taken: u64 = 0;
+    for bytes in round.bytes {
+        if is_taken(round.memory, pool, bytes, round.verifier) {
+            taken = taken.saturating_add(1);
+        }
+    }
+    taken
+}
+
+fn take_steps(round: &Round<'_>, pool: &mut SeqPool) -> u64 {
+    match (round.work, round.asked) {
+        (Work::Decode, _) => count_decoded(round.memory, round.bytes),
+        (Work::Check, _) => count_valid(round),
+        (_, Asked::Arriving) => count_taken(pool, round),
         _ => count_answered(pool, round.commands, round.verifier),
     }
 }
@@ -166,20 +180,15 @@ fn left(round: &Round<'_>) -> u64 {
         Asked::Remove => round.size.saturating_sub(STEPS),
         Asked::Sync => round.size / 2,
         Asked::Stay => round.size,
-        Asked::Next => round.size.saturating_add(STEPS),
+        Asked::Next | Asked::Arriving => round.size.saturating_add(STEPS),
         _ => 0,
     }
 }
 
-fn time_steps(
-    clock: &impl Clock,
-    memory: Memory,
-    round: &Round<'_>,
-    pool: &mut SeqPool,
-) -> Option<Duration> {
+fn time_steps(clock: &impl Clock, round: &Round<'_>, pool: &mut SeqPool) -> Option<Duration> {
     count_answered(pool, round.before, round.verifier);
     let start = Instant::now(clock).ok()?;
-    let answered = take_steps(memory, round, pool);
+    let answered = take_steps(round, pool);
     let time = start.elapsed(clock).ok()?;
     if answered == round.answered && pool.len() as u64 == left(round) {
         return Some(time);
@@ -188,11 +197,11 @@ fn time_steps(
 }
 
 /// What the steps take one thread. `None` where they don't come to what they should, so none can be left out.
-pub fn time_alone(clock: &impl Clock, memory: Memory, round: &Round<'_>) -> Option<Duration> {
+pub fn time_alone(clock: &impl Clock, round: &Round<'_>) -> Option<Duration> {
     let config = Config {
         limit: 1 << 32,
         last: 0,
     };
-    let mut pool = SeqPool::start(memory, config, round.ledger).ok()?;
-    time_steps(clock, memory, round, &mut pool)
+    let mut pool = SeqPool::start(round.memory, config, round.ledger).ok()?;
+    time_steps(clock, round, &mut pool)
 }

@@ -11,6 +11,9 @@ use std::sync::Arc;
 /// Commands in order.
 pub type Commands = Vec<Command, Memory>;
 
+/// The bytes of a transaction.
+pub type Bytes = Vec<u8, Memory>;
+
 /// Block bytes for all transactions.
 pub const MANY: u64 = 1 << 39;
 
@@ -67,6 +70,33 @@ pub fn push_submit(
     let id = *tx.id();
     commands.push(Command::Submit(tx)).ok()?;
     Some(id)
+}
+
+/// A submit of the transaction whose bytes these are.
+pub fn submit_of(memory: Memory, bytes: &[u8]) -> Option<Command> {
+    let tx = Tx::decode(memory, bytes).ok()?;
+    Some(Command::Submit(Arc::new(memory, tx).ok()?))
+}
+
+// The bytes of the transaction, or none where none is submitted.
+fn bytes_of(memory: Memory, command: &Command) -> Option<Bytes> {
+    match command {
+        Command::Submit(tx) => tx.encode(memory).ok(),
+        _ => Some(Vec::new(memory)),
+    }
+}
+
+fn encode_all(memory: Memory, commands: &[Command]) -> Option<Vec<Bytes, Memory>> {
+    let mut all = Vec::new(memory);
+    for command in commands {
+        all.push(bytes_of(memory, command)?).ok()?;
+    }
+    Some(all)
+}
+
+/// The bytes of the transactions that are submitted, or none where there is no memory.
+pub fn all_bytes(memory: Memory, commands: &[Command]) -> Vec<Bytes, Memory> {
+    encode_all(memory, commands).unwrap_or(Vec::new(memory))
 }
 
 /// Submits come last that spend the outputs from this number on, up to the one before that number.

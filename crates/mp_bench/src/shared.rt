@@ -3,14 +3,14 @@ ghost use Rattle.std.specs.Prelude.{◌≡◌};
 ghost use Rattle.mp_history.specs.PoolName.{head_of};
 ghost use Rattle.mp_bench.specs.Signatures.{any};
 
-use crate::measurement::{STEPS, Work};
+use crate::measurement::{Asked, STEPS, Work};
 use crate::round::{Round, Tally};
+use crate::samples::submit_of;
 use crate::verifier::Spinning;
 use mp_history::{NewName, PoolName};
 use mp_memory::Memory;
 use mp_mempool::{Config, Mempool, Pass, Receipt, Refusal};
 use mp_seqpool::Command;
-use mp_tx::Ledger;
 use std::marker::Brand;
 use std::rt::Clock;
 use std::sync::Wait;
@@ -60,6 +60,49 @@ fn ask_all<N: PoolName>(
         }
     }
     answered
+}
+
+// Whether what arrives is taken in.
+fn is_taken<N: PoolName>(
+    rt: &impl Wait,
+    memory: Memory,
+    mempool: &Mempool<N, Spinning>,
+    pass: &mut Pass<N>,
+    bytes: &[u8],
+) -> bool {
+    match submit_of(memory, bytes) {
+        Some(command) => is_answered(rt, mempool, pass, &command),
+        None => false,
+    }
+}
+
+fn count_taken<N: PoolName>(
+    rt: &impl Wait,
+    mempool: &Mempool<N, Spinning>,
+    pass: &mut Pass<N>,
+    round: &Round<'_>,
+) -> u64 {
+    let mut taken: u64 = 0;
+    for bytes in round.bytes {
+        if is_taken(rt, round.memory, mempool, pass, bytes) {
+            taken = taken.saturating_add(1);
+        }
+    }
+    taken
+}
+
+// How much of its part of the round the caller is answered.
+fn take_part<N: PoolName>(
+    rt: &impl Wait,
+    mempool: &Mempool<N, Spinning>,
+    pass: &mut Pass<N>,
+    round: &Round<'_>,
+    caller: usize,
+) -> u64 {
+    match round.asked {
+        Asked::Arriving => count_taken(rt, mempool, pass, round),
+        _ => ask_all(rt, mempool, pass, part_of(round, caller)),
+    }
 }
 
 fn number_of<N: PoolName>(mempool: &Mempool<N, Spinning>, pass: &mut Pass<N>) -> u64 {
@@ -119,7 +162,7 @@ fn act<N: PoolName>(
     if matches!(round.work, Work::Watch) && caller == 1 {
         look_until(mempool, pass, round.tally);
     } else {
-        let answered = ask_all(rt, mempool, pass, part_of(round, caller));
+        let answered = take_part(rt, mempool, pass, round, caller);
         round.tally.answered.fetch_add(answered, Ordering::SeqCst);
         round.tally.has_ended.store(true, Ordering::SeqCst);
     }
@@ -190,9 +233,7 @@ fn of_thousand(time: Duration, steps: u64) -> Duration {
 
 fn open<N: PoolName + Send + Sync, R: Clock + Threads + Wait + Sync>(
     rt: &R,
-    memory: Memory,
     name: NewName,
-    ledger: &Ledger,
     callers: u32,
     round: &Round<'_>,
 ) -> Option<Duration>
@@ -200,7 +241,16 @@ fn open<N: PoolName + Send + Sync, R: Clock + Threads + Wait + Sync>(
     requires callers { callers ≡ N.callers }
     requires accepts { N.accepts ≡ any }
 {
-    match Mempool::<N, _>::open(rt, memory, name, CONFIG, ledger, Spinning::new(), callers) {
+    let verifier = Spinning::new();
+    match Mempool::<N, _>::open(
+        rt,
+        round.memory,
+        name,
+        CONFIG,
+        round.ledger,
+        verifier,
+        callers,
+    ) {
         Ok((mempool, mut passes)) => time_steps(rt, &mempool, &mut passes, round),
         Err(_) => None,
     }
@@ -209,10 +259,8 @@ fn open<N: PoolName + Send + Sync, R: Clock + Threads + Wait + Sync>(
 /// What the steps of the round take on a new mempool of so many callers.
 pub fn time_shared<R: Clock + Threads + Wait + Sync>(
     rt: &R,
-    memory: Memory,
-    ledger: &Ledger,
     callers: u32,
     round: &Round<'_>,
 ) -> Option<Duration> {
-    open::<Brand, _>(rt, memory, NewName::new(), ledger, callers, round)
+    open::<Brand, _>(rt, NewName::new(), callers, round)
 }
