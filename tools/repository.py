@@ -3,6 +3,8 @@
 import os
 import shutil
 import sys
+from importlib.machinery import SourceFileLoader
+from importlib.util import module_from_spec, spec_from_loader
 
 TOP = os.path.dirname(os.path.dirname(os.path.abspath(__file__)))
 # The folders of a crate that the prover reads.
@@ -57,6 +59,17 @@ def copy_built(name, to):
     built = f"crates/{name}/out/rlib"
     if os.path.isdir(f"{TOP}/{built}"):
         shutil.copytree(f"{TOP}/{built}", f"{to}/{built}", copy_function=link)
+
+
+def load_program(path):
+    """Returns a program that is written in Python, as a module. It finds what stands in its own folder."""
+    folder, name = os.path.split(os.path.realpath(path))
+    if folder not in sys.path:
+        sys.path.insert(0, folder)
+    loader = SourceFileLoader(name, f"{folder}/{name}")
+    module = module_from_spec(spec_from_loader(name, loader))
+    loader.exec_module(module)
+    return module
 
 
 def tell_usage(usage, is_enough):
