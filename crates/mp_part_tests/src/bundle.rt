@@ -34,7 +34,9 @@ fn look(bundle: &Bundle) -> [u64; 2] {
 
 // The number of the fault, or what is seen of the bundle, where this growth of it is refused; and whether the refusal waits.
 fn made(memory: Memory, nth: u64) -> Option<[u64; 4]> {
-    let given = entries_of(memory, 9).ok()?;
+    let Ok(given) = entries_of(memory, 9) else {
+        return None;
+    };
     memory.refuse(nth);
     let (fault, [entries, quantity]) = match Bundle::of_entries(memory, given) {
         Ok(bundle) => (0, look(&bundle)),
@@ -53,7 +55,9 @@ fn look_at_share(bundle: &Bundle) -> [u64; 2] {
 }
 
 fn shared(memory: Memory) -> Option<[u64; 2]> {
-    let bundle = bundle_of(memory, 9).ok()?;
+    let Ok(bundle) = bundle_of(memory, 9) else {
+        return None;
+    };
     memory.refuse(1);
     without_growth(memory, look_at_share(&bundle))
 }
@@ -95,14 +99,20 @@ impl Call for Adding {
     type Value = Sum;
 
     fn make(&self) -> Option<Sum> {
-        let bundle = bundle_of(self.memory, 2).ok()?;
+        let Ok(bundle) = bundle_of(self.memory, 2) else {
+            return None;
+        };
         let mut sum = Sum::new(self.memory);
-        sum.add(&bundle).ok()?;
+        if sum.add(&bundle).is_err() {
+            return None;
+        }
         Some(sum)
     }
 
     fn call(&self, sum: &mut Sum) -> Option<Seen> {
-        add(sum, &self.bundle).ok()?;
+        if add(sum, &self.bundle).is_err() {
+            return None;
+        }
         Some(look_at_sum(sum))
     }
 
@@ -121,7 +131,9 @@ fn tried(memory: Memory) -> Result<Trialled, TrialFault> {
 
 // What is seen of the sum after that, if it took several growths.
 fn added(memory: Memory) -> Option<Seen> {
-    let done = tried(memory).ok()?;
+    let Ok(done) = tried(memory) else {
+        return None;
+    };
     if done.growths > 1 {
         Some(done.answer)
     } else {
@@ -131,7 +143,9 @@ fn added(memory: Memory) -> Option<Seen> {
 
 // A bundle of coin alone, added twice.
 fn coin_added(memory: Memory) -> Option<Seen> {
-    let bundle = bundle_of(memory, 0).ok()?;
+    let Ok(bundle) = bundle_of(memory, 0) else {
+        return None;
+    };
     let mut sum = Sum::new(memory);
     memory.refuse(1);
     let _ = add(&mut sum, &bundle);

@@ -3,7 +3,7 @@ use crate::rows::Row;
 use crate::tickets::put;
 use mp_memory::Memory;
 use mp_testing::Seen;
-use mp_tickets::{TicketList, make_node};
+use mp_tickets::{Node, TicketList, make_node};
 use std::alloc::Global;
 use std::rc::Rc;
 
@@ -42,16 +42,30 @@ fn take_out(list: &mut Owners, memory: Memory, other: Memory, counted: &Rc<u64>)
 
 // And how many there are once the list is dropped.
 fn taken_out(alloc: Global, memory: Memory, other: Memory) -> Option<Seen> {
-    let counted = Rc::new(alloc, 9u64).ok()?;
-    let mut list = TicketList::new(memory).ok()?;
+    let Ok(counted) = Rc::new(alloc, 9u64) else {
+        return None;
+    };
+    let Ok(mut list) = TicketList::new(memory) else {
+        return None;
+    };
     let [full, with, without, again_with, again] = take_out(&mut list, memory, other, &counted);
     drop(list);
     Some([full, with, without, again_with, again, owners(&counted)])
 }
 
-// How many owners there are with a node that has one, and once it is dropped.
+// A node that has an owner.
+fn node_of(memory: Memory, counted: &Rc<u64>) -> Option<Node<Rc<u64>>> {
+    match counted.clone() {
+        Ok(owner) => make_node(memory, owner).ok(),
+        Err(_) => None,
+    }
+}
+
+// How many owners there are with such a node, and once it is dropped.
 fn drop_node(memory: Memory, counted: &Rc<u64>) -> Option<[u64; 2]> {
-    let node = make_node(memory, counted.clone().ok()?).ok()?;
+    let Some(node) = node_of(memory, counted) else {
+        return None;
+    };
     let with = owners(counted);
     drop(node);
     Some([with, owners(counted)])
@@ -59,12 +73,17 @@ fn drop_node(memory: Memory, counted: &Rc<u64>) -> Option<[u64; 2]> {
 
 // The same where the item is taken out of its node, and its value.
 fn take_inner(memory: Memory, counted: &Rc<u64>) -> Option<[u64; 2]> {
-    let item = make_node(memory, counted.clone().ok()?).ok()?.into_inner();
+    let Some(node) = node_of(memory, counted) else {
+        return None;
+    };
+    let item = node.into_inner();
     Some([owners(counted), *item])
 }
 
 fn nodes(alloc: Global, memory: Memory) -> Option<[u64; 5]> {
-    let counted = Rc::new(alloc, 9u64).ok()?;
+    let Ok(counted) = Rc::new(alloc, 9u64) else {
+        return None;
+    };
     let [with, without] = drop_node(memory, &counted)?;
     let [with_item, value] = take_inner(memory, &counted)?;
     Some([with, without, with_item, value, owners(&counted)])

@@ -91,7 +91,9 @@ fn armed_apart(memory: Memory, other: Memory) -> Option<[u64; 3]> {
 }
 
 fn named(memory: Memory) -> Option<[u64; 1]> {
-    let text = format!(in memory; "{memory:?}").ok()?;
+    let Ok(text) = format!(in memory; "{memory:?}") else {
+        return None;
+    };
     Some([u64::from(text.as_str() == "Metered")])
 }
 
@@ -146,7 +148,9 @@ fn shrink(memory: Memory, items: &mut Vec<u64, Memory>) -> [u64; 4] {
 }
 
 fn shrunk(memory: Memory) -> Option<[u64; 4]> {
-    let mut items = Vec::with_capacity(memory, 100).ok()?;
+    let Ok(mut items) = Vec::with_capacity(memory, 100) else {
+        return None;
+    };
     let _ = items.push(7u64);
     Some(shrink(memory, &mut items))
 }

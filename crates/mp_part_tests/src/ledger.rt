@@ -42,6 +42,14 @@ fn ledger_of(
     Ledger::of_outputs(memory, Salt::new(SALT), 6, 1, outputs)
 }
 
+// A ledger state of so many outputs.
+fn ledger_with(memory: Memory, outputs: u8) -> Option<Ledger> {
+    let Ok(outputs) = outputs_to(memory, outputs) else {
+        return None;
+    };
+    ledger_of(memory, outputs).ok()
+}
+
 // The first byte of an output's address.
 fn address_at(ledger: &Ledger, from: OutRef) -> u64 {
     match ledger.get(&from) {
@@ -64,7 +72,9 @@ fn look(ledger: &Ledger) -> [u64; 4] {
 
 // The number of the fault, whether the refusal of the growth waits, and what is seen of the ledger.
 fn made(memory: Memory, outputs: u8, nth: u64) -> Option<Seen> {
-    let outputs = outputs_to(memory, outputs).ok()?;
+    let Ok(outputs) = outputs_to(memory, outputs) else {
+        return None;
+    };
     memory.refuse(nth);
     let (fault, [tick, bytes, address, second]) = match ledger_of(memory, outputs) {
         Ok(ledger) => (0, look(&ledger)),
@@ -76,9 +86,14 @@ fn made(memory: Memory, outputs: u8, nth: u64) -> Option<Seen> {
 }
 
 fn shared(memory: Memory) -> Option<[u64; 4]> {
-    let ledger = ledger_of(memory, outputs_to(memory, 9).ok()?).ok()?;
+    let Some(ledger) = ledger_with(memory, 9) else {
+        return None;
+    };
     memory.refuse(1);
-    without_growth(memory, look(&ledger.share().ok()?))
+    let Ok(share) = ledger.share() else {
+        return None;
+    };
+    without_growth(memory, look(&share))
 }
 
 // What a hasher of the salt makes of a word.
@@ -94,11 +109,15 @@ fn has_salt(ledger: &Ledger) -> u64 {
 
 // Whether a ledger state of so many outputs has its salt, a share of it, and the one after a block; and whether another salt hashes otherwise.
 fn salts(memory: Memory, outputs: u8) -> Option<[u64; 4]> {
-    let ledger = ledger_of(memory, outputs_to(memory, outputs).ok()?).ok()?;
-    let share = ledger.share().ok()?;
-    let after = ledger
-        .after(memory, 7, 2, &[reference(3, 0)], Vec::new(memory))
-        .ok()?;
+    let Some(ledger) = ledger_with(memory, outputs) else {
+        return None;
+    };
+    let Ok(share) = ledger.share() else {
+        return None;
+    };
+    let Ok(after) = ledger.after(memory, 7, 2, &[reference(3, 0)], Vec::new(memory)) else {
+        return None;
+    };
     let differs = hashed(Salt::new(0)) != hashed(Salt::new(SALT));
     Some([
         has_salt(&ledger),
@@ -124,9 +143,10 @@ impl Call for Block {
 
     fn call(&self, ledger: &mut Ledger) -> Option<Seen> {
         let made = Vec::new(self.memory);
-        *ledger = ledger
-            .after(self.memory, 7, 2, &[reference(3, 0)], made)
-            .ok()?;
+        let Ok(after) = ledger.after(self.memory, 7, 2, &[reference(3, 0)], made) else {
+            return None;
+        };
+        *ledger = after;
         Some(self.look(ledger))
     }
 
@@ -138,7 +158,9 @@ impl Call for Block {
 }
 
 fn make_block(memory: Memory, outputs: u8) -> Option<Block> {
-    let base = ledger_of(memory, outputs_to(memory, outputs).ok()?).ok()?;
+    let Some(base) = ledger_with(memory, outputs) else {
+        return None;
+    };
     Some(Block { memory, base })
 }
 

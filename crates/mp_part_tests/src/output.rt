@@ -32,7 +32,9 @@ fn written_none(alloc: Global) -> Option<[u64; 4]> {
 
 fn written_many(alloc: Global) -> Option<[u64; 4]> {
     let mut bytes = Vec::new(alloc);
-    bytes.resize(200_000, b'x').ok()?;
+    if bytes.resize(200_000, b'x').is_err() {
+        return None;
+    }
     Some(write(writer_of(alloc, 1, 0), &bytes))
 }
 

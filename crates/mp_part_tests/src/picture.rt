@@ -50,7 +50,9 @@ impl Call for Drawing {
     }
 
     fn call(&self, text: &mut Vec<u8, Memory>) -> Option<Seen> {
-        put_picture(text, 2, 3, &marks()).ok()?;
+        if put_picture(text, 2, 3, &marks()).is_err() {
+            return None;
+        }
         Some(look_at(text))
     }
 
@@ -65,7 +67,9 @@ fn tried(memory: Memory) -> Result<Trialled, TrialFault> {
 
 // What is seen of the text then, if it took several growths.
 fn drawn(memory: Memory) -> Option<Seen> {
-    let done = tried(memory).ok()?;
+    let Ok(done) = tried(memory) else {
+        return None;
+    };
     if done.growths > 1 {
         Some(done.answer)
     } else {

@@ -60,18 +60,27 @@ fn compare(share: &[u8], bytes: &[u8]) -> Seen {
 }
 
 fn share_datum(datum: &Data) -> Option<Seen> {
-    let share = datum.share().ok()?;
+    let Ok(share) = datum.share() else {
+        return None;
+    };
     Some(compare(share.bytes(), datum.bytes()))
 }
 
 fn share_script(script: &Script) -> Option<Seen> {
-    let share = script.share().ok()?;
+    let Ok(share) = script.share() else {
+        return None;
+    };
     Some(compare(share.bytes(), script.bytes()))
 }
 
 fn make(memory: Memory) -> Option<(Data, Script)> {
-    let datum = Data::decode(memory, LIST_OF_FIVE).ok()?;
-    Some((datum, Script::decode(memory, OR).ok()?))
+    let Ok(datum) = Data::decode(memory, LIST_OF_FIVE) else {
+        return None;
+    };
+    let Ok(script) = Script::decode(memory, OR) else {
+        return None;
+    };
+    Some((datum, script))
 }
 
 impl Call for Taken {

@@ -50,19 +50,29 @@ fn push_there(rt: &impl Threads, mut bytes: Vec<u8, Memory>) -> Option<(Vec<u8, 
         let pushed = bytes.push(4).is_ok();
         (bytes, pushed)
     });
-    Some(sent.ok()?.join(rt))
+    match sent {
+        Ok(sent) => Some(sent.join(rt)),
+        Err(_) => None,
+    }
 }
 
 fn vector_there(rt: &impl Threads, memory: Memory) -> Option<[u64; 2]> {
-    let (bytes, pushed) = push_there(rt, Vec::from_slice(memory, &[3]).ok()?)?;
+    let Ok(bytes) = Vec::from_slice(memory, &[3]) else {
+        return None;
+    };
+    let (bytes, pushed) = push_there(rt, bytes)?;
     let is_right = bytes.as_slice() == [3, 4].as_slice();
     Some([u64::from(pushed), u64::from(is_right)])
 }
 
 // What two threads read of one value.
 fn shared_there(rt: &impl Threads, memory: Memory) -> Option<[u64; 2]> {
-    let shared = Arc::new(memory, 9u64).ok()?;
-    let theirs = Arc::try_clone(&shared).ok()?;
+    let Ok(shared) = Arc::new(memory, 9u64) else {
+        return None;
+    };
+    let Ok(theirs) = Arc::try_clone(&shared) else {
+        return None;
+    };
     let (here, there) = thread::join(rt, || *shared, move || *theirs);
     Some([here, there])
 }
@@ -76,7 +86,10 @@ fn unlink_there(
         let taken = list.unlink(1025);
         (list, taken)
     });
-    Some(sent.ok()?.join(rt))
+    match sent {
+        Ok(sent) => Some(sent.join(rt)),
+        Err(_) => None,
+    }
 }
 
 // What that took out, what is taken out here, and then the first and how many are left.

@@ -25,7 +25,9 @@ pub fn put<T: Drop>(memory: Memory, list: &mut TicketList<T>, ticket: u64, item:
 
 /// A list with the tickets of one bucket. The item of each is its hundredfold.
 pub fn one_bucket(memory: Memory) -> Option<TicketList<u64>> {
-    let mut list = TicketList::new(memory).ok()?;
+    let Ok(mut list) = TicketList::new(memory) else {
+        return None;
+    };
     put(memory, &mut list, 1, 100);
     put(memory, &mut list, 1025, 102_500);
     put(memory, &mut list, 2049, 204_900);
@@ -48,7 +50,9 @@ struct Taken {
 }
 
 fn new_list(memory: Memory) -> Option<Seen> {
-    let list = TicketList::<u64>::new(memory).ok()?;
+    let Ok(list) = TicketList::<u64>::new(memory) else {
+        return None;
+    };
     Some([u64::from(list.is_empty()), 0, 0, 0, 0, 0])
 }
 
@@ -67,13 +71,17 @@ fn is_three(tickets: &Tickets) -> bool {
 
 fn push_ticket(tickets: &mut Tickets) -> Option<Seen> {
     if tickets.as_slice().is_empty() {
-        tickets.push(3).ok()?;
+        if tickets.push(3).is_err() {
+            return None;
+        }
     }
     Some([u64::from(is_three(tickets)), 0, 0, 0, 0, 0])
 }
 
 fn copy_tickets(tickets: &Tickets) -> Option<Seen> {
-    let copy = tickets.copy().ok()?;
+    let Ok(copy) = tickets.copy() else {
+        return None;
+    };
     Some([u64::from(copy == *tickets), 0, 0, 0, 0, 0])
 }
 
@@ -83,7 +91,9 @@ impl Call for Taken {
     fn make(&self) -> Option<Tickets> {
         let mut tickets = Tickets::new(self.memory);
         if matches!(self.taking, Taking::Copy) {
-            tickets.push(3).ok()?;
+            if tickets.push(3).is_err() {
+                return None;
+            }
         }
         Some(tickets)
     }
@@ -132,7 +142,9 @@ fn unlink(list: &mut TicketList<u64>) -> Seen {
 
 // The first, the last and the second of a list to which a node was pushed.
 fn pushed(memory: Memory) -> Option<Seen> {
-    let node = make_node(memory, 9).ok()?;
+    let Ok(node) = make_node(memory, 9) else {
+        return None;
+    };
     let mut list = one_bucket(memory)?;
     memory.refuse(1);
     push(&mut list, 3073, node);

@@ -46,7 +46,9 @@ fn tx_of_every_part(memory: Memory) -> Result<Tx, TxFault> {
 
 // The number of the fault, whether the refusal of the growth waits, and the size.
 fn made(memory: Memory, nth: u64) -> Option<[u64; 3]> {
-    let parts = every_part(memory).ok()?;
+    let Ok(parts) = every_part(memory) else {
+        return None;
+    };
     memory.refuse(nth);
     let (fault, size) = match Tx::of_parts(memory, parts) {
         Ok(tx) => (0, tx.size()),
@@ -70,7 +72,9 @@ fn encode(memory: Memory, tx: &Tx, nth: u64) -> [u64; 4] {
 }
 
 fn encoded(memory: Memory, nth: u64) -> Option<[u64; 4]> {
-    let tx = tx_of_every_part(memory).ok()?;
+    let Ok(tx) = tx_of_every_part(memory) else {
+        return None;
+    };
     Some(encode(memory, &tx, nth))
 }
 
@@ -125,10 +129,14 @@ fn no_transaction(memory: Memory, bytes: &[u8]) -> Option<[u64; 1]> {
 }
 
 fn output_shared(memory: Memory) -> Option<[u64; 1]> {
-    let paid = output(memory, 4).ok()?;
+    let Ok(paid) = output(memory, 4) else {
+        return None;
+    };
     memory.refuse(1);
-    let is_same = paid.share().ok()? == paid;
-    without_growth(memory, [u64::from(is_same)])
+    let Ok(share) = paid.share() else {
+        return None;
+    };
+    without_growth(memory, [u64::from(share == paid)])
 }
 
 /// What takes memory, and what takes none: bytes of no transaction that end before its first part or count more parts than

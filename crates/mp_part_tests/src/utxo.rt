@@ -24,9 +24,13 @@ fn found(overlay: &Overlay, id: &TxId) -> [u64; 4] {
 
 // Makes room for the transaction, and applies it while the refusal of the next growth waits.
 fn apply(memory: Memory, overlay: &mut Overlay, tx: &Arc<Tx, Memory>) -> Option<()> {
-    let copy = Arc::try_clone(tx).ok()?;
+    let Ok(copy) = Arc::try_clone(tx) else {
+        return None;
+    };
     memory.refuse(0);
-    overlay.reserve_for(tx).ok()?;
+    if overlay.reserve_for(tx).is_err() {
+        return None;
+    }
     memory.refuse(1);
     overlay.apply(copy);
     Some(())
@@ -57,7 +61,9 @@ impl Call for Reserving {
 
     fn make(&self) -> Option<Overlay> {
         self.memory.refuse(1);
-        let mut overlay = Overlay::over(self.memory, &self.base).ok()?;
+        let Ok(mut overlay) = Overlay::over(self.memory, &self.base) else {
+            return None;
+        };
         if self.is_applied {
             apply(self.memory, &mut overlay, &self.maker)?;
         }
@@ -65,7 +71,9 @@ impl Call for Reserving {
     }
 
     fn call(&self, overlay: &mut Overlay) -> Option<Seen> {
-        overlay.reserve_for(&self.spender).ok()?;
+        if overlay.reserve_for(&self.spender).is_err() {
+            return None;
+        }
         Some(self.look(overlay))
     }
 
@@ -78,10 +86,16 @@ impl Call for Reserving {
 }
 
 fn make_reserving(memory: Memory, is_applied: bool) -> Option<Reserving> {
-    let base = ledger(memory, 2, 1000).ok()?;
-    let maker = transaction(memory, &[opening(0)], &[60, 40]).ok()?;
+    let Ok(base) = ledger(memory, 2, 1000) else {
+        return None;
+    };
+    let Ok(maker) = transaction(memory, &[opening(0)], &[60, 40]) else {
+        return None;
+    };
     let made = output_of(maker.id(), 0);
-    let spender = transaction(memory, &[opening(1), made], &[10; 20]).ok()?;
+    let Ok(spender) = transaction(memory, &[opening(1), made], &[10; 20]) else {
+        return None;
+    };
     Some(Reserving {
         memory,
         base,

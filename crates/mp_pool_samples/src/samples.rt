@@ -143,7 +143,9 @@ pub fn submitted(commands: &[Command], place: usize) -> Option<TxId> {
 fn ids_of(memory: Memory, commands: &[Command], numbers: &[usize]) -> Option<Vec<TxId, Memory>> {
     let mut ids = Vec::new(memory);
     for number in numbers {
-        ids.push(submitted(commands, *number)?).ok()?;
+        if ids.push(submitted(commands, *number)?).is_err() {
+            return None;
+        }
     }
     Some(ids)
 }
@@ -151,14 +153,20 @@ fn ids_of(memory: Memory, commands: &[Command], numbers: &[usize]) -> Option<Vec
 /// A remove of what these samples submit comes last.
 pub fn push_remove(memory: Memory, commands: &mut Commands, numbers: &[usize]) -> Option<()> {
     let ids = ids_of(memory, commands, numbers)?;
-    let shared = Arc::new(memory, Ids::of(ids)).ok()?;
+    let Ok(shared) = Arc::new(memory, Ids::of(ids)) else {
+        return None;
+    };
     commands.push(Command::Remove(shared)).ok()
 }
 
 /// The transaction's submit comes last.
 pub fn push_tx(memory: Memory, commands: &mut Commands, parts: TxParts) -> Option<()> {
-    let tx = Tx::of_parts(memory, parts).ok()?;
-    let shared = Arc::new(memory, tx).ok()?;
+    let Ok(tx) = Tx::of_parts(memory, parts) else {
+        return None;
+    };
+    let Ok(shared) = Arc::new(memory, tx) else {
+        return None;
+    };
     commands.push(Command::Submit(shared)).ok()
 }
 
@@ -176,7 +184,9 @@ fn push_all(memory: Memory, commands: &mut Commands) -> Option<()> {
 
 /// Makes all samples.
 pub fn all_samples(memory: Memory) -> Option<Samples> {
-    let others = guarded_outputs(memory, 100).ok()?;
+    let Ok(others) = guarded_outputs(memory, 100) else {
+        return None;
+    };
     let mut commands = Vec::new(memory);
     push_all(memory, &mut commands)?;
     Some(Samples {

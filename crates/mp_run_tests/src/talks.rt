@@ -139,7 +139,9 @@ fn say(
 
 fn hold(memory: Memory, alloc: Global, talk: Talk) -> Option<Vec<u8, Global>> {
     let mut told = Vec::new(alloc);
-    let mut conversation = begin(memory).ok()?;
+    let Ok(mut conversation) = begin(memory) else {
+        return None;
+    };
     for line in talk.lines {
         say(&mut conversation, memory, line, &mut told)?;
     }

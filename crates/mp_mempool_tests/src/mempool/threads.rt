@@ -145,7 +145,9 @@ fn submit_part<R: Threads + Wait + Sync>(
     receipts: &Mutex<Receipts>,
 ) -> Option<()> {
     let ledger = samples.ledger(ALL)?;
-    let verifier = Meeting::of(flags).ok()?;
+    let Ok(verifier) = Meeting::of(flags) else {
+        return None;
+    };
     of_name::<Brand, R>(
         rt,
         NewName::new(),
@@ -178,7 +180,9 @@ fn in_turn(receipts: &[Receipt]) -> u64 {
 fn entries_of(memory: Memory, receipts: Receipts) -> Option<Vec<Entry, Memory>> {
     let mut entries = Vec::new(memory);
     for receipt in receipts {
-        entries.push(receipt.entry).ok()?;
+        if entries.push(receipt.entry).is_err() {
+            return None;
+        }
     }
     Some(entries)
 }
@@ -194,7 +198,9 @@ fn last_ticket(samples: &Samples, entries: &[Entry]) -> u64 {
 // How many receipts there are, how many of them have the next place and the next ticket, and the last ticket that an audit of
 // all entries comes to.
 fn see(samples: &Samples, mut receipts: Receipts, met: u64) -> Option<Seen> {
-    receipts.sort_by_key(|receipt| receipt.place).ok()?;
+    if receipts.sort_by_key(|receipt| receipt.place).is_err() {
+        return None;
+    }
     let (count, in_turn) = (receipts.len() as u64, in_turn(&receipts));
     let entries = entries_of(samples.memory, receipts)?;
     Some([count, in_turn, last_ticket(samples, &entries), met, 0, 0])
@@ -202,7 +208,9 @@ fn see(samples: &Samples, mut receipts: Receipts, met: u64) -> Option<Seen> {
 
 // What comes of these submits on a new pool: that, and how many checks of signatures have met.
 fn share<R: Threads + Wait + Sync>(rt: &R, samples: &Samples, part: Part) -> Option<Seen> {
-    let flags = Arc::new(samples.memory, Flags::new()).ok()?;
+    let Ok(flags) = Arc::new(samples.memory, Flags::new()) else {
+        return None;
+    };
     let receipts = Mutex::new(Vec::new(samples.memory));
     submit_part(rt, samples, part, &flags, &receipts)?;
     see(samples, receipts.into_inner(), flags.met())

@@ -50,7 +50,9 @@ pub fn try_call<N: PoolName>(samples: &Samples, pass: &Pass<N>, trial: Trial) ->
         pass,
         trial,
     };
-    let done = under_each_refusal(&samples.memory, &trying).ok()?;
+    let Ok(done) = under_each_refusal(&samples.memory, &trying) else {
+        return None;
+    };
     let [tickets, places, shared, fourth, fifth, _] = done.answer;
     Some([tickets, places, shared, fourth, fifth, done.growths])
 }

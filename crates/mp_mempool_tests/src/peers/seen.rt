@@ -56,7 +56,9 @@ pub fn see_offer<N: PoolName>(
     bytes: u64,
 ) -> Option<Seen> {
     let before = owners(samples);
-    let items = reader.offer(samples.memory, snapshot, count, bytes).ok()?;
+    let Ok(items) = reader.offer(samples.memory, snapshot, count, bytes) else {
+        return None;
+    };
     let shared = owners(samples).wrapping_sub(before);
     let (tickets, places) = digits(samples, items.as_slice());
     Some([tickets, places, shared, reader.cursor(), 0, 0])
@@ -70,7 +72,9 @@ pub fn see_block<N: PoolName>(
     bytes: u64,
 ) -> Option<Seen> {
     let before = owners(samples);
-    let block = forge(samples.memory, snapshot, bytes).ok()?;
+    let Ok(block) = forge(samples.memory, snapshot, bytes) else {
+        return None;
+    };
     let shared = owners(samples).wrapping_sub(before);
     let (tickets, places) = digits(samples, block.items.as_slice());
     Some([tickets, places, shared, block.bytes, block.number, 0])

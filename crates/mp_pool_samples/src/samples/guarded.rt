@@ -21,14 +21,19 @@ fn enough(memory: Memory) -> Result<Script, NoMemory> {
 
 fn guard(memory: Memory, parts: &mut TxParts) -> Option<()> {
     let input = parts.inputs.first_mut()?;
-    input.validator = enough(memory).ok()?;
+    let Ok(validator) = enough(memory) else {
+        return None;
+    };
+    input.validator = validator;
     Some(())
 }
 
 // It spends openings 2 and 3 and pays 200 coin. Opening 2 has to have 100 or more. Its bytes are 274: 181, 47 for the second
 // input, and 46 for the longer validator.
 fn guarded_parts(memory: Memory) -> Option<TxParts> {
-    let mut parts = parts(memory, &[opening(2), opening(3)], &[200]).ok()?;
+    let Ok(mut parts) = parts(memory, &[opening(2), opening(3)], &[200]) else {
+        return None;
+    };
     guard(memory, &mut parts)?;
     Some(parts)
 }

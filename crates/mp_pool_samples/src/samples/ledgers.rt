@@ -16,14 +16,18 @@ fn entry(memory: Memory, reference: OutRef) -> Result<Entries, NoMemory> {
 
 /// A sync with the ledger state comes last.
 pub fn push_sync(commands: &mut Commands, ledger: Result<Ledger, LedgerFault>) -> Option<()> {
-    let ledger = ledger.ok()?;
+    let Ok(ledger) = ledger else {
+        return None;
+    };
     commands.push(Command::Sync(ledger)).ok()
 }
 
 // The ledger state at tick 1 of what sample 0 pays.
 fn push_after_first(memory: Memory, commands: &mut Commands) -> Option<()> {
     let paid = output_of(&submitted(commands, 0)?, 0);
-    let entries = entry(memory, paid).ok()?;
+    let Ok(entries) = entry(memory, paid) else {
+        return None;
+    };
     let ledger = Ledger::of_outputs(memory, Salt::new(7), 1, 500_000, entries);
     push_sync(commands, ledger)
 }

@@ -6,7 +6,10 @@ use mp_tx::{OutRef, Signature, TxParts};
 
 // A submit of a transaction that spends the output and pays so much comes last.
 fn push(memory: Memory, commands: &mut Commands, spent: OutRef, paid: &[u32]) -> Option<()> {
-    push_tx(memory, commands, parts(memory, &[spent], paid).ok()?)
+    match parts(memory, &[spent], paid) {
+        Ok(parts) => push_tx(memory, commands, parts),
+        Err(NoMemory) => None,
+    }
 }
 
 // It spends output 0 of what the command at this place submits.
@@ -30,7 +33,10 @@ fn push_signed(
     paid: u32,
     by: u8,
 ) -> Option<()> {
-    push_tx(memory, commands, signed(memory, spent, paid, by).ok()?)
+    match signed(memory, spent, paid, by) {
+        Ok(parts) => push_tx(memory, commands, parts),
+        Err(NoMemory) => None,
+    }
 }
 
 fn push_spending(memory: Memory, commands: &mut Commands) -> Option<()> {
@@ -50,7 +56,10 @@ fn push_upon_rival(memory: Memory, commands: &mut Commands) -> Option<()> {
 fn push_heir(memory: Memory, commands: &mut Commands, place: usize) -> Option<()> {
     let parent = submitted(commands, place)?;
     let spent = [output_of(&parent, 0), output_of(&parent, 1)];
-    push_tx(memory, commands, parts(memory, &spent, &[100]).ok()?)
+    match parts(memory, &spent, &[100]) {
+        Ok(parts) => push_tx(memory, commands, parts),
+        Err(NoMemory) => None,
+    }
 }
 
 /// A submit that spends the two outputs of the rival; and one that pays twice the same, and one that spends these.

@@ -68,7 +68,9 @@ fn submit_one<N: PoolName>(
     caller: &mut Caller<N>,
     command: &Command,
 ) -> Option<()> {
-    let command = command.share().ok()?;
+    let Ok(command) = command.share() else {
+        return None;
+    };
     shared.lock(rt).submit(history, caller, command)
 }
 
@@ -170,7 +172,9 @@ fn of_name<N: PoolName + Send + Sync, R: Threads + Wait + Sync>(
 }
 
 fn commits<R: Threads + Wait + Sync>(rt: &R, samples: &Samples) -> Option<Seen> {
-    let pool = SeqPool::start(samples.memory, CONFIG, samples.ledger(HUNDRED)?).ok()?;
+    let Ok(pool) = SeqPool::start(samples.memory, CONFIG, samples.ledger(HUNDRED)?) else {
+        return None;
+    };
     of_name::<Brand, R>(rt, samples, NewName::new(), &pool)
 }
 

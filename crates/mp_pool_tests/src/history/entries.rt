@@ -25,7 +25,9 @@ fn push_entry(
     number: usize,
     reply: Reply,
 ) -> Option<()> {
-    let command = samples.command(number)?.share().ok()?;
+    let Ok(command) = samples.command(number)?.share() else {
+        return None;
+    };
     entries
         .push(Entry {
             caller,
@@ -67,7 +69,9 @@ fn push_three(samples: &Samples, entries: &mut Entries, telling: Telling) -> Opt
     } = telling;
     push_submit(samples, entries, one, THREE, first)?;
     push_submit(samples, entries, other, THREE + 1, second)?;
-    let reply = removal(samples.memory, dropped).ok()?;
+    let Ok(reply) = removal(samples.memory, dropped) else {
+        return None;
+    };
     push_entry(samples, entries, 0, REMOVE_FIRST, reply)
 }
 

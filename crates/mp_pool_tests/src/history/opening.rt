@@ -50,7 +50,9 @@ fn open_for(memory: Memory, callers: u32, pool: &SeqPool) -> Result<u64, NoMemor
 
 fn open_between(memory: Memory, callers: u32, pool: &SeqPool) -> Option<Seen> {
     if 1 <= callers && callers <= 1024 {
-        let numbered = open_for(memory, callers, pool).ok()?;
+        let Ok(numbered) = open_for(memory, callers, pool) else {
+            return None;
+        };
         return Some([numbered, 0, 0, 0, 0, 0]);
     }
     None

@@ -101,7 +101,9 @@ fn see<N: PoolName + Send + Sync, R: Threads + Wait + Sync>(
     shown: &Shown<N>,
 ) -> Option<Seen> {
     let before = u64::from(board.newest().is_some());
-    let wrong = map_indices(rt, memory, THREADS, &|thread| run(rt, board, shown, thread)).ok()?;
+    let Ok(wrong) = map_indices(rt, memory, THREADS, &|thread| run(rt, board, shown, thread)) else {
+        return None;
+    };
     let after = u64::from(board.newest().is_some());
     Some([wrong.len() as u64, sum(&wrong), before, after, 0, 0])
 }
@@ -111,7 +113,9 @@ fn see_board<N: PoolName + Send + Sync, R: Threads + Wait + Sync>(
     memory: Memory,
     shown: &Shown<N>,
 ) -> Option<Seen> {
-    let board = Board::new(memory).ok()?;
+    let Ok(board) = Board::new(memory) else {
+        return None;
+    };
     see(rt, memory, &board, shown)
 }
 
@@ -149,11 +153,15 @@ impl<N: PoolName, R: Wait> Call for Showing<'_, N, R> {
     fn call(&self, board: &mut Board<N>) -> Option<Seen> {
         match self.way {
             Way::Make => {
-                let another = Board::<N>::new(self.memory).ok()?;
+                let Ok(another) = Board::<N>::new(self.memory) else {
+                    return None;
+                };
                 Some(number_of(&another))
             }
             Way::Show => {
-                show(self.rt, board, self.shown).ok()?;
+                if show(self.rt, board, self.shown).is_err() {
+                    return None;
+                }
                 Some(number_of(board))
             }
         }

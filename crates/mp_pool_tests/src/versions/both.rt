@@ -41,7 +41,10 @@ pub fn whole(memory: Memory, pool: SeqPool) -> Option<Both> {
 
 /// A pool with no transaction.
 pub fn start(memory: Memory, ledger: &Ledger) -> Option<Both> {
-    whole(memory, SeqPool::start(memory, CONFIG, ledger).ok()?)
+    match SeqPool::start(memory, CONFIG, ledger) {
+        Ok(pool) => whole(memory, pool),
+        Err(NoMemory) => None,
+    }
 }
 
 /// The version after the step.
@@ -63,8 +66,12 @@ fn take(both: &mut Both, prepared: Prepared, version: Version)
 
 /// Does what the command asks. The version is made from the one before.
 pub fn step(memory: Memory, both: &mut Both, command: &Command) -> Option<()> {
-    let prepared = prepare(&mut both.pool, command).ok()?;
-    let version = next(memory, both, &prepared).ok()?;
+    let Ok(prepared) = prepare(&mut both.pool, command) else {
+        return None;
+    };
+    let Ok(version) = next(memory, both, &prepared) else {
+        return None;
+    };
     take(both, prepared, version);
     Some(())
 }

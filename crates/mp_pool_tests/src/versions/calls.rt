@@ -38,7 +38,9 @@ fn look_at_made(made: Result<Version, NoMemory>) -> Option<Seen> {
 }
 
 fn look_after(memory: Memory, both: &mut Both, command: &Command) -> Option<Seen> {
-    let prepared = prepare(&mut both.pool, command).ok()?;
+    let Ok(prepared) = prepare(&mut both.pool, command) else {
+        return None;
+    };
     look_at_made(next(memory, both, &prepared))
 }
 

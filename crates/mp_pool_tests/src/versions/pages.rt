@@ -43,7 +43,9 @@ fn ends(memory: Memory, both: &Both) -> Seen {
 }
 
 fn submit_opening(memory: Memory, both: &mut Both, index: u16) -> Option<()> {
-    let tx = transaction(memory, &[opening(index)], &[100]).ok()?;
+    let Ok(tx) = transaction(memory, &[opening(index)], &[100]) else {
+        return None;
+    };
     step(memory, both, &Command::Submit(tx))
 }
 
@@ -91,7 +93,10 @@ fn count_rows(rt: &impl Print, memory: Memory, both: &mut Both) -> io::Result<u6
 }
 
 fn roomy(memory: Memory) -> Option<Both> {
-    start(memory, &ledger(memory, 8_193, 1_000_000).ok()?)
+    match ledger(memory, 8_193, 1_000_000) {
+        Ok(ledger) => start(memory, &ledger),
+        Err(_) => None,
+    }
 }
 
 /// How many cases hold.

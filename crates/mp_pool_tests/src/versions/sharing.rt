@@ -62,7 +62,9 @@ fn more_after(memory: Memory, both: &Both, prepared: &Prepared) -> Option<Seen>
 }
 
 fn more_after_step(memory: Memory, both: &mut Both, command: &Command) -> Option<Seen> {
-    let prepared = prepare(&mut both.pool, command).ok()?;
+    let Ok(prepared) = prepare(&mut both.pool, command) else {
+        return None;
+    };
     more_after(memory, both, &prepared)
 }
 
