@@ -71,10 +71,10 @@ pub const REMOVE_TWO: usize = 154;
 /// A remove of sample 69.
 pub const REMOVE_SEVENTIETH: usize = 155;
 
-/// A submit that spends both outputs of the submit `RIVAL`, which have 60 and 40 coin.
+/// A signed submit that spends both outputs of the submit `RIVAL`, which have 60 and 40 coin.
 pub const MERGED: usize = 156;
 
-/// A submit that spends the same output as sample 1, and pays 50 twice. Behind it stands one that spends both of these.
+/// A submit that spends the same output as sample 1, and pays 50 twice. Behind it stands a signed one that spends both of these.
 pub const EVEN: usize = 157;
 
 /// A remove of sample 2.

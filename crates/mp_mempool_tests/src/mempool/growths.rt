@@ -2,7 +2,9 @@
 use crate::mempool::calls::Call;
 use crate::mempool::heard::{Heard, NO_MEMORY};
 use crate::mempool::pools::{LONG, Line, MAX_GROWTHS, Played, play};
-use mp_pool_samples::samples::{ALL, CHAINED, EVEN, MERGED, PART, REMOVE_SECOND, RIVAL, Samples};
+use mp_pool_samples::samples::{
+    ALL, CHAINED, EVEN, MERGED, PART, REMOVE_SECOND, RIVAL, SIGNED, Samples,
+};
 use mp_pool_samples::told::Told;
 use mp_testing::{Seen, count};
 use std::io;
@@ -18,15 +20,24 @@ const SUBMIT: Call = Call::Ask(0);
 
 const NEXT: Heard = Heard::Entered(3, Told::Accepted(3));
 
-// Each case, and whether the call is answered without some growths: a submit alone is where only the look before the lock has no
-// memory.
-static ROWS: [(&str, Case, bool); 4] = [
+// Each case, and whether the call is answered without some growths: a submit of what is signed alone is where only the look before the
+// lock has no memory.
+static ROWS: [(&str, Case, bool); 5] = [
     (
         "a submit at refused growths",
         (
             SUBMIT,
             Heard::Entered(2, Told::Accepted(3)),
             Heard::Refused(Told::AlreadyInPool(3)),
+        ),
+        false,
+    ),
+    (
+        "a signed submit at refused growths",
+        (
+            Call::Ask(SIGNED),
+            Heard::Entered(2, Told::Accepted(3)),
+            Heard::Refused(Told::InputMissing(0)),
         ),
         true,
     ),

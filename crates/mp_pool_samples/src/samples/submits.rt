@@ -18,9 +18,9 @@ fn push_child(memory: Memory, commands: &mut Commands, place: usize) -> Option<(
     push(memory, commands, output_of(&parent, 0), &[100])
 }
 
-fn signed(memory: Memory, spent: OutRef, paid: u32, by: u8) -> Result<TxParts, NoMemory> {
+fn signed(memory: Memory, spent: &[OutRef], paid: u32, by: u8) -> Result<TxParts, NoMemory> {
     let (key, sig) = ([by; 32], [6; 64]);
-    let mut parts = parts(memory, &[spent], &[paid])?;
+    let mut parts = parts(memory, spent, &[paid])?;
     parts.signatures.push(Signature { key, sig })?;
     Ok(parts)
 }
@@ -29,7 +29,7 @@ fn signed(memory: Memory, spent: OutRef, paid: u32, by: u8) -> Result<TxParts, N
 fn push_signed(
     memory: Memory,
     commands: &mut Commands,
-    spent: OutRef,
+    spent: &[OutRef],
     paid: u32,
     by: u8,
 ) -> Option<()> {
@@ -48,18 +48,15 @@ fn push_spending(memory: Memory, commands: &mut Commands) -> Option<()> {
 
 fn push_upon_rival(memory: Memory, commands: &mut Commands) -> Option<()> {
     let rival = submitted(commands, RIVAL)?;
-    push_signed(memory, commands, output_of(&rival, 0), 60, 0)?;
-    push_signed(memory, commands, output_of(&rival, 1), 40, 1)
+    push_signed(memory, commands, &[output_of(&rival, 0)], 60, 0)?;
+    push_signed(memory, commands, &[output_of(&rival, 1)], 40, 1)
 }
 
-// It spends both outputs of what the command at this place submits.
+// It spends both outputs of what the command at this place submits, and is signed.
 fn push_heir(memory: Memory, commands: &mut Commands, place: usize) -> Option<()> {
     let parent = submitted(commands, place)?;
     let spent = [output_of(&parent, 0), output_of(&parent, 1)];
-    match parts(memory, &spent, &[100]) {
-        Ok(parts) => push_tx(memory, commands, parts),
-        Err(NoMemory) => None,
-    }
+    push_signed(memory, commands, &spent, 100, 2)
 }
 
 /// A submit that spends the two outputs of the rival; and one that pays twice the same, and one that spends these.
@@ -76,8 +73,8 @@ pub fn push_submits(memory: Memory, commands: &mut Commands) -> Option<()> {
     push_child(memory, commands, THREE)?;
     push(memory, commands, opening(1), &[100])?;
     push_child(memory, commands, 1)?;
-    push_signed(memory, commands, opening(0), 100, 0)?;
-    push_signed(memory, commands, opening(1), 100, 1)?;
+    push_signed(memory, commands, &[opening(0)], 100, 0)?;
+    push_signed(memory, commands, &[opening(1)], 100, 1)?;
     push(memory, commands, opening(1), &[60, 40])?;
     push_upon_rival(memory, commands)
 }
