@@ -3,7 +3,7 @@ ghost use Rattle.std.specs.Prelude.{◌≡◌, ◌+◌, length, IfSome};
 ghost use Rattle.mp_rules.specs.Checked.{IsChecked};
 
 use mp_memory::Memory;
-use mp_rules::{Checked, Verifier, precheck};
+use mp_rules::{Checked, Verifier, has_nothing_to_run, precheck};
 use mp_tx::{OutRef, Output, Tx};
 use mp_versions::Version;
 
@@ -41,8 +41,8 @@ fn outputs_of(memory: Memory, version: &Version, tx: &Tx) -> Option<Vec<Output, 
 /// Looks at the transaction's signatures, and runs its scripts upon the outputs that it names, as far as the version
 /// has them. It takes no lock. What is found serves as long as the transaction names these outputs.
 ///
-/// None where an output is neither in the ledger state nor made by one of the newest transactions, and where memory is
-/// wanting.
+/// None where there is nothing to look at or to run, where an output is neither in the ledger state nor made by one of the newest
+/// transactions, and where memory is wanting.
 pub(crate) fn check_early<V: Verifier>(
     memory: Memory,
     version: &Version,
@@ -51,6 +51,9 @@ pub(crate) fn check_early<V: Verifier>(
 ) -> Option<Checked>
     ensures { IfSome result (IsChecked (V.accepts verifier.now) tx.now) }
 {
+    if has_nothing_to_run(tx) {
+        return None;
+    }
     let outputs = outputs_of(memory, version, tx)?;
     precheck(memory, tx, &outputs, verifier).ok()
 }

@@ -1,5 +1,5 @@
 -- What the scripts of a transaction see, and when they accept.
-use Rattle.std.specs.Prelude.{ℕ, Bool, false, List, map, Some, None, Result, Ok, Err}
+use Rattle.std.specs.Prelude.{◌≡◌, ℕ, Bool, false, List, [], ◌∷◌, map, All, Some, None, Result, Ok, Err}
 use Rattle.sha2.specs.Sha256.{sha256}
 use Rattle.mp_bundle.specs.Sum.{total_over}
 use Rattle.mp_script.specs.declared.fault.ScriptFault.{ScriptFault}
@@ -66,3 +66,9 @@ validator_accepts t r spending = script_accepts (validator_view t r spending.0 s
 
 abbrev pub policy_accepts : Transaction → Resolved → List ℕ → Bool
 policy_accepts t r script = script_accepts (policy_view t r script) script
+
+-- there is no signature, and each script is the one operator that gives true
+pub record HasNothingToRun (t : Transaction) : Type 0 where
+  pub signatures : t.signatures ≡ []
+  pub validators : All (λ i. i.validator ≡ 1 ∷ []) t.inputs
+  pub policies : All (λ s. s ≡ 1 ∷ []) t.scripts

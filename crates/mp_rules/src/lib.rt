@@ -22,4 +22,5 @@ pub use checking::{check, check_with, stays_valid};
 pub use invalid::Invalid;
 pub use map::output_taken;
 pub use resolved::Resolved;
+pub use scripts::has_nothing_to_run;
 pub use verifier::Verifier;

@@ -4,7 +4,7 @@ ghost use Rattle.std.specs.Prelude.{◌≡◌, ◌↔◌, ◌≤◌, [], ◌∷�
 ghost use Rattle.std.specs.List.{position, zip};
 ghost use Rattle.mp_script.specs.View.{view_of, paid_to_of, referred_of};
 ghost use Rattle.mp_script.specs.Value.{value_of};
-ghost use Rattle.mp_rules.specs.Scripts.{paid_to, referred, is_true, script_accepts};
+ghost use Rattle.mp_rules.specs.Scripts.{paid_to, referred, is_true, script_accepts, HasNothingToRun};
 ghost use Rattle.mp_rules.specs.Checked.{script_refused};
 ghost use Rattle.mp_rules.specs.Inside.ScriptContext.{IsContextOf, policy_context, validator_context};
 
@@ -177,6 +177,16 @@ fn policies_give_true(scripts: &[Script]) -> bool
     ensures { IsTrue result ↔ All (λ s. s ≡ 1 ∷ []) scripts.now }
 {
     scripts.iter().all(|script| gives_true(script))
+}
+
+/// Whether the transaction has no signature to look at and no script to run: each that it has is `01`, which gives true whatever
+/// it sees.
+pub fn has_nothing_to_run(tx: &Tx) -> bool
+    ensures { IsTrue result ↔ HasNothingToRun tx.now }
+{
+    tx.signatures().is_empty()
+        && validators_give_true(tx.inputs())
+        && policies_give_true(tx.scripts())
 }
 
 // The first that refuses, as each is run.

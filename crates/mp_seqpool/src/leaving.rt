@@ -12,6 +12,11 @@ use mp_resync::ValidatedTx;
 use mp_tickets::{TicketList, Tickets};
 use mp_utxo::Overlay;
 
+/// How many of so many are few: to take out each of more costs more than to look at all anew.
+pub fn few_of(count: usize) -> usize {
+    (count / 16).max(16)
+}
+
 // Takes out the item under the ticket, with its id. Gives how many bytes its transaction has, and 0 where there is none.
 fn take_one(items: &mut TicketList<ValidatedTx>, tickets: &mut TicketsById, ticket: u64) -> u64
     requires { AreKnown items.old tickets.old.entries }

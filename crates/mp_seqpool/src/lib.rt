@@ -11,6 +11,7 @@ mod playing;
 mod pool;
 mod prepared;
 mod refusal;
+mod room;
 mod tickets_by_id;
 
 pub use command::{Answer, Command, Reply};

@@ -1,9 +1,7 @@
 //! The sequential pool.
 
-ghost use Rattle.std.specs.Prelude.{◌≡◌, ◌<◌, [], OnOk, IfOk};
+ghost use Rattle.std.specs.Prelude.{◌≡◌, [], IfOk};
 ghost use Rattle.std.specs.Arc.{arc_value};
-ghost use Rattle.indexmap.specs.IndexMap.{spare};
-ghost use Rattle.mp_utxo.specs.Overlay.{IsSame, HasRoomFor};
 ghost use Rattle.mp_seqpool.specs.Command.{Submit, Remove, Sync};
 ghost use Rattle.mp_seqpool.specs.Prepared.{Append, Keep, TakeOut, Adopt};
 ghost use Rattle.mp_seqpool.specs.declared.command.Reply.TheVariants.{Accepted, Removed, Synced};
@@ -11,9 +9,10 @@ ghost use Rattle.mp_seqpool.specs.declared.command.Reply.TheVariants.{Accepted, 
 use crate::command::{Answer, Command, Reply};
 use crate::config::Config;
 use crate::ids::Ids;
-use crate::leaving::{take_leaves, take_told};
+use crate::leaving::{few_of, take_leaves, take_told};
 use crate::prepared::{Effect, Prepared};
 use crate::refusal::Refusal;
+use crate::room::reserve;
 use crate::tickets_by_id::{TicketsById, as_tickets, note, ticket_under};
 use indexmap::IndexMap;
 use mp_memory::{Memory, NoMemory};
@@ -74,18 +73,6 @@ impl Model for SeqPool {
     ghost view = { holding };
 
     ghost invariant = { IsCounted };
-}
-
-// Takes all the room in the tables that one more transaction needs.
-fn reserve(overlay: &mut Overlay, tickets: &mut TicketsById, tx: &Tx) -> Result<(), NoMemory>
-    ensures overlay { IsSame overlay.old overlay.new }
-    ensures tickets { tickets.new.entries ≡ tickets.old.entries }
-    ensures room { OnOk result (HasRoomFor overlay.new.room tx.now) }
-    ensures spare { OnOk result (0 < spare tickets.new) }
-{
-    overlay.reserve_for(tx)?;
-    tickets.reserve(1)?;
-    Ok(())
 }
 
 // The step that takes the transaction in under this ticket.
@@ -152,11 +139,6 @@ fn take_out_step(
         },
         effect: Effect::TakeOut(gone),
     })
-}
-
-// How many of so many are few: to take out each of more costs more than to look at all anew.
-fn few_of(count: usize) -> usize {
-    (count / 16).max(16)
 }
 
 // The step of a sync where some go, on which no others hang, and the others stay as they are. What goes is both told and done.
@@ -423,8 +405,7 @@ impl SeqPool {
         })
     }
 
-    // The step that adopts the ledger state, where what it changed tells of each transaction whether it stays as it is or goes, and
-    // no other hangs on one that goes.
+    // The step that adopts the ledger state, where what it changed tells which transactions go, on which no others hang.
     fn prepare_adoption(&self, ledger: &Ledger) -> Result<Option<Prepared>, NoMemory>
         ensures { IfOk result (λ step. IfSome step (AdoptsParted self.now.pool ledger.now)) }
     {
@@ -497,6 +478,31 @@ impl SeqPool {
         self.changes += 1;
     }
 
+    // Takes the transaction in, as the step of `prepare_append` would, of which nobody is told here.
+    fn take_in(&mut self, tx: &Arc<Tx, Memory>, resolved: Resolved) -> Result<Reply, NoMemory>
+        requires place { HasPlace self.old.pool (arc_value tx.now) }
+        requires new { ticket_of (id_of (arc_value tx.now)) self.old.pool.items ≡ None }
+        requires valid { WasValid (arc_value tx.now) resolved }
+        requires rules { IsValid all_accepted
+            (unspent self.old.pool) self.old.pool.ledger.tick (arc_value tx.now) }
+        ensures reply { IfOk result (λ reply. reply ≡ Accepted (self.old.pool.last + 1)) }
+        ensures next { OnOk result (self.new.pool ≡ pool_with self.old.pool (arc_value tx.now)) }
+        ensures err { OnErr result (self.new.pool ≡ self.old.pool) }
+    {
+        reserve(&mut self.overlay, &mut self.tickets, tx)?;
+        let applied = Arc::try_clone(tx)?;
+        let item = ValidatedTx {
+            tx: Arc::try_clone(tx)?,
+            resolved,
+        };
+        let Ok(node) = make_node(self.memory, item) else {
+            return Err(NoMemory);
+        };
+        let ticket = self.last + 1;
+        self.append(node, applied);
+        Ok(Reply::Accepted { ticket })
+    }
+
     // Takes out what the reply tells, each by its ticket.
     fn leave(&mut self, overlay: Overlay, reply: &Reply)
         requires change { self.old.pool.changes < self.old.pool.limit }
@@ -543,8 +549,7 @@ impl SeqPool {
         self.changes += 1;
     }
 
-    /// Takes the step, and gives its reply. It takes no memory and can't fail: the step is one that the last `prepare_` call on
-    /// this pool gave.
+    /// Takes the step that the last `prepare_` call on this pool gave, and gives its reply. It takes no memory and can't fail.
     pub fn finish(&mut self, prepared: Prepared) -> Reply
         requires { IsPrepared self.old prepared }
         ensures pool { self.new.pool ≡ leads_to self.old.pool prepared }
@@ -577,8 +582,11 @@ impl SeqPool {
             self.old.pool (Submit (arc_value tx.now))) }
         ensures err { OnErr result (self.new.pool ≡ self.old.pool) }
     {
-        let prepared = self.prepare_submit(tx, None, verifier)?;
-        Ok(self.finish(prepared))
+        if let Some(refusal) = self.misplaced(tx) {
+            return Err(refusal);
+        }
+        let resolved = self.check_rules(tx, None, verifier)?;
+        Ok(self.take_in(tx, resolved)?)
     }
 
     /// Takes out the transactions with these ids, and with them those that aren't valid without them.

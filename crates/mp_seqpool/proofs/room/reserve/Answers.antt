@@ -1,6 +1,6 @@
 use Rattle.std.proofs.Common.{refl}
 use Rattle.mp_seqpool.proofs.Exits.{not_ok}
-use Rattle.mp_seqpool.proofs.pool.reserve.Goals as goal
+use Rattle.mp_seqpool.proofs.room.reserve.Goals as goal
 
 pub returns-in_err-reserve_for-clause-overlay : goal.returns-in_err-reserve_for-clause-overlay
 returns-in_err-reserve_for-clause-overlay c = c.reserve_for.ensures.same
