@@ -13,7 +13,8 @@ use std::sync::Wait;
 // Both transactions that stand before the call.
 const BOTH: Heard = Heard::Sees(2, 2, 12);
 
-// A call on a pool in which two transactions stand, what is heard of it, and what is heard of a submit of sample 0 after it.
+// A call on a pool in which two transactions stand, what is heard of it, and what is heard of a submit of sample 0 after it, whose id the
+// first signed sample has too.
 type Case = (Call, Heard, Heard);
 
 const SUBMIT: Call = Call::Ask(0);
@@ -37,7 +38,7 @@ static ROWS: [(&str, Case, bool); 5] = [
         (
             Call::Ask(SIGNED),
             Heard::Entered(2, Told::Accepted(3)),
-            Heard::Refused(Told::InputMissing(0)),
+            Heard::Refused(Told::AlreadyInPool(3)),
         ),
         true,
     ),
