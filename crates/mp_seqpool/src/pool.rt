@@ -1,6 +1,6 @@
 //! The sequential pool.
 
-ghost use Rattle.std.specs.Prelude.{◌≡◌, [], IfOk};
+ghost use Rattle.std.specs.Prelude.{◌≡◌, ◌<◌, [], IfOk};
 ghost use Rattle.std.specs.Arc.{arc_value};
 ghost use Rattle.mp_seqpool.specs.Command.{Submit, Remove, Sync};
 ghost use Rattle.mp_seqpool.specs.Prepared.{Append, Keep, TakeOut, Adopt};
