@@ -1,8 +1,7 @@
-//! Devices that fail under the reading of a scenario and the writing of a report, and the texts of faults.
+//! Devices that fail under the reading of a scenario and the writing of a report.
 use crate::cases::number_of;
-use mp_history::AuditFault;
 use mp_memory::Memory;
-use mp_race::{Fault, Report, Scenario};
+use mp_race::{Report, Scenario};
 use mp_testing::{FailingReader, FailingWriter, MAX_GROWTHS};
 use std::alloc::Global;
 use std::io;
@@ -22,21 +21,6 @@ const REPORT: Report = Report {
 
 const TEXT: &[u8] =
     b"race 64 accepted 1 refused 2 removes 3 syncs 4 reads 5 entries 8 last 90\naudit legal\n";
-
-const TEXTS: [(Fault, u64, &str); 8] = [
-    (Fault::NoMemory, 1, "fault: no memory"),
-    (Fault::BadLine(7), 2, "fault: bad line 7"),
-    (Fault::ReadFault, 3, "fault: read"),
-    (Fault::WriteFault, 4, "fault: write"),
-    (Fault::Audit(AuditFault::NoMemory), 5, "fault: no memory"),
-    (Fault::Audit(AuditFault::WrongReply(3)), 5, "fault: audit 3"),
-    (
-        Fault::Audit(AuditFault::StrangeCaller(4)),
-        5,
-        "fault: audit 4",
-    ),
-    (Fault::MissingEntry(9), 6, "fault: missing entry 9"),
-];
 
 // The fault's number where the read with this number fails, or 0.
 fn read_failing(memory: Memory, at_once: usize, fails_at: u64) -> u64 {
@@ -135,25 +119,6 @@ fn held_growths(rt: &impl Print, memory: Memory, alloc: Global) -> io::Result<u6
     Ok(0)
 }
 
-fn is_text(alloc: Global, fault: &Fault, text: &str) -> bool {
-    match fault.to_string(alloc) {
-        Ok(told) => told.as_str() == text,
-        Err(_) => false,
-    }
-}
-
-fn held_texts(rt: &impl Print, alloc: Global) -> io::Result<u64> {
-    let mut held: u64 = 0;
-    for (fault, number, text) in TEXTS {
-        if fault.number() == number && is_text(alloc, &fault, text) {
-            held = held.saturating_add(1);
-        } else {
-            println!(rt; "a fault isn't told as '{text}'")?;
-        }
-    }
-    Ok(held)
-}
-
 /// How many cases hold. The scenario has 48 bytes, whose end is found by a read of its own, and the report 85. One read and one write more
 /// than these take don't come.
 pub fn held(rt: &impl Print, memory: Memory, alloc: Global) -> io::Result<u64> {
@@ -162,13 +127,11 @@ pub fn held(rt: &impl Print, memory: Memory, alloc: Global) -> io::Result<u64> {
     let writes = held_writes(rt, memory, alloc, 8, 12)?;
     let bytes_written = held_writes(rt, memory, alloc, 1, 86)?;
     let growths = held_growths(rt, memory, alloc)?;
-    let texts = held_texts(rt, alloc)?;
     Ok(
         reads
             .saturating_add(bytes_read)
             .saturating_add(writes)
             .saturating_add(bytes_written)
-            .saturating_add(growths)
-            .saturating_add(texts),
+            .saturating_add(growths),
     )
 }

@@ -9,6 +9,7 @@ mod meeting;
 mod reports;
 mod runs;
 mod talks;
+mod texts;
 
 use mp_memory::Memory;
 use std::alloc::Global;
@@ -26,6 +27,7 @@ fn check_all<R: Print + Threads + Wait + Sync>(
     println!(rt; "reports {}", reports::held(rt, memory)?)?;
     println!(rt; "meetings {}", meeting::held(rt, memory)?)?;
     println!(rt; "devices {}", devices::held(rt, memory, alloc)?)?;
+    println!(rt; "texts {}", texts::held(rt, alloc)?)?;
     Ok(())
 }
 

@@ -1,4 +1,4 @@
-//! Runs of scenarios: devices that fail, as many bytes as an input may have, the texts of faults, and refusals of memory.
+//! Runs of scenarios: devices that fail, as many bytes as an input may have, and refusals of memory.
 use mp_driver::{Fault, run};
 use mp_memory::Memory;
 use mp_testing::{FailingReader, FailingWriter, MAX_GROWTHS, Seen, count};
@@ -38,13 +38,6 @@ const LENGTHS: [(usize, u64, u64); 3] = [
     (16_777_216 - 11, 2, 2),
     (16_777_217 - 11, 3, 0),
     (usize::MAX, 3, 0),
-];
-
-const TEXTS: [(u64, &str); 4] = [
-    (1, "fault: no memory"),
-    (2, "fault: bad line 7"),
-    (3, "fault: read"),
-    (4, "fault: write"),
 ];
 
 // How a run ends: well, or with the number of a fault, and its line or 0.
@@ -133,34 +126,6 @@ fn held_lengths(rt: &impl Print, memory: Memory, alloc: Global) -> io::Result<u6
         let seen = read_long(memory, alloc, filler);
         let wanted = [fault, line, 0, 1, 0, 0];
         held = held.saturating_add(count(rt, "a long input", Some(seen), wanted)?);
-    }
-    Ok(held)
-}
-
-// The fault with the number, at line 7.
-fn fault_with(number: u64) -> Fault {
-    match number {
-        1 => Fault::NoMemory,
-        2 => Fault::BadLine(7),
-        3 => Fault::ReadFault,
-        _ => Fault::WriteFault,
-    }
-}
-
-fn is_text(alloc: Global, fault: &Fault, text: &str) -> bool {
-    match fault.to_string(alloc) {
-        Ok(told) => told.as_str() == text,
-        Err(_) => false,
-    }
-}
-
-fn held_texts(rt: &impl Print, alloc: Global) -> io::Result<u64> {
-    let mut held: u64 = 0;
-    for (number, text) in TEXTS {
-        let fault = fault_with(number);
-        let is_told = u64::from(is_text(alloc, &fault, text));
-        let seen = [fault.number(), is_told, 0, 0, 0, 0];
-        held = held.saturating_add(count(rt, text, Some(seen), [number, 1, 0, 0, 0, 0])?);
     }
     Ok(held)
 }
@@ -324,14 +289,12 @@ pub fn held(rt: &impl Print, memory: Memory, alloc: Global) -> io::Result<u64> {
     let reads = held_reads(rt, memory, alloc)?;
     let writes = held_writes(rt, memory, alloc)?;
     let lengths = held_lengths(rt, memory, alloc)?;
-    let texts = held_texts(rt, alloc)?;
     let refusals = held_refusals(rt, memory, alloc)?;
     Ok(
         failures
             .saturating_add(reads)
             .saturating_add(writes)
             .saturating_add(lengths)
-            .saturating_add(texts)
             .saturating_add(refusals),
     )
 }
