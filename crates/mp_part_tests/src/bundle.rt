@@ -1,4 +1,5 @@
-//! Bundles and sums: which of their calls take memory. A bundle takes two growths, and a sum some for tokens other than coin.
+//! Bundles and sums: a share takes no memory, and a sum some for tokens other than coin. Bundles that are made are tried in the lines of
+//! mp_vectors' `bundle.txt`.
 use crate::rows::{Row, without_growth};
 use mp_bundle::{Bundle, BundleFault, COIN, Given, PolicyId, Sum};
 use mp_memory::{Memory, NoMemory};
@@ -30,21 +31,6 @@ fn bundle_of(memory: Memory, tokens: u8) -> Result<Bundle, BundleFault> {
 fn look(bundle: &Bundle) -> [u64; 2] {
     let quantity = bundle.quantity(&POLICY, b"\x08");
     [bundle.entries().len() as u64, quantity.unsigned_abs()]
-}
-
-// The number of the fault, or what is seen of the bundle, where this growth of it is refused; and whether the refusal waits.
-fn made(memory: Memory, nth: u64) -> Option<[u64; 4]> {
-    let Ok(given) = entries_of(memory, 9) else {
-        return None;
-    };
-    memory.refuse(nth);
-    let (fault, [entries, quantity]) = match Bundle::of_entries(memory, given) {
-        Ok(bundle) => (0, look(&bundle)),
-        Err(fault) => (fault.number(), [0, 0]),
-    };
-    let waits = u64::from(memory.waits());
-    memory.refuse(0);
-    Some([fault, waits, entries, quantity])
 }
 
 fn look_at_share(bundle: &Bundle) -> [u64; 2] {
@@ -154,11 +140,8 @@ fn coin_added(memory: Memory) -> Option<Seen> {
 }
 
 /// What takes memory, and what takes none.
-pub fn growths(memory: Memory) -> [Row; 6] {
+pub fn growths(memory: Memory) -> [Row; 3] {
     [
-        Row::seen("growth 1 of a bundle", made(memory, 1), [1, 0, 0, 0]),
-        Row::seen("growth 2 of a bundle", made(memory, 2), [1, 0, 0, 0]),
-        Row::seen("growth 3 of a bundle", made(memory, 3), [0, 1, 10, 9]),
         Row::seen("a shared bundle", shared(memory), [10, 9]),
         Row::seen("a bundle added", added(memory), [2, 6, 2, 4, 3, 60]),
         Row::seen("coin added", coin_added(memory), [2, 6, 0, 0, 0, 0]),

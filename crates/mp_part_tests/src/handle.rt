@@ -27,14 +27,33 @@ fn grown(memory: Memory) -> Option<Seen> {
     Some([refused, refusals, waited, waits, waits_after, later])
 }
 
-fn armed(memory: Memory, nth: u64) -> Option<Seen> {
+// What growth is refused, and after which other, and the numbers.
+const ARMED: [(&str, [u64; 2], Seen); 13] = [
+    ("a new handle", [0, 0], [0, 0, 0, 0, 0, 0]),
+    ("growth 1", [0, 1], [1, 1, 1, 1, 0, 0]),
+    ("growth 2", [0, 2], [2, 1, 2, 2, 0, 0]),
+    ("growth 3", [0, 3], [3, 1, 3, 3, 0, 0]),
+    ("growth 4", [0, 4], [4, 1, 4, 4, 0, 0]),
+    ("growth 5", [0, 5], [5, 1, 5, 5, 0, 0]),
+    ("growth 6", [0, 6], [6, 1, 6, 6, 0, 0]),
+    ("growth 7", [0, 7], [7, 1, 7, 7, 0, 0]),
+    ("growth 8", [0, 8], [8, 1, 8, 8, 0, 0]),
+    ("none after 2", [2, 0], [0, 0, 0, 0, 0, 0]),
+    ("2^62 after 2", [2, 1 << 62], [0, 0, 19, 19, 1, 0]),
+    ("2^62 + 1 after 2", [2, (1 << 62) + 1], [0, 0, 0, 0, 0, 0]),
+    ("2^64 - 1 after 2", [2, u64::MAX], [0, 0, 0, 0, 0, 0]),
+];
+
+fn armed(memory: Memory, [earlier, nth]: [u64; 2]) -> Option<Seen> {
+    memory.refuse(earlier);
     memory.refuse(nth);
     grown(memory)
 }
 
-fn armed_again(memory: Memory, nth: u64) -> Option<Seen> {
-    memory.refuse(2);
-    armed(memory, nth)
+/// The numbers are the last growth that is refused, and how many are; the last before which the refusal waits, and before
+/// how many it does; whether it waits afterwards; and how many more are refused then.
+pub fn armings(memory: Memory) -> [Row; 13] {
+    ARMED.map(|(name, armings, wanted)| Row::seen(name, armed(memory, armings), wanted))
 }
 
 // The growths are made by the other, and then the copy doesn't wait either.
@@ -43,39 +62,6 @@ fn armed_by_a_copy(memory: Memory) -> Option<Seen> {
     copy.refuse(3);
     let seen = grown(memory);
     if copy.waits() { None } else { seen }
-}
-
-/// The numbers are the last growth that is refused, and how many are; the last before which the refusal waits, and before
-/// how many it does; whether it waits afterwards; and how many more are refused then.
-pub fn armings(memory: Memory) -> [Row; 14] {
-    [
-        Row::seen("a new handle", grown(memory), [0, 0, 0, 0, 0, 0]),
-        Row::seen("growth 1", armed(memory, 1), [1, 1, 1, 1, 0, 0]),
-        Row::seen("growth 2", armed(memory, 2), [2, 1, 2, 2, 0, 0]),
-        Row::seen("growth 3", armed(memory, 3), [3, 1, 3, 3, 0, 0]),
-        Row::seen("growth 4", armed(memory, 4), [4, 1, 4, 4, 0, 0]),
-        Row::seen("growth 5", armed(memory, 5), [5, 1, 5, 5, 0, 0]),
-        Row::seen("growth 6", armed(memory, 6), [6, 1, 6, 6, 0, 0]),
-        Row::seen("growth 7", armed(memory, 7), [7, 1, 7, 7, 0, 0]),
-        Row::seen("growth 8", armed(memory, 8), [8, 1, 8, 8, 0, 0]),
-        Row::seen("none after 2", armed_again(memory, 0), [0, 0, 0, 0, 0, 0]),
-        Row::seen(
-            "2^62 after 2",
-            armed_again(memory, 1 << 62),
-            [0, 0, 19, 19, 1, 0],
-        ),
-        Row::seen(
-            "2^62 + 1 after 2",
-            armed_again(memory, (1 << 62) + 1),
-            [0, 0, 0, 0, 0, 0],
-        ),
-        Row::seen(
-            "2^64 - 1 after 2",
-            armed_again(memory, u64::MAX),
-            [0, 0, 0, 0, 0, 0],
-        ),
-        Row::seen("by a copy", armed_by_a_copy(memory), [3, 1, 3, 3, 0, 0]),
-    ]
 }
 
 fn boxed(memory: Memory) -> Result<u8, NoMemory> {
@@ -155,17 +141,26 @@ fn shrunk(memory: Memory) -> Option<[u64; 4]> {
     Some(shrink(memory, &mut items))
 }
 
-/// Growths of two handles, and of vectors.
-pub fn growths(memory: Memory, other: Memory) -> [Row; 9] {
+const PUSHES: [(&str, u64); 6] = [
+    ("growth 1 of a vector", 1),
+    ("growth 2 of a vector", 2),
+    ("growth 3 of a vector", 3),
+    ("growth 4 of a vector", 4),
+    ("growth 5 of a vector", 5),
+    ("growth 6 of a vector", 6),
+];
+
+/// Growths of a vector, of which each refused one is made the next time.
+pub fn pushes(memory: Memory) -> [Row; 6] {
+    PUSHES.map(|(name, nth)| Row::seen(name, pushed(memory, nth), [1, 0, 500, 500]))
+}
+
+/// A handle's copy, another handle, its name, and a vector that shrinks.
+pub fn others(memory: Memory, other: Memory) -> [Row; 4] {
     [
+        Row::seen("by a copy", armed_by_a_copy(memory), [3, 1, 3, 3, 0, 0]),
         Row::seen("another handle", armed_apart(memory, other), [0, 1, 1]),
         Row::seen("the name of a handle", named(memory), [1]),
-        Row::seen("growth 1 of a vector", pushed(memory, 1), [1, 0, 500, 500]),
-        Row::seen("growth 2 of a vector", pushed(memory, 2), [1, 0, 500, 500]),
-        Row::seen("growth 3 of a vector", pushed(memory, 3), [1, 0, 500, 500]),
-        Row::seen("growth 4 of a vector", pushed(memory, 4), [1, 0, 500, 500]),
-        Row::seen("growth 5 of a vector", pushed(memory, 5), [1, 0, 500, 500]),
-        Row::seen("growth 6 of a vector", pushed(memory, 6), [1, 0, 500, 500]),
         Row::seen("a vector that shrinks", shrunk(memory), [1, 1, 1, 1]),
     ]
 }

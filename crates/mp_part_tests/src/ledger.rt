@@ -1,5 +1,5 @@
-//! Ledger states: which of their calls take memory, and that they keep their salt, which no contract sees. One takes five growths, one of
-//! no outputs a single one, and a share none.
+//! Ledger states: blocks under refusals, and that they keep their salt, which no contract sees. A share takes no memory. States that are
+//! made of outputs are tried in the lines of mp_vectors' `ledger.txt`.
 use crate::rows::{Row, without_growth};
 use mp_bundle::Bundle;
 use mp_memory::{Memory, NoMemory};
@@ -68,21 +68,6 @@ fn look(ledger: &Ledger) -> [u64; 4] {
         address,
         u64::from(has_second),
     ]
-}
-
-// The number of the fault, whether the refusal of the growth waits, and what is seen of the ledger.
-fn made(memory: Memory, outputs: u8, nth: u64) -> Option<Seen> {
-    let Ok(outputs) = outputs_to(memory, outputs) else {
-        return None;
-    };
-    memory.refuse(nth);
-    let (fault, [tick, bytes, address, second]) = match ledger_of(memory, outputs) {
-        Ok(ledger) => (0, look(&ledger)),
-        Err(fault) => (fault.number(), [0; 4]),
-    };
-    let waits = u64::from(memory.waits());
-    memory.refuse(0);
-    Some([fault, waits, tick, bytes, address, second])
 }
 
 fn shared(memory: Memory) -> Option<[u64; 4]> {
@@ -179,26 +164,9 @@ pub fn blocks(memory: Memory) -> [Row; 2] {
     ]
 }
 
-/// Ledger states under refusals, and their salts: where the block becomes a layer, and where its table is made anew.
-pub fn ledgers(memory: Memory) -> [Row; 11] {
-    let refused = [1, 0, 0, 0, 0, 0];
+/// A share of a ledger state, and its salts: where the block becomes a layer, and where its table is made anew.
+pub fn ledgers(memory: Memory) -> [Row; 3] {
     [
-        Row::seen("growth 1 of a ledger", made(memory, 9, 1), refused),
-        Row::seen("growth 2 of a ledger", made(memory, 9, 2), refused),
-        Row::seen("growth 3 of a ledger", made(memory, 9, 3), refused),
-        Row::seen("growth 4 of a ledger", made(memory, 9, 4), refused),
-        Row::seen("growth 5 of a ledger", made(memory, 9, 5), refused),
-        Row::seen(
-            "growth 6 of a ledger",
-            made(memory, 9, 6),
-            [0, 1, 6, 1, 3, 0],
-        ),
-        Row::seen("growth 1 of an empty ledger", made(memory, 0, 1), refused),
-        Row::seen(
-            "growth 2 of an empty ledger",
-            made(memory, 0, 2),
-            [0, 1, 6, 1, 0, 0],
-        ),
         Row::seen("a shared ledger", shared(memory), [6, 1, 3, 0]),
         Row::seen("salts of a layer", salts(memory, 9), [1, 1, 1, 1]),
         Row::seen("salts of a table", salts(memory, 7), [1, 1, 1, 1]),

@@ -28,16 +28,12 @@ use std::thread::Threads;
 use vectors::{Kind, check_file};
 
 fn try_memory(rt: &(impl Print + Threads), memory: Memory, other: Memory) -> io::Result<()> {
-    let armings = handle::armings(memory);
-    let growths = handle::growths(memory, other);
-    let counted = ways::growths(memory);
-    let faults = ways::faults(memory);
-    let shared = threads::handles(rt, memory);
-    tell(
-        rt,
-        "memory",
-        &[&armings, &growths, &counted, &faults, &shared],
-    )
+    tell(rt, "armings", &handle::armings(memory))?;
+    tell(rt, "pushes", &handle::pushes(memory))?;
+    tell(rt, "handles", &handle::others(memory, other))?;
+    tell(rt, "trials", &ways::growths(memory))?;
+    tell(rt, "faults of trials", &ways::faults(memory))?;
+    tell(rt, "handles of threads", &threads::handles(rt, memory))
 }
 
 fn try_tickets(
@@ -46,38 +42,30 @@ fn try_tickets(
     memory: Memory,
     other: Memory,
 ) -> io::Result<()> {
-    let growths = tickets::growths(memory);
-    let drops = drops::drops(alloc, memory, other);
-    let shared = threads::lists(rt, memory);
-    tell(rt, "tickets", &[&growths, &drops, &shared])
+    tell(rt, "tickets", &tickets::growths(memory))?;
+    tell(rt, "drops", &drops::drops(alloc, memory, other))?;
+    tell(rt, "tickets of threads", &threads::lists(rt, memory))
 }
 
 fn try_transactions(rt: &impl Print, memory: Memory) -> io::Result<()> {
-    tell(rt, "bundle", &[&bundle::growths(memory)])?;
-    tell(
-        rt,
-        "script",
-        &[&script::growths(memory), &script::looks(memory)],
-    )?;
-    tell(
-        rt,
-        "tx",
-        &[
-            &ledger::ledgers(memory),
-            &ledger::blocks(memory),
-            &tx::growths(memory),
-        ],
-    )?;
-    tell(rt, "utxo", &[&utxo::growths(memory)])?;
-    tell(rt, "rules", &[&rules::growths(memory)])
+    tell(rt, "bundles", &bundle::growths(memory))?;
+    tell(rt, "data and scripts", &script::decodings(memory))?;
+    tell(rt, "looks at both", &script::looks(memory))?;
+    tell(rt, "bytes cut off", &tx::cut_off(memory))?;
+    tell(rt, "rooms", &tx::rooms(memory))?;
+    tell(rt, "ledger states", &ledger::ledgers(memory))?;
+    tell(rt, "blocks", &ledger::blocks(memory))?;
+    tell(rt, "overlays", &utxo::growths(memory))?;
+    tell(rt, "signatures", &rules::countings(memory))
 }
 
 fn try_text(rt: &impl Print, alloc: Global, memory: Memory) -> io::Result<()> {
-    let inputs = text::inputs(memory);
-    let lengths = text::lengths(memory);
-    let outputs = output::outputs(alloc);
-    tell(rt, "text", &[&inputs, &lengths, &outputs])?;
-    tell(rt, "picture", &[&picture::growths(memory)])
+    tell(rt, "inputs", &text::inputs(memory))?;
+    tell(rt, "lengths of inputs", &text::lengths(memory))?;
+    tell(rt, "limits of inputs", &text::limits(memory))?;
+    tell(rt, "outputs", &output::outputs(alloc))?;
+    tell(rt, "lengths of outputs", &output::lengths(alloc))?;
+    tell(rt, "pictures", &picture::growths(memory))
 }
 
 fn main(rt: HostRuntime) -> Result<()> {

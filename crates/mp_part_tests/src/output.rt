@@ -22,12 +22,12 @@ fn write(mut writer: FailingWriter, bytes: &[u8]) -> [u64; 4] {
     [u64::from(fails), length, u64::from(is_front), writer.writes]
 }
 
-fn written(alloc: Global, at_once: usize, fails_at: u64) -> Option<[u64; 4]> {
-    Some(write(writer_of(alloc, at_once, fails_at), BYTES))
+fn written(alloc: Global, at_once: usize, fails_at: u64) -> [u64; 4] {
+    write(writer_of(alloc, at_once, fails_at), BYTES)
 }
 
-fn written_none(alloc: Global) -> Option<[u64; 4]> {
-    Some(write(writer_of(alloc, 0, 0), b""))
+fn written_none(alloc: Global) -> [u64; 4] {
+    write(writer_of(alloc, 0, 0), b"")
 }
 
 fn written_many(alloc: Global) -> Option<[u64; 4]> {
@@ -38,23 +38,33 @@ fn written_many(alloc: Global) -> Option<[u64; 4]> {
     Some(write(writer_of(alloc, 1, 0), &bytes))
 }
 
-/// So many bytes at once, of which four writes take seven two at once; and a write that fails. A writer that takes nothing is a
-/// fault, but where there is nothing to take.
-pub fn outputs(alloc: Global) -> [Row; 14] {
+// How many bytes are taken at once, which write fails, and the numbers.
+const OUTPUTS: [(&str, usize, u64, [u64; 4]); 12] = [
+    ("write 1 fails", 2, 1, [1, 0, 1, 1]),
+    ("write 2 fails", 2, 2, [1, 2, 1, 2]),
+    ("write 3 fails", 2, 3, [1, 4, 1, 3]),
+    ("write 4 fails", 2, 4, [1, 6, 1, 4]),
+    ("1 byte at once", 1, 0, [0, 7, 1, 7]),
+    ("2 bytes at once", 2, 0, [0, 7, 1, 4]),
+    ("3 bytes at once", 3, 0, [0, 7, 1, 3]),
+    ("4 bytes at once", 4, 0, [0, 7, 1, 2]),
+    ("6 bytes at once", 6, 0, [0, 7, 1, 2]),
+    ("7 bytes at once", 7, 0, [0, 7, 1, 1]),
+    ("8 bytes at once", 8, 0, [0, 7, 1, 1]),
+    ("no byte at once", 0, 0, [1, 0, 1, 1]),
+];
+
+/// So many bytes at once, of which four writes take seven two at once; and a write that fails. A writer that takes nothing is a fault.
+pub fn outputs(alloc: Global) -> [Row; 12] {
+    OUTPUTS.map(|(name, at_once, fails_at, wanted)| {
+        Row::seen(name, Some(written(alloc, at_once, fails_at)), wanted)
+    })
+}
+
+/// Where there is nothing to take, a writer that takes nothing is no fault; and many bytes.
+pub fn lengths(alloc: Global) -> [Row; 2] {
     [
-        Row::seen("write 1 fails", written(alloc, 2, 1), [1, 0, 1, 1]),
-        Row::seen("write 2 fails", written(alloc, 2, 2), [1, 2, 1, 2]),
-        Row::seen("write 3 fails", written(alloc, 2, 3), [1, 4, 1, 3]),
-        Row::seen("write 4 fails", written(alloc, 2, 4), [1, 6, 1, 4]),
-        Row::seen("1 byte at once", written(alloc, 1, 0), [0, 7, 1, 7]),
-        Row::seen("2 bytes at once", written(alloc, 2, 0), [0, 7, 1, 4]),
-        Row::seen("3 bytes at once", written(alloc, 3, 0), [0, 7, 1, 3]),
-        Row::seen("4 bytes at once", written(alloc, 4, 0), [0, 7, 1, 2]),
-        Row::seen("6 bytes at once", written(alloc, 6, 0), [0, 7, 1, 2]),
-        Row::seen("7 bytes at once", written(alloc, 7, 0), [0, 7, 1, 1]),
-        Row::seen("8 bytes at once", written(alloc, 8, 0), [0, 7, 1, 1]),
-        Row::seen("no byte at once", written(alloc, 0, 0), [1, 0, 1, 1]),
-        Row::seen("no byte at all", written_none(alloc), [0, 0, 1, 0]),
+        Row::seen("no byte at all", Some(written_none(alloc)), [0, 0, 1, 0]),
         Row::seen(
             "many bytes, one at once",
             written_many(alloc),

@@ -79,21 +79,13 @@ fn count(rt: &impl Print, row: &Row) -> io::Result<u64> {
     Ok(0)
 }
 
-fn held(rt: &impl Print, rows: &[Row]) -> io::Result<u64> {
+/// Prints the rows that don't hold, and then how many do.
+pub fn tell(rt: &impl Print, what: &str, rows: &[Row]) -> io::Result<()> {
     let mut held = 0u64;
     for row in rows {
         held = held.wrapping_add(count(rt, row)?);
     }
-    Ok(held)
-}
-
-/// Prints the rows of a part that don't hold, and then how many do.
-pub fn tell(rt: &impl Print, part: &str, groups: &[&[Row]]) -> io::Result<()> {
-    let mut all = 0u64;
-    for rows in groups {
-        all = all.wrapping_add(held(rt, rows)?);
-    }
-    println!(rt; "{part} {all}")
+    println!(rt; "{what} {held}")
 }
 
 /// What was seen, unless a growth was refused meanwhile. No refusal waits afterwards.

@@ -1,5 +1,4 @@
-//! The rules of validity: which of their calls take memory, and how often they verify a signature. A call of which nothing has
-//! to be gathered for scripts is seen by how many growths it makes.
+//! The rules of validity: how often they verify a signature. Refused growths are tried in the lines of `check.txt` and `again.txt`.
 ghost use Rattle.std.specs.Prelude.{true};
 
 use crate::rows::Row;
@@ -7,7 +6,6 @@ use crate::vectors::transaction::transaction;
 use crate::vectors::{Names, Wrong, ledger, upon};
 use mp_memory::Memory;
 use mp_rules::{Invalid, Resolved, Verifier, check, check_with, precheck};
-use mp_testing::{Call, Seen, TrialFault, Trialled, under_each_refusal};
 use mp_tx::{Key, Ledger, Output, Sig, Tx, TxId};
 use std::sync::atomic::{AtomicU64, Ordering};
 
@@ -36,9 +34,8 @@ struct Counting {
 }
 
 impl Counting {
-    // How many signatures were verified since this was asked last.
-    fn taken(&self) -> u64 {
-        self.calls.swap(0, Ordering::SeqCst)
+    fn number(&self) -> u64 {
+        self.calls.load(Ordering::SeqCst)
     }
 }
 
@@ -77,40 +74,31 @@ fn check_again(checking: &Checking) -> Result<Resolved, Invalid> {
     check_with(*memory, tx, ledger, 0, &checked, verifier)
 }
 
-// How many outputs are spent and looked at, or the number of the fault.
-fn counted(answer: Result<Resolved, Invalid>) -> Option<[u64; 3]> {
-    match answer {
-        Ok(resolved) => Some([
-            resolved.spent().len() as u64,
-            resolved.referenced().len() as u64,
-            0,
-        ]),
-        Err(Invalid::NoMemory) => None,
-        Err(fault) => Some([0, 0, fault.number()]),
+fn answer_of(checking: &Checking) -> Result<Resolved, Invalid> {
+    let Checking {
+        memory,
+        tx,
+        ledger,
+        before,
+        verifier,
+    } = checking;
+    if before.is_empty() {
+        check(*memory, tx, ledger, 0, verifier)
+    } else {
+        check_again(checking)
     }
 }
 
-impl Call for Checking {
-    type Value = ();
-
-    fn make(&self) -> Option<()> {
-        Some(())
-    }
-
-    fn call(&self, _nothing: &mut ()) -> Option<Seen> {
-        let _earlier = self.verifier.taken();
-        let answer = if self.before.is_empty() {
-            check(self.memory, &self.tx, &self.ledger, 0, &self.verifier)
-        } else {
-            check_again(self)
-        };
-        let [spent, referenced, fault] = counted(answer)?;
-        Some([spent, referenced, fault, self.verifier.taken(), 0, 0])
-    }
-
-    fn look(&self, _nothing: &()) -> Seen {
-        [0; 6]
-    }
+// How many outputs are spent and looked at, and how many signatures were verified.
+fn count(checking: &Checking) -> Option<[u64; 3]> {
+    let Ok(resolved) = answer_of(checking) else {
+        return None;
+    };
+    Some([
+        resolved.spent().len() as u64,
+        resolved.referenced().len() as u64,
+        checking.verifier.number(),
+    ])
 }
 
 fn make_checking(
@@ -131,47 +119,22 @@ fn make_checking(
     })
 }
 
-fn tried(memory: Memory, outputs: &str, parts: &str, before: &str) -> Result<Trialled, TrialFault> {
+fn counted(memory: Memory, [outputs, parts, before]: [&str; 3]) -> Option<[u64; 3]> {
     match make_checking(memory, outputs, parts, before) {
-        Ok(checking) => under_each_refusal(&memory, &checking),
-        Err(_wrong) => Err(TrialFault::NotMade),
+        Ok(checking) => count(&checking),
+        Err(_wrong) => None,
     }
 }
 
-/// The numbers are how many outputs are spent, how many are looked at, a fault's number, and how many signatures are verified.
-///
-/// Of coin alone: one growth for what is spent. The sums take none, and scripts of the one operator that gives true see
-/// nothing. With all parts, of which the policy script has three operators: one for each of what is spent and what is looked
-/// at, of the two sums that have to balance, and of the keys, the spent total, the outputs and the references that scripts
-/// see. A precheck takes one for the outputs, one to part them, and four for what scripts see. After it four growths are left
-/// where the transaction names the same outputs, since scripts aren't run again.
-pub fn growths(memory: Memory) -> [Row; 5] {
-    let [coin, all] = [[2, 0, 0, 0], [2, 1, 0, 1]];
-    [
-        Row::tried("a check of coin", tried(memory, COINS, COIN, ""), coin, 1),
-        Row::tried(
-            "a check of all parts",
-            tried(memory, OUTPUTS, ALL, ""),
-            all,
-            8,
-        ),
-        Row::tried(
-            "the same upon another",
-            tried(memory, LESS, ALL, ""),
-            all,
-            8,
-        ),
-        Row::tried(
-            "a check after another",
-            tried(memory, OUTPUTS, ALL, BEFORE),
-            all,
-            10,
-        ),
-        Row::tried(
-            "upon other outputs",
-            tried(memory, LESS, ALL, BEFORE),
-            all,
-            14,
-        ),
-    ]
+const CASES: [(&str, [&str; 3], [u64; 3]); 5] = [
+    ("a check of coin", [COINS, COIN, ""], [2, 0, 0]),
+    ("a check of all parts", [OUTPUTS, ALL, ""], [2, 1, 1]),
+    ("the same upon another", [LESS, ALL, ""], [2, 1, 1]),
+    ("a check after another", [OUTPUTS, ALL, BEFORE], [2, 1, 1]),
+    ("upon other outputs", [LESS, ALL, BEFORE], [2, 1, 1]),
+];
+
+/// How many outputs are spent, how many are looked at, and how many signatures are verified: after another check none once more.
+pub fn countings(memory: Memory) -> [Row; 5] {
+    CASES.map(|(name, words, wanted)| Row::seen(name, counted(memory, words), wanted))
 }

@@ -1,11 +1,9 @@
-//! Data and scripts: which of their calls take memory. A datum and a script take two growths each, those that nearly every
-//! input has take none, and so does a share.
+//! Data and scripts: what takes no memory, as those that nearly every input has, other faults than want of memory, shares and looks. What
+//! takes some is tried in the lines of mp_vectors' `datum.txt` and `script.txt`.
 use crate::rows::{Row, without_growth};
 use mp_memory::Memory;
 use mp_script::{Data, DataFault, Script, ScriptFault};
-use mp_testing::{Call, Seen, TrialFault, Trialled, under_each_refusal};
-
-const EMPTY_LIST: &[u8] = &[3, 0, 0];
+use mp_testing::Seen;
 
 // A list of five: -5, the bytes `xy`, a list of 1 and an empty list, an empty list, and 8.
 const LIST_OF_FIVE: &[u8] = &[
@@ -17,60 +15,69 @@ const LIST_OF_FIVE: &[u8] = &[
     1, 0, 0, 0, 0, 0, 0, 0, 8, // 8
 ];
 
-// True, and whether its opposite or octets are true.
-const TRUE: &[u8] = &[0x01];
-
+// Whether the opposite of true or octets are true.
 const OR: &[u8] = &[0x01, 0x10, 0x03, 0, 0x12];
 
-// What takes memory.
+// What bytes are read as.
 #[derive(Clone, Copy)]
-enum Taking {
-    Datum(&'static [u8]),
-    Script(&'static [u8]),
-    DatumShare,
-    ScriptShare,
+enum Kind {
+    Datum,
+    Script,
 }
 
-#[derive(Drop)]
-struct Taken {
-    memory: Memory,
-    taking: Taking,
-}
+// How many bytes there are, or 0 and the number of the fault.
+const WITHOUT_GROWTH: [(&str, Kind, &[u8], [u64; 2]); 10] = [
+    ("an empty list", Kind::Datum, &[3, 0, 0], [3, 0]),
+    ("no bytes of a datum", Kind::Datum, &[], [0, 2]),
+    ("a tag of no datum", Kind::Datum, &[4], [0, 3]),
+    ("a byte too many", Kind::Datum, &[3, 0, 0, 0], [0, 5]),
+    (
+        "a tag of no item",
+        Kind::Datum,
+        &[3, 0, 2, 3, 0, 0, 9],
+        [0, 3],
+    ),
+    ("true", Kind::Script, &[0x01], [1, 0]),
+    ("no operator", Kind::Script, &[], [0, 5]),
+    ("no operands", Kind::Script, &[0x11], [0, 4]),
+    ("two expressions", Kind::Script, &[0x01, 0x01], [0, 5]),
+    ("a byte of no operator", Kind::Script, &[0x01, 0xff], [0, 3]),
+];
 
-// How many bytes the datum has, or the number of its fault.
-fn decode_datum(memory: Memory, bytes: &[u8]) -> Option<Seen> {
+fn decode_datum(memory: Memory, bytes: &[u8]) -> Option<[u64; 2]> {
     match Data::decode(memory, bytes) {
-        Ok(datum) => Some([datum.bytes().len() as u64, 0, 0, 0, 0, 0]),
+        Ok(datum) => Some([datum.bytes().len() as u64, 0]),
         Err(DataFault::NoMemory) => None,
-        Err(fault) => Some([0, fault.number(), 0, 0, 0, 0]),
+        Err(fault) => Some([0, fault.number()]),
     }
 }
 
-fn decode_script(memory: Memory, bytes: &[u8]) -> Option<Seen> {
+fn decode_script(memory: Memory, bytes: &[u8]) -> Option<[u64; 2]> {
     match Script::decode(memory, bytes) {
-        Ok(script) => Some([script.bytes().len() as u64, 0, 0, 0, 0, 0]),
+        Ok(script) => Some([script.bytes().len() as u64, 0]),
         Err(ScriptFault::NoMemory) => None,
-        Err(fault) => Some([0, fault.number(), 0, 0, 0, 0]),
+        Err(fault) => Some([0, fault.number()]),
     }
 }
 
-// How many bytes the share has, and whether they are the same.
-fn compare(share: &[u8], bytes: &[u8]) -> Seen {
-    [share.len() as u64, u64::from(share == bytes), 0, 0, 0, 0]
+fn decode(memory: Memory, kind: Kind, bytes: &[u8]) -> Option<[u64; 2]> {
+    match kind {
+        Kind::Datum => decode_datum(memory, bytes),
+        Kind::Script => decode_script(memory, bytes),
+    }
 }
 
-fn share_datum(datum: &Data) -> Option<Seen> {
-    let Ok(share) = datum.share() else {
-        return None;
-    };
-    Some(compare(share.bytes(), datum.bytes()))
+fn decoded(memory: Memory, kind: Kind, bytes: &[u8]) -> Option<[u64; 2]> {
+    memory.refuse(1);
+    let seen = decode(memory, kind, bytes)?;
+    without_growth(memory, seen)
 }
 
-fn share_script(script: &Script) -> Option<Seen> {
-    let Ok(share) = script.share() else {
-        return None;
-    };
-    Some(compare(share.bytes(), script.bytes()))
+/// Bytes that take no memory.
+pub fn decodings(memory: Memory) -> [Row; 10] {
+    WITHOUT_GROWTH.map(|(name, kind, bytes, wanted)| {
+        Row::seen(name, decoded(memory, kind, bytes), wanted)
+    })
 }
 
 fn make(memory: Memory) -> Option<(Data, Script)> {
@@ -83,75 +90,25 @@ fn make(memory: Memory) -> Option<(Data, Script)> {
     Some((datum, script))
 }
 
-impl Call for Taken {
-    type Value = (Data, Script);
-
-    fn make(&self) -> Option<(Data, Script)> {
-        make(self.memory)
-    }
-
-    fn call(&self, value: &mut (Data, Script)) -> Option<Seen> {
-        match self.taking {
-            Taking::Datum(bytes) => decode_datum(self.memory, bytes),
-            Taking::Script(bytes) => decode_script(self.memory, bytes),
-            Taking::DatumShare => share_datum(&value.0),
-            Taking::ScriptShare => share_script(&value.1),
-        }
-    }
-
-    fn look(&self, value: &(Data, Script)) -> Seen {
-        let length = value.0.bytes().len() as u64;
-        [length, value.1.bytes().len() as u64, 0, 0, 0, 0]
-    }
+// Whether the share of a datum has the same bytes, and that of a script.
+fn share(value: &(Data, Script)) -> Option<[u64; 2]> {
+    let Ok(datum) = value.0.share() else {
+        return None;
+    };
+    let Ok(script) = value.1.share() else {
+        return None;
+    };
+    Some([
+        u64::from(datum.bytes() == value.0.bytes()),
+        u64::from(script.bytes() == value.1.bytes()),
+    ])
 }
 
-fn tried(memory: Memory, taking: Taking) -> Result<Trialled, TrialFault> {
-    under_each_refusal(&memory, &Taken { memory, taking })
-}
-
-/// What takes two growths, or none.
-pub fn growths(memory: Memory) -> [Row; 6] {
-    [
-        Row::tried(
-            "an empty list",
-            tried(memory, Taking::Datum(EMPTY_LIST)),
-            [3],
-            0,
-        ),
-        Row::tried(
-            "a list of five",
-            tried(memory, Taking::Datum(LIST_OF_FIVE)),
-            [44],
-            2,
-        ),
-        Row::tried("true", tried(memory, Taking::Script(TRUE)), [1], 0),
-        Row::tried("an or", tried(memory, Taking::Script(OR)), [5], 2),
-        Row::tried(
-            "a share of a datum",
-            tried(memory, Taking::DatumShare),
-            [44, 1],
-            0,
-        ),
-        Row::tried(
-            "a share of a script",
-            tried(memory, Taking::ScriptShare),
-            [5, 1],
-            0,
-        ),
-    ]
-}
-
-// Which other fault the bytes have than want of memory.
-fn no_datum(memory: Memory, bytes: &[u8]) -> Option<[u64; 1]> {
+fn shared(memory: Memory) -> Option<[u64; 2]> {
+    let value = make(memory)?;
     memory.refuse(1);
-    let [_, fault, _, _, _, _] = decode_datum(memory, bytes)?;
-    without_growth(memory, [fault])
-}
-
-fn no_script(memory: Memory, bytes: &[u8]) -> Option<[u64; 1]> {
-    memory.refuse(1);
-    let [_, fault, _, _, _, _] = decode_script(memory, bytes)?;
-    without_growth(memory, [fault])
+    let seen = share(&value)?;
+    without_growth(memory, seen)
 }
 
 // Whether the datum is read whole and is neither number nor octets, its length, and whether its last item is there.
@@ -189,25 +146,10 @@ fn looked_at(memory: Memory) -> Option<Seen> {
     without_growth(memory, look(&value))
 }
 
-/// What takes none: other faults than want of memory, by their numbers, and looks.
-pub fn looks(memory: Memory) -> [Row; 9] {
+/// Shares and looks, which take none.
+pub fn looks(memory: Memory) -> [Row; 2] {
     [
-        Row::seen("no bytes of a datum", no_datum(memory, &[]), [2]),
-        Row::seen("a tag of no datum", no_datum(memory, &[4]), [3]),
-        Row::seen("a byte too many", no_datum(memory, &[3, 0, 0, 0]), [5]),
-        Row::seen(
-            "a tag of no item",
-            no_datum(memory, &[3, 0, 2, 3, 0, 0, 9]),
-            [3],
-        ),
-        Row::seen("no operator", no_script(memory, &[]), [5]),
-        Row::seen("no operands", no_script(memory, &[0x11]), [4]),
-        Row::seen("two expressions", no_script(memory, &[0x01, 0x01]), [5]),
-        Row::seen(
-            "a byte of no operator",
-            no_script(memory, &[0x01, 0xff]),
-            [3],
-        ),
+        Row::seen("shares of a datum and a script", shared(memory), [1, 1]),
         Row::seen("a look at both", looked_at(memory), [1, 1, 5, 1, 1, 1]),
     ]
 }

@@ -39,23 +39,28 @@ fn read(memory: Memory, at_once: usize, fails_at: u64) -> Option<[u64; 4]> {
     Some([length, u64::from(is_right), fault, reader.reads])
 }
 
+// How many bytes are given at once, which read fails, and the numbers.
+const INPUTS: [(&str, usize, u64, [u64; 4]); 13] = [
+    ("1 byte at once", 1, 0, [7, 1, 0, 8]),
+    ("2 bytes at once", 2, 0, [7, 1, 0, 5]),
+    ("3 bytes at once", 3, 0, [7, 1, 0, 4]),
+    ("4 bytes at once", 4, 0, [7, 1, 0, 3]),
+    ("5 bytes at once", 5, 0, [7, 1, 0, 3]),
+    ("6 bytes at once", 6, 0, [7, 1, 0, 3]),
+    ("7 bytes at once", 7, 0, [7, 1, 0, 2]),
+    ("8 bytes at once", 8, 0, [7, 1, 0, 2]),
+    ("read 1 fails", 3, 1, [0, 0, 2, 1]),
+    ("read 2 fails", 3, 2, [0, 0, 2, 2]),
+    ("read 3 fails", 3, 3, [0, 0, 2, 3]),
+    ("read 4 fails", 3, 4, [0, 0, 2, 4]),
+    ("read 5 would fail", 3, 5, [7, 1, 0, 4]),
+];
+
 /// So many bytes at once, and at the end a read that finds it; and a read that fails.
 pub fn inputs(memory: Memory) -> [Row; 13] {
-    [
-        Row::seen("1 byte at once", read(memory, 1, 0), [7, 1, 0, 8]),
-        Row::seen("2 bytes at once", read(memory, 2, 0), [7, 1, 0, 5]),
-        Row::seen("3 bytes at once", read(memory, 3, 0), [7, 1, 0, 4]),
-        Row::seen("4 bytes at once", read(memory, 4, 0), [7, 1, 0, 3]),
-        Row::seen("5 bytes at once", read(memory, 5, 0), [7, 1, 0, 3]),
-        Row::seen("6 bytes at once", read(memory, 6, 0), [7, 1, 0, 3]),
-        Row::seen("7 bytes at once", read(memory, 7, 0), [7, 1, 0, 2]),
-        Row::seen("8 bytes at once", read(memory, 8, 0), [7, 1, 0, 2]),
-        Row::seen("read 1 fails", read(memory, 3, 1), [0, 0, 2, 1]),
-        Row::seen("read 2 fails", read(memory, 3, 2), [0, 0, 2, 2]),
-        Row::seen("read 3 fails", read(memory, 3, 3), [0, 0, 2, 3]),
-        Row::seen("read 4 fails", read(memory, 3, 4), [0, 0, 2, 4]),
-        Row::seen("read 5 would fail", read(memory, 3, 5), [7, 1, 0, 4]),
-    ]
+    INPUTS.map(|(name, at_once, fails_at, wanted)| {
+        Row::seen(name, read(memory, at_once, fails_at), wanted)
+    })
 }
 
 // How many of the bytes are `x`.
@@ -73,10 +78,6 @@ fn read_filler(memory: Memory, filler: usize, at_once: usize) -> [u64; 3] {
         Ok(text) => [text.len() as u64, filler_in(&text), 0],
         Err(fault) => [0, 0, fault_number(fault)],
     }
-}
-
-fn filled(memory: Memory, filler: usize, at_once: usize) -> Option<[u64; 3]> {
-    Some(read_filler(memory, filler, at_once))
 }
 
 // An input of 20,000 bytes. Room is made for 4,096 bytes, and then for twice as many each time.
@@ -108,24 +109,29 @@ fn tried(memory: Memory) -> Result<Trialled, TrialFault> {
     under_each_refusal(&memory, &Reading { memory })
 }
 
+// The most bytes.
+const MOST: usize = 16_777_216;
+
+// How many bytes there are, how many are given at once, and the numbers.
+const LENGTHS: [(&str, usize, usize, [u64; 3]); 5] = [
+    ("as many", MOST, 4096, [16_777_216, 16_777_216, 0]),
+    ("one more", MOST + 1, 4096, [0, 0, 2]),
+    ("no end", usize::MAX, 4096, [0, 0, 2]),
+    ("no end, one at once", usize::MAX, 1, [0, 0, 2]),
+    ("one at once", 200_000, 1, [200_000, 200_000, 0]),
+];
+
 /// Inputs that are long, or never end.
-pub fn lengths(memory: Memory) -> [Row; 7] {
-    let most = 16_777_216;
+pub fn lengths(memory: Memory) -> [Row; 5] {
+    LENGTHS.map(|(name, filler, at_once, wanted)| {
+        Row::seen(name, Some(read_filler(memory, filler, at_once)), wanted)
+    })
+}
+
+/// The most bytes that an input may have, and growths that are refused.
+pub fn limits(memory: Memory) -> [Row; 2] {
     [
-        Row::seen("the most bytes", Some([MAX_BYTES as u64]), [most]),
-        Row::seen("as many", filled(memory, 16_777_216, 4096), [most, most, 0]),
-        Row::seen("one more", filled(memory, 16_777_217, 4096), [0, 0, 2]),
-        Row::seen("no end", filled(memory, usize::MAX, 4096), [0, 0, 2]),
-        Row::seen(
-            "no end, one at once",
-            filled(memory, usize::MAX, 1),
-            [0, 0, 2],
-        ),
-        Row::seen(
-            "one at once",
-            filled(memory, 200_000, 1),
-            [200_000, 200_000, 0],
-        ),
+        Row::seen("the most bytes", Some([MAX_BYTES as u64]), [16_777_216]),
         Row::tried("20,000 bytes", tried(memory), [20_000, 20_000], 4),
     ]
 }

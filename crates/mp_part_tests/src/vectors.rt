@@ -9,6 +9,7 @@ mod names;
 mod overlay;
 mod pieces;
 mod plain;
+mod refusals;
 pub mod transaction;
 mod verifier;
 mod wrong;
@@ -43,6 +44,7 @@ fn check_lines(rt: &impl Print, names: &mut Names, kind: Kind, text: &str) -> io
         number = number.wrapping_add(1);
         match count_held(names, kind, line) {
             Ok(cases) => held = held.wrapping_add(cases),
+            Err(Wrong::NoMemory) => println!(rt; "{name}:{number}: no memory: {line}")?,
             Err(Wrong::Because(why)) => println!(rt; "{name}:{number}: {why}: {line}")?,
             Err(Wrong::Fault(fault)) => println!(rt; "{name}:{number}: fault {fault}: {line}")?,
         }

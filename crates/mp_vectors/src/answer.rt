@@ -1,7 +1,7 @@
 //! Answers of which there are several kinds of lines.
 
 use crate::pieces;
-use crate::wrong::Result;
+use crate::wrong::{NO_MEMORY, Result};
 use mp_memory::Memory;
 use mp_script::Hash;
 use std::fmt::Debug;
@@ -11,9 +11,13 @@ pub fn name_of<F: Debug>(memory: Memory, fault: &F) -> Result<String<Memory>> {
     Ok(format!(in memory; "{fault:?}")?)
 }
 
-/// Whether a fault has the name that is wanted, and the values that come with it.
+/// Whether a fault has the name that is wanted, and the values that come with it. It fails where the fault is want of memory.
 pub fn is_fault<F: Debug>(memory: Memory, fault: &F, wanted: &str) -> Result<bool> {
-    Ok(name_of(memory, fault)?.as_str() == wanted)
+    let name = name_of(memory, fault)?;
+    if name.as_str() == "NoMemory" {
+        return Err(NO_MEMORY);
+    }
+    Ok(name.as_str() == wanted)
 }
 
 /// Whether `yes` is wanted where it is so, and `no` where not.

@@ -66,6 +66,16 @@ impl Kind {
         }
     }
 
+    /// Whether what it is about takes memory.
+    pub fn takes_memory(self) -> bool {
+        match self {
+            Kind::Datum | Kind::Script | Kind::Bundle | Kind::Sum => true,
+            Kind::Transaction | Kind::Decode | Kind::Ledger => true,
+            Kind::DatumRef | Kind::Value | Kind::Text | Kind::Fault => false,
+            Kind::Name | Kind::Number | Kind::Quantity => false,
+        }
+    }
+
     /// Whether what is given comes to what is wanted.
     pub fn holds(self, memory: Memory, given: &str, wanted: &str) -> Result<bool> {
         match self {

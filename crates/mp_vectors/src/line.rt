@@ -2,7 +2,7 @@
 
 use crate::kind::Kind;
 use crate::wrong::{Result, Wrong};
-use crate::{decode, spoilt};
+use crate::{decode, refusals, spoilt};
 use mp_memory::Memory;
 
 /// What a line says is given, and what it says that comes to. A blank line and a comment say nothing.
@@ -15,11 +15,13 @@ pub fn parted(line: &str) -> Result<Option<(&str, &str)>> {
 }
 
 fn check_case(memory: Memory, kind: Kind, given: &str, wanted: &str) -> Result<()> {
-    if kind.holds(memory, given, wanted)? {
-        Ok(())
-    } else {
-        Err(Wrong("it comes to something else"))
+    if !kind.holds(memory, given, wanted)? {
+        return Err(Wrong("it comes to something else"));
     }
+    if kind.takes_memory() {
+        refusals::check(memory, kind, given, wanted)?;
+    }
+    Ok(())
 }
 
 fn each_held(memory: Memory, kind: Kind, words: &str, wanted: &str) -> Result<u64> {

@@ -15,6 +15,7 @@ mod numbered;
 mod pieces;
 mod plain;
 mod references;
+mod refusals;
 mod scene;
 mod script;
 mod spoilt;

@@ -12,24 +12,34 @@ use std::num::ParseIntError;
 #[derive(Clone, Copy)]
 pub struct Wrong(pub &'static str);
 
+/// There was no memory.
+pub const NO_MEMORY: Wrong = Wrong("no memory");
+
+impl Wrong {
+    /// Whether there was no memory.
+    pub fn is_no_memory(self) -> bool {
+        self.0 == NO_MEMORY.0
+    }
+}
+
 /// What comes of a line, or of a part of it.
 pub type Result<T> = std::result::Result<T, Wrong>;
 
 impl From<NoMemory> for Wrong {
     fn from(_fault: NoMemory) -> Wrong {
-        Wrong("no memory")
+        NO_MEMORY
     }
 }
 
 impl From<AllocError> for Wrong {
     fn from(_fault: AllocError) -> Wrong {
-        Wrong("no memory")
+        NO_MEMORY
     }
 }
 
 impl<T: Drop> From<AllocFailed<T>> for Wrong {
     fn from(_fault: AllocFailed<T>) -> Wrong {
-        Wrong("no memory")
+        NO_MEMORY
     }
 }
 
@@ -40,31 +50,46 @@ impl From<ParseIntError> for Wrong {
 }
 
 impl From<FromHexError> for Wrong {
-    fn from(_fault: FromHexError) -> Wrong {
-        Wrong("no digits of bytes")
+    fn from(fault: FromHexError) -> Wrong {
+        match fault {
+            FromHexError::OutOfMemory => NO_MEMORY,
+            _ => Wrong("no digits of bytes"),
+        }
     }
 }
 
 impl From<DataFault> for Wrong {
-    fn from(_fault: DataFault) -> Wrong {
-        Wrong("no datum")
+    fn from(fault: DataFault) -> Wrong {
+        match fault {
+            DataFault::NoMemory => NO_MEMORY,
+            _ => Wrong("no datum"),
+        }
     }
 }
 
 impl From<ScriptFault> for Wrong {
-    fn from(_fault: ScriptFault) -> Wrong {
-        Wrong("no script")
+    fn from(fault: ScriptFault) -> Wrong {
+        match fault {
+            ScriptFault::NoMemory => NO_MEMORY,
+            _ => Wrong("no script"),
+        }
     }
 }
 
 impl From<BundleFault> for Wrong {
-    fn from(_fault: BundleFault) -> Wrong {
-        Wrong("no bundle")
+    fn from(fault: BundleFault) -> Wrong {
+        match fault {
+            BundleFault::NoMemory => NO_MEMORY,
+            _ => Wrong("no bundle"),
+        }
     }
 }
 
 impl From<TxFault> for Wrong {
-    fn from(_fault: TxFault) -> Wrong {
-        Wrong("no bytes of a transaction")
+    fn from(fault: TxFault) -> Wrong {
+        match fault {
+            TxFault::NoMemory => NO_MEMORY,
+            _ => Wrong("no bytes of a transaction"),
+        }
     }
 }

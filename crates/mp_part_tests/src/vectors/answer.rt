@@ -125,6 +125,7 @@ pub fn check_answer(
     wanted: &str,
 ) -> wrong::Result<()> {
     match (answer, wanted.strip_prefix("ok ")) {
+        (Err(Invalid::NoMemory), _) => Err(Wrong::NoMemory),
         (Ok(resolved), Some(counts)) => check_resolved(ledger, tx, resolved, counts),
         (Ok(_), None) => Err(Wrong::Because("it is valid")),
         (Err(found), Some(_)) => Err(Wrong::Fault(found.number())),

@@ -2,7 +2,7 @@
 
 use crate::vectors::names::Names;
 use crate::vectors::wrong::{Result, Wrong};
-use crate::vectors::{again, check, overlay};
+use crate::vectors::{again, check, overlay, refusals};
 
 /// What the lines of a file are about.
 #[derive(Clone, Copy)]
@@ -25,15 +25,22 @@ impl Kind {
         }
     }
 
-    /// How many cases a line such as `GIVEN = WANTED` has, which is one. Fails unless what is given comes to what is wanted.
+    /// Fails unless what is given comes to what is wanted.
+    pub fn check_case(self, names: &Names, given: &str, wanted: &str) -> Result<()> {
+        match self {
+            Kind::Check => check::check_case(names, given, wanted),
+            Kind::Again => again::check_case(names, given, wanted),
+            Kind::Overlay => overlay::check_case(names, given, wanted),
+        }
+    }
+
+    /// How many cases a line such as `GIVEN = WANTED` has, which is one. Fails unless what is given comes to what is wanted, and tells
+    /// each growth that is refused.
     pub fn check(self, names: &Names, line: &str) -> Result<u64> {
         let (given, wanted) = line.rsplit_once('=').ok_or(Wrong::Because("no '='"))?;
         let (given, wanted) = (given.trim(), wanted.trim());
-        match self {
-            Kind::Check => check::check_case(names, given, wanted)?,
-            Kind::Again => again::check_case(names, given, wanted)?,
-            Kind::Overlay => overlay::check_case(names, given, wanted)?,
-        }
+        self.check_case(names, given, wanted)?;
+        refusals::check(self, names, given, wanted)?;
         Ok(1)
     }
 }

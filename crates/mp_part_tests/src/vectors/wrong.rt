@@ -11,6 +11,8 @@ use std::num::ParseIntError;
 /// Why a line doesn't hold. Nothing is dropped with it, and so little has to be proved where a line is given up.
 #[derive(Clone, Copy)]
 pub enum Wrong {
+    /// There was no memory.
+    NoMemory,
     /// It can't be read, or comes to something else.
     Because(&'static str),
     /// A fault of this number was found, and another or none was wanted.
@@ -22,19 +24,19 @@ pub type Result<T> = std::result::Result<T, Wrong>;
 
 impl From<NoMemory> for Wrong {
     fn from(_fault: NoMemory) -> Wrong {
-        Wrong::Because("no memory")
+        Wrong::NoMemory
     }
 }
 
 impl From<AllocError> for Wrong {
     fn from(_fault: AllocError) -> Wrong {
-        Wrong::Because("no memory")
+        Wrong::NoMemory
     }
 }
 
 impl<T: Drop> From<AllocFailed<T>> for Wrong {
     fn from(_fault: AllocFailed<T>) -> Wrong {
-        Wrong::Because("no memory")
+        Wrong::NoMemory
     }
 }
 
@@ -45,37 +47,55 @@ impl From<ParseIntError> for Wrong {
 }
 
 impl From<FromHexError> for Wrong {
-    fn from(_fault: FromHexError) -> Wrong {
-        Wrong::Because("no digits of bytes")
+    fn from(fault: FromHexError) -> Wrong {
+        match fault {
+            FromHexError::OutOfMemory => Wrong::NoMemory,
+            _ => Wrong::Because("no digits of bytes"),
+        }
     }
 }
 
 impl From<DataFault> for Wrong {
-    fn from(_fault: DataFault) -> Wrong {
-        Wrong::Because("no datum")
+    fn from(fault: DataFault) -> Wrong {
+        match fault {
+            DataFault::NoMemory => Wrong::NoMemory,
+            _ => Wrong::Because("no datum"),
+        }
     }
 }
 
 impl From<ScriptFault> for Wrong {
-    fn from(_fault: ScriptFault) -> Wrong {
-        Wrong::Because("no script")
+    fn from(fault: ScriptFault) -> Wrong {
+        match fault {
+            ScriptFault::NoMemory => Wrong::NoMemory,
+            _ => Wrong::Because("no script"),
+        }
     }
 }
 
 impl From<BundleFault> for Wrong {
-    fn from(_fault: BundleFault) -> Wrong {
-        Wrong::Because("no bundle")
+    fn from(fault: BundleFault) -> Wrong {
+        match fault {
+            BundleFault::NoMemory => Wrong::NoMemory,
+            _ => Wrong::Because("no bundle"),
+        }
     }
 }
 
 impl From<TxFault> for Wrong {
-    fn from(_fault: TxFault) -> Wrong {
-        Wrong::Because("no transaction")
+    fn from(fault: TxFault) -> Wrong {
+        match fault {
+            TxFault::NoMemory => Wrong::NoMemory,
+            _ => Wrong::Because("no transaction"),
+        }
     }
 }
 
 impl From<LedgerFault> for Wrong {
-    fn from(_fault: LedgerFault) -> Wrong {
-        Wrong::Because("no ledger state")
+    fn from(fault: LedgerFault) -> Wrong {
+        match fault {
+            LedgerFault::NoMemory => Wrong::NoMemory,
+            _ => Wrong::Because("no ledger state"),
+        }
     }
 }
