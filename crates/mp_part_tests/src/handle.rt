@@ -27,33 +27,34 @@ fn grown(memory: Memory) -> Option<Seen> {
     Some([refused, refusals, waited, waits, waits_after, later])
 }
 
-// What growth is refused, and after which other, and the numbers.
-const ARMED: [(&str, [u64; 2], Seen); 13] = [
-    ("a new handle", [0, 0], [0, 0, 0, 0, 0, 0]),
-    ("growth 1", [0, 1], [1, 1, 1, 1, 0, 0]),
-    ("growth 2", [0, 2], [2, 1, 2, 2, 0, 0]),
-    ("growth 3", [0, 3], [3, 1, 3, 3, 0, 0]),
-    ("growth 4", [0, 4], [4, 1, 4, 4, 0, 0]),
-    ("growth 5", [0, 5], [5, 1, 5, 5, 0, 0]),
-    ("growth 6", [0, 6], [6, 1, 6, 6, 0, 0]),
-    ("growth 7", [0, 7], [7, 1, 7, 7, 0, 0]),
-    ("growth 8", [0, 8], [8, 1, 8, 8, 0, 0]),
-    ("none after 2", [2, 0], [0, 0, 0, 0, 0, 0]),
-    ("2^62 after 2", [2, 1 << 62], [0, 0, 19, 19, 1, 0]),
-    ("2^62 + 1 after 2", [2, (1 << 62) + 1], [0, 0, 0, 0, 0, 0]),
-    ("2^64 - 1 after 2", [2, u64::MAX], [0, 0, 0, 0, 0, 0]),
+// The growths that are to be refused, each armed after the one before, and the numbers.
+const ARMED: [(&str, &[u64], Seen); 13] = [
+    ("a new handle", &[], [0, 0, 0, 0, 0, 0]),
+    ("growth 1", &[1], [1, 1, 1, 1, 0, 0]),
+    ("growth 2", &[2], [2, 1, 2, 2, 0, 0]),
+    ("growth 3", &[3], [3, 1, 3, 3, 0, 0]),
+    ("growth 4", &[4], [4, 1, 4, 4, 0, 0]),
+    ("growth 5", &[5], [5, 1, 5, 5, 0, 0]),
+    ("growth 6", &[6], [6, 1, 6, 6, 0, 0]),
+    ("growth 7", &[7], [7, 1, 7, 7, 0, 0]),
+    ("growth 8", &[8], [8, 1, 8, 8, 0, 0]),
+    ("none after 2", &[2, 0], [0, 0, 0, 0, 0, 0]),
+    ("2^62 after 2", &[2, 1 << 62], [0, 0, 19, 19, 1, 0]),
+    ("2^62 + 1 after 2", &[2, (1 << 62) + 1], [0, 0, 0, 0, 0, 0]),
+    ("2^64 - 1 after 2", &[2, u64::MAX], [0, 0, 0, 0, 0, 0]),
 ];
 
-fn armed(memory: Memory, [earlier, nth]: [u64; 2]) -> Option<Seen> {
-    memory.refuse(earlier);
-    memory.refuse(nth);
+fn armed(memory: Memory, growths: &[u64]) -> Option<Seen> {
+    for nth in growths {
+        memory.refuse(*nth);
+    }
     grown(memory)
 }
 
 /// The numbers are the last growth that is refused, and how many are; the last before which the refusal waits, and before
 /// how many it does; whether it waits afterwards; and how many more are refused then.
 pub fn armings(memory: Memory) -> [Row; 13] {
-    ARMED.map(|(name, armings, wanted)| Row::seen(name, armed(memory, armings), wanted))
+    ARMED.map(|(name, growths, wanted)| Row::seen(name, armed(memory, growths), wanted))
 }
 
 // The growths are made by the other, and then the copy doesn't wait either.
