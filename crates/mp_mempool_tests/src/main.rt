@@ -1,9 +1,12 @@
-//! Tests the pool that callers share, and what is read of it for peers, for what no contract says: growths that are refused, threads, what
-//! is dropped, and answers that were worked out by hand. It prints each case that is found otherwise, and for each part how many held.
+//! Tests the pool that callers share, what is read of it for peers, and what it stands on, for what no contract says: growths that are
+//! refused, threads, what is dropped, and answers that were worked out by hand. It prints each case that is found otherwise, and for each
+//! part how many held.
 #![tactic(auto)]
 
 mod mempool;
 mod peers;
+mod seqpool;
+mod trials;
 
 use mp_memory::Memory;
 use mp_pool_samples::samples::{Samples, all_samples};
@@ -14,6 +17,7 @@ use std::thread::Threads;
 fn check_all<R: Print + Threads + Wait + Sync>(rt: &R, samples: &Samples) -> io::Result<()> {
     println!(rt; "mempool {}", mempool::held(rt, samples)?)?;
     println!(rt; "peers {}", peers::held(rt, samples)?)?;
+    println!(rt; "seqpool {}", seqpool::held(rt, samples)?)?;
     Ok(())
 }
 

@@ -1,8 +1,7 @@
-//! What the tests of pools share: what is asked, what is told of an answer, and how a case is counted. Nothing of the product stands on it.
+//! What the tests of pools share: what is asked, and what is told of an answer. Nothing of the product stands on it.
 #![tactic(auto)]
 
 mod audited;
-pub mod rows;
 pub mod samples;
 pub mod told;
 mod verifier;

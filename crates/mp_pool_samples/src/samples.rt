@@ -3,12 +3,12 @@ mod guarded;
 mod ledgers;
 mod submits;
 
-use crate::samples::guarded::{guarded_outputs, push_guarded};
+use crate::samples::guarded::push_guarded;
 use crate::samples::ledgers::push_ledgers;
 use crate::samples::submits::{push_merged, push_submits};
 use mp_memory::Memory;
 use mp_seqpool::{Command, Ids};
-use mp_tx::{Ledger, Output, Tx, TxId, TxParts};
+use mp_tx::{Ledger, Tx, TxId, TxParts};
 use std::sync::Arc;
 
 /// So many samples submit a transaction of 181 bytes that spends an opening output and pays 100: sample 0 the first one, and so
@@ -53,32 +53,29 @@ pub const ALL: usize = 148;
 /// The first opening output alone.
 pub const PART: usize = 149;
 
-/// The same with 400,000 block bytes.
-pub const NARROW: usize = 150;
-
 /// The first hundred opening outputs.
-pub const HUNDRED: usize = 151;
+pub const HUNDRED: usize = 150;
 
 /// A remove of sample 0.
-pub const REMOVE_FIRST: usize = 152;
+pub const REMOVE_FIRST: usize = 151;
 
 /// A remove of sample 1.
-pub const REMOVE_SECOND: usize = 153;
+pub const REMOVE_SECOND: usize = 152;
 
 /// A remove of the samples 63 and 64, which stand under the tickets 64 and 65 where all are submitted in order.
-pub const REMOVE_TWO: usize = 154;
+pub const REMOVE_TWO: usize = 153;
 
 /// A remove of sample 69.
-pub const REMOVE_SEVENTIETH: usize = 155;
+pub const REMOVE_SEVENTIETH: usize = 154;
 
 /// A signed submit that spends both outputs of the submit `RIVAL`, which have 60 and 40 coin.
-pub const MERGED: usize = 156;
+pub const MERGED: usize = 155;
 
 /// A submit that spends the same output as sample 1, and pays 50 twice. Behind it stands a signed one that spends both of these.
-pub const EVEN: usize = 157;
+pub const EVEN: usize = 156;
 
 /// A remove of sample 2.
-pub const REMOVE_THIRD: usize = 159;
+pub const REMOVE_THIRD: usize = 158;
 
 /// Commands in order.
 pub type Commands = Vec<Command, Memory>;
@@ -87,8 +84,6 @@ pub type Commands = Vec<Command, Memory>;
 pub struct Samples {
     pub memory: Memory,
     commands: Commands,
-    /// Other outputs for the guarded transaction than those of the ledger state with 120 coin.
-    pub others: Vec<Output, Memory>,
 }
 
 impl Drop for Samples {
@@ -96,7 +91,6 @@ impl Drop for Samples {
         let Samples {
             memory: _,
             commands: _,
-            others: _,
         } = self;
     }
 }
@@ -184,14 +178,7 @@ fn push_all(memory: Memory, commands: &mut Commands) -> Option<()> {
 
 /// Makes all samples.
 pub fn all_samples(memory: Memory) -> Option<Samples> {
-    let Ok(others) = guarded_outputs(memory, 100) else {
-        return None;
-    };
     let mut commands = Vec::new(memory);
     push_all(memory, &mut commands)?;
-    Some(Samples {
-        memory,
-        commands,
-        others,
-    })
+    Some(Samples { memory, commands })
 }

@@ -20,8 +20,6 @@ pub enum Told {
     WrongReply(usize),
     StrangeCaller(usize),
     NoMemory,
-    /// It gave what was asked for, and that has no tickets.
-    Done,
     /// None of these, or not the same twice.
     Otherwise,
 }
@@ -41,8 +39,7 @@ impl Told {
             Told::WrongReply(place) => [9, place as u64, 0],
             Told::StrangeCaller(place) => [10, place as u64, 0],
             Told::NoMemory => [11, 0, 0],
-            Told::Done => [12, 0, 0],
-            Told::Otherwise => [13, 0, 0],
+            Told::Otherwise => [12, 0, 0],
         };
         [kind, first, second, 0, 0, 0]
     }

@@ -1,5 +1,5 @@
-//! Tests the sequential pool, histories and versions for what no contract says: growths that are refused, threads, what is shared, and
-//! answers that were worked out by hand. It prints each case that is found otherwise, and for each part how many held.
+//! Tests the sequential pool, histories and versions for what no contract says: threads, what is shared, and answers that were worked out
+//! by hand. It prints each case that is found otherwise, and for each part how many held.
 #![tactic(auto)]
 
 mod history;

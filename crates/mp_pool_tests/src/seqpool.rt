@@ -1,45 +1,28 @@
-//! The sequential pool: each call that may want memory says so at each refused growth and leaves the pool, and then the same
-//! call answers. And answers to what no scenario can ask for.
-mod answers;
-mod asking;
-mod making;
-mod steps;
-
-use crate::seqpool::answers::held_answers;
-use crate::seqpool::asking::held_calls;
-use crate::seqpool::making::{held_copies, held_makings};
-use mp_pool_samples::samples::{AFTER_FIRST, GUARDED, PART, REMOVE_FIRST, Samples};
-use mp_pool_samples::told::with_digit;
-use mp_seqpool::SeqPool;
-use mp_testing::Seen;
+//! The sequential pool: answers to what no scenario can ask for, worked out by hand. A scenario's remove names a transaction at least, and
+//! its sync can't give an output of a reference that paid otherwise before.
+use mp_pool_samples::samples::{GUARDED, OF_100, Samples};
+use mp_pool_samples::told::{Told, read_answer, with_digit};
+use mp_pool_samples::{ACCEPTS_ALL, CONFIG};
+use mp_seqpool::{Played, SeqPool, play};
+use mp_testing::{Seen, count};
 use std::io;
-pub use steps::{pool_of_three, prepare};
 
-/// The kind of a command, or of the reply to it.
-#[derive(Clone, Copy)]
-pub enum Kind {
-    Submit,
-    Remove,
-    Sync,
-    // A sync that takes out what hasn't what it spends any more, and looks at no rule.
-    Adopt,
-}
+// What the guarded commands are told on a pool where the guarded output has 100 coin: the validator looks at what its own output
+// holds.
+static ROWS: [(&str, Told); 6] = [
+    (
+        "a submit of what looks at its own output",
+        Told::Accepted(1),
+    ),
+    ("a remove of none", Told::Removed(0, 0)),
+    ("a sync with enough", Told::Synced(1, 0)),
+    ("a sync with more", Told::Synced(1, 0)),
+    ("a sync with too little", Told::Synced(0, 1)),
+    ("a submit upon too little", Told::ValidatorRefused(0)),
+];
 
-impl Kind {
-    /// The number of the sample that is asked for: a submit of the guarded transaction, a remove of the first of three, a sync
-    /// with what that one pays, or one with what it spends.
-    pub const fn number(self) -> usize {
-        match self {
-            Kind::Submit => GUARDED,
-            Kind::Remove => REMOVE_FIRST,
-            Kind::Sync => AFTER_FIRST,
-            Kind::Adopt => PART,
-        }
-    }
-}
-
-/// The tickets, the bytes, the last ticket and the changes of a pool.
-pub fn look_at(pool: &SeqPool) -> Seen {
+// The tickets as the digits of a number, the bytes, the last ticket and the changes of a pool.
+fn look_at(pool: &SeqPool) -> Seen {
     let mut tickets = 0;
     for (ticket, _) in pool.contents() {
         tickets = with_digit(tickets, ticket);
@@ -54,16 +37,36 @@ pub fn look_at(pool: &SeqPool) -> Seen {
     ]
 }
 
+// What comes of the guarded commands.
+fn play_guarded(samples: &Samples) -> Option<Played> {
+    let ledger = samples.ledger(OF_100)?;
+    let commands = samples.commands(GUARDED, GUARDED + 6);
+    play(samples.memory, CONFIG, ledger, commands, &ACCEPTS_ALL).ok()
+}
+
+fn told_at(played: &Played, place: usize) -> Option<Seen> {
+    Some(read_answer(played.answers.get(place)?).seen())
+}
+
+fn count_answers(rt: &impl Print, played: &Played) -> io::Result<u64> {
+    let mut held = 0u64;
+    for (place, (name, told)) in ROWS.iter().enumerate() {
+        let seen = told_at(played, place);
+        held = held.wrapping_add(count(rt, name, seen, told.seen())?);
+    }
+    Ok(held)
+}
+
+fn count_played(rt: &impl Print, played: &Played) -> io::Result<u64> {
+    let stands = Some(look_at(&played.pool));
+    let held = count(rt, "the pool then", stands, [0, 0, 1, 5, 0, 0])?;
+    Ok(held.wrapping_add(count_answers(rt, played)?))
+}
+
 /// How many cases hold.
 pub fn held(rt: &impl Print, samples: &Samples) -> io::Result<u64> {
-    let calls = held_calls(rt, samples)?;
-    let makings = held_makings(rt, samples)?;
-    let copies = held_copies(rt, samples)?;
-    let answers = held_answers(rt, samples)?;
-    Ok(
-        calls
-            .wrapping_add(makings)
-            .wrapping_add(copies)
-            .wrapping_add(answers),
-    )
+    match play_guarded(samples) {
+        Some(played) => count_played(rt, &played),
+        None => count(rt, "answers", None, [0; 6]),
+    }
 }

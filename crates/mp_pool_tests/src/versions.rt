@@ -1,13 +1,11 @@
-//! Versions: what is read of them, where chunks and pages end, what is shared, the board, and each call that may want memory.
+//! Versions: what is read of them, where chunks and pages end, what is shared, and the board.
 mod board;
 mod both;
-mod calls;
 mod pages;
 mod reading;
 mod sharing;
 
 use crate::versions::board::held_boards;
-use crate::versions::calls::held_calls;
 use crate::versions::pages::held_pages;
 use crate::versions::reading::held_readings;
 use crate::versions::sharing::held_shares;
@@ -17,16 +15,10 @@ use std::sync::Wait;
 use std::thread::Threads;
 
 fn held_alone(rt: &impl Print, samples: &Samples) -> io::Result<u64> {
-    let calls = held_calls(rt, samples)?;
     let readings = held_readings(rt, samples)?;
     let pages = held_pages(rt, samples)?;
     let shares = held_shares(rt, samples)?;
-    Ok(
-        calls
-            .wrapping_add(readings)
-            .wrapping_add(pages)
-            .wrapping_add(shares),
-    )
+    Ok(readings.wrapping_add(pages).wrapping_add(shares))
 }
 
 /// How many cases hold.

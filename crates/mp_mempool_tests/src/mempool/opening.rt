@@ -2,8 +2,8 @@
 use crate::mempool::calls::Call;
 use crate::mempool::heard::Heard;
 use crate::mempool::pools::{Line, Played, play};
+use crate::trials::{Trial, count_trial};
 use mp_mempool::OpenRefusal;
-use mp_pool_samples::rows::{MANY, Trial, count_trial};
 use mp_pool_samples::samples::Samples;
 use mp_testing::{Seen, count, under_each_refusal};
 use std::io;
@@ -65,7 +65,7 @@ fn try_opening<R: Wait>(rt: &R, samples: &Samples) -> Trial {
 /// How many cases hold.
 pub fn held_openings<R: Print + Wait>(rt: &R, samples: &Samples) -> io::Result<u64> {
     let trial = try_opening(rt, samples);
-    let mut held = count_trial(rt, "an opening at refused growths", trial, [0; 6], MANY)?;
+    let mut held = count_trial(rt, "an opening at refused growths", trial, [0; 6], 6)?;
     for (name, callers, limit, wanted) in &ROWS {
         let seen = open(rt, samples, *callers, *limit).seen();
         held = held.wrapping_add(count(rt, name, Some(seen), wanted.seen())?);

@@ -54,15 +54,6 @@ fn output_at(memory: Memory, coin: u8, index: u16) -> Result<Output, NoMemory> {
     }
 }
 
-/// Openings 2 and 3, where the first has so much coin.
-pub fn guarded_outputs(memory: Memory, coin: u8) -> Result<Vec<Output, Memory>, NoMemory> {
-    let mut outputs = Vec::new(memory);
-    for index in [2, 3] {
-        outputs.push(output_at(memory, coin, index)?)?;
-    }
-    Ok(outputs)
-}
-
 fn openings(memory: Memory, coin: u8) -> Result<Vec<(OutRef, Output), Memory>, NoMemory> {
     let mut entries = Vec::new(memory);
     for index in [0, 1, 2, 3] {

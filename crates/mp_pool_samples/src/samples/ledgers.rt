@@ -39,6 +39,5 @@ pub fn push_ledgers(memory: Memory, commands: &mut Commands) -> Option<()> {
     push_after_first(memory, commands)?;
     push_sync(commands, ledger(memory, SPENDING, 500_000))?;
     push_sync(commands, ledger(memory, 1, 500_000))?;
-    push_sync(commands, ledger(memory, 1, 400_000))?;
     push_sync(commands, ledger(memory, 100, 500_000))
 }

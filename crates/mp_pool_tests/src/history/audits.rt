@@ -1,12 +1,11 @@
 //! Audits that were worked out by hand.
 use crate::history::entries::{Telling, idle_entries, three_entries};
 use mp_history::Entry;
-use mp_pool_samples::rows::{TWO_OR_MORE, Trial, count_trial};
 use mp_pool_samples::samples::{PART, Samples};
 use mp_pool_samples::told::Told;
 use mp_pool_samples::{CONFIG, tell};
 use mp_seqpool::Config;
-use mp_testing::{Call, Seen, TrialFault, count, under_each_refusal};
+use mp_testing::{Seen, count};
 use std::io;
 
 const ONE_CHANGE: Config = Config { limit: 1, last: 0 };
@@ -158,44 +157,6 @@ fn tell_row(samples: &Samples, row: &Row) -> Option<Seen> {
     Some(tell_some(samples, config, count, &entries, some).seen())
 }
 
-// An audit of the entries.
-#[derive(Drop)]
-struct Auditing<'a> {
-    samples: &'a Samples,
-    entries: &'a [Entry],
-}
-
-impl Call for Auditing<'_> {
-    type Value = ();
-
-    fn make(&self) -> Option<()> {
-        Some(())
-    }
-
-    fn call(&self, _value: &mut ()) -> Option<Seen> {
-        tell(self.samples, PART, CONFIG, 1, self.entries).answered()
-    }
-
-    fn look(&self, _value: &()) -> Seen {
-        [0; 6]
-    }
-}
-
-fn try_audit(samples: &Samples, entries: &[Entry]) -> Trial {
-    under_each_refusal(&samples.memory, &Auditing { samples, entries })
-}
-
-fn try_legal(samples: &Samples) -> Trial {
-    let legal = Telling {
-        callers: [0, 0],
-        tickets: RIGHT,
-    };
-    match three_entries(samples, legal) {
-        Some(entries) => try_audit(samples, &entries),
-        None => Err(TrialFault::NotMade),
-    }
-}
-
 // A history of more entries than any other here.
 fn tell_long(samples: &Samples) -> Option<Seen> {
     let entries = idle_entries(samples, 5_000)?;
@@ -204,17 +165,8 @@ fn tell_long(samples: &Samples) -> Option<Seen> {
 
 /// How many cases hold.
 pub fn held_audits(rt: &impl Print, samples: &Samples) -> io::Result<u64> {
-    let wanted = Told::Legal(0, 2).seen();
-    let trial = try_legal(samples);
-    let mut held = count_trial(
-        rt,
-        "an audit at refused growths",
-        trial,
-        wanted,
-        TWO_OR_MORE,
-    )?;
     let long = tell_long(samples);
-    held = held.wrapping_add(count(rt, "a long history", long, Told::Legal(0, 0).seen())?);
+    let mut held = count(rt, "a long history", long, Told::Legal(0, 0).seen())?;
     for row in &ROWS {
         let seen = tell_row(samples, row);
         held = held.wrapping_add(count(rt, row.0, seen, row.6.seen())?);

@@ -1,4 +1,4 @@
-//! The board: threads that read while versions are shown, and each refused growth.
+//! The board: threads that read while versions are shown.
 ghost use Rattle.std.specs.Prelude.{◌≡◌, IfSome};
 ghost use Rattle.mp_seqpool.specs.PoolLaws.{IsLawful};
 ghost use Rattle.mp_seqpool.specs.Config.{renewed};
@@ -8,10 +8,9 @@ ghost use Rattle.mp_pool_samples.specs.Names.{any};
 use mp_history::{History, NewName, PoolName};
 use mp_memory::{Memory, NoMemory};
 use mp_pool_samples::CONFIG;
-use mp_pool_samples::rows::{SOME, Trial, count_trial};
 use mp_pool_samples::samples::{PART, Samples};
 use mp_seqpool::SeqPool;
-use mp_testing::{Call, Seen, count, under_each_refusal};
+use mp_testing::{Seen, count};
 use mp_versions::{Board, Shown, Snapshot, Version};
 use std::io;
 use std::marker::Brand;
@@ -119,86 +118,18 @@ fn see_board<N: PoolName + Send + Sync, R: Threads + Wait + Sync>(
     see(rt, memory, &board, shown)
 }
 
-#[derive(Clone, Copy)]
-enum Way {
-    // Another board is made.
-    Make,
-    // The version is shown.
-    Show,
-}
-
-// A call of a board that shows nothing.
-#[derive(Drop)]
-struct Showing<'a, N: PoolName, R: Wait> {
-    rt: &'a R,
-    memory: Memory,
-    shown: &'a Shown<N>,
-    way: Way,
-}
-
-fn number_of<N: PoolName>(board: &Board<N>) -> Seen {
-    match board.newest() {
-        Some(_) => [1, 0, 0, 0, 0, 0],
-        None => [0; 6],
-    }
-}
-
-impl<N: PoolName, R: Wait> Call for Showing<'_, N, R> {
-    type Value = Board<N>;
-
-    fn make(&self) -> Option<Board<N>> {
-        Board::new(self.memory).ok()
-    }
-
-    fn call(&self, board: &mut Board<N>) -> Option<Seen> {
-        match self.way {
-            Way::Make => {
-                let Ok(another) = Board::<N>::new(self.memory) else {
-                    return None;
-                };
-                Some(number_of(&another))
-            }
-            Way::Show => {
-                if show(self.rt, board, self.shown).is_err() {
-                    return None;
-                }
-                Some(number_of(board))
-            }
-        }
-    }
-
-    fn look(&self, board: &Board<N>) -> Seen {
-        number_of(board)
-    }
-}
-
-fn try_way<N: PoolName, R: Wait>(rt: &R, memory: Memory, shown: &Shown<N>, way: Way) -> Trial {
-    let showing = Showing {
-        rt,
-        memory,
-        shown,
-        way,
-    };
-    under_each_refusal(&memory, &showing)
-}
-
 fn count_shown<N: PoolName + Send + Sync, R: Print + Threads + Wait + Sync>(
     rt: &R,
     memory: Memory,
     shown: &Shown<N>,
 ) -> io::Result<u64> {
     let seen = see_board(rt, memory, shown);
-    let read = count(
+    count(
         rt,
         "four threads read what is shown",
         seen,
         [5, 0, 0, 1, 0, 0],
-    )?;
-    let trial = try_way(rt, memory, shown, Way::Make);
-    let made = count_trial(rt, "a new board", trial, [0; 6], SOME)?;
-    let trial = try_way(rt, memory, shown, Way::Show);
-    let shown = count_trial(rt, "what is shown", trial, [1, 0, 0, 0, 0, 0], SOME)?;
-    Ok(read.wrapping_add(made).wrapping_add(shown))
+    )
 }
 
 fn of_name<N: PoolName + Send + Sync, R: Print + Threads + Wait + Sync>(

@@ -4,13 +4,12 @@ ghost use Rattle.std.specs.Coded.{codes};
 ghost use Rattle.std.specs.FinMap as finite;
 ghost use Rattle.mp_seqpool.specs.Prepared.{IsPrepared, leads_to};
 
-use crate::seqpool::prepare;
 use mp_items::Run;
 use mp_memory::{Memory, NoMemory};
-use mp_pool_samples::CONFIG;
 use mp_pool_samples::samples::Samples;
 use mp_pool_samples::told::with_digit;
-use mp_seqpool::{Command, Prepared, SeqPool};
+use mp_pool_samples::{ACCEPTS_ALL, CONFIG};
+use mp_seqpool::{Command, Prepared, Refusal, SeqPool};
 use mp_testing::Seen;
 use mp_tx::Ledger;
 use mp_versions::Version;
@@ -31,8 +30,8 @@ impl Drop for Both {
     }
 }
 
-/// The pool with a version that is made of all of it.
-pub fn whole(memory: Memory, pool: SeqPool) -> Option<Both> {
+// The pool with a version that is made of all of it.
+fn whole(memory: Memory, pool: SeqPool) -> Option<Both> {
     match Version::of(memory, &pool) {
         Ok(version) => Some(Both { pool, version }),
         Err(NoMemory) => None,
@@ -44,6 +43,18 @@ pub fn start(memory: Memory, ledger: &Ledger) -> Option<Both> {
     match SeqPool::start(memory, CONFIG, ledger) {
         Ok(pool) => whole(memory, pool),
         Err(NoMemory) => None,
+    }
+}
+
+/// The step that does what the command asks.
+pub fn prepare(pool: &mut SeqPool, command: &Command) -> Result<Prepared, Refusal>
+    ensures same { pool.new.pool ≡ pool.old.pool }
+    ensures ready { IfOk result (IsPrepared pool.new) }
+{
+    match command {
+        Command::Submit(tx) => pool.prepare_submit(tx, None, &ACCEPTS_ALL),
+        Command::Remove(ids) => pool.prepare_remove(ids, &ACCEPTS_ALL),
+        Command::Sync(ledger) => pool.prepare_sync(ledger, &ACCEPTS_ALL),
     }
 }
 

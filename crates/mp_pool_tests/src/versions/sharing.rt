@@ -2,8 +2,7 @@
 //! 32 transactions and 1.
 ghost use Rattle.mp_seqpool.specs.Prepared.{IsPrepared};
 
-use crate::seqpool::prepare;
-use crate::versions::both::{Both, asked, next};
+use crate::versions::both::{Both, asked, next, prepare};
 use mp_memory::{Memory, NoMemory};
 use mp_pool_samples::samples::{ALL, HUNDRED, REMOVE_SEVENTIETH, Samples};
 use mp_seqpool::{Command, Prepared};

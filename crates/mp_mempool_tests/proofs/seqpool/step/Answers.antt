@@ -1,5 +1,5 @@
 use Rattle.mp_pool_samples.proofs.Signed.{signed}
-use Rattle.mp_pool_tests.proofs.seqpool.steps.step.Goals as goal
+use Rattle.mp_mempool_tests.proofs.seqpool.step.Goals as goal
 
 pub step-requires : goal.step-requires
 step-requires c = signed c.args.pool.now.pool

@@ -1,5 +1,5 @@
 use Rattle.mp_pool_samples.proofs.Signed.{signed}
-use Rattle.mp_pool_tests.proofs.seqpool.steps.prepare.Goals as goal
+use Rattle.mp_pool_tests.proofs.versions.both.prepare.Goals as goal
 
 pub prepare_remove-requires : goal.prepare_remove-requires
 prepare_remove-requires c = signed c.args.pool.now.pool

@@ -1,0 +1,133 @@
+//! The sequential pool, and a version of all of it, at each refused growth: the pool stays, and then the same call answers.
+use crate::trials::{Trial, count_trial};
+use mp_memory::NoMemory;
+use mp_pool_samples::samples::{AFTER_FIRST, GUARDED, OF_120, REMOVE_FIRST, Samples, THREE};
+use mp_pool_samples::told::{Told, read_answer, with_digit};
+use mp_pool_samples::{ACCEPTS_ALL, CONFIG};
+use mp_seqpool::{Command, SeqPool, play};
+use mp_testing::{Call, Seen, under_each_refusal};
+use mp_versions::Version;
+use std::io;
+
+// What is called on a pool with the three transactions.
+#[derive(Clone, Copy)]
+enum Way {
+    // Another such pool is made.
+    Play,
+    // The version of the pool is made.
+    Show,
+    // The sample is asked for, as one step.
+    Step(usize),
+}
+
+#[derive(Drop)]
+struct Calling<'a> {
+    samples: &'a Samples,
+    way: Way,
+}
+
+fn play_three(samples: &Samples) -> Option<SeqPool> {
+    let ledger = samples.ledger(OF_120)?;
+    let commands = samples.commands(THREE, THREE + 3);
+    match play(samples.memory, CONFIG, ledger, commands, &ACCEPTS_ALL) {
+        Ok(played) => Some(played.pool),
+        Err(NoMemory) => None,
+    }
+}
+
+// The tickets as the digits of a number, the bytes, the last ticket and the changes.
+fn stand(pool: &SeqPool) -> [u64; 4] {
+    let mut tickets = 0;
+    for (ticket, _) in pool.contents() {
+        tickets = with_digit(tickets, ticket);
+    }
+    [tickets, pool.bytes(), pool.last_ticket(), pool.changes()]
+}
+
+fn look_at(pool: &SeqPool) -> Seen {
+    let [tickets, bytes, last, changes] = stand(pool);
+    [tickets, bytes, last, changes, 0, 0]
+}
+
+// What is told, and how the pool stands then.
+fn step(pool: &mut SeqPool, command: &Command) -> Option<Seen> {
+    let told = match pool.step(command, &ACCEPTS_ALL) {
+        Ok(answer) => read_answer(&answer),
+        Err(NoMemory) => Told::NoMemory,
+    };
+    let [kind, first, second, ..] = told.answered()?;
+    let [tickets, bytes, last, _] = stand(pool);
+    Some([kind, first, second, tickets, bytes, last])
+}
+
+// How many transactions there are, their bytes, the last ticket, and the changes.
+fn look_at_version(version: &Version) -> Seen {
+    [
+        version.len() as u64,
+        version.bytes(),
+        version.last_ticket(),
+        version.number(),
+        0,
+        0,
+    ]
+}
+
+impl Call for Calling<'_> {
+    type Value = SeqPool;
+
+    fn make(&self) -> Option<SeqPool> {
+        play_three(self.samples)
+    }
+
+    fn call(&self, pool: &mut SeqPool) -> Option<Seen> {
+        let samples = self.samples;
+        match self.way {
+            Way::Play => Some(look_at(&play_three(samples)?)),
+            Way::Show => Some(look_at_version(&Version::of(samples.memory, pool).ok()?)),
+            Way::Step(number) => step(pool, samples.command(number)?),
+        }
+    }
+
+    fn look(&self, pool: &SeqPool) -> Seen {
+        look_at(pool)
+    }
+}
+
+// What is called, what is seen then, and how many growths there are at least. A step is told 1 and its ticket, 2 and what is removed and dropped, or
+// 3 and what stays and is dropped.
+static ROWS: [(&str, Way, Seen, u64); 5] = [
+    ("a pool of three", Way::Play, [123, 543, 3, 3, 0, 0], 6),
+    ("a version of a pool", Way::Show, [3, 543, 3, 3, 0, 0], 3),
+    (
+        "a submit as a step",
+        Way::Step(GUARDED),
+        [1, 4, 0, 1234, 817, 4],
+        1,
+    ),
+    (
+        "a remove as a step",
+        Way::Step(REMOVE_FIRST),
+        [2, 1, 2, 3, 181, 3],
+        6,
+    ),
+    (
+        "a sync as a step",
+        Way::Step(AFTER_FIRST),
+        [3, 2, 13, 2, 181, 3],
+        6,
+    ),
+];
+
+fn try_way(samples: &Samples, way: Way) -> Trial {
+    under_each_refusal(&samples.memory, &Calling { samples, way })
+}
+
+/// How many cases hold.
+pub fn held(rt: &impl Print, samples: &Samples) -> io::Result<u64> {
+    let mut held = 0u64;
+    for (name, way, wanted, least) in &ROWS {
+        let trial = try_way(samples, *way);
+        held = held.wrapping_add(count_trial(rt, name, trial, *wanted, *least)?);
+    }
+    Ok(held)
+}
