@@ -50,7 +50,7 @@ fn try_tickets(
 fn try_transactions(rt: &impl Print, memory: Memory) -> io::Result<()> {
     tell(rt, "bundles", &bundle::growths(memory))?;
     tell(rt, "data and scripts", &script::decodings(memory))?;
-    tell(rt, "looks at both", &script::looks(memory))?;
+    tell(rt, "shares of both", &script::shares(memory))?;
     tell(rt, "bytes cut off", &tx::cut_off(memory))?;
     tell(rt, "rooms", &tx::rooms(memory))?;
     tell(rt, "ledger states", &ledger::ledgers(memory))?;

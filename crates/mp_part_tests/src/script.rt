@@ -1,9 +1,8 @@
-//! Data and scripts: what takes no memory, as those that nearly every input has, other faults than want of memory, shares and looks. What
-//! takes some is tried in the lines of mp_vectors' `datum.txt` and `script.txt`.
+//! Data and scripts: what takes no memory, as those that nearly every input has, other faults than want of memory, and shares. What takes
+//! some is tried in the lines of mp_vectors' `datum.txt` and `script.txt`.
 use crate::rows::{Row, without_growth};
 use mp_memory::Memory;
 use mp_script::{Data, DataFault, Script, ScriptFault};
-use mp_testing::Seen;
 
 // A list of five: -5, the bytes `xy`, a list of 1 and an empty list, an empty list, and 8.
 const LIST_OF_FIVE: &[u8] = &[
@@ -80,76 +79,32 @@ pub fn decodings(memory: Memory) -> [Row; 10] {
     })
 }
 
-fn make(memory: Memory) -> Option<(Data, Script)> {
+fn share_datum(memory: Memory) -> Option<[u64; 1]> {
     let Ok(datum) = Data::decode(memory, LIST_OF_FIVE) else {
         return None;
     };
+    memory.refuse(1);
+    let Ok(share) = datum.share() else {
+        return None;
+    };
+    without_growth(memory, [u64::from(share.bytes() == datum.bytes())])
+}
+
+fn share_script(memory: Memory) -> Option<[u64; 1]> {
     let Ok(script) = Script::decode(memory, OR) else {
         return None;
     };
-    Some((datum, script))
-}
-
-// Whether the share of a datum has the same bytes, and that of a script.
-fn share(value: &(Data, Script)) -> Option<[u64; 2]> {
-    let Ok(datum) = value.0.share() else {
+    memory.refuse(1);
+    let Ok(share) = script.share() else {
         return None;
     };
-    let Ok(script) = value.1.share() else {
-        return None;
-    };
-    Some([
-        u64::from(datum.bytes() == value.0.bytes()),
-        u64::from(script.bytes() == value.1.bytes()),
-    ])
+    without_growth(memory, [u64::from(share.bytes() == script.bytes())])
 }
 
-fn shared(memory: Memory) -> Option<[u64; 2]> {
-    let value = make(memory)?;
-    memory.refuse(1);
-    let seen = share(&value)?;
-    without_growth(memory, seen)
-}
-
-// Whether the datum is read whole and is neither number nor octets, its length, and whether its last item is there.
-fn look_at_datum(datum: &Data) -> [u64; 4] {
-    let whole = datum.whole();
-    let is_whole = u64::from(whole.bytes() == datum.bytes());
-    let is_list = u64::from(whole.number().is_none() && whole.octets().is_none());
-    let length = u64::from(whole.length().unwrap_or(0));
+/// Shares, which have the same bytes and take no memory.
+pub fn shares(memory: Memory) -> [Row; 2] {
     [
-        is_whole,
-        is_list,
-        length,
-        u64::from(whole.item(4).is_some()),
-    ]
-}
-
-// The same, whether the script has its bytes, and whether both have a hash of 32.
-fn look(value: &(Data, Script)) -> Seen {
-    let [is_whole, is_list, length, has_last] = look_at_datum(&value.0);
-    let is_or = u64::from(value.1.bytes() == OR);
-    let is_hashed = value.0.hash().len() == 32 && value.1.hash().len() == 32;
-    [
-        is_whole,
-        is_list,
-        length,
-        has_last,
-        is_or,
-        u64::from(is_hashed),
-    ]
-}
-
-fn looked_at(memory: Memory) -> Option<Seen> {
-    let value = make(memory)?;
-    memory.refuse(1);
-    without_growth(memory, look(&value))
-}
-
-/// Shares and looks, which take none.
-pub fn looks(memory: Memory) -> [Row; 2] {
-    [
-        Row::seen("shares of a datum and a script", shared(memory), [1, 1]),
-        Row::seen("a look at both", looked_at(memory), [1, 1, 5, 1, 1, 1]),
+        Row::seen("a shared datum", share_datum(memory), [1]),
+        Row::seen("a shared script", share_script(memory), [1]),
     ]
 }

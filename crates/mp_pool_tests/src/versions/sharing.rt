@@ -5,7 +5,7 @@ ghost use Rattle.mp_seqpool.specs.Prepared.{IsPrepared};
 use crate::versions::both::{Both, asked, next, prepare};
 use mp_memory::{Memory, NoMemory};
 use mp_pool_samples::samples::{ALL, HUNDRED, REMOVE_SEVENTIETH, Samples};
-use mp_seqpool::{Command, Prepared};
+use mp_seqpool::{Command, Prepared, SeqPool};
 use mp_testing::{Seen, count};
 use mp_versions::Version;
 use std::io;
@@ -88,6 +88,18 @@ fn see_step(samples: &Samples, both: &mut Both, number: usize) -> Option<Seen> {
     more_after_step(samples.memory, both, samples.command(number)?)
 }
 
+// How many transactions there are, their bytes, the last ticket and the changes.
+fn stand(pool: &SeqPool) -> Seen {
+    [
+        pool.len() as u64,
+        pool.bytes(),
+        pool.last_ticket(),
+        pool.changes(),
+        0,
+        0,
+    ]
+}
+
 fn count_rows(rt: &impl Print, samples: &Samples, both: &mut Both) -> io::Result<u64> {
     let renewed = more_renewed(both);
     let mut held = count(rt, "what a renewed version shares", renewed, [0; 6])?;
@@ -95,6 +107,13 @@ fn count_rows(rt: &impl Print, samples: &Samples, both: &mut Both) -> io::Result
         let seen = see_step(samples, both, *number);
         held = held.wrapping_add(count(rt, name, seen, *wanted)?);
     }
+    let stands = Some(stand(&both.pool));
+    held = held.wrapping_add(count(
+        rt,
+        "the pool after steps that are dropped",
+        stands,
+        [129, 23_349, 129, 129, 0, 0],
+    )?);
     Ok(held)
 }
 
