@@ -1,9 +1,7 @@
-//! Bundles and sums: a share takes no memory, and a sum some for tokens other than coin. Bundles that are made are tried in the lines of
-//! mp_vectors' `bundle.txt`.
+//! Bundles and sums: a share takes no memory, and a sum none for coin.
 use crate::rows::{Row, without_growth};
 use mp_bundle::{Bundle, BundleFault, COIN, Given, PolicyId, Sum};
 use mp_memory::{Memory, NoMemory};
-use mp_testing::{Call, Seen, TrialFault, Trialled, under_each_refusal};
 
 const POLICY: PolicyId = [3; 32];
 
@@ -56,79 +54,14 @@ fn add(sum: &mut Sum, bundle: &Bundle) -> Result<(), NoMemory> {
     }
 }
 
-fn total(sum: &Sum, name: &[u8]) -> u64 {
-    u64::try_from(sum.total(&POLICY, name)).unwrap_or(0)
-}
-
-// How many bundles were added, and the totals of coin and of the tokens 0, 1, 2 and 59.
-fn look_at_sum(sum: &Sum) -> Seen {
+// How many bundles were added, and the total of coin.
+fn look_at_sum(sum: &Sum) -> [u64; 2] {
     let coin = u64::try_from(sum.total(&COIN, b"")).unwrap_or(0);
-    let [first, second] = [total(sum, b"\0"), total(sum, b"\x01")];
-    [
-        sum.added(),
-        coin,
-        first,
-        second,
-        total(sum, b"\x02"),
-        total(sum, b"\x3b"),
-    ]
-}
-
-// A bundle that is added to a sum of two tokens.
-#[derive(Drop)]
-struct Adding {
-    memory: Memory,
-    bundle: Bundle,
-}
-
-impl Call for Adding {
-    type Value = Sum;
-
-    fn make(&self) -> Option<Sum> {
-        let Ok(bundle) = bundle_of(self.memory, 2) else {
-            return None;
-        };
-        let mut sum = Sum::new(self.memory);
-        if sum.add(&bundle).is_err() {
-            return None;
-        }
-        Some(sum)
-    }
-
-    fn call(&self, sum: &mut Sum) -> Option<Seen> {
-        if add(sum, &self.bundle).is_err() {
-            return None;
-        }
-        Some(look_at_sum(sum))
-    }
-
-    fn look(&self, sum: &Sum) -> Seen {
-        look_at_sum(sum)
-    }
-}
-
-// A bundle of 60 tokens.
-fn tried(memory: Memory) -> Result<Trialled, TrialFault> {
-    match bundle_of(memory, 60) {
-        Ok(bundle) => under_each_refusal(&memory, &Adding { memory, bundle }),
-        Err(_) => Err(TrialFault::NotMade),
-    }
-}
-
-// What is seen of the sum after that, if it took several growths.
-fn added(memory: Memory) -> Option<Seen> {
-    let Ok(done) = tried(memory) else {
-        return None;
-    };
-    if done.growths > 1 {
-        Some(done.answer)
-    } else {
-        None
-    }
+    [sum.added(), coin]
 }
 
 // A bundle of coin alone, added twice.
-fn coin_added(memory: Memory) -> Option<Seen> {
+fn coin_added(memory: Memory) -> Option<[u64; 2]> {
     let Ok(bundle) = bundle_of(memory, 0) else {
         return None;
     };
@@ -139,11 +72,10 @@ fn coin_added(memory: Memory) -> Option<Seen> {
     without_growth(memory, look_at_sum(&sum))
 }
 
-/// What takes memory, and what takes none.
-pub fn growths(memory: Memory) -> [Row; 3] {
+/// What takes no memory.
+pub fn thrift(memory: Memory) -> [Row; 2] {
     [
         Row::seen("a shared bundle", shared(memory), [10, 9]),
-        Row::seen("a bundle added", added(memory), [2, 6, 2, 4, 3, 60]),
-        Row::seen("coin added", coin_added(memory), [2, 6, 0, 0, 0, 0]),
+        Row::seen("coin added", coin_added(memory), [2, 6]),
     ]
 }

@@ -1,16 +1,15 @@
-//! Ledger states: blocks under refusals, and that they keep their salt, which no contract sees. A share takes no memory. States that are
-//! made of outputs are tried in the lines of mp_vectors' `ledger.txt`.
-use crate::rows::{Row, without_growth};
+//! Ledger states after blocks, under refusals. States that are made of outputs are tried in the lines of mp_vectors' `ledger.txt`.
+use crate::rows::Row;
 use mp_bundle::Bundle;
 use mp_memory::{Memory, NoMemory};
 use mp_testing::{Call, Seen, TrialFault, Trialled, under_each_refusal};
 use mp_tx::{Ledger, LedgerFault, OutRef, Output, Salt};
-use std::hash::{BuildHasher, Hasher};
 
-const SALT: u64 = 0x5eed;
+/// The salt of each ledger state here.
+pub const SALT: u64 = 0x5eed;
 
-// Output `index` of the transaction whose id is 32 times a byte.
-fn reference(byte: u8, index: u16) -> OutRef {
+/// Output `index` of the transaction whose id is 32 times a byte.
+pub fn reference(byte: u8, index: u16) -> OutRef {
     OutRef {
         id: [byte; 32],
         index,
@@ -42,74 +41,20 @@ fn ledger_of(
     Ledger::of_outputs(memory, Salt::new(SALT), 6, 1, outputs)
 }
 
-// A ledger state of so many outputs.
-fn ledger_with(memory: Memory, outputs: u8) -> Option<Ledger> {
+/// A ledger state of so many outputs.
+pub fn ledger_with(memory: Memory, outputs: u8) -> Option<Ledger> {
     let Ok(outputs) = outputs_to(memory, outputs) else {
         return None;
     };
     ledger_of(memory, outputs).ok()
 }
 
-// The first byte of an output's address.
-fn address_at(ledger: &Ledger, from: OutRef) -> u64 {
+/// The first byte of an output's address.
+pub fn address_at(ledger: &Ledger, from: OutRef) -> u64 {
     match ledger.get(&from) {
         Some(output) => u64::from(output.address[0]),
         None => 0,
     }
-}
-
-// The tick, the bytes of a block, the address of an output, and whether there is a second one of its transaction.
-fn look(ledger: &Ledger) -> [u64; 4] {
-    let has_second = ledger.get(&reference(3, 1)).is_some();
-    let address = address_at(ledger, reference(3, 0));
-    [
-        ledger.tick(),
-        ledger.block_bytes(),
-        address,
-        u64::from(has_second),
-    ]
-}
-
-fn shared(memory: Memory) -> Option<[u64; 4]> {
-    let Some(ledger) = ledger_with(memory, 9) else {
-        return None;
-    };
-    memory.refuse(1);
-    let Ok(share) = ledger.share() else {
-        return None;
-    };
-    without_growth(memory, look(&share))
-}
-
-// What a hasher of the salt makes of a word.
-fn hashed(salt: Salt) -> u64 {
-    let mut hasher = salt.build_hasher();
-    hasher.write_u64(1);
-    hasher.finish()
-}
-
-fn has_salt(ledger: &Ledger) -> u64 {
-    u64::from(hashed(ledger.salt()) == hashed(Salt::new(SALT)))
-}
-
-// Whether a ledger state of so many outputs has its salt, a share of it, and the one after a block; and whether another salt hashes otherwise.
-fn salts(memory: Memory, outputs: u8) -> Option<[u64; 4]> {
-    let Some(ledger) = ledger_with(memory, outputs) else {
-        return None;
-    };
-    let Ok(share) = ledger.share() else {
-        return None;
-    };
-    let Ok(after) = ledger.after(memory, 7, 2, &[reference(3, 0)], Vec::new(memory)) else {
-        return None;
-    };
-    let differs = hashed(Salt::new(0)) != hashed(Salt::new(SALT));
-    Some([
-        has_salt(&ledger),
-        has_salt(&share),
-        has_salt(&after),
-        u64::from(differs),
-    ])
 }
 
 // A block that spends the output of transaction 3 and makes none, upon a ledger state.
@@ -161,14 +106,5 @@ pub fn blocks(memory: Memory) -> [Row; 2] {
     [
         Row::tried("a layer", tried_block(memory, 9), [7, 2, 0, 4], 7),
         Row::tried("a table", tried_block(memory, 7), [7, 2, 0, 4], 9),
-    ]
-}
-
-/// A share of a ledger state, and its salts: where the block becomes a layer, and where its table is made anew.
-pub fn ledgers(memory: Memory) -> [Row; 3] {
-    [
-        Row::seen("a shared ledger", shared(memory), [6, 1, 3, 0]),
-        Row::seen("salts of a layer", salts(memory, 9), [1, 1, 1, 1]),
-        Row::seen("salts of a table", salts(memory, 7), [1, 1, 1, 1]),
     ]
 }

@@ -10,6 +10,7 @@ mod output;
 mod picture;
 mod rows;
 mod rules;
+mod salts;
 mod script;
 mod text;
 mod threads;
@@ -42,20 +43,20 @@ fn try_tickets(
     memory: Memory,
     other: Memory,
 ) -> io::Result<()> {
-    tell(rt, "tickets", &tickets::growths(memory))?;
+    tell(rt, "tickets", &tickets::thrift(memory))?;
     tell(rt, "drops", &drops::drops(alloc, memory, other))?;
     tell(rt, "tickets of threads", &threads::lists(rt, memory))
 }
 
 fn try_transactions(rt: &impl Print, memory: Memory) -> io::Result<()> {
-    tell(rt, "bundles", &bundle::growths(memory))?;
+    tell(rt, "bundles", &bundle::thrift(memory))?;
     tell(rt, "data and scripts", &script::decodings(memory))?;
     tell(rt, "shares of both", &script::shares(memory))?;
     tell(rt, "bytes cut off", &tx::cut_off(memory))?;
     tell(rt, "rooms", &tx::rooms(memory))?;
-    tell(rt, "ledger states", &ledger::ledgers(memory))?;
+    tell(rt, "ledger states", &salts::ledgers(memory))?;
     tell(rt, "blocks", &ledger::blocks(memory))?;
-    tell(rt, "overlays", &utxo::growths(memory))?;
+    tell(rt, "overlays", &utxo::thrift(memory))?;
     tell(rt, "signatures", &rules::countings(memory))
 }
 

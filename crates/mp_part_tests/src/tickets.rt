@@ -1,9 +1,8 @@
-//! Ticket lists: which of their calls take memory. A new list, a node, tickets that grow and a copy of them take one growth
-//! each.
+//! Ticket lists: a node that was made goes in, and an item goes out, without memory.
 use crate::rows::{Row, without_growth};
 use mp_memory::Memory;
-use mp_testing::{Call, Seen, TrialFault, Trialled, under_each_refusal};
-use mp_tickets::{Node, TicketList, Tickets, make_node};
+use mp_testing::Seen;
+use mp_tickets::{Node, TicketList, make_node};
 
 /// Puts the node in under the ticket, if that is greater than each that is there.
 pub fn push<T: Drop>(list: &mut TicketList<T>, ticket: u64, node: Node<T>) {
@@ -32,89 +31,6 @@ pub fn one_bucket(memory: Memory) -> Option<TicketList<u64>> {
     put(memory, &mut list, 1025, 102_500);
     put(memory, &mut list, 2049, 204_900);
     Some(list)
-}
-
-// What takes memory.
-#[derive(Clone, Copy)]
-enum Taking {
-    List,
-    Node,
-    Ticket,
-    Copy,
-}
-
-#[derive(Drop)]
-struct Taken {
-    memory: Memory,
-    taking: Taking,
-}
-
-fn new_list(memory: Memory) -> Option<Seen> {
-    let Ok(list) = TicketList::<u64>::new(memory) else {
-        return None;
-    };
-    Some([u64::from(list.is_empty()), 0, 0, 0, 0, 0])
-}
-
-// A refused node hands its item back.
-fn new_node(memory: Memory) -> Option<Seen> {
-    match make_node(memory, 7u64) {
-        Ok(node) => Some([node.into_inner(), 0, 0, 0, 0, 0]),
-        Err(7) => None,
-        Err(_) => Some([0; 6]),
-    }
-}
-
-fn is_three(tickets: &Tickets) -> bool {
-    matches!(tickets.as_slice(), [3])
-}
-
-fn push_ticket(tickets: &mut Tickets) -> Option<Seen> {
-    if tickets.as_slice().is_empty() {
-        if tickets.push(3).is_err() {
-            return None;
-        }
-    }
-    Some([u64::from(is_three(tickets)), 0, 0, 0, 0, 0])
-}
-
-fn copy_tickets(tickets: &Tickets) -> Option<Seen> {
-    let Ok(copy) = tickets.copy() else {
-        return None;
-    };
-    Some([u64::from(copy == *tickets), 0, 0, 0, 0, 0])
-}
-
-impl Call for Taken {
-    type Value = Tickets;
-
-    fn make(&self) -> Option<Tickets> {
-        let mut tickets = Tickets::new(self.memory);
-        if matches!(self.taking, Taking::Copy) {
-            if tickets.push(3).is_err() {
-                return None;
-            }
-        }
-        Some(tickets)
-    }
-
-    fn call(&self, tickets: &mut Tickets) -> Option<Seen> {
-        match self.taking {
-            Taking::List => new_list(self.memory),
-            Taking::Node => new_node(self.memory),
-            Taking::Ticket => push_ticket(tickets),
-            Taking::Copy => copy_tickets(tickets),
-        }
-    }
-
-    fn look(&self, tickets: &Tickets) -> Seen {
-        let length = tickets.as_slice().len() as u64;
-        [length, u64::from(is_three(tickets)), 0, 0, 0, 0]
-    }
-}
-
-fn tried(memory: Memory, taking: Taking) -> Result<Trialled, TrialFault> {
-    under_each_refusal(&memory, &Taken { memory, taking })
 }
 
 /// A ticket and its item, and zeros where there is none.
@@ -159,13 +75,9 @@ fn unlinked(memory: Memory) -> Option<Seen> {
     without_growth(memory, seen)
 }
 
-/// What takes memory, and what takes none.
-pub fn growths(memory: Memory) -> [Row; 6] {
+/// What takes no memory.
+pub fn thrift(memory: Memory) -> [Row; 2] {
     [
-        Row::tried("a new list", tried(memory, Taking::List), [1], 1),
-        Row::tried("a node", tried(memory, Taking::Node), [7], 1),
-        Row::tried("a ticket", tried(memory, Taking::Ticket), [1], 1),
-        Row::tried("a copy of tickets", tried(memory, Taking::Copy), [1], 1),
         Row::seen(
             "a push to a list",
             pushed(memory),

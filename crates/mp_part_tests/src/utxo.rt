@@ -1,10 +1,9 @@
-//! Overlays: reserving takes growths, and all their other calls take none.
+//! Overlays: one is made, a transaction is applied where there is room, and both are looked at without memory. Room is made in the cases
+//! of `overlay.txt`.
 use crate::rows::{Row, without_growth};
 use mp_memory::Memory;
-use mp_testing::{
-    Call, Seen, TrialFault, Trialled, ledger, opening, output_of, transaction, under_each_refusal,
-};
-use mp_tx::{Ledger, OutRef, Tx, TxId};
+use mp_testing::{ledger, opening, output_of, transaction};
+use mp_tx::{OutRef, Tx, TxId};
 use mp_utxo::{Overlay, Utxo};
 use std::sync::Arc;
 
@@ -36,96 +35,36 @@ fn apply(memory: Memory, overlay: &mut Overlay, tx: &Arc<Tx, Memory>) -> Option<
     Some(())
 }
 
-// The maker spends opening 0 and makes two outputs, of which the spender spends the first. Each time the table grows, which
-// takes four growths. At first the list of what is applied takes the fifth, and for the spender it has room.
-#[derive(Drop)]
-struct Reserving {
-    memory: Memory,
-    base: Ledger,
-    maker: Arc<Tx, Memory>,
-    spender: Arc<Tx, Memory>,
-    // Whether the maker is applied.
-    is_applied: bool,
+// The same, and whether opening 0 is in the ledger below.
+fn look(overlay: &Overlay, maker: &TxId) -> [u64; 5] {
+    let [first, second, made, next] = found(overlay, maker);
+    let below = u64::from(overlay.ledger().get(&opening(0)).is_some());
+    [first, second, made, next, below]
 }
 
-impl Reserving {
-    // What is seen of a new overlay, if nothing but making room takes a growth.
-    fn look_anew(&self) -> Option<Seen> {
-        let overlay = self.make()?;
-        without_growth(self.memory, self.look(&overlay))
-    }
-}
-
-impl Call for Reserving {
-    type Value = Overlay;
-
-    fn make(&self) -> Option<Overlay> {
-        self.memory.refuse(1);
-        let Ok(mut overlay) = Overlay::over(self.memory, &self.base) else {
-            return None;
-        };
-        if self.is_applied {
-            apply(self.memory, &mut overlay, &self.maker)?;
-        }
-        Some(overlay)
-    }
-
-    fn call(&self, overlay: &mut Overlay) -> Option<Seen> {
-        if overlay.reserve_for(&self.spender).is_err() {
-            return None;
-        }
-        Some(self.look(overlay))
-    }
-
-    // What may be spent, and whether opening 0 is in the ledger below.
-    fn look(&self, overlay: &Overlay) -> Seen {
-        let [first, second, made, next] = found(overlay, self.maker.id());
-        let below = u64::from(overlay.ledger().get(&opening(0)).is_some());
-        [first, second, made, next, below, 0]
-    }
-}
-
-fn make_reserving(memory: Memory, is_applied: bool) -> Option<Reserving> {
+// A new overlay, or one upon which a transaction is applied that spends opening 0 and makes two outputs.
+fn made(memory: Memory, is_applied: bool) -> Option<[u64; 5]> {
     let Ok(base) = ledger(memory, 2, 1000) else {
         return None;
     };
     let Ok(maker) = transaction(memory, &[opening(0)], &[60, 40]) else {
         return None;
     };
-    let made = output_of(maker.id(), 0);
-    let Ok(spender) = transaction(memory, &[opening(1), made], &[10; 20]) else {
+    memory.refuse(1);
+    let Ok(mut overlay) = Overlay::over(memory, &base) else {
         return None;
     };
-    Some(Reserving {
-        memory,
-        base,
-        maker,
-        spender,
-        is_applied,
-    })
-}
-
-fn tried(memory: Memory, is_applied: bool) -> Result<Trialled, TrialFault> {
-    match make_reserving(memory, is_applied) {
-        Some(reserving) => under_each_refusal(&memory, &reserving),
-        None => Err(TrialFault::NotMade),
+    if is_applied {
+        apply(memory, &mut overlay, &maker)?;
     }
+    without_growth(memory, look(&overlay, maker.id()))
 }
 
-fn made(memory: Memory, is_applied: bool) -> Option<Seen> {
-    match make_reserving(memory, is_applied) {
-        Some(reserving) => reserving.look_anew(),
-        None => None,
-    }
-}
-
-/// What takes memory, and what takes none. The numbers are whether openings 0 and 1 may be spent, and the outputs of the
-/// maker, and whether opening 0 is in the ledger below.
-pub fn growths(memory: Memory) -> [Row; 4] {
+/// What takes no memory. The numbers are whether openings 0 and 1 may be spent, and the outputs of the maker, and whether opening 0 is in
+/// the ledger below.
+pub fn thrift(memory: Memory) -> [Row; 2] {
     [
-        Row::tried("room at first", tried(memory, false), [1, 1, 0, 0, 1], 5),
-        Row::tried("room later", tried(memory, true), [0, 1, 1, 1, 1], 4),
-        Row::seen("a new overlay", made(memory, false), [1, 1, 0, 0, 1, 0]),
-        Row::seen("one applied", made(memory, true), [0, 1, 1, 1, 1, 0]),
+        Row::seen("a new overlay", made(memory, false), [1, 1, 0, 0, 1]),
+        Row::seen("one applied", made(memory, true), [0, 1, 1, 1, 1]),
     ]
 }
