@@ -93,8 +93,9 @@ impl Call for Calling<'_> {
     }
 }
 
-// What is called, what is seen then, and how many growths there are at least. A step is told 1 and its ticket, 2 and what is removed and dropped, or
-// 3 and what stays and is dropped.
+// What is called, what is seen then, and how many growths there are at least. A step is told 1 and its ticket, 2 and the tickets that were
+// named and those that went with them, or 3 and those that stay and those that don't; and then it is seen which tickets stand in the pool,
+// its bytes and the last ticket.
 static ROWS: [(&str, Way, Seen, u64); 5] = [
     ("a pool of three", Way::Play, [123, 543, 3, 3, 0, 0], 6),
     ("a version of a pool", Way::Show, [3, 543, 3, 3, 0, 0], 3),

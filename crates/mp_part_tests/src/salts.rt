@@ -39,7 +39,8 @@ fn has_salt(ledger: &Ledger) -> u64 {
     u64::from(hashed(ledger.salt()) == hashed(Salt::new(SALT)))
 }
 
-// Whether a ledger state of so many outputs has its salt, a share of it, and the one after a block; and whether another salt hashes otherwise.
+// Whether a ledger state of so many outputs has its salt, a share of it, and the one after a block; and whether another salt hashes
+// otherwise.
 fn salts(memory: Memory, outputs: u8) -> Option<[u64; 4]> {
     let Some(ledger) = ledger_with(memory, outputs) else {
         return None;
