@@ -12,8 +12,7 @@ use Rattle.std.specs.declared.cmp.Ordering.TheVariants.{Less, Equal, Greater}
 use Rattle.std.proofs.lemmas.Bool.Decides.{nat_tests}
 use Rattle.mp_bundle.specs.declared.token.Token.{Token}
 use Rattle.mp_bundle.specs.Token.{coin, token_cmp, same_token}
-use Rattle.mp_bundle.specs.Bundle.{Entry, quantity_of}
-use Rattle.mp_bundle.specs.Inside.Entry.{SplitsCoin}
+use Rattle.mp_bundle.specs.Bundle.{Entry, quantity_of, SplitsCoin}
 use Rattle.mp_bundle.proofs.Tokens.{token_total, token_exact, same_token-Decides}
 use Rattle.mp_bundle.proofs.Search.{equal, not_tied}
 use Rattle.mp_bundle.proofs.Faults.{below_from_less}
@@ -69,7 +68,7 @@ none_below (e ∷ es) q below low =
     ap (λ b. cond b (Some e.1) (find token_cmp q es)) other ∙ none_below es q (second_so _ _ below) low
 
 -- entries above coin have none of it
-no_coin : (es : List Entry) → below_all token_cmp coin es ≡ true → is_sorted token_cmp es ≡ true → SplitsCoin es (pos 0) es
+pub no_coin : (es : List Entry) → below_all token_cmp coin es ≡ true → is_sorted token_cmp es ≡ true → SplitsCoin es (pos 0) es
 no_coin es below rising = record {
   rising = ap (λ b. b && is_sorted token_cmp es) below ∙ rising;
   same = λ q. elim (eq_by_cmp token_cmp q coin) as (λ b. eq_by_cmp token_cmp q coin ≡ b → unwrap_or (cond b (Some (pos 0)) (find token_cmp q es)) (pos 0) ≡ quantity_of es q) [
@@ -78,14 +77,11 @@ no_coin es below rising = record {
   ] refl;
 }
 
-pub nothing_split : (es : List Entry) → length es ≡ 0 → SplitsCoin es (pos 0) es
-nothing_split [] e = no_coin [] refl refl
-nothing_split (e ∷ es) h = absurd (omega arith)
-
-pub coin_absent : (e : Entry) (es : List Entry) → is_sorted token_cmp (e ∷ es) ≡ true → is_lt (token_cmp e.0 coin) ≡ false → same_token e.0 coin ≡ false → SplitsCoin (e ∷ es) (pos 0) (e ∷ es)
-coin_absent e es rising least other =
+-- entries of which the first is above coin are all above it
+pub all_above : (e : Entry) (es : List Entry) → is_sorted token_cmp (e ∷ es) ≡ true → is_lt (token_cmp e.0 coin) ≡ false → same_token e.0 coin ≡ false → below_all token_cmp coin (e ∷ es) ≡ true
+all_above e es rising least other =
     let is_above = above_coin e.0 least (not_coin e.0 other) in
-    no_coin (e ∷ es) (ap (λ o. is_lt o && below_all token_cmp coin es) is_above ∙ below_from_less coin e.0 es is_above (first_so _ _ rising)) rising
+    ap (λ o. is_lt o && below_all token_cmp coin es) is_above ∙ below_from_less coin e.0 es is_above (first_so _ _ rising)
 
 -- a quantity of coin beside the entries
 pub at_coin : (n : ℤ) (es : List Entry) → quantity_of ((coin, n) ∷ es) coin ≡ n

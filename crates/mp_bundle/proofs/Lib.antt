@@ -4,6 +4,7 @@ pub mod Tokens
 pub mod Same
 pub mod Faults
 pub mod Coin
+pub mod Parted
 pub mod TotalsLemmas
 pub mod TokenOf
 pub mod SumLemmas

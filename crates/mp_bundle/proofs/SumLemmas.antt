@@ -11,8 +11,7 @@ use Rattle.std.proofs.lemmas.Int.{ints}
 use Rattle.mp_bundle.specs.declared.sum.Sum.TheInside.{Inside}
 use Rattle.mp_bundle.specs.declared.token.Token.{Token}
 use Rattle.mp_bundle.specs.Token.{coin, token_cmp}
-use Rattle.mp_bundle.specs.Bundle.{Entry, IsEntry, IsBundle, IsWithin, quantity_of}
-use Rattle.mp_bundle.specs.Inside.Entry.{SplitsCoin}
+use Rattle.mp_bundle.specs.Bundle.{Entry, IsEntry, IsBundle, IsWithin, quantity_of, SplitsCoin}
 use Rattle.mp_bundle.specs.Inside.Totals.{KeepsTotals, nonzero_of}
 use Rattle.mp_bundle.specs.Sum.{Adds}
 use Rattle.mp_bundle.specs.Inside.Sum.{totals_of, sum_of, IsHeld}

@@ -1,11 +1,12 @@
 -- A bundle: how much there is of each token (token bundles of Chakravarty et al., Native Custom
 -- Tokens in the Extended UTXO Model).
-use Rattle.std.specs.Prelude.{◌≢◌, ℕ, ◌^◌, ◌-◌, ◌≤◌, ℤ, pos, neg_ℤ, ◌≤ℤ◌, List, length, IsTrue}
+use Rattle.std.specs.Prelude.{◌≡◌, ◌≢◌, ℕ, ◌^◌, ◌-◌, ◌≤◌, ℤ, pos, neg_ℤ, ◌≤ℤ◌, List, ◌∷◌, length, IsTrue, if◌then◌else◌}
 use Rattle.std.specs.Option.{unwrap_or}
 use Rattle.std.specs.List.{AllByRecursion}
+use Rattle.std.specs.Ordering.{int_eq}
 use Rattle.std.specs.FinMap.{find, is_sorted}
 use Rattle.mp_bundle.specs.declared.token.Token.{Token}
-use Rattle.mp_bundle.specs.Token.{token_cmp}
+use Rattle.mp_bundle.specs.Token.{coin, token_cmp}
 
 -- a token and its quantity
 abbrev pub Entry : Type 0
@@ -14,6 +15,16 @@ Entry = Token × ℤ
 -- the quantity of a token, which is 0 where there is none
 abbrev pub quantity_of : List Entry → Token → ℤ
 quantity_of entries token = unwrap_or (find token_cmp token entries) (pos 0)
+
+-- so much coin, and then entries of other tokens
+abbrev pub with_coin : ℤ → List Entry → List Entry
+with_coin n others = if int_eq n (pos 0) then others else (coin, n) ∷ others
+
+-- entries are a quantity of coin, and others that are above it
+pub record SplitsCoin (entries : List Entry) (quantity : ℤ) (others : List Entry) : Type 0 where
+  pub rising : IsTrue (is_sorted token_cmp ((coin, quantity) ∷ others))
+  pub same : (token : Token)
+      → quantity_of ((coin, quantity) ∷ others) token ≡ quantity_of entries token
 
 -- from -most to most
 pub record IsWithin (most : ℕ) (n : ℤ) : Type 0 where

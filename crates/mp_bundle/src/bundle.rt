@@ -1,7 +1,9 @@
 //! Bundles.
 
-ghost use Rattle.std.specs.Prelude.{◌≡◌, IfOk};
-ghost use Rattle.mp_bundle.specs.Inside.Bundle.{those, entries_in};
+ghost use Rattle.std.specs.Prelude.{◌≡◌, None, IfOk};
+ghost use Rattle.mp_bundle.specs.Bundle.{with_coin};
+ghost use Rattle.mp_bundle.specs.BundleFault.{fault_of};
+ghost use Rattle.mp_bundle.specs.Inside.Bundle.{entries_in, IsParted};
 
 use crate::entry::{Entry, Given, first_fault, quantity_at, to_entries};
 use crate::fault::BundleFault;
@@ -10,77 +12,82 @@ use mp_memory::{Memory, NoMemory};
 use std::marker::Model;
 use std::sync::Arc;
 
-// The entries of a bundle. Most have one, which then takes no memory of its own.
-#[derive(Debug, Drop)]
-enum Entries {
-    One([Entry; 1]),
-    Several(Vec<Entry, Memory>),
-}
-
 // Entries that several bundles may have.
-type Shared = Arc<Entries, Memory>;
+type Shared = Arc<Vec<Entry, Memory>, Memory>;
 
 /// A finite map from tokens to quantities that aren't zero, from -(2^63 - 1) to 2^63 - 1. Contracts see its entries, in the
-/// rising order of their tokens. Several owners may share them, and the bundle of no token keeps none.
+/// rising order of their tokens. Coin takes no memory. Several owners may share the entries of other tokens.
 #[derive(Debug)]
 pub struct Bundle {
-    entries: Option<Shared>,
+    coin: i64,
+    // Of other tokens, if there are some.
+    others: Option<Shared>,
 }
 
 impl Drop for Bundle {
     fn drop(self) {
-        let Bundle { entries: _ } = self;
+        let Bundle { coin: _, others: _ } = self;
     }
 }
 
 impl Model for Bundle {
     ghost use Rattle.std.specs.Prelude.{List};
-    ghost use Rattle.mp_bundle.specs.Bundle.{Entry, IsBundle};
+    ghost use Rattle.mp_bundle.specs.Bundle.{Entry};
 
     ghost Value = { List Entry };
 
-    ghost use Rattle.mp_bundle.specs.Inside.Bundle.{entries_in};
+    ghost use Rattle.mp_bundle.specs.Inside.Bundle.{entries_in, IsParted};
+    ghost use Rattle.mp_bundle.specs.Bundle.{with_coin};
 
-    ghost view = { λ b. entries_in b.entries };
+    ghost view = { λ b. with_coin b.coin (entries_in b.others) };
 
-    ghost invariant = { λ b. IsBundle (entries_in b.entries) };
+    ghost invariant = { λ b. IsParted b.coin (entries_in b.others) };
 }
 
-fn to_exact(entries: Vec<Entry, Memory>) -> Entries
-    ensures { those result ≡ entries.items }
+// How much coin there is, and the entries of other tokens.
+fn part_coin(entries: Vec<Entry, Memory>) -> (i64, Vec<Entry, Memory>)
+    requires { fault_of entries.items ≡ None }
+    ensures whole { with_coin result.0 result.1.items ≡ entries.items }
+    ensures parted { IsParted result.0 result.1.items }
 {
-    if let [only] = entries.as_slice() {
-        return Entries::One([*only]);
-    }
-    let mut exact = entries;
-    exact.shrink_to_fit();
-    Entries::Several(exact)
+    let coin = match entries.split_first() {
+        Some((first, _others)) if first.0.is_coin() => first.1,
+        _ => return (0, entries),
+    };
+    let mut others = entries;
+    let _first = others.remove(0);
+    (coin, others)
 }
 
-// What a bundle of these entries keeps.
+// What a bundle keeps of the entries of other tokens.
 fn to_shared(memory: Memory, entries: Vec<Entry, Memory>) -> Result<Option<Shared>, NoMemory>
     ensures { IfOk result (λ s. entries_in s ≡ entries.items) }
 {
     if entries.is_empty() {
         return Ok(None);
     }
-    Ok(Some(Arc::new(memory, to_exact(entries))?))
+    let mut exact = entries;
+    exact.shrink_to_fit();
+    Ok(Some(Arc::new(memory, exact)?))
 }
 
 impl Bundle {
-    ghost use Rattle.std.specs.Prelude.{◌≡◌, [], IfOk, IfErr, OnOk, None};
-    ghost use Rattle.mp_bundle.specs.Token.{token};
-    ghost use Rattle.mp_bundle.specs.Bundle.{quantity_of, IsBundle};
+    ghost use Rattle.std.specs.Prelude.{◌≡◌, ◌==◌, [], length, IfOk, IfErr, OnOk, None};
+    ghost use Rattle.mp_bundle.specs.Token.{token, coin};
+    ghost use Rattle.mp_bundle.specs.Bundle.{quantity_of, with_coin, SplitsCoin, IsBundle};
     ghost use Rattle.mp_bundle.specs.BundleFault.{entries_of, fault_of, IsFaultOf};
 
     /// The bundle of no token. It takes no memory.
     pub fn empty() -> Bundle
         ensures { result ≡ [] }
     {
-        Bundle { entries: None }
+        Bundle {
+            coin: 0,
+            others: None,
+        }
     }
 
-    /// The bundle of these entries, in two growths, or in none where there are none.
+    /// The bundle of these entries, in two growths, in one where there are none but of coin, or in none where there are none.
     ///
     /// # Errors
     /// The fault of the first entry that has one, and of those the one of the least number: `NotRising` where its token
@@ -95,52 +102,69 @@ impl Bundle {
             return Err(fault);
         }
         let entries = to_entries(memory, &entries)?;
-        Ok(Bundle {
-            entries: to_shared(memory, entries)?,
-        })
+        Ok(Bundle::of_faultless(memory, entries)?)
     }
 
-    /// The bundle of entries that have no fault, as they stand, in one growth, or in none where there are none.
+    /// The bundle of entries that have no fault, as they stand, in one growth, or in none where there are none but of coin.
     pub fn of_faultless(memory: Memory, entries: Vec<Entry, Memory>) -> Result<Bundle, NoMemory>
         requires { fault_of entries.items ≡ None }
         ensures { IfOk result (λ b. b ≡ entries.items) }
     {
+        let (coin, others) = part_coin(entries);
         Ok(Bundle {
-            entries: to_shared(memory, entries)?,
+            coin,
+            others: to_shared(memory, others)?,
         })
     }
 
-    /// The same bundle. The entries are shared, and not copied: `NoMemory` where they are shared too often.
+    /// The same bundle. Entries of other tokens than coin are shared, and not copied: `NoMemory` where they are shared too often.
     pub fn share(&self) -> Result<Bundle, NoMemory>
         ensures { IfOk result (λ b. b ≡ self.now) }
     {
-        match &self.entries {
-            Some(entries) => Ok(Bundle {
-                entries: Some(Arc::try_clone(entries)?),
-            }),
-            None => Ok(Bundle::empty()),
-        }
+        let others = match &self.others {
+            Some(others) => Some(Arc::try_clone(others)?),
+            None => None,
+        };
+        Ok(Bundle {
+            coin: self.coin,
+            others,
+        })
     }
 
     /// The quantity of a token, which is 0 where there is none.
     pub fn quantity(&self, policy: &PolicyId, name: &[u8]) -> i64
         ensures { result ≡ quantity_of self.now (token policy.now name.now) }
     {
-        let entries = self.entries();
+        let others = self.others();
         match Token::of(policy, name) {
-            Some(token) => quantity_at(entries, &token),
+            Some(token) if token.is_coin() => self.coin,
+            Some(token) => quantity_at(others, &token),
             None => 0,
         }
     }
 
-    /// Its tokens with their quantities, in rising order.
-    pub fn entries(&self) -> &[Entry]
-        ensures all { result.now ≡ self.now }
+    /// Whether it has no token.
+    pub fn is_empty(&self) -> bool
+        ensures { result ≡ (length self.now == 0) }
+    {
+        self.coin == 0 && self.others().is_empty()
+    }
+
+    /// How much coin there is.
+    pub fn coin(&self) -> i64
+        ensures { result ≡ quantity_of self.now coin }
+    {
+        self.coin
+    }
+
+    /// Its other tokens with their quantities, in rising order.
+    pub fn others(&self) -> &[Entry]
+        ensures whole { with_coin (quantity_of self.now coin) result.now ≡ self.now }
+        ensures split { SplitsCoin self.now (quantity_of self.now coin) result.now }
         ensures bundle { IsBundle self.now }
     {
-        match self.entries.as_deref() {
-            Some(Entries::One(only)) => only,
-            Some(Entries::Several(entries)) => entries,
+        match self.others.as_deref() {
+            Some(others) => others,
             None => &[],
         }
     }
@@ -160,7 +184,7 @@ impl PartialEq for Bundle {
         ensures gives { result ≡ same_entries self.now other.now }
         ensures same { IsTrue result ↔ (self.now ≡ other.now) }
     {
-        self.entries() == other.entries()
+        self.coin == other.coin && self.others() == other.others()
     }
 }
 

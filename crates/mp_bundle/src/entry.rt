@@ -5,7 +5,7 @@ ghost use Rattle.std.specs.FinMap.{is_sorted};
 ghost use Rattle.std.specs.Ordering.{is_lt};
 ghost use Rattle.mp_bundle.specs.Token.{token_cmp};
 ghost use Rattle.mp_bundle.specs.Bundle.{quantity_of};
-ghost use Rattle.mp_bundle.specs.Inside.Entry.{token_before, SplitsCoin};
+ghost use Rattle.mp_bundle.specs.Inside.Entry.{token_before};
 ghost use Rattle.mp_bundle.specs.BundleFault.{token_of, entry_of, entries_of, follows, is_out_of_range, entry_fault, fault_of};
 
 use crate::fault::BundleFault;
@@ -117,17 +117,6 @@ pub fn to_entries(memory: Memory, given: &[Given]) -> Result<Vec<Entry, Memory>,
         entries.push(to_entry(entry))?;
     }
     Ok(entries)
-}
-
-/// The quantity of coin among entries that rise, and the other entries. Coin is the least token, so it stands first.
-pub fn split_coin(entries: &[Entry]) -> (i64, &[Entry])
-    requires { IsTrue (is_sorted token_cmp entries.now) }
-    ensures { SplitsCoin entries.now result.0 result.1.now }
-{
-    match entries.split_first() {
-        Some((first, others)) if first.0.is_coin() => (first.1, others),
-        _ => (0, entries),
-    }
 }
 
 /// The quantity of a token among entries that rise.

@@ -1,7 +1,6 @@
 //! Sums of bundles.
 
 use crate::bundle::Bundle;
-use crate::entry::split_coin;
 use crate::token::{COIN, PolicyId, Token};
 use crate::totals::{Totals, first_unlike, lesser, make_room, raise_all, total_at};
 use mp_memory::{Memory, NoMemory};
@@ -72,7 +71,8 @@ impl Sum {
         ensures ok { OnOk result (Adds self.old bundle.now self.new) }
         ensures err { OnErr result (self.new ≡ self.old) }
     {
-        let (coin, others) = split_coin(bundle.entries());
+        let coin = bundle.coin();
+        let others = bundle.others();
         make_room(&mut self.totals, others)?;
         raise_all(&mut self.totals, others);
         self.coin += i128::from(coin);

@@ -6,13 +6,20 @@ ghost use Rattle.mp_rules.specs.FirstFault.{has_debt, is_carried, forge_without_
 ghost use Rattle.mp_rules.specs.Inside.Groups.{own_fault};
 
 use crate::invalid::Invalid;
-use mp_bundle::{Bundle, Entry};
+use mp_bundle::{Bundle, COIN, Entry};
 use mp_tx::{Output, PolicyId, Script, Tx};
+
+fn is_any_negative(entries: &[Entry]) -> bool
+    ensures { result ≡ has_debt entries.now }
+{
+    entries.iter().any(|entry| entry.1 < 0)
+}
 
 fn has_debt(bundle: &Bundle) -> bool
     ensures { result ≡ has_debt bundle.now }
 {
-    bundle.entries().iter().any(|entry| entry.1 < 0)
+    let others = bundle.others();
+    bundle.coin() < 0 || is_any_negative(others)
 }
 
 fn place_of_debt(outputs: &[Output]) -> Option<usize>
@@ -58,7 +65,12 @@ fn uncarried<'a>(scripts: &[Script], forged: &'a [Entry]) -> Option<&'a Entry>
 pub fn forge_without_policy(tx: &Tx) -> Option<Invalid>
     ensures { result ≡ forge_without_policy tx.now }
 {
-    match uncarried(tx.scripts(), tx.forge().entries()) {
+    let forge = tx.forge();
+    let others = forge.others();
+    if forge.coin() != 0 && !is_carried(tx.scripts(), &COIN) {
+        return Some(Invalid::ForgeWithoutPolicy(COIN));
+    }
+    match uncarried(tx.scripts(), others) {
         Some(entry) => Some(Invalid::ForgeWithoutPolicy(entry.0.policy)),
         None => None,
     }

@@ -35,7 +35,7 @@ fn has_nothing_else(tx: &Tx) -> bool
     tx.inputs().len() == 0
         && tx.from() == 0
         && tx.to() == u64::MAX
-        && tx.forge().entries().len() == 0
+        && tx.forge().is_empty()
         && tx.scripts().len() == 0
         && tx.signatures().len() == 0
 }

@@ -1,6 +1,7 @@
 //! The bytes of a transaction.
 
-ghost use Rattle.std.specs.Prelude.{◌≡◌, ◌++◌, length, OnOk};
+ghost use Rattle.std.specs.Prelude.{◌≡◌, ◌<◌, ◌+◌, ◌^◌, ◌++◌, length, flat_map, OnOk};
+ghost use Rattle.mp_bundle.specs.Token.{coin};
 ghost use Rattle.std.specs.Int.{w16, to_be_bytes};
 ghost use Rattle.mp_bytes.specs.Spelling.{sized, counted};
 ghost use Rattle.mp_tx.specs.Spelling.{ref_bytes, input_bytes, entry_bytes, bundle_bytes, output_bytes, signature_bytes, interval_bytes, version_of, references_bytes, body};
@@ -11,7 +12,7 @@ use crate::output::Output;
 use crate::parts::Parts;
 use crate::reference::OutRef;
 use crate::signature::Signature;
-use mp_bundle::{Bundle, Entry};
+use mp_bundle::{Bundle, Entry, Token};
 use mp_memory::{Memory, NoMemory};
 use mp_script::Script;
 
@@ -103,13 +104,27 @@ fn put_entry(out: &mut Vec<u8, Memory>, entry: &Entry) -> Result<(), NoMemory>
 fn put_bundle(out: &mut Vec<u8, Memory>, bundle: &Bundle) -> Result<(), NoMemory>
     ensures { OnOk result (out.new.items ≡ out.old.items ++ bundle_bytes bundle.now) }
 {
-    put_entries(out, bundle.entries())
+    let others = bundle.others();
+    match bundle.coin() {
+        0 => put_count(out, others.len())?,
+        quantity => put_coin(out, quantity, others.len())?,
+    }
+    put_entries(out, others)
+}
+
+// How many entries there are, of which one is of coin and stands before so many others.
+fn put_coin(out: &mut Vec<u8, Memory>, quantity: i64, others: usize) -> Result<(), NoMemory>
+    requires { others < 2 ^ 63 }
+    ensures { OnOk result (out.new.items
+        ≡ out.old.items ++ to_be_bytes w16 (others + 1) ++ entry_bytes (coin, quantity)) }
+{
+    put_count(out, others + 1)?;
+    put_entry(out, &(Token::COIN, quantity))
 }
 
 fn put_entries(out: &mut Vec<u8, Memory>, entries: &[Entry]) -> Result<(), NoMemory>
-    ensures { OnOk result (out.new.items ≡ out.old.items ++ counted entry_bytes entries.now) }
+    ensures { OnOk result (out.new.items ≡ out.old.items ++ flat_map entry_bytes entries.now) }
 {
-    put_count(out, entries.len())?;
     for entry in entries {
         put_entry(out, entry)?;
     }

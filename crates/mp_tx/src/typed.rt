@@ -75,7 +75,8 @@ fn look_at_entries(entries: &[Entry])
 fn look_at_bundle(bundle: &Bundle)
     ensures { IsTypedValue bundle.now }
 {
-    look_at_entries(bundle.entries());
+    let _coin = bundle.coin();
+    look_at_entries(bundle.others());
 }
 
 fn look_at_output(output: &Output)

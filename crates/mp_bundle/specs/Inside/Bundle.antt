@@ -1,16 +1,18 @@
 -- The entries that a bundle shares with others.
-use Rattle.std.specs.Prelude.{List, [], Option, Some, None}
+use Rattle.std.specs.Prelude.{ℤ, List, [], Option, Some, None, IsTrue}
 use Rattle.std.specs.Arc.{arc_value}
+use Rattle.std.specs.FinMap.Entries.{below_all}
 use Rattle.std.specs.declared.sync.Arc.{Arc}
-use Rattle.mp_bundle.specs.Bundle.{Entry}
-use Rattle.mp_bundle.specs.declared.bundle.Entries.{Entries}
-use Rattle.mp_bundle.specs.declared.bundle.Entries.TheVariants.{One, Several}
+use Rattle.std.specs.declared.vec.Vec.{Vec}
+use Rattle.mp_bundle.specs.Token.{coin, token_cmp}
+use Rattle.mp_bundle.specs.Bundle.{Entry, with_coin, IsBundle}
 
-abbrev pub those : Entries → List Entry
-those (One entries) = entries
-those (Several entries) = entries.items
-
--- the entries, of which the bundle of no token keeps none
-abbrev pub entries_in : {Z : Type 0} → Option (Arc Entries Z) → List Entry
+-- the entries, where there are some
+abbrev pub entries_in : {Y Z : Type 0} → Option (Arc (Vec Entry Y) Z) → List Entry
 entries_in None = []
-entries_in (Some shared) = those (arc_value shared)
+entries_in (Some shared) = (arc_value shared).items
+
+-- so much coin and the others are a bundle, and none of the others is of coin
+pub record IsParted (n : ℤ) (others : List Entry) : Type 0 where
+  pub bundle : IsBundle (with_coin n others)
+  pub above : IsTrue (below_all token_cmp coin others)

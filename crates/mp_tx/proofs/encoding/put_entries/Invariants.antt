@@ -1,8 +1,7 @@
-use Rattle.std.proofs.Common.{◌≡◌, ◌++◌, length, take}
+use Rattle.std.proofs.Common.{◌≡◌, ◌++◌, take}
 use Rattle.std.specs.Prelude.{flat_map}
-use Rattle.std.specs.Int.{w16, to_be_bytes}
 use Rattle.mp_tx.specs.Spelling.{entry_bytes}
 use Rattle.mp_tx.proofs.encoding.put_entries.Given as goal
 
 abbrev pub invariant-loop-entry : goal.invariant-loop-entry
-invariant-loop-entry l = l.out.items ≡ l.fn.out.items ++ to_be_bytes w16 (length l.entries) ++ flat_map entry_bytes (take l.entry-index l.entries)
+invariant-loop-entry l = l.out.items ≡ l.fn.out.items ++ flat_map entry_bytes (take l.entry-index l.entries)

@@ -2,7 +2,7 @@ use Rattle.std.proofs.Common.{rules, arith, ℤ, ◌+◌, ◌+ℤ◌, to_z, of_z
 use Rattle.std.specs.Prelude.{FitsSigned}
 use Rattle.std.specs.Int.{w64, w128}
 use Rattle.std.proofs.lemmas.Int.{ints}
-use Rattle.mp_bundle.specs.Bundle.{IsBundle}
+use Rattle.mp_bundle.specs.Bundle.{SplitsCoin}
 use Rattle.mp_bundle.specs.Sum.{Sum, Adds}
 use Rattle.mp_bundle.specs.Inside.Sum.{sum_of, IsHeld}
 use Rattle.mp_bundle.proofs.SumLemmas.{same_sum, room_kept, coin_fits, others_fit, next_kept, next_adds}
@@ -19,39 +19,34 @@ invariant_of-self c = room_kept c.self.inside c.make_room.new.totals c.self.inva
 pub raise_all-requires-clause-fits : goal.raise_all-requires-clause-fits
 raise_all-requires-clause-fits c =
     let few = subst (λ (s : Sum). s.added < 2 ^ 32) (sym c.self.view_is) c.requires in
-    let bundle = subst IsBundle (sym c.entries.ensures.all) c.entries.ensures.bundle in
-    others_fit c.self.inside c.make_room.new.totals c.self.invariant c.make_room.ensures.kept c.entries.result.now bundle few c.split_coin-coin.result.0 c.split_coin-coin.result.1.now c.split_coin-coin.ensures
+    others_fit c.self.inside c.make_room.new.totals c.self.invariant c.make_room.ensures.kept c.args.bundle.now c.others-others.ensures.bundle few c.coin-coin.result c.others-others.result.now (subst (λ n. SplitsCoin c.args.bundle.now n c.others-others.result.now) (sym c.coin-coin.ensures) c.others-others.ensures.split)
 
 pub overflow_add-self : goal.overflow_add-self
 overflow_add-self c =
     let few = subst (λ (s : Sum). s.added < 2 ^ 32) (sym c.self.view_is) c.requires in
-    let bundle = subst IsBundle (sym c.entries.ensures.all) c.entries.ensures.bundle in
-    let fits = coin_fits c.self.inside c.make_room.new.totals c.self.invariant c.make_room.ensures.kept c.entries.result.now bundle few c.split_coin-coin.result.0 c.split_coin-coin.result.1.now c.split_coin-coin.ensures in
-    let small : FitsSigned w64 c.split_coin-coin.result.0 = search rules in
+    let fits = coin_fits c.self.inside c.make_room.new.totals c.self.invariant c.make_room.ensures.kept c.args.bundle.now c.others-others.ensures.bundle few c.coin-coin.result c.others-others.result.now (subst (λ n. SplitsCoin c.args.bundle.now n c.others-others.result.now) (sym c.coin-coin.ensures) c.others-others.ensures.split) in
+    let small : FitsSigned w64 c.coin-coin.result = search rules in
     let held : FitsSigned w128 c.self.inside.coin = search rules in
     omega (arith, ints, c.from.ensures, fits.least, fits.greatest)
 
 -- the sum of coin fits, so it is what is kept
-coin_is : (c : goal.After-self-3-1) → to_z w128 (of_z w128 (to_z w128 (of_z w128 c.self.inside.coin) +ℤ to_z w128 (of_z w128 c.from.result))) ≡ c.self.inside.coin +ℤ c.split_coin-coin.result.0
+coin_is : (c : goal.After-self-3-1) → to_z w128 (of_z w128 (to_z w128 (of_z w128 c.self.inside.coin) +ℤ to_z w128 (of_z w128 c.from.result))) ≡ c.self.inside.coin +ℤ c.coin-coin.result
 coin_is c =
     let few = subst (λ (s : Sum). s.added < 2 ^ 32) (sym c.self.view_is) c.requires in
-    let bundle = subst IsBundle (sym c.entries.ensures.all) c.entries.ensures.bundle in
-    let fits = coin_fits c.self.inside c.make_room.new.totals c.self.invariant c.make_room.ensures.kept c.entries.result.now bundle few c.split_coin-coin.result.0 c.split_coin-coin.result.1.now c.split_coin-coin.ensures in
-    let small : FitsSigned w64 c.split_coin-coin.result.0 = search rules in
+    let fits = coin_fits c.self.inside c.make_room.new.totals c.self.invariant c.make_room.ensures.kept c.args.bundle.now c.others-others.ensures.bundle few c.coin-coin.result c.others-others.result.now (subst (λ n. SplitsCoin c.args.bundle.now n c.others-others.result.now) (sym c.coin-coin.ensures) c.others-others.ensures.split) in
+    let small : FitsSigned w64 c.coin-coin.result = search rules in
     let held : FitsSigned w128 c.self.inside.coin = search rules in
     omega (arith, ints, c.from.ensures, fits.least, fits.greatest)
 
 pub invariant_of-self-2 : goal.invariant_of-self-2
 invariant_of-self-2 c =
     let few = subst (λ (s : Sum). s.added < 2 ^ 32) (sym c.self.view_is) c.requires in
-    let bundle = subst IsBundle (sym c.entries.ensures.all) c.entries.ensures.bundle in
     subst (λ (n : ℤ). IsHeld (record { coin = n; totals = c.raise_all.new.totals; added = c.self.inside.added + 1 })) (sym (coin_is c))
-    (next_kept c.self.inside c.make_room.new.totals c.self.invariant c.make_room.ensures.kept c.entries.result.now bundle few c.split_coin-coin.result.0 c.split_coin-coin.result.1.now c.split_coin-coin.ensures c.raise_all.new.totals c.raise_all.ensures)
+    (next_kept c.self.inside c.make_room.new.totals c.self.invariant c.make_room.ensures.kept c.args.bundle.now c.others-others.ensures.bundle few c.coin-coin.result c.others-others.result.now (subst (λ n. SplitsCoin c.args.bundle.now n c.others-others.result.now) (sym c.coin-coin.ensures) c.others-others.ensures.split) c.raise_all.new.totals c.raise_all.ensures)
 
 pub returns-clause-ok : goal.returns-clause-ok
 returns-clause-ok c =
     let few = subst (λ (s : Sum). s.added < 2 ^ 32) (sym c.self.view_is) c.requires in
-    let bundle = subst IsBundle (sym c.entries.ensures.all) c.entries.ensures.bundle in
-    let adds = next_adds c.self.inside c.make_room.new.totals c.self.invariant c.make_room.ensures.kept c.entries.result.now bundle few c.split_coin-coin.result.0 c.split_coin-coin.result.1.now c.split_coin-coin.ensures c.raise_all.new.totals c.raise_all.ensures in
-    rw (← c.self.view_is, ← c.entries.ensures.all)
-    (subst (λ (n : ℤ). Adds (sum_of c.self.inside) c.entries.result.now (sum_of (record { coin = n; totals = c.raise_all.new.totals; added = c.self.inside.added + 1 }))) (sym (coin_is c)) adds)
+    let adds = next_adds c.self.inside c.make_room.new.totals c.self.invariant c.make_room.ensures.kept c.args.bundle.now c.others-others.ensures.bundle few c.coin-coin.result c.others-others.result.now (subst (λ n. SplitsCoin c.args.bundle.now n c.others-others.result.now) (sym c.coin-coin.ensures) c.others-others.ensures.split) c.raise_all.new.totals c.raise_all.ensures in
+    rw (← c.self.view_is)
+    (subst (λ (n : ℤ). Adds (sum_of c.self.inside) c.args.bundle.now (sum_of (record { coin = n; totals = c.raise_all.new.totals; added = c.self.inside.added + 1 }))) (sym (coin_is c)) adds)
