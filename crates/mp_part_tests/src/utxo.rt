@@ -31,7 +31,7 @@ fn apply(memory: Memory, overlay: &mut Overlay, tx: &Arc<Tx, Memory>) -> Option<
         return None;
     }
     memory.refuse(1);
-    overlay.apply(copy);
+    overlay.apply(1, copy);
     Some(())
 }
 

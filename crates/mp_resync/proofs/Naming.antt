@@ -1,25 +1,14 @@
 -- One more id in the table.
 use Rattle.std.proofs.Common.{◌≡◌, ℕ, ◌+◌, ◌<◌, Bool, true, false, nat_eq, ◌||◌, List, length, get_or, take, if◌then◌else◌, refl, sym, ap, ◌∙◌}
-use Rattle.std.specs.Prelude.{Option, None, Some, is_some, ◌&&◌}
+use Rattle.std.specs.Prelude.{Option, None, Some, is_some}
 use Rattle.std.specs.List.{list_any}
 use Rattle.std.specs.Map.{lookup}
-use Rattle.std.specs.Cmp.{eq_by_cmp_equiv}
-use Rattle.std.specs.Cmp.Lexicographic.{pointwise, texts_ties, nat_list_cmp_total}
+use Rattle.std.specs.Cmp.Lexicographic.{pointwise}
 use Rattle.std.proofs.lemmas.List.Folds.{list_any_more}
 use Rattle.mp_tx.specs.Reference.{same_ref}
-use Rattle.mp_resync.specs.ById.{key_of}
+use Rattle.mp_utxo.specs.ById.{key_of}
+use Rattle.mp_utxo.proofs.ById.{same-key}
 use Rattle.mp_resync.specs.Inside.IdSet.{Table, AreNamed, Notes}
-
-and_true : (b : Bool) → (b && true) ≡ b
-and_true true = refl
-and_true false = refl
-
-same-back : (a b : List ℕ) → pointwise nat_eq a b ≡ pointwise nat_eq b a
-same-back a b = texts_ties a b ∙ (eq_by_cmp_equiv nat_list_cmp_total).symm a b ∙ sym (texts_ties b a)
-
--- keys are the same where ids are
-pub same-key : (a b : List ℕ) → same_ref (key_of a) (key_of b) ≡ pointwise nat_eq b a
-same-key a b = and_true (pointwise nat_eq a b) ∙ same-back a b
 
 either : (a : Bool) (o : Option (Unit {0})) → is_some (if a then Some tt else o) ≡ (is_some o || a)
 either true None = refl

@@ -41,6 +41,7 @@ module _ (accepts : Accepts) (ledger : LedgerState) (ids : List (List ℕ)) wher
       record {
         base = ap (λ o. o.ledger) p.overlay ∙ k.base;
         applied = ap (λ o. o.applied) p.overlay ∙ k.applied ∙ ap (λ l. transactions (keep accepts ledger l)) others;
+        under = ap (λ o. o.items) p.overlay ∙ k.under ∙ ap (keep accepts ledger) others;
         kept = p.kept ∙ k.kept ∙ ap (λ l. tickets (keep accepts ledger l)) others;
         named = p.named ∙ ap (λ l. l ++ i.0 ∷ []) k.named ∙ sym (tickets-last (named ids xs) i) ∙ ap tickets (sym (named-last ids xs i true is));
         dropped = p.dropped ∙ k.dropped ∙ ap (λ l. dropped accepts ledger l) others;
@@ -62,6 +63,7 @@ module _ (accepts : Accepts) (ledger : LedgerState) (ids : List (List ℕ)) wher
       record {
         base = p.base ∙ k.base;
         applied = p.applied ∙ ap (λ l. l ++ i.1 ∷ []) k.applied ∙ sym (transactions-last (keep accepts ledger (unnamed ids xs)) i) ∙ ap transactions more;
+        under = p.items ∙ ap (λ l. l ++ i ∷ []) k.under ∙ more;
         kept = p.kept ∙ ap (λ l. l ++ i.0 ∷ []) k.kept ∙ sym (tickets-last (keep accepts ledger (unnamed ids xs)) i) ∙ ap tickets more;
         named = p.named ∙ k.named ∙ ap tickets (sym (named-last ids xs i false is ∙ append-none (named ids xs)));
         dropped = p.dropped ∙ k.dropped ∙ sym (dropped_last accepts ledger.tick true (get ledger.utxo) (unnamed ids xs) i there) ∙ ap (λ l. dropped accepts ledger l) others;
@@ -76,6 +78,7 @@ module _ (accepts : Accepts) (ledger : LedgerState) (ids : List (List ℕ)) wher
       record {
         base = ap (λ o. o.ledger) p.overlay ∙ k.base;
         applied = ap (λ o. o.applied) p.overlay ∙ k.applied ∙ ap transactions same;
+        under = ap (λ o. o.items) p.overlay ∙ k.under ∙ same;
         kept = p.kept ∙ k.kept ∙ ap tickets same;
         named = p.named ∙ k.named ∙ ap tickets (sym (named-last ids xs i false is ∙ append-none (named ids xs)));
         dropped = p.dropped ∙ ap (λ l. l ++ i.0 ∷ []) k.dropped ∙ sym (dropped_last accepts ledger.tick false (get ledger.utxo) (unnamed ids xs) i there) ∙ ap (λ l. dropped accepts ledger l) others;

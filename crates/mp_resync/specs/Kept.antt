@@ -11,6 +11,7 @@ pub record IsKeptOf (accepts : Accepts) (ledger : LedgerState) (items : List (�
     : Type 0 where
   pub base : k.overlay.ledger ≡ ledger
   pub applied : k.overlay.applied ≡ transactions (keep accepts ledger (unnamed ids items))
+  pub under : k.overlay.items ≡ keep accepts ledger (unnamed ids items)
   pub kept : k.kept ≡ tickets (keep accepts ledger (unnamed ids items))
   pub named : k.named ≡ tickets (named ids items)
   pub dropped : k.dropped ≡ dropped accepts ledger (unnamed ids items)

@@ -1,4 +1,3 @@
-pub mod ById
 pub mod Keep
 pub mod Kept
 pub mod Parted

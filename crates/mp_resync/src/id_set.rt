@@ -4,13 +4,13 @@ ghost use Rattle.std.specs.Prelude.{◌≡◌, IfOk, OnOk, is_some};
 ghost use Rattle.std.specs.Map.{lookup};
 ghost use Rattle.indexmap.specs.IndexMap.{hasher_of};
 ghost use Rattle.mp_tx.specs.Reference.{same_ref};
-ghost use Rattle.mp_resync.specs.ById.{key_of};
+ghost use Rattle.mp_utxo.specs.ById.{key_of};
 ghost use Rattle.mp_resync.specs.Inside.IdSet.{AreNamed, Notes};
 
-use crate::by_id::{ById, key_of};
 use indexmap::IndexMap;
 use mp_memory::{Memory, NoMemory};
 use mp_tx::{Salt, TxId};
+use mp_utxo::{ById, key_of};
 
 /// Ids in a table, so that none is looked for by a walk over them.
 pub type IdSet = ById<()>;

@@ -1,14 +1,12 @@
 //! What of a pool stays valid: when transactions are taken out by their ids, or upon another ledger state.
 #![tactic(auto)]
 
-mod by_id;
 mod id_set;
 mod kept;
 mod parting;
 mod revalidation;
 mod validated_tx;
 
-pub use by_id::{ById, key_of};
 pub use kept::Kept;
 pub use parting::{Parted, part};
 pub use revalidation::revalidate;

@@ -5,7 +5,7 @@ ghost use Rattle.std.specs.Map.{lookup};
 ghost use Rattle.mp_tx.specs.Reference.{same_ref};
 ghost use Rattle.mp_tx.specs.Spelling.{id_of};
 ghost use Rattle.mp_rules.specs.Verifier.{Accepts};
-ghost use Rattle.mp_resync.specs.ById.{key_of};
+ghost use Rattle.mp_utxo.specs.ById.{key_of};
 ghost use Rattle.mp_resync.specs.ValidatedTx.{IsVouched, ticketed};
 ghost use Rattle.mp_resync.specs.Kept.{IsKeptOf};
 ghost use Rattle.mp_resync.specs.Inside.Judged.{AreBelow, Keeps, Judges, Handles};
@@ -40,7 +40,7 @@ fn keep(kept: &mut Kept, ticket: u64, item: &ValidatedTx) -> Result<(), NoMemory
 {
     let tx = Arc::try_clone(&item.tx)?;
     kept.overlay.reserve_for(&tx)?;
-    kept.overlay.apply(tx);
+    kept.overlay.apply(ticket, tx);
     kept.kept.push(ticket)
 }
 

@@ -17,9 +17,7 @@ use Rattle.mp_resync.specs.ValidatedTx.{ValidatedTx, ticketed}
 use Rattle.mp_resync.specs.Keep.{transactions, tickets}
 use Rattle.mp_seqpool.specs.declared.command.Reply.TheVariants.{Accepted, Removed, Synced}
 use Rattle.mp_seqpool.specs.Prepared.{apart}
-use Rattle.mp_seqpool.specs.Inside.TicketsById.{Noted, Forgets, AreNoted}
 use Rattle.mp_seqpool.specs.Inside.Leaving.{bytes_in, AreKnown, lacking, TakesOut, Leaves}
-use Rattle.mp_seqpool.proofs.Forgetting.{HasNot, Apart, apart_ids, both, before, behind, forgotten}
 use Rattle.mp_seqpool.proofs.Keeping.{All-unmap, AllPairs-map, AllPairs-unmap}
 
 abbrev Items : Type 0
@@ -106,18 +104,12 @@ distinct_left p items h =
     subst (λ l. AllPairs (λ a b. a ≢ b) (map id_of (transactions l))) (sym (filtered p items)) (distinct_filter (λ i. p i.0) (ticketed items) h)
 
 -- an item is taken out
-pub taken_known : (items : Items) (t : ℕ) (item : ValidatedTx) (old new : Noted) → item_at items t ≡ Some item → Forgets old (id_of item.tx) new → AreKnown items old → AreKnown (without items t) new
-taken_known items t item old new at forgets known =
+pub taken_known : (items : Items) (t : ℕ) (item : ValidatedTx) → item_at items t ≡ Some item → AreKnown items → AreKnown (without items t)
+taken_known items t item at known =
     let c = cut 0 items t item known.rising at in
-    let i : ℕ × Transaction = (t, item.tx) in
-    let split : ticketed items ≡ ticketed c.front ++ i ∷ ticketed c.back = ap ticketed c.all ∙ ticketed-cut c.front (t, item) c.back in
-    let far : Apart (ticketed c.front ++ i ∷ ticketed c.back) = subst Apart split (apart_ids (ticketed items) known.distinct) in
-    let alone : HasNot (id_of item.tx) (ticketed c.front ++ ticketed c.back) = both (id_of item.tx) (ticketed c.front) (ticketed c.back) (before (ticketed c.front) i (ticketed c.back) far) (behind (ticketed c.front) i (ticketed c.back) far) in
     record {
       rising = subst IsRising (sym c.rest) (rising_without 0 c.front (t, item) c.back (subst IsRising c.all known.rising));
       distinct = distinct_left (λ n. not (n == t)) items known.distinct;
-      noted = subst (λ l. AreNoted l new) (sym (ap ticketed c.rest ∙ ticketed-joined c.front c.back))
-          (forgotten (ticketed c.front) i (ticketed c.back) old new alone forgets (subst (λ l. AreNoted l old) split known.noted));
     }
 
 pub taken_bytes : (items : Items) (t : ℕ) (item : ValidatedTx) → item_at items t ≡ Some item → IsRising items → bytes_in (without items t) + size_of item.tx ≡ bytes_in items
@@ -159,15 +151,15 @@ all_left (x ∷ xs) = ap (λ l. x ∷ l) (all_left xs)
 pub no_more : (n : ℕ) → n + 0 ≡ n
 no_more n = omega arith
 
-pub begins : (items : Items) (noted : Noted) → AreKnown items noted → TakesOut [] items items noted 0
-begins items noted known = record { items = sym (all_left items); known = known; bytes = no_more (bytes_in items) }
+pub begins : (items : Items) → AreKnown items → TakesOut [] items items 0
+begins items known = record { items = sym (all_left items); known = known; bytes = no_more (bytes_in items) }
 
 chained : (a b c m n : ℕ) → a + m ≡ b → b + n ≡ c → a + (n + m) ≡ c
 chained a b c m n h k = omega arith
 
-pub goes_on : (gone : List ℕ) (i : ℕ) (d : ℕ) (old now new : Items) (noted after : Noted) (bytes more : ℕ) → i < length gone → new ≡ without now (get_or gone i d) → AreKnown new after → bytes_in new + more ≡ bytes_in now
-    → TakesOut (take i gone) old now noted bytes → TakesOut (take (i + 1) gone) old new after (bytes + more)
-goes_on gone i d old now new noted after bytes more lt is known counted so_far = record {
+pub goes_on : (gone : List ℕ) (i : ℕ) (d : ℕ) (old now new : Items) (bytes more : ℕ) → i < length gone → new ≡ without now (get_or gone i d) → AreKnown new → bytes_in new + more ≡ bytes_in now
+    → TakesOut (take i gone) old now bytes → TakesOut (take (i + 1) gone) old new (bytes + more)
+goes_on gone i d old now new bytes more lt is known counted so_far = record {
   items = is ∙ ap (λ l. without l (get_or gone i d)) so_far.items ∙ step_more gone i d old lt;
   known = known;
   bytes = chained (bytes_in new) (bytes_in now) (bytes_in old) more bytes counted so_far.bytes;
@@ -183,14 +175,14 @@ given_left p items n a =
     subst (λ l. All (λ k. k ≤ n) (tickets l)) (sym (filtered p items))
     (All-map (λ k. k ≤ n) (λ i. i.0) (filter (λ i. p i.0) (ticketed items)) (All-filter (λ i. p i.0) (λ i. i.0 ≤ n) (ticketed items) (All-unmap (λ i. i.0) (λ k. k ≤ n) (ticketed items) a)))
 
-pub none_told : (ticket : ℕ) (items : Items) (noted : Noted) → AreKnown items noted → Leaves (Accepted ticket) items items noted 0
-none_told ticket items noted known = record { items = refl; known = known; bytes = no_more (bytes_in items); valid = λ a. a; given = λ n a. a }
+pub none_told : (ticket : ℕ) (items : Items) → AreKnown items → Leaves (Accepted ticket) items items 0
+none_told ticket items known = record { items = refl; known = known; bytes = no_more (bytes_in items); valid = λ a. a; given = λ n a. a }
 
 left_apart : (gone : List ℕ) (old new : Items) → new ≡ lacking gone old → ticketed new ≡ apart gone (ticketed old)
 left_apart gone old new is = ap ticketed is ∙ filtered (λ n. not (has_ticket gone n)) old
 
-pub synced_told : (kept dropped : List ℕ) (old new : Items) (noted : Noted) (bytes : ℕ) → TakesOut dropped old new noted bytes → Leaves (Synced kept dropped) old new noted bytes
-synced_told kept dropped old new noted bytes out = record {
+pub synced_told : (kept dropped : List ℕ) (old new : Items) (bytes : ℕ) → TakesOut dropped old new bytes → Leaves (Synced kept dropped) old new bytes
+synced_told kept dropped old new bytes out = record {
   items = left_apart dropped old new out.items;
   known = out.known;
   bytes = out.bytes;
@@ -198,8 +190,8 @@ synced_told kept dropped old new noted bytes out = record {
   given = λ n a. subst (λ l. All (λ k. k ≤ n) (tickets (ticketed l))) (sym out.items) (given_left (λ n. not (has_ticket dropped n)) old n a);
 }
 
-pub removed_told : (named dropped : List ℕ) (old mid new : Items) (some noted : Noted) (bytes more : ℕ) → TakesOut named old mid some bytes → TakesOut dropped mid new noted more → Leaves (Removed named dropped) old new noted (bytes + more)
-removed_told named dropped old mid new some noted bytes more first last = record {
+pub removed_told : (named dropped : List ℕ) (old mid new : Items) (bytes more : ℕ) → TakesOut named old mid bytes → TakesOut dropped mid new more → Leaves (Removed named dropped) old new (bytes + more)
+removed_told named dropped old mid new bytes more first last = record {
   items = left_apart dropped mid new last.items ∙ ap (apart dropped) (left_apart named old mid first.items);
   known = last.known;
   bytes = chained (bytes_in new) (bytes_in mid) (bytes_in old) more bytes last.bytes first.bytes;

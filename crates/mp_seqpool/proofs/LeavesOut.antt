@@ -14,7 +14,9 @@ use Rattle.mp_tx.specs.Spelling.{id_of}
 use Rattle.mp_tx.specs.Ledger.{LedgerState}
 use Rattle.mp_utxo.specs.Apply.{Unspent}
 use Rattle.mp_utxo.specs.Overlay.{Overlay}
-use Rattle.mp_utxo.specs.Leaf.{IsFed, IsLeaf, LacksOne, others}
+use Rattle.mp_utxo.specs.Leaf.{IsFed, IsLeaf, LacksOne, others, other_items}
+use Rattle.mp_utxo.proofs.Makers.{Apart, apart-ids}
+use Rattle.mp_utxo.proofs.Items.{one_less as items_less}
 use Rattle.mp_rules.specs.Verifier.{Accepts}
 use Rattle.mp_rules.specs.Validity.{Chain}
 use Rattle.mp_tickets.specs.Tickets.{IsRising, has_ticket, item_at, without}
@@ -53,6 +55,7 @@ all_apart (i ∷ is) = ap (λ l. i ∷ l) (all_apart is)
 record StandsAt (n : ℕ) (t : Transaction) (items : Items) : Type 0 where
   there : Contains (transactions items) t
   without_it : transactions (without items n) ≡ others (id_of t) (transactions items)
+  other_items : without items n ≡ other_items (id_of t) items
 
 stands_at : (items : Items) (n : ℕ) (t : Transaction) → IsRising items → AllPairs (λ a b. a ≢ b) (map id_of (transactions items)) → item_at items n ≡ Some t → StandsAt n t items
 stands_at items n t rising distinct at =
@@ -64,6 +67,8 @@ stands_at items n t rising distinct at =
     record {
       there = subst (λ ts. Contains ts t) (sym is) (Contains-append_right front (t ∷ back) t (0, omega arith, refl));
       without_it = ap transactions c.rest ∙ transactions-joined c.front c.back ∙ sym (ap (others (id_of t)) is ∙ others_but_one front t back differ);
+      other_items = c.rest
+          ∙ sym (ap (other_items (id_of t)) c.all ∙ items_less c.front n t c.back (subst (λ l. Apart (transactions l)) c.all (apart-ids (transactions items) distinct)));
     }
 
 -- ---- those with other ids
@@ -190,6 +195,8 @@ module _ (old : Overlay) (items : Items) (gone : List ℕ) (rise : AllPairs (λ 
           base = one.base ∙ lacks.base;
           applied = one.applied ∙ ap (others (id_of t)) lacks.applied ∙ sym (stands_at left (get_or gone k 0) t l.rising l.distinct (at_left (Some t) at)).without_it
               ∙ ap transactions (step_more gone k 0 items lt);
+          under = one.items ∙ ap (other_items (id_of t)) lacks.under ∙ sym (stands_at left (get_or gone k 0) t l.rising l.distinct (at_left (Some t) at)).other_items
+              ∙ step_more gone k 0 items lt;
           chained = (left_after (k + 1) (omega arith)).chained;
         }
 
@@ -198,6 +205,7 @@ module _ (old : Overlay) (items : Items) (gone : List ℕ) (rise : AllPairs (λ 
     next_none at = record {
       base = lacks.base;
       applied = lacks.applied ∙ ap transactions (sym (nothing (apart (take k gone) items) (get_or gone k 0) (at_left None at)) ∙ step_more gone k 0 items lt);
+      under = lacks.under ∙ sym (nothing (apart (take k gone) items) (get_or gone k 0) (at_left None at)) ∙ step_more gone k 0 items lt;
       chained = (left_after (k + 1) (omega arith)).chained;
     }
 
@@ -206,6 +214,7 @@ pub none_out : (old : Overlay) (items : Items) (gone : List ℕ) → HasLeaves o
 none_out old items gone has = record {
   base = refl;
   applied = has.applied ∙ sym (ap transactions (all_apart items));
+  under = has.under ∙ sym (all_apart items);
   chained = subst (λ l. Chain all_accepted (get old.ledger.utxo) old.ledger.tick (transactions l)) (sym (all_apart items)) has.chained;
 }
 

@@ -185,7 +185,7 @@ module _ (accepts : Accepts) where
         leads = yes_next h.pool (Remove ids) _ yes ∙ sym leads;
         prepared = record {
           change = change;
-          fits = subst (CanChange h) (sym keeps) (is.applied ∙ sym (ap transactions left));
+          fits = subst (CanChange h) (sym keeps) (record { applied = is.applied ∙ sym (ap transactions left); under = is.under ∙ sym left });
           tells = leads ∙ sym (ap (λ c. told h.pool c q.reply) command ∙ ap (told h.pool (Remove ids)) reply ∙ ap (pool_upon h.pool h.pool.ledger) (apart_left h.pool.ledger ids h.pool.items k rising is));
           accepts = accepts;
           reply = ap (answer accepts h.pool) command ∙ yes ∙ sym (ap Ok reply);
@@ -205,7 +205,7 @@ module _ (accepts : Accepts) where
         leads = yes_next h.pool (Sync ledger) _ yes ∙ sym (leads ∙ ap (λ items. pool_upon h.pool ledger (keep accepts ledger items)) (none_named h.pool.items));
         prepared = record {
           change = change;
-          fits = subst (CanChange h) (sym keeps) (is.applied ∙ sym (ap transactions left));
+          fits = subst (CanChange h) (sym keeps) (record { applied = is.applied ∙ sym (ap transactions left); under = is.under ∙ sym left });
           tells = leads ∙ sym (ap (λ c. told h.pool c q.reply) command ∙ ap (told h.pool (Sync ledger)) reply ∙ ap (pool_upon h.pool ledger) (apart_synced ledger h.pool.items k rising is));
           accepts = accepts;
           reply = ap (answer accepts h.pool) command ∙ yes ∙ sym (ap Ok reply);

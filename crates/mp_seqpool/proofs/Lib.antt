@@ -7,7 +7,6 @@ pub mod DependentsFollowed
 pub mod Distinct
 pub mod Exits
 pub mod Finishing
-pub mod Forgetting
 pub mod Histories
 pub mod Keeping
 pub mod LeafOut
@@ -15,7 +14,6 @@ pub mod Leavers
 pub mod LeavesOut
 pub mod Left
 pub mod Moving
-pub mod Noting
 pub mod Opening
 pub mod Reading
 pub mod Recounting

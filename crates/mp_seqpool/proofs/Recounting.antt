@@ -8,7 +8,7 @@ use Rattle.mp_resync.specs.Keep.{transactions, tickets}
 use Rattle.mp_seqpool.specs.declared.command.Reply.{Reply}
 use Rattle.mp_seqpool.specs.declared.pool.SeqPool.TheInside.{Inside}
 use Rattle.mp_seqpool.specs.SlowPool.{pool_upon}
-use Rattle.mp_seqpool.specs.Prepared.{left_by}
+use Rattle.mp_seqpool.specs.Prepared.{HasApplied, left_by}
 use Rattle.mp_seqpool.specs.Inside.Leaving.{bytes_in, Leaves}
 use Rattle.mp_seqpool.specs.Inside.Chained.{all_accepted, IsChained}
 use Rattle.mp_seqpool.specs.Inside.SeqPool.{state, IsCounted}
@@ -23,13 +23,13 @@ one_more : (n new limit : ℕ) → n < limit → new ≡ n + 1 → new ≤ limit
 one_more n new limit lt e = omega arith
 
 -- it is right where they left as the reply tells, and the overlay has what stayed
-pub recounted : (was new : Inside) (reply : Reply) (gone : ℕ) → new.config ≡ was.config → new.last ≡ was.last → new.overlay.applied ≡ transactions (left_by reply (ticketed was.items))
-    → Leaves reply was.items new.items new.tickets.entries gone → new.bytes ≡ was.bytes - gone → new.changes ≡ was.changes + 1 → was.changes < was.config.limit
+pub recounted : (was new : Inside) (reply : Reply) (gone : ℕ) → new.config ≡ was.config → new.last ≡ was.last → HasApplied new.overlay (left_by reply (ticketed was.items))
+    → Leaves reply was.items new.items gone → new.bytes ≡ was.bytes - gone → new.changes ≡ was.changes + 1 → was.changes < was.config.limit
     → IsChained (pool_upon (state was) new.overlay.ledger (left_by reply (ticketed was.items))) → IsCounted was → IsCounted new
 recounted was new reply gone config last applied leaves bytes changes below chained law = record {
-  applied = applied ∙ sym (ap transactions leaves.items);
+  applied = applied.applied ∙ sym (ap transactions leaves.items);
+  under = applied.under ∙ sym leaves.items;
   chained = subst (λ items. Chain all_accepted (get new.overlay.ledger.utxo) new.overlay.ledger.tick (transactions items)) (sym leaves.items) chained;
-  noted = leaves.known.noted;
   distinct = leaves.known.distinct;
   valid = leaves.valid law.valid;
   bytes = fewer was.bytes new.bytes (bytes_in was.items) (bytes_in new.items) gone law.bytes leaves.bytes bytes;

@@ -19,7 +19,6 @@ use Rattle.mp_seqpool.specs.declared.refusal.Refusal.TheVariants as refusals
 use Rattle.mp_seqpool.specs.declared.command.Reply.{Reply}
 use Rattle.mp_seqpool.specs.declared.command.Reply.TheVariants.{Accepted}
 use Rattle.mp_seqpool.specs.declared.pool.SeqPool.TheInside.{Inside}
-use Rattle.mp_seqpool.specs.Inside.TicketsById.{Notes}
 use Rattle.mp_seqpool.specs.Inside.Place.{new_misplaced, misplaced}
 use Rattle.mp_seqpool.specs.Inside.Rules.{IsBrokenRule}
 use Rattle.mp_seqpool.specs.Inside.SeqPool.{state, IsCounted}
@@ -33,7 +32,6 @@ use Rattle.mp_rules.specs.Checked.{WasValid}
 use Rattle.mp_tickets.specs.Tickets.{IsRising}
 use Rattle.mp_tickets.proofs.Rising.{rising_push}
 use Rattle.mp_seqpool.proofs.Distinct.{absent as no_such_id}
-use Rattle.mp_seqpool.proofs.Noting.{keeps}
 use Rattle.mp_seqpool.proofs.Keeping.{chain-push}
 
 -- ---- the items with one more
@@ -77,10 +75,10 @@ all_below n (e ∷ es) h =
     (all_below n es (All-tail (λ k. k ≤ n) e.0 (tickets (ticketed es)) h))
 
 -- what the pool keeps beside is right with one more transaction too
-pub counted : (was new : Inside) (item : ValidatedTx) → new.config ≡ was.config → new.overlay.ledger ≡ was.overlay.ledger → new.overlay.applied ≡ was.overlay.applied ++ item.tx ∷ [] → Notes was.tickets.entries (id_of item.tx) (was.last + 1) new.tickets.entries
+pub counted : (was new : Inside) (item : ValidatedTx) → new.config ≡ was.config → new.overlay.ledger ≡ was.overlay.ledger → new.overlay.applied ≡ was.overlay.applied ++ item.tx ∷ [] → new.overlay.items ≡ was.overlay.items ++ (was.last + 1, item.tx) ∷ []
     → new.items ≡ was.items ++ (was.last + 1, item) ∷ [] → new.last ≡ was.last + 1 → new.bytes ≡ was.bytes + size_of item.tx → new.changes ≡ was.changes + 1
     → ticket_of (id_of item.tx) (ticketed was.items) ≡ None → HasPlace (state was) item.tx → WasValid item.tx item.resolved → IsValid all_accepted (unspent (state was)) was.overlay.ledger.tick item.tx → IsCounted was → IsCounted new
-counted was new item config base applied noted is last bytes changes absent_there room was_valid is_valid law =
+counted was new item config base applied under is last bytes changes absent_there room was_valid is_valid law =
     let t : Transaction = item.tx in
     let all : List (ℕ × Transaction) = ticketed was.items ++ (was.last + 1, t) ∷ [] in
     let items : ticketed new.items ≡ all = ap ticketed is ∙ ticketed-push was.items (was.last + 1) item in
@@ -90,7 +88,7 @@ counted was new item config base applied noted is last bytes changes absent_ther
       chained = subst (λ (l : LedgerState). Chain all_accepted (get l.utxo) l.tick (transactions (ticketed new.items))) (sym base)
           (subst (Chain all_accepted (get was.overlay.ledger.utxo) was.overlay.ledger.tick) (sym (ap transactions items ∙ transactions-push (ticketed was.items) (was.last + 1) t))
           (chain-push all_accepted (get was.overlay.ledger.utxo) was.overlay.ledger.tick (transactions (ticketed was.items)) t law.chained is_valid));
-      noted = λ id. keeps (ticketed was.items) (was.last + 1) t was.tickets.entries new.tickets.entries absent_there noted law.noted id ∙ ap (ticket_of id) (sym items);
+      under = under ∙ ap (λ l. l ++ (was.last + 1, t) ∷ []) law.under ∙ sym items;
       distinct = subst (λ l. AllPairs (λ a b. a ≢ b) (map id_of (transactions l))) (sym items)
           (subst (AllPairs (λ a b. a ≢ b)) (sym (ids-push (ticketed was.items) (was.last + 1) t))
           (all_pairs_push (λ a b. a ≢ b) (map id_of (transactions (ticketed was.items))) (id_of t) law.distinct (no_such_id (id_of t) (ticketed was.items) absent_there)));

@@ -16,7 +16,7 @@ use Rattle.mp_seqpool.specs.declared.pool.SeqPool.TheInside.{Inside}
 use Rattle.mp_seqpool.specs.Command.{Remove}
 use Rattle.mp_seqpool.specs.Pool.{Pool, Holding}
 use Rattle.mp_seqpool.specs.SlowPool.{AreSigned, pool_upon, answer, left_without}
-use Rattle.mp_seqpool.specs.Prepared.{Prepared, IsLeafAt, changed, CanChange, Prepares, leads_to, told, apart, left_by}
+use Rattle.mp_seqpool.specs.Prepared.{Prepared, HasApplied, IsLeafAt, changed, CanChange, Prepares, leads_to, told, apart, left_by}
 use Rattle.mp_seqpool.specs.Inside.Chained.{IsChained}
 use Rattle.mp_seqpool.specs.Inside.SeqPool.{state, IsCounted}
 use Rattle.mp_seqpool.specs.Inside.NamedLeaves.{TakesNamed, HasLeaves, Lacks}
@@ -60,6 +60,7 @@ ready_taken_out accepts h ids q change rising distinct chained signed takes =
 pub has_leaves : (was : Inside) (gone : List ℕ) → All (IsLeafAt (state was)) gone → IsCounted was → HasLeaves was.overlay (ticketed was.items) gone
 has_leaves was gone leaves law = record {
   applied = law.applied;
+  under = law.under;
   chained = law.chained;
   distinct = law.distinct;
   rising = rising_ticketed 0 was.items law.rising;
@@ -68,9 +69,9 @@ has_leaves was gone leaves law = record {
 
 -- what the overlay has without them is what the reply leaves, and that is chained
 pub lacking_leaves : (was : Inside) (overlay : Overlay) (gone : List ℕ) (reply : Reply) → Lacks was.overlay (ticketed was.items) gone overlay → apart gone (ticketed was.items) ≡ left_by reply (ticketed was.items)
-    → (overlay.applied ≡ transactions (left_by reply (ticketed was.items))) × IsChained (pool_upon (state was) overlay.ledger (left_by reply (ticketed was.items)))
+    → HasApplied overlay (left_by reply (ticketed was.items)) × IsChained (pool_upon (state was) overlay.ledger (left_by reply (ticketed was.items)))
 lacking_leaves was overlay gone reply lacks left = (
-  lacks.applied ∙ ap transactions left,
+  record { applied = lacks.applied ∙ ap transactions left; under = lacks.under ∙ left },
   subst (λ l. IsChained (pool_upon (state was) l (left_by reply (ticketed was.items)))) (sym lacks.base)
       (subst (λ l. IsChained (pool_upon (state was) was.overlay.ledger l)) left lacks.chained),
 )

@@ -4,7 +4,6 @@ pub mod Chained
 pub mod Effect
 pub mod Leaving
 pub mod NamedLeaves
-pub mod TicketsById
 pub mod Place
 pub mod Rules
 pub mod Steps

@@ -71,9 +71,14 @@ pub record CanAppend (h : Holding) (item : ValidatedTx) : Type 0 where
 abbrev pub IsLeafAt : Pool → ℕ → Type 0
 IsLeafAt p ticket = IfSome (item_at p.items ticket) (IsLeaf (get p.ledger.utxo) (transactions p.items))
 
+-- these were applied upon the overlay, under their tickets
+pub record HasApplied (overlay : Overlay) (items : List (ℕ × Transaction)) : Type 0 where
+  pub applied : overlay.applied ≡ transactions items
+  pub under : overlay.items ≡ items
+
 abbrev pub CanChange : Holding → Effect → Type 0
 CanChange h (Append item) = CanAppend h item
-CanChange h (Keep overlay kept) = overlay.applied ≡ transactions (among kept h.pool.items)
+CanChange h (Keep overlay kept) = HasApplied overlay (among kept h.pool.items)
 CanChange h (TakeOut gone) = All (IsLeafAt h.pool) gone
 CanChange h (Adopt ledger gone) = All (IsLeafAt h.pool) gone
 

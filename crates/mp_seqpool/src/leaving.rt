@@ -1,13 +1,14 @@
 //! Taking items out of a pool.
 
-ghost use Rattle.std.specs.Prelude.{◌≡◌, ◌+◌, ◌≤◌, ◌^◌};
+ghost use Rattle.std.specs.Prelude.{◌≡◌, ◌+◌, ◌≤◌, ◌^◌, IfOk};
+ghost use Rattle.std.specs.List.Sorted.{IsStrictlyIncreasing};
 ghost use Rattle.mp_tickets.specs.Tickets.{without};
 ghost use Rattle.mp_resync.specs.ValidatedTx.{ticketed};
 ghost use Rattle.mp_seqpool.specs.Inside.Leaving.{bytes_in, AreKnown, TakesOut, Leaves};
 ghost use Rattle.mp_seqpool.specs.Inside.NamedLeaves.{HasLeaves, Lacks};
 
 use crate::command::Reply;
-use crate::tickets_by_id::{TicketsById, forget};
+use mp_memory::{Memory, NoMemory};
 use mp_resync::ValidatedTx;
 use mp_tickets::{TicketList, Tickets};
 use mp_utxo::Overlay;
@@ -17,52 +18,57 @@ pub fn few_of(count: usize) -> usize {
     (count / 16).max(16)
 }
 
-// Takes out the item under the ticket, with its id. Gives how many bytes its transaction has, and 0 where there is none.
-fn take_one(items: &mut TicketList<ValidatedTx>, tickets: &mut TicketsById, ticket: u64) -> u64
-    requires { AreKnown items.old tickets.old.entries }
+/// The tickets, which rise, as a list of them.
+pub fn as_tickets(memory: Memory, rising: &[u64]) -> Result<Tickets, NoMemory>
+    requires { IsStrictlyIncreasing rising.now }
+    ensures { IfOk result (λ tickets. tickets ≡ rising.now) }
+{
+    let mut tickets = Tickets::new(memory);
+    for ticket in rising {
+        tickets.push(*ticket)?;
+    }
+    Ok(tickets)
+}
+
+// Takes out the item under the ticket. Gives how many bytes its transaction has, and 0 where there is none.
+fn take_one(items: &mut TicketList<ValidatedTx>, ticket: u64) -> u64
+    requires { AreKnown items.old }
     ensures items { items.new ≡ without items.old ticket }
-    ensures known { AreKnown items.new tickets.new.entries }
+    ensures known { AreKnown items.new }
     ensures bytes { bytes_in items.new + result ≡ bytes_in items.old }
 {
     match items.unlink(ticket) {
-        Some(item) => {
-            forget(tickets, item.tx.id());
-            item.tx.size()
-        }
+        Some(item) => item.tx.size(),
         None => 0,
     }
 }
 
 // Takes out the items under these tickets.
-fn take_out(items: &mut TicketList<ValidatedTx>, tickets: &mut TicketsById, gone: &Tickets) -> u64
-    requires known { AreKnown items.old tickets.old.entries }
+fn take_out(items: &mut TicketList<ValidatedTx>, gone: &Tickets) -> u64
+    requires known { AreKnown items.old }
     requires most { bytes_in items.old ≤ 2 ^ 40 }
-    ensures { TakesOut gone.now items.old items.new tickets.new.entries result }
+    ensures { TakesOut gone.now items.old items.new result }
 {
     let mut bytes = 0;
     for ticket in gone.as_slice() {
-        bytes += take_one(items, tickets, *ticket);
+        bytes += take_one(items, *ticket);
     }
     bytes
 }
 
-/// Takes out the items that the reply tells, each by its ticket, with their ids. Gives how many bytes their transactions have.
-pub fn take_told(
-    items: &mut TicketList<ValidatedTx>,
-    tickets: &mut TicketsById,
-    reply: &Reply,
-) -> u64
-    requires known { AreKnown items.old tickets.old.entries }
+/// Takes out the items that the reply tells, each by its ticket. Gives how many bytes their transactions have.
+pub fn take_told(items: &mut TicketList<ValidatedTx>, reply: &Reply) -> u64
+    requires known { AreKnown items.old }
     requires most { bytes_in items.old ≤ 2 ^ 40 }
-    ensures { Leaves reply.now items.old items.new tickets.new.entries result }
+    ensures { Leaves reply.now items.old items.new result }
 {
     match reply {
         Reply::Accepted { .. } => 0,
         Reply::Removed { named, dropped } => {
-            let bytes = take_out(items, tickets, named);
-            bytes + take_out(items, tickets, dropped)
+            let bytes = take_out(items, named);
+            bytes + take_out(items, dropped)
         }
-        Reply::Synced { dropped, .. } => take_out(items, tickets, dropped),
+        Reply::Synced { dropped, .. } => take_out(items, dropped),
     }
 }
 

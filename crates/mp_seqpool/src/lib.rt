@@ -11,8 +11,6 @@ mod playing;
 mod pool;
 mod prepared;
 mod refusal;
-mod room;
-mod tickets_by_id;
 
 pub use command::{Answer, Command, Reply};
 pub use config::Config;

@@ -9,12 +9,9 @@ ghost use Rattle.mp_seqpool.specs.declared.command.Reply.TheVariants.{Accepted, 
 use crate::command::{Answer, Command, Reply};
 use crate::config::Config;
 use crate::ids::Ids;
-use crate::leaving::{few_of, take_leaves, take_told};
-use crate::prepared::{Effect, Prepared};
+use crate::leaving::{as_tickets, few_of, take_leaves, take_told};
+use crate::prepared::{Effect, Prepared, keep_effect};
 use crate::refusal::Refusal;
-use crate::room::reserve;
-use crate::tickets_by_id::{TicketsById, as_tickets, note, ticket_under};
-use indexmap::IndexMap;
 use mp_memory::{Memory, NoMemory};
 use mp_resync::{Kept, Parted, ValidatedTx, part, revalidate};
 use mp_rules::{Checked, Resolved, Verifier, check, check_with};
@@ -31,13 +28,11 @@ use std::sync::Arc;
 /// Every step has two parts. A `prepare_` call looks at everything, takes all memory, and leaves what the pool holds; `finish`
 /// takes the step that it gave. `submit`, `remove` and `sync` do both.
 ///
-/// What its transactions spend and make, and the tickets of their ids, are kept in tables, so that a
-/// submit takes no walk over the pool. A contract sees what the pool holds, and the room that was made in its tables.
+/// What its transactions spend and make, with their tickets, is kept in tables, so that a submit takes no walk over the pool. A contract sees what the pool holds, and the room that was made in its tables.
 pub struct SeqPool {
     memory: Memory,
     config: Config,
     overlay: Overlay,
-    tickets: TicketsById,
     items: TicketList<ValidatedTx>,
     last: u64,
     bytes: u64,
@@ -50,7 +45,6 @@ impl Drop for SeqPool {
             memory: _,
             config: _,
             overlay: _,
-            tickets: _,
             items: _,
             last: _,
             bytes: _,
@@ -104,19 +98,20 @@ fn append_step(
 }
 
 // The step of a sync that leaves this. What is kept is both told and done.
-fn sync_step(adopted: Ledger, left: Kept) -> Result<Prepared, NoMemory>
+fn sync_step(memory: Memory, adopted: Ledger, left: Kept) -> Result<Prepared, NoMemory>
     ensures command { IfOk result (λ q. q.command ≡ Sync adopted) }
     ensures reply { IfOk result (λ q. q.reply ≡ Synced left.kept left.dropped) }
     ensures effect { IfOk result (λ q. q.effect ≡ Keep left.overlay left.kept) }
 {
     let told = left.kept.copy()?;
+    let effect = keep_effect(memory, left.overlay, left.kept)?;
     Ok(Prepared {
         command: Command::Sync(adopted),
         reply: Reply::Synced {
             kept: told,
             dropped: left.dropped,
         },
-        effect: Effect::Keep(left.overlay, left.kept),
+        effect,
     })
 }
 
@@ -182,7 +177,7 @@ impl SeqPool {
     ghost use Rattle.mp_seqpool.specs.Command.{Submit, Remove, Sync};
     ghost use Rattle.mp_seqpool.specs.Config.{fresh_pool, renewed};
     ghost use Rattle.mp_seqpool.specs.SlowPool.{answer, next, IsRefused, AreSigned, bytes_held, unspent, ticket_of, HasPlace, pool_with, pool_upon};
-    ghost use Rattle.mp_seqpool.specs.Prepared.{Append, Keep, CanAppend, IsLeafAt, HasRoom, Prepares, IsPrepared, apart, left_by, leads_to};
+    ghost use Rattle.mp_seqpool.specs.Prepared.{Append, Keep, CanAppend, HasApplied, IsLeafAt, HasRoom, Prepares, IsPrepared, apart, left_by, leads_to};
     ghost use Rattle.mp_seqpool.specs.declared.command.Reply.TheVariants.{Accepted};
     ghost use Rattle.mp_seqpool.specs.Inside.Command.{command_of};
 
@@ -196,7 +191,6 @@ impl SeqPool {
             memory,
             config,
             overlay,
-            tickets: IndexMap::with_hasher(memory, ledger.salt()),
             items,
             last: config.last,
             bytes: 0,
@@ -217,7 +211,7 @@ impl SeqPool {
         if self.last == u64::MAX {
             return Some(Refusal::TicketsSpent);
         }
-        if let Some(ticket) = ticket_under(&self.tickets, tx.id()) {
+        if let Some(ticket) = self.ticket_of(tx.id()) {
             return Some(Refusal::AlreadyInPool(ticket));
         }
         let need = tx.size();
@@ -266,7 +260,7 @@ impl SeqPool {
             ≡ Append (record { tx = arc_value tx.now; resolved = resolved })) }
         ensures room { IfOk result (HasRoom self.new) }
     {
-        reserve(&mut self.overlay, &mut self.tickets, tx)?;
+        self.overlay.reserve_for(tx)?;
         append_step(self.memory, tx, resolved, self.last + 1)
     }
 
@@ -398,10 +392,11 @@ impl SeqPool {
             named,
             dropped,
         } = self.revalidate(self.overlay.ledger(), ids.as_slice(), verifier)?;
+        let effect = keep_effect(self.memory, overlay, kept)?;
         Ok(Prepared {
             command: Command::Remove(asked),
             reply: Reply::Removed { named, dropped },
-            effect: Effect::Keep(overlay, kept),
+            effect,
         })
     }
 
@@ -440,7 +435,7 @@ impl SeqPool {
         }
         let adopted = ledger.share()?;
         let left = self.revalidate(ledger, &[], verifier)?;
-        Ok(sync_step(adopted, left)?)
+        Ok(sync_step(self.memory, adopted, left)?)
     }
 
     /// The tickets of the transactions that a sync to the ledger state would drop. The pool stays as it is, and may have made as many
@@ -470,9 +465,8 @@ impl SeqPool {
         ensures { self.new.pool ≡ pool_with self.old.pool node.tx }
     {
         let ticket = self.last + 1;
-        note(&mut self.tickets, applied.id(), ticket);
         self.bytes += applied.size();
-        self.overlay.apply(applied);
+        self.overlay.apply(ticket, applied);
         self.items.push_node(ticket, node);
         self.last = ticket;
         self.changes += 1;
@@ -489,7 +483,7 @@ impl SeqPool {
         ensures next { OnOk result (self.new.pool ≡ pool_with self.old.pool (arc_value tx.now)) }
         ensures err { OnErr result (self.new.pool ≡ self.old.pool) }
     {
-        reserve(&mut self.overlay, &mut self.tickets, tx)?;
+        self.overlay.reserve_for(tx)?;
         let applied = Arc::try_clone(tx)?;
         let item = ValidatedTx {
             tx: Arc::try_clone(tx)?,
@@ -506,13 +500,12 @@ impl SeqPool {
     // Takes out what the reply tells, each by its ticket.
     fn leave(&mut self, overlay: Overlay, reply: &Reply)
         requires change { self.old.pool.changes < self.old.pool.limit }
-        requires applied { overlay.applied
-            ≡ transactions (left_by reply.now self.old.pool.items) }
+        requires applied { HasApplied overlay (left_by reply.now self.old.pool.items) }
         requires told { IsKeep self.old overlay reply.now }
         ensures { self.new.pool ≡ pool_upon self.old.pool overlay.ledger
             (left_by reply.now self.old.pool.items) }
     {
-        self.bytes -= take_told(&mut self.items, &mut self.tickets, reply);
+        self.bytes -= take_told(&mut self.items, reply);
         self.overlay = overlay;
         self.changes += 1;
     }
@@ -527,7 +520,7 @@ impl SeqPool {
             (left_by reply.now self.old.pool.items) }
     {
         take_leaves(&mut self.overlay, &self.items, gone);
-        let bytes = take_told(&mut self.items, &mut self.tickets, reply);
+        let bytes = take_told(&mut self.items, reply);
         self.bytes -= bytes;
         self.changes += 1;
     }
@@ -544,7 +537,7 @@ impl SeqPool {
     {
         take_leaves(&mut self.overlay, &self.items, gone);
         self.overlay.rebase(ledger);
-        let bytes = take_told(&mut self.items, &mut self.tickets, reply);
+        let bytes = take_told(&mut self.items, reply);
         self.bytes -= bytes;
         self.changes += 1;
     }
@@ -558,7 +551,7 @@ impl SeqPool {
         let (reply, effect) = prepared.into_parts();
         match effect {
             Effect::Append(node, applied) => self.append(node, applied),
-            Effect::Keep(overlay, _kept) => self.leave(overlay, &reply),
+            Effect::Keep(overlay, _kept) => self.leave(Box::into_inner(overlay), &reply),
             Effect::TakeOut(gone) => self.take_leaves_out(&gone, &reply),
             Effect::Adopt(ledger, gone) => self.adopt(ledger, &gone, &reply),
         }
@@ -767,7 +760,7 @@ impl SeqPool {
     pub fn ticket_of(&self, id: &TxId) -> Option<u64>
         ensures { result ≡ ticket_of id.now self.now.pool.items }
     {
-        ticket_under(&self.tickets, id)
+        self.overlay.ticket_of(id)
     }
 
     /// The transaction under the ticket, if there is one. It takes no walk over the pool.

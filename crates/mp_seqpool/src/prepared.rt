@@ -1,7 +1,11 @@
 //! Steps that are ready to be taken.
 
+ghost use Rattle.std.specs.Prelude.{◌≡◌, IfOk};
+ghost use Rattle.mp_seqpool.specs.Prepared.{Keep};
+ghost use Rattle.mp_seqpool.specs.Inside.Effect.{effect_of, IsOfOne};
+
 use crate::command::{Command, Reply};
-use mp_memory::Memory;
+use mp_memory::{Memory, NoMemory};
 use mp_resync::ValidatedTx;
 use mp_tickets::{Node, Tickets};
 use mp_tx::{Ledger, Tx};
@@ -14,12 +18,20 @@ use std::sync::Arc;
 pub enum Effect {
     /// The item comes last, and its transaction is applied.
     Append(Node<ValidatedTx>, Arc<Tx, Memory>),
-    /// Those under these tickets stay: all that the overlay has applied.
-    Keep(Overlay, Tickets),
+    /// Those under these tickets stay: all that the overlay has applied, which is large, so that a step would be.
+    Keep(Box<Overlay, Memory>, Tickets),
     /// Those under these tickets go, and nothing else.
     TakeOut(Tickets),
     /// Those under these tickets go, on which no others hang, and the others stand upon this ledger state.
     Adopt(Ledger, Tickets),
+}
+
+/// What a step does that keeps those under these tickets, all that the overlay has applied.
+pub fn keep_effect(memory: Memory, overlay: Overlay, kept: Tickets) -> Result<Effect, NoMemory>
+    ensures effect { IfOk result (λ e. effect_of e ≡ Keep overlay kept) }
+    ensures one { IfOk result IsOfOne }
+{
+    Ok(Effect::Keep(Box::new(memory, overlay)?, kept))
 }
 
 /// A step of the pool that is ready to be taken: all that can be refused is behind it, and it holds the memory that it needs.

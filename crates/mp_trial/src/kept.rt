@@ -47,7 +47,7 @@ fn keep(kept: &mut Kept, item: &Item) -> Result<(), NoMemory>
     ensures { OnOk result (Keeps kept.old (item_of item.now) kept.new) }
 {
     kept.overlay.reserve_for(&item.tx)?;
-    kept.overlay.apply(Arc::try_clone(&item.tx)?);
+    kept.overlay.apply(item.ticket, Arc::try_clone(&item.tx)?);
     kept.items.push(item.share()?)?;
     kept.bytes += item.tx.size();
     Ok(())

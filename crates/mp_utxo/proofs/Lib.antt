@@ -6,3 +6,5 @@ pub mod Kept
 pub mod Leaves
 pub mod Taken
 pub mod Rebased
+pub mod ById
+pub mod Items

@@ -132,14 +132,14 @@ sole (t ∷ ts) a b ne h k e = ⊎_elim
 
 -- ---- those with other ids
 
-other_bytes : (a b : List ℕ) → (a ≢ b) → pointwise nat_eq a b ≡ false
+pub other_bytes : (a b : List ℕ) → (a ≢ b) → pointwise nat_eq a b ≡ false
 other_bytes a b ne = ne_true (pointwise nat_eq a b) (λ e. ne ((bytes_decides a b).0 e))
 
 others_all : (id : List ℕ) (ts : List Transaction) → AllByRecursion (λ y. id_of y ≢ id) ts → others id ts ≡ ts
 others_all id [] a = refl
 others_all id (t ∷ ts) a = ap (λ (b : Bool). cond (not b) (t ∷ others id ts) (others id ts)) (other_bytes (id_of t) id a.0) ∙ ap (λ (ys : List Transaction). t ∷ ys) (others_all id ts a.1)
 
-before_it : (xs : List Transaction) (t : Transaction) (ys : List Transaction) → Apart (xs ++ t ∷ ys) → AllByRecursion (λ y. id_of y ≢ id_of t) xs
+pub before_it : (xs : List Transaction) (t : Transaction) (ys : List Transaction) → Apart (xs ++ t ∷ ys) → AllByRecursion (λ y. id_of y ≢ id_of t) xs
 before_it [] t ys a = tt
 before_it (x ∷ xs) t ys a = (all-at (λ y. id_of x ≢ id_of y) (t ∷ ys) t (back (λ y. id_of x ≢ id_of y) xs (t ∷ ys) a.0) (inl refl), before_it xs t ys a.1)
 

@@ -1,6 +1,7 @@
 -- Places, and what stands at them.
 use Rattle.std.proofs.Common.{◌≡◌, ◌⊎◌, ℕ, zero, suc, ◌<◌, List, [], ◌∷◌, ◌++◌, length, set, get_or, refl, ap, subst, inl, inr, ⊎_elim, arith}
-use Rattle.std.specs.Prelude.{Option, None, Some, Contains}
+use Rattle.std.specs.Prelude.{Option, None, Some, Contains, slice_get}
+use Rattle.std.specs.Option.{option_and_then}
 use Rattle.std.specs.List.{AllByRecursion}
 use Rattle.std.proofs.lemmas.Option.{none-some, same_Some}
 use Rattle.std.proofs.lemmas.List.Elements.{filter_map-append}
@@ -23,17 +24,17 @@ standing-last (p ∷ ps) t = standing-last ps t
 
 -- ---- those that stand somewhere
 
--- the transaction is one of them
-abbrev pub In : List Transaction → Transaction → Type 0
+-- it is one of them
+abbrev pub In : {X : Type 0} → List X → X → Type 0
 In [] m = ⊥
 In (t ∷ ts) m = (t ≡ m) ⊎ In ts m
 
-in-at : (ts : List Transaction) (t : Transaction) (k : ℕ) → k < length ts → get_or ts k t ≡ t → In ts t
+in-at : {X : Type 0} (ts : List X) (t : X) (k : ℕ) → k < length ts → get_or ts k t ≡ t → In ts t
 in-at [] t k lt e = absurd (omega arith)
 in-at (x ∷ ts) t zero lt e = inl e
 in-at (x ∷ ts) t (suc k) lt e = inr (in-at ts t k (omega arith) e)
 
-pub in-contains : (ts : List Transaction) (t : Transaction) → Contains ts t → In ts t
+pub in-contains : {X : Type 0} (ts : List X) (t : X) → Contains ts t → In ts t
 in-contains ts t h = in-at ts t h.0 h.1 h.2
 
 pub in-those : (ps : Places) (k : ℕ) (m : Transaction) → standing ps k ≡ Some m → In (those ps) m
@@ -43,30 +44,30 @@ in-those (Some t ∷ ps) zero m e = inl (same_Some t m e)
 in-those (None ∷ ps) (suc k) m e = in-those ps k m e
 in-those (Some t ∷ ps) (suc k) m e = inr (in-those ps k m e)
 
-pub all-at : (P : Transaction → Type 0) (ts : List Transaction) (m : Transaction) → AllByRecursion P ts → In ts m → P m
+pub all-at : {X : Type 0} (P : X → Type 0) (ts : List X) (m : X) → AllByRecursion P ts → In ts m → P m
 all-at P [] m all h = absurd h
 all-at P (t ∷ ts) m all h = ⊎_elim (λ (e : t ≡ m). subst P e all.0) (λ (k : In ts m). all-at P ts m all.1 k) h
 
 -- ---- one place less
 
--- the places around one at which the transaction stands, and what is left where it goes
-pub record Cut (ps : Places) (k : ℕ) (t : Transaction) : Type 0 where
-  pub front : Places
-  pub back : Places
+-- the places around one at which it stands, and what is left where it goes
+pub record Cut {X : Type 0} (ps : List (Option X)) (k : ℕ) (t : X) : Type 0 where
+  pub front : List (Option X)
+  pub back : List (Option X)
   pub is : ps ≡ front ++ Some t ∷ back
   pub vacated : set ps k None ≡ front ++ None ∷ back
 
-cut_more : (p : Option Transaction) (ps : Places) (k : ℕ) (t : Transaction) → Cut ps k t → Cut (p ∷ ps) (suc k) t
+cut_more : {X : Type 0} (p : Option X) (ps : List (Option X)) (k : ℕ) (t : X) → Cut ps k t → Cut (p ∷ ps) (suc k) t
 cut_more p ps k t c = record {
   front = p ∷ c.front;
   back = c.back;
-  is = ap (λ (qs : Places). p ∷ qs) c.is;
-  vacated = ap (λ (qs : Places). p ∷ qs) c.vacated;
+  is = ap (λ qs. p ∷ qs) c.is;
+  vacated = ap (λ qs. p ∷ qs) c.vacated;
 }
 
-pub cut : (ps : Places) (k : ℕ) (t : Transaction) → standing ps k ≡ Some t → Cut ps k t
+pub cut : {X : Type 0} (ps : List (Option X)) (k : ℕ) (t : X) → option_and_then (λ p. p) (slice_get ps k) ≡ Some t → Cut ps k t
 cut [] k t e = absurd (none-some t e)
-cut (p ∷ ps) zero t e = record { front = []; back = ps; is = ap (λ (q : Option Transaction). q ∷ ps) e; vacated = refl }
+cut (p ∷ ps) zero t e = record { front = []; back = ps; is = ap (λ q. q ∷ ps) e; vacated = refl }
 cut (p ∷ ps) (suc k) t e = cut_more p ps k t (cut ps k t e)
 
 -- the one that stands at a place is the one that goes, or it is one of the others and stays there

@@ -1,5 +1,5 @@
 -- What an overlay keeps tells of another ledger state too, where all was there that its transactions spend.
-use Rattle.std.proofs.Common.{◌≡◌, ℕ, Bool, true, false, ◌||◌, List, [], ◌∷◌, if◌then◌else◌, refl, sym, ap, subst, ◌∙◌, inl, inr, ⊎_elim}
+use Rattle.std.proofs.Common.{◌≡◌, ℕ, Bool, true, false, ◌||◌, List, [], ◌∷◌, if◌then◌else◌, refl, sym, ap, subst, ◌∙◌, ⊎_elim}
 use Rattle.std.specs.Prelude.{Option, Some, None, IsSome, is_some}
 use Rattle.std.specs.Option.{option_or}
 use Rattle.std.specs.List.{list_any}

@@ -247,7 +247,7 @@ goes old now t is leaf fed distinct there =
 below : (k n : ℕ) → k < n → nat_lt k n ≡ true
 below k n lt = grind (arith)
 
-first-made : (t : Transaction) → 0 < length t.outputs → IsSome (output_made t (own_ref t 0))
+pub first-made : (t : Transaction) → 0 < length t.outputs → IsSome (output_made t (own_ref t 0))
 first-made t lt = own-made t (own_ref t 0) (ap (λ (b : Bool). b && nat_lt 0 (length t.outputs)) ((bytes_decides (id_of t) (id_of t)).1 refl) ∙ below 0 (length t.outputs) lt)
 
 made-somewhere : (ps : Places) (u : Unspent) (t : Transaction) (o : Option Change) → IsSome (changed ps u (own_ref t 0) o) → In (those ps) t → IsSome (output_made t (own_ref t 0)) → IsMadeSo ps (own_ref t 0) o → unspent_of o ≡ None → ⊥

@@ -39,7 +39,11 @@ pub record IsLeaf (u : Unspent) (ts : List Transaction) (t : Transaction) : Type
 abbrev pub others : List ℕ → List Transaction → List Transaction
 others id ts = filter (λ t. not (pointwise nat_eq (id_of t) id)) ts
 
+abbrev pub other_items : List ℕ → List (ℕ × Transaction) → List (ℕ × Transaction)
+other_items id items = filter (λ e. not (pointwise nat_eq (id_of e.1) id)) items
+
 -- new has all but those with the id
 pub record LacksOne (old : Overlay) (id : List ℕ) (new : Overlay) : Type 0 where
   pub base : new.ledger ≡ old.ledger
   pub applied : new.applied ≡ others id old.applied
+  pub items : new.items ≡ other_items id old.items

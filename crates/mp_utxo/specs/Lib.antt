@@ -1,4 +1,5 @@
 pub mod Apply
+pub mod ById
 pub mod Overlay
 pub mod Leaf
 pub mod Inside

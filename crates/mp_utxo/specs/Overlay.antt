@@ -1,7 +1,8 @@
 -- Overlays: a ledger state, and the transactions that were applied upon it.
-use Rattle.std.specs.Prelude.{◌≡◌, ℕ, ◌+◌, ◌<◌, ◌≤◌, List, [], ◌∷◌, ◌++◌, length}
+use Rattle.std.specs.Prelude.{◌≡◌, ◌≢◌, ℕ, ◌+◌, ◌<◌, ◌≤◌, List, [], ◌∷◌, ◌++◌, length, All, Contains}
 use Rattle.std.specs.FinMap.{get}
 use Rattle.mp_tx.specs.Transaction.{Transaction}
+use Rattle.mp_tx.specs.Spelling.{id_of}
 use Rattle.mp_tx.specs.Ledger.{LedgerState}
 use Rattle.mp_utxo.specs.Apply.{Unspent, after}
 
@@ -11,11 +12,15 @@ pub record Room : Type 0 where
   pub references : ℕ
   -- transactions
   pub transactions : ℕ
+  -- transactions without outputs
+  pub bare : ℕ
 
 pub record Overlay : Type 0 where
   pub ledger : LedgerState
   -- the transactions that were applied, oldest first
   pub applied : List Transaction
+  -- the same, with the ticket that each was applied under
+  pub items : List (ℕ × Transaction)
   pub room : Room
 
 -- the outputs that may be spent after all that was applied
@@ -26,18 +31,32 @@ unspent o = after (get o.ledger.utxo) o.applied
 pub record IsOver (ledger : LedgerState) (o : Overlay) : Type 0 where
   pub base : o.ledger ≡ ledger
   pub nothing : o.applied ≡ []
+  pub no_items : o.items ≡ []
 
 -- the transaction can be applied without memory
 pub record HasRoomFor (room : Room) (t : Transaction) : Type 0 where
   pub references : length t.inputs + length t.outputs ≤ room.references
   pub transaction : 0 < room.transactions
+  pub bare : length t.outputs ≡ 0 → 0 < room.bare
 
 -- they differ in room alone
 pub record IsSame (old new : Overlay) : Type 0 where
   pub base : new.ledger ≡ old.ledger
   pub applied : new.applied ≡ old.applied
+  pub items : new.items ≡ old.items
 
--- new has one transaction more, last
-pub record Applies (old : Overlay) (t : Transaction) (new : Overlay) : Type 0 where
+-- new has one transaction more, last, under the ticket
+pub record Applies (old : Overlay) (ticket : ℕ) (t : Transaction) (new : Overlay) : Type 0 where
   pub base : new.ledger ≡ old.ledger
   pub applied : new.applied ≡ old.applied ++ t ∷ []
+  pub items : new.items ≡ old.items ++ (ticket, t) ∷ []
+
+-- a transaction with the id stands under the ticket
+pub record IsUnder (items : List (ℕ × Transaction)) (id : List ℕ) (ticket : ℕ) : Type 0 where
+  pub tx : Transaction
+  pub there : Contains items (ticket, tx)
+  pub has : id_of tx ≡ id
+
+-- no transaction has the id
+abbrev pub HasNone : List (ℕ × Transaction) → List ℕ → Type 0
+HasNone items id = All (λ e. id_of e.1 ≢ id) items

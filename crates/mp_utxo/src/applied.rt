@@ -1,7 +1,7 @@
 //! The transactions that were applied, at their places.
 
-ghost use Rattle.std.specs.Prelude.{◌≡◌, ◌<◌, None, set, option_copied, vec_len};
-ghost use Rattle.mp_utxo.specs.Inside.Applied.{output_at, places};
+ghost use Rattle.std.specs.Prelude.{◌≡◌, ◌<◌, None, set, slice_get, option_map, option_copied, vec_len};
+ghost use Rattle.mp_utxo.specs.Inside.Applied.{output_at, places, slots};
 
 use mp_memory::Memory;
 use mp_tx::{Output, Tx};
@@ -10,6 +10,7 @@ use std::sync::Arc;
 /// A transaction that was applied, or the place of one that was taken out, so that the others keep theirs.
 #[derive(Drop)]
 pub struct Applied {
+    pub ticket: u64,
     pub tx: Option<Arc<Tx, Memory>>,
 }
 
@@ -23,12 +24,21 @@ pub fn output_at(applied: &[Applied], place: usize, index: u16) -> Option<&Outpu
     }
 }
 
+/// The ticket of the transaction at the place.
+pub fn ticket_at(applied: &[Applied], place: usize) -> Option<u64>
+    ensures { result ≡ option_map (λ a. a.ticket) (slice_get applied.now place) }
+{
+    Some(applied.get(place)?.ticket)
+}
+
 /// Takes out the transaction at the place, which is left vacant.
 pub fn vacate(applied: &mut Vec<Applied, Memory>, place: usize)
     requires { place < vec_len applied.old }
-    ensures { places applied.new.items ≡ set (places applied.old.items) place None }
+    ensures places { places applied.new.items ≡ set (places applied.old.items) place None }
+    ensures slots { slots applied.new.items ≡ set (slots applied.old.items) place None }
 {
-    applied[place] = Applied { tx: None };
+    let ticket = applied[place].ticket;
+    applied[place] = Applied { ticket, tx: None };
 }
 
 /// Whether so many places are vacant that a new overlay of those that are left is worth its cost.

@@ -3,7 +3,7 @@
 ghost use Rattle.std.specs.Prelude.{◌≡◌, ◌+◌, ◌<◌, ◌≤◌, length, IsSome};
 ghost use Rattle.std.specs.List.{list_any};
 ghost use Rattle.indexmap.specs.IndexMap.{spare};
-ghost use Rattle.mp_utxo.specs.Inside.Changes.{last_change, spent, unspent_of, is_made, Notes, SpendsOne, Spends, Makes};
+ghost use Rattle.mp_utxo.specs.Inside.Changes.{last_change, spent, unspent_of, place_of, is_made, Notes, SpendsOne, Spends, Makes};
 
 use indexmap::IndexMap;
 use mp_memory::Memory;
@@ -95,6 +95,16 @@ pub fn unspent_of(changes: &Changes, reference: &OutRef) -> Option<usize>
     match changes.get(reference) {
         Some(Change::Made(place)) => Some(*place),
         None | Some(Change::Spent | Change::MadeThenSpent(_)) => None,
+    }
+}
+
+/// The place of the transaction that made it, if one did.
+pub fn place_of(changes: &Changes, reference: &OutRef) -> Option<usize>
+    ensures { result ≡ place_of (last_change changes.now.entries reference.now) }
+{
+    match changes.get(reference) {
+        None | Some(Change::Spent) => None,
+        Some(Change::Made(place) | Change::MadeThenSpent(place)) => Some(*place),
     }
 }
 

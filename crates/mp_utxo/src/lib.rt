@@ -3,11 +3,14 @@
 #![tactic(auto)]
 
 mod applied;
+mod bare;
+mod by_id;
 mod changes;
 mod leaf;
 mod overlay;
 mod undo;
 mod utxo;
 
+pub use by_id::{ById, key_of};
 pub use overlay::Overlay;
 pub use utxo::Utxo;

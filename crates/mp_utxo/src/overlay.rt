@@ -1,12 +1,14 @@
 //! Overlays.
 
-use crate::applied::{Applied, is_sparse, output_at, vacate};
-use crate::changes::{Change, Changes, are_any_made, make, spend, unspent_of};
+use crate::applied::{Applied, is_sparse, output_at, ticket_at, vacate};
+use crate::bare::{Bare, note_bare, ticket_of_bare};
+use crate::by_id::key_of;
+use crate::changes::{Change, Changes, are_any_made, make, place_of, spend, unspent_of};
 use crate::leaf::{are_of_one, has_new_unspent};
 use crate::undo::{forget_made, restore};
 use indexmap::IndexMap;
 use mp_memory::{Memory, NoMemory};
-use mp_tx::{Ledger, OutRef, Output, Tx};
+use mp_tx::{Ledger, OutRef, Output, Tx, TxId};
 use std::marker::Model;
 use std::sync::Arc;
 
@@ -19,6 +21,7 @@ pub struct Overlay {
     ledger: Ledger,
     applied: Vec<Applied, Memory>,
     changes: Changes,
+    bare: Bare,
     // While it is false, no transaction looks at what one before it made.
     looks_inside: bool,
     // How many of the places are vacant.
@@ -31,6 +34,7 @@ impl Drop for Overlay {
             ledger: _,
             applied: _,
             changes: _,
+            bare: _,
             looks_inside: _,
             vacant: _,
         } = self;
@@ -54,12 +58,12 @@ impl Model for Overlay {
 }
 
 impl Overlay {
-    ghost use Rattle.std.specs.Prelude.{◌≡◌, ◌≢◌, IfOk, OnOk, IsTrue, option_copied, map, AllPairs, Contains};
+    ghost use Rattle.std.specs.Prelude.{◌≡◌, ◌≢◌, IfOk, IfSome, IfNone, OnOk, IsTrue, option_copied, map, AllPairs, Contains};
     ghost use Rattle.std.specs.Arc.{arc_value};
     ghost use Rattle.std.specs.FinMap as finite;
     ghost use Rattle.mp_tx.specs.Spelling.{id_of};
     ghost use Rattle.mp_utxo.specs.Leaf.{IsLeaf, IsFed, LacksOne};
-    ghost use Rattle.mp_utxo.specs.Overlay.{unspent, IsOver, HasRoomFor, IsSame, Applies};
+    ghost use Rattle.mp_utxo.specs.Overlay.{unspent, IsOver, HasRoomFor, IsSame, Applies, IsUnder, HasNone};
 
     /// The ledger state with nothing applied upon it. It shares the ledger's outputs.
     pub fn over(memory: Memory, ledger: &Ledger) -> Result<Overlay, NoMemory>
@@ -67,10 +71,12 @@ impl Overlay {
     {
         let ledger = ledger.share()?;
         let changes = IndexMap::with_hasher(memory, ledger.salt());
+        let bare = IndexMap::with_hasher(memory, ledger.salt());
         Ok(Overlay {
             ledger,
             applied: Vec::new(memory),
             changes,
+            bare,
             looks_inside: false,
             vacant: 0,
         })
@@ -106,20 +112,27 @@ impl Overlay {
         self.changes
             .reserve(tx.inputs().len() + tx.outputs().len())?;
         self.applied.reserve(1)?;
+        if tx.outputs().is_empty() {
+            self.bare.reserve(1)?;
+        }
         Ok(())
     }
 
     /// Takes out what the transaction spends, and puts in what it makes: its output k under its id and k. What it only looks
-    /// at stays. It takes no memory and can't fail, as room for it was reserved.
-    pub fn apply(&mut self, tx: Arc<Tx, Memory>)
+    /// at stays. The ticket is kept beside it. It takes no memory and can't fail, as room for it was reserved.
+    pub fn apply(&mut self, ticket: u64, tx: Arc<Tx, Memory>)
         requires { HasRoomFor self.old.room (arc_value tx) }
-        ensures { Applies self.old (arc_value tx) self.new }
+        ensures { Applies self.old ticket (arc_value tx) self.new }
     {
         let looks_inside = self.looks_inside || are_any_made(&self.changes, tx.references());
         let place = self.applied.len();
+        note_bare(&mut self.bare, ticket, &tx);
         spend(&mut self.changes, tx.inputs());
         make(&mut self.changes, &tx, place);
-        self.applied.push_reserved(Applied { tx: Some(tx) });
+        self.applied.push_reserved(Applied {
+            ticket,
+            tx: Some(tx),
+        });
         self.looks_inside = looks_inside;
     }
 
@@ -129,8 +142,21 @@ impl Overlay {
         requires fed { IsFed (finite.get self.old.ledger.utxo) self.old.applied }
         ensures base { self.new.ledger ≡ ledger }
         ensures applied { self.new.applied ≡ self.old.applied }
+        ensures items { self.new.items ≡ self.old.items }
     {
         self.ledger = ledger;
+    }
+
+    /// The ticket under which a transaction with this id was applied, if one was and it wasn't taken out. It takes no memory and no
+    /// walk.
+    pub fn ticket_of(&self, id: &TxId) -> Option<u64>
+        ensures some { IfSome result (IsUnder self.now.items id.now) }
+        ensures none { IfNone result (HasNone self.now.items id.now) }
+    {
+        match place_of(&self.changes, &key_of(id)) {
+            Some(place) => ticket_at(&self.applied, place),
+            None => ticket_of_bare(&self.bare, id),
+        }
     }
 
     /// Whether the transaction, which was applied, can be taken out with nothing else: `true` only where that is so; `false`

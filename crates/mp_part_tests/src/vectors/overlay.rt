@@ -11,7 +11,7 @@ use std::sync::Arc;
 fn apply(overlay: &mut Overlay, tx: &Arc<Tx, Memory>) -> Result<()> {
     let shared = Arc::try_clone(tx)?;
     overlay.reserve_for(&shared)?;
-    overlay.apply(shared);
+    overlay.apply(1, shared);
     Ok(())
 }
 

@@ -5,7 +5,7 @@ use Rattle.std.specs.Cmp.Lexicographic.{pointwise}
 use Rattle.std.specs.Map.{lookup}
 use Rattle.mp_tx.specs.declared.reference.OutRef.{OutRef}
 use Rattle.mp_tx.specs.Reference.{same_ref}
-use Rattle.mp_resync.specs.ById.{key_of}
+use Rattle.mp_utxo.specs.ById.{key_of}
 
 abbrev pub Table : Type 0
 Table = List (OutRef × Unit {0})

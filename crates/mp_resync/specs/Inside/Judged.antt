@@ -16,6 +16,7 @@ pub record AreBelow (ticket : ℕ) (k : Kept) : Type 0 where
 pub record Keeps (old : Kept) (i : ℕ × Transaction) (new : Kept) : Type 0 where
   pub base : new.overlay.ledger ≡ old.overlay.ledger
   pub applied : new.overlay.applied ≡ old.overlay.applied ++ i.1 ∷ []
+  pub items : new.overlay.items ≡ old.overlay.items ++ i ∷ []
   pub kept : new.kept ≡ old.kept ++ i.0 ∷ []
   pub named : new.named ≡ old.named
   pub dropped : new.dropped ≡ old.dropped

@@ -9,7 +9,7 @@ use Rattle.mp_seqpool.specs.Prepared as told
 
 abbrev pub effect_of : Effect → told.Effect
 effect_of (effects.Append node applied) = told.Append node
-effect_of (effects.Keep overlay kept) = told.Keep overlay kept
+effect_of (effects.Keep overlay kept) = told.Keep overlay.value kept
 effect_of (effects.TakeOut gone) = told.TakeOut gone
 effect_of (effects.Adopt ledger gone) = told.Adopt ledger gone
 

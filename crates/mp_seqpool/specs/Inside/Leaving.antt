@@ -8,31 +8,29 @@ use Rattle.mp_resync.specs.ValidatedTx.{ValidatedTx, ticketed}
 use Rattle.mp_resync.specs.Keep.{transactions, tickets}
 use Rattle.mp_seqpool.specs.declared.command.Reply.{Reply}
 use Rattle.mp_seqpool.specs.Prepared.{left_by}
-use Rattle.mp_seqpool.specs.Inside.TicketsById.{Noted, AreNoted}
 
 abbrev pub bytes_in : List (ℕ × ValidatedTx) → ℕ
 bytes_in items = sum_by size_of (transactions (ticketed items))
 
--- tickets rise, no id stands twice, and the table has them
-pub record AreKnown (items : List (ℕ × ValidatedTx)) (table : Noted) : Type 0 where
+-- tickets rise, and no id stands twice
+pub record AreKnown (items : List (ℕ × ValidatedTx)) : Type 0 where
   pub rising : IsRising items
   pub distinct : AllPairs (λ a b. a ≢ b) (map id_of (transactions (ticketed items)))
-  pub noted : AreNoted (ticketed items) table
 
 -- the items without those under these tickets
 abbrev pub lacking : List ℕ → List (ℕ × ValidatedTx) → List (ℕ × ValidatedTx)
 lacking gone items = filter (λ e. not (has_ticket gone e.0)) items
 
 -- those under these tickets are taken out, which have so many bytes
-pub record TakesOut (gone : List ℕ) (old new : List (ℕ × ValidatedTx)) (table : Noted) (count : ℕ) : Type 0 where
+pub record TakesOut (gone : List ℕ) (old new : List (ℕ × ValidatedTx)) (count : ℕ) : Type 0 where
   pub items : new ≡ lacking gone old
-  pub known : AreKnown new table
+  pub known : AreKnown new
   pub bytes : bytes_in new + count ≡ bytes_in old
 
 -- what the reply tells is taken out
-pub record Leaves (reply : Reply) (old new : List (ℕ × ValidatedTx)) (table : Noted) (count : ℕ) : Type 0 where
+pub record Leaves (reply : Reply) (old new : List (ℕ × ValidatedTx)) (count : ℕ) : Type 0 where
   pub items : ticketed new ≡ left_by reply (ticketed old)
-  pub known : AreKnown new table
+  pub known : AreKnown new
   pub bytes : bytes_in new + count ≡ bytes_in old
   pub valid : All (λ e. WasValid e.1.tx e.1.resolved) old → All (λ e. WasValid e.1.tx e.1.resolved) new
   pub given : (n : ℕ) → All (λ k. k ≤ n) (tickets (ticketed old)) → All (λ k. k ≤ n) (tickets (ticketed new))

@@ -28,6 +28,7 @@ pub record TakesNamed (p : Pool) (ids : List (List ℕ)) (q : Prepared) : Type 0
 -- the overlay has the items' transactions, and on what stands under these tickets no others hang
 pub record HasLeaves (overlay : Overlay) (items : List (ℕ × Transaction)) (gone : List ℕ) : Type 0 where
   pub applied : overlay.applied ≡ transactions items
+  pub under : overlay.items ≡ items
   pub chained : Chain all_accepted (get overlay.ledger.utxo) overlay.ledger.tick (transactions items)
   pub distinct : AllPairs (λ a b. a ≢ b) (map id_of (transactions items))
   pub rising : IsRising items
@@ -37,4 +38,5 @@ pub record HasLeaves (overlay : Overlay) (items : List (ℕ × Transaction)) (go
 pub record Lacks (old : Overlay) (items : List (ℕ × Transaction)) (gone : List ℕ) (new : Overlay) : Type 0 where
   pub base : new.ledger ≡ old.ledger
   pub applied : new.applied ≡ transactions (apart gone items)
+  pub under : new.items ≡ apart gone items
   pub chained : Chain all_accepted (get old.ledger.utxo) old.ledger.tick (transactions (apart gone items))

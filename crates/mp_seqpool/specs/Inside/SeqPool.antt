@@ -1,13 +1,11 @@
 -- What a pool keeps beside the state that contracts see.
-use Rattle.std.specs.Prelude.{◌≡◌, ◌≢◌, ◌≤◌, ◌^◌, min, map, sum_by, All, AllPairs}
-use Rattle.indexmap.specs.IndexMap.{spare}
+use Rattle.std.specs.Prelude.{◌≡◌, ◌≢◌, ◌≤◌, ◌^◌, map, sum_by, All, AllPairs}
 use Rattle.mp_tx.specs.Spelling.{id_of, size_of}
 use Rattle.mp_rules.specs.Checked.{WasValid}
 use Rattle.mp_tickets.specs.Tickets.{IsRising}
 use Rattle.mp_resync.specs.ValidatedTx.{ticketed}
 use Rattle.mp_resync.specs.Keep.{transactions, tickets}
 use Rattle.mp_seqpool.specs.declared.pool.SeqPool.TheInside.{Inside}
-use Rattle.mp_seqpool.specs.Inside.TicketsById.{AreNoted}
 use Rattle.mp_seqpool.specs.Inside.Chained.{IsChained}
 use Rattle.mp_seqpool.specs.Pool.{Pool, Holding}
 
@@ -24,10 +22,7 @@ state p = record {
 abbrev pub holding : Inside → Holding
 holding p = record {
   pool = state p;
-  room = record {
-    references = p.overlay.room.references;
-    transactions = min p.overlay.room.transactions (spare p.tickets);
-  };
+  room = p.overlay.room;
 }
 
 -- What is kept along the way is right, and tickets are what a ticket may be.
@@ -36,8 +31,8 @@ pub record IsCounted (p : Inside) : Type 0 where
   pub applied : p.overlay.applied ≡ transactions (ticketed p.items)
   -- each is valid there after all before it, but for its signatures
   pub chained : IsChained (state p)
-  -- each is found by its id
-  pub noted : AreNoted (ticketed p.items) p.tickets.entries
+  -- under their tickets
+  pub under : p.overlay.items ≡ ticketed p.items
   -- no id stands twice
   pub distinct : AllPairs (λ a b. a ≢ b) (map id_of (transactions (ticketed p.items)))
   -- each was valid where it named the outputs that stand beside it

@@ -20,6 +20,16 @@ those ps = filter_map (λ p. p) ps
 abbrev pub transactions : List Applied → List Transaction
 transactions applied = those (places applied)
 
+-- the transaction with the ticket that it was applied under
+abbrev pub item : Applied → Option (ℕ × Transaction)
+item a = option_map (λ t. (a.ticket, arc_value t)) a.tx
+
+abbrev pub slots : List Applied → List (Option (ℕ × Transaction))
+slots applied = map item applied
+
+abbrev pub items : List Applied → List (ℕ × Transaction)
+items applied = filter_map (λ s. s) (slots applied)
+
 -- the transaction at the place
 abbrev pub standing : Places → ℕ → Option Transaction
 standing ps place = option_and_then (λ p. p) (slice_get ps place)

@@ -45,6 +45,13 @@ unspent_of (Some Spent) = None
 unspent_of (Some (Made place)) = Some place
 unspent_of (Some (MadeThenSpent place)) = None
 
+-- the place of the one that made it
+abbrev pub place_of : Option Change → Option ℕ
+place_of None = None
+place_of (Some Spent) = None
+place_of (Some (Made place)) = Some place
+place_of (Some (MadeThenSpent place)) = Some place
+
 -- of the references that pass the test became what the function says, by what had, and of the others what had
 abbrev pub Becomes : Noted → (OutRef → Bool) → (Option Change → Option Change) → Noted → Type 0
 Becomes old test next new =

@@ -13,16 +13,19 @@ use Rattle.mp_utxo.specs.declared.overlay.Overlay.TheInside.{Inside}
 use Rattle.mp_utxo.specs.Apply.{Unspent, after, output_made}
 use Rattle.mp_utxo.specs.Leaf.{NoneMakes, LooksPast}
 use Rattle.mp_utxo.specs.Inside.Changes.{Noted, last_change}
-use Rattle.mp_utxo.specs.Inside.Applied.{Places, places, those, transactions, standing, made_at}
+use Rattle.mp_utxo.specs.Inside.Applied.{Places, places, those, transactions, items, standing, made_at}
+use Rattle.mp_utxo.specs.Inside.Bare.{AreNoted}
 use Rattle.mp_utxo.specs.Overlay as told
 
 abbrev pub overlay : Inside → told.Overlay
 overlay o = record {
   ledger = o.ledger;
   applied = transactions o.applied.items;
+  items = items o.applied.items;
   room = record {
     references = spare o.changes;
     transactions = vec_capacity o.applied - vec_len o.applied;
+    bare = spare o.bare;
   };
 }
 
@@ -59,3 +62,4 @@ pub record IsKept (o : Inside) : Type 0 where
   pub changes : AreKept (places o.applied.items) (get o.ledger.utxo) o.changes.entries
   -- unless it says so, no transaction looks at what one before it made
   pub apart : o.looks_inside ≡ false → AllPairs LooksPast (transactions o.applied.items)
+  pub bare : AreNoted (items o.applied.items) o.bare.entries

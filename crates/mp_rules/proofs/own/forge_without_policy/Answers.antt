@@ -1,4 +1,4 @@
-use Rattle.std.proofs.Common.{◌≡◌, of_z, true, ℤ, pos, cond, List, Bool, refl, sym, ap, ◌∙◌}
+use Rattle.std.proofs.Common.{◌≡◌, of_z, true, ℤ, pos, cond, List, Bool, sym, ap, ◌∙◌}
 use Rattle.std.specs.Prelude.{◌≢◌, Some, not}
 use Rattle.std.specs.List.{find}
 use Rattle.std.specs.Option.{option_map}

@@ -31,7 +31,7 @@ invariant_of-self c =
     (subst (λ (h : Holding). apart gone h.pool.items ≡ left_by reply h.pool.items) (sym c.self.view_is) c.requires.left) in
     let rising = subst (λ (h : Holding). IsRising h.pool.items) c.self.view_is (rising_ticketed 0 c.self.inside.items c.self.invariant.rising) in
     let chained = left_chained told.prepared.accepts pool rising told.command reply c.args.ledger (apart gone pool.items) told.prepared.tells told.prepared.reply in
-    recounted c.self.inside _ reply c.take_told-bytes.result refl refl (c.rebase.ensures.applied ∙ left.0) c.take_told-bytes.ensures refl refl
+    recounted c.self.inside _ reply c.take_told-bytes.result refl refl (record { applied = c.rebase.ensures.applied ∙ left.0.applied; under = c.rebase.ensures.items ∙ left.0.under }) c.take_told-bytes.ensures refl refl
     (subst (λ (h : Holding). h.pool.changes < h.pool.limit) (sym c.self.view_is) c.requires.change)
     (subst (λ l. IsChained (pool_upon (state c.self.inside) l (left_by reply (ticketed c.self.inside.items)))) (sym c.rebase.ensures.base)
     (subst (λ (h : Holding). IsChained (pool_upon h.pool c.args.ledger (left_by reply h.pool.items))) (sym c.self.view_is) chained))

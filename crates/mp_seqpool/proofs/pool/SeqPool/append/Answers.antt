@@ -2,7 +2,6 @@ use Rattle.std.proofs.Common.{◌≡◌, ◌+◌, ◌++◌, [], ◌∷◌, refl,
 use Rattle.std.specs.Arc.{arc_value}
 use Rattle.mp_tx.specs.Spelling.{id_of, size_of}
 use Rattle.mp_rules.specs.Validity.{IsValid}
-use Rattle.mp_seqpool.specs.Inside.TicketsById.{Notes}
 use Rattle.mp_seqpool.specs.Pool.{Holding}
 use Rattle.mp_seqpool.specs.Inside.Chained.{all_accepted}
 use Rattle.mp_seqpool.specs.SlowPool.{ticket_of, unspent, HasPlace}
@@ -17,9 +16,9 @@ invariant_of-self c =
     let same : arc_value c.args.applied ≡ c.args.node.tx = c.requires.one in
     counted c.self.inside _ c.args.node refl c.apply.ensures.base
     (c.apply.ensures.applied ∙ ap (λ t. c.self.inside.overlay.applied ++ t ∷ []) same)
-    (subst (λ id. Notes c.self.inside.tickets.entries id (c.self.inside.last + 1) c.note.new.tickets.entries) (c.id.ensures ∙ ap id_of (c.deref.ensures ∙ same)) c.note.ensures)
+    (c.apply.ensures.items ∙ ap (λ t. c.self.inside.overlay.items ++ (c.self.inside.last + 1, t) ∷ []) same)
     c.push_node.ensures refl
-    (ap (λ n. c.self.inside.bytes + n) (c.size.ensures.size ∙ ap size_of (c.deref-2.ensures ∙ same))) refl
+    (ap (λ n. c.self.inside.bytes + n) (c.size.ensures.size ∙ ap size_of (c.deref.ensures ∙ same))) refl
     (ap (λ (h : Holding). ticket_of (id_of c.args.node.tx) h.pool.items) c.self.view_is ∙ c.requires.can.new)
     (subst (λ (h : Holding). HasPlace h.pool c.args.node.tx) (sym c.self.view_is) c.requires.can.place)
     c.requires.can.valid

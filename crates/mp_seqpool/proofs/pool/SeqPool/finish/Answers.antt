@@ -1,11 +1,10 @@
 use Rattle.std.proofs.Common.{◌≡◌, ℕ, List, sym, ap, subst, ◌∙◌}
 use Rattle.mp_tickets.specs.Tickets.{among}
 use Rattle.mp_tx.specs.Transaction.{Transaction}
-use Rattle.mp_resync.specs.Keep.{transactions}
 use Rattle.mp_seqpool.specs.Pool.{Pool}
 use Rattle.mp_seqpool.specs.SlowPool.{pool_upon}
 use Rattle.mp_seqpool.specs.declared.command.Reply.{Reply}
-use Rattle.mp_seqpool.specs.Prepared.{Prepared, Effect, Append, Keep, TakeOut, Adopt, changed, CanChange, IsPrepared, apart, left_by}
+use Rattle.mp_seqpool.specs.Prepared.{Prepared, Effect, Append, Keep, TakeOut, Adopt, changed, HasApplied, CanChange, IsPrepared, apart, left_by}
 use Rattle.mp_seqpool.specs.Inside.Effect.{effect_of}
 use Rattle.mp_seqpool.proofs.Finishing.{next_valid, told_left}
 use Rattle.mp_seqpool.proofs.pool.SeqPool.finish.Goals as goal
@@ -30,7 +29,8 @@ leave-requires-clause-told c =
       kept = c.in-Keep._kept;
       prepared = subst (IsPrepared c.args.self.now)
           (parted q c.into_parts-reply.result.0 (effect_of c.into_parts-reply.result.1) c.into_parts-reply.ensures.reply c.into_parts-reply.ensures.effect
-          ∙ ap (λ e. record { command = q.command; reply = c.into_parts-reply.result.0; effect = effect_of e }) c.in-Keep.is)
+          ∙ ap (λ e. record { command = q.command; reply = c.into_parts-reply.result.0; effect = effect_of e }) c.in-Keep.is
+          ∙ ap (λ o. record { command = q.command; reply = c.into_parts-reply.result.0; effect = Keep o c.in-Keep._kept }) (sym c.into_inner.ensures))
           c.requires;
     }
 
@@ -38,13 +38,14 @@ pub leave-requires-clause-applied : goal.leave-requires-clause-applied
 leave-requires-clause-applied c =
     let pool : Pool = c.args.self.now.pool in
     let q : Prepared = c.args.prepared in
-    let overlay = c.in-Keep.overlay in
+    let overlay = c.into_inner.result in
     let kept = c.in-Keep._kept in
-    let effect : q.effect ≡ Keep overlay kept = sym c.into_parts-reply.ensures.effect ∙ ap effect_of c.in-Keep.is in
-    let fits : overlay.applied ≡ transactions (among kept pool.items) = subst (CanChange c.args.self.now) effect c.requires.fits in
+    let effect : q.effect ≡ Keep overlay kept = sym c.into_parts-reply.ensures.effect ∙ ap effect_of c.in-Keep.is ∙ ap (λ o. Keep o kept) (sym c.into_inner.ensures) in
+    let fits : HasApplied overlay (among kept pool.items) = subst (CanChange c.args.self.now) effect c.requires.fits in
+    subst (HasApplied overlay)
+    (told_left pool q.command q.reply overlay.ledger (among kept pool.items) (sym (ap (changed pool) effect) ∙ c.requires.tells)
+    ∙ ap (λ r. left_by r pool.items) (sym c.into_parts-reply.ensures.reply))
     fits
-    ∙ ap transactions (told_left pool q.command q.reply overlay.ledger (among kept pool.items) (sym (ap (changed pool) effect) ∙ c.requires.tells))
-    ∙ ap (λ r. transactions (left_by r pool.items)) (sym c.into_parts-reply.ensures.reply)
 
 pub take_leaves_out-requires-clause-leaves : goal.take_leaves_out-requires-clause-leaves
 take_leaves_out-requires-clause-leaves c =
@@ -97,9 +98,9 @@ pub returns-in-Keep : goal.returns-in-Keep
 returns-in-Keep c =
     let pool : Pool = c.args.self.now.pool in
     let q : Prepared = c.args.prepared in
-    let overlay = c.in-Keep.overlay in
+    let overlay = c.into_inner.result in
     let left : List (ℕ × Transaction) = among c.in-Keep._kept pool.items in
-    let leads : changed pool q.effect ≡ pool_upon pool overlay.ledger left = ap (changed pool) (sym c.into_parts-reply.ensures.effect ∙ ap effect_of c.in-Keep.is) in
+    let leads : changed pool q.effect ≡ pool_upon pool overlay.ledger left = ap (changed pool) (sym c.into_parts-reply.ensures.effect ∙ ap effect_of c.in-Keep.is ∙ ap (λ o. Keep o c.in-Keep._kept) (sym c.into_inner.ensures)) in
     record {
       pool = c.leave.ensures ∙ ap (λ r. pool_upon pool overlay.ledger (left_by r pool.items)) c.into_parts-reply.ensures.reply
           ∙ ap (pool_upon pool overlay.ledger) (sym (told_left pool q.command q.reply overlay.ledger left (sym leads ∙ c.requires.tells))) ∙ sym leads;

@@ -31,7 +31,7 @@ returns-clause-ready g c =
     (subst (λ (h : Holding). IsRising h.pool.items) c.self.view_is (rising_ticketed 0 c.self.inside.items c.self.invariant.rising))
     (subst (λ ids. IsKeptOf accepts h.pool.ledger h.pool.items ids kept) named
     (subst (λ l. IsKeptOf accepts l h.pool.items c.as_slice.result.now kept) (c.ledger.ensures ∙ ap (λ (h : Holding). h.pool.ledger) c.self.view_is) c.in_ok-overlay.ensures))
-    (ap Remove c.in_ok-asked.ensures) refl refl
+    (ap Remove c.in_ok-asked.ensures) refl c.in_ok-effect.ensures.effect
 
 pub returns-in-Some-clause-ready : goal.returns-in-Some-clause-ready
 returns-in-Some-clause-ready g c =
@@ -59,3 +59,9 @@ returns-in_err-overlay-clause-ready g c = no_value c.from_residual-in_err-overla
 
 pub returns-in_err-overlay-clause-refused : goal.returns-in_err-overlay-clause-refused
 returns-in_err-overlay-clause-refused g c = passed_on c.from_residual-in_err-overlay.result _ NoMemory c.from_residual-in_err-overlay.ensures.1 tt
+
+pub returns-in_err-effect-clause-ready : goal.returns-in_err-effect-clause-ready
+returns-in_err-effect-clause-ready g c = no_value c.from_residual-in_err-effect.result _ c.from_residual-in_err-effect.ensures.0
+
+pub returns-in_err-effect-clause-refused : goal.returns-in_err-effect-clause-refused
+returns-in_err-effect-clause-refused g c = passed_on c.from_residual-in_err-effect.result _ NoMemory c.from_residual-in_err-effect.ensures.1 tt

@@ -15,7 +15,7 @@ append-requires-clause-valid c =
     let t : Transaction = arc_value c.args.tx.now in
     let inside : IsValid all_accepted (unspent (state c.self.inside)) c.self.inside.overlay.ledger.tick t =
     subst (λ (h : Holding). IsValid all_accepted (unspent h.pool) h.pool.ledger.tick t) (sym c.self.view_is) c.requires.rules in
-    let upon : IsValid all_accepted (unspent (record (state c.self.inside) { ledger = c.reserve.new.overlay.ledger })) c.reserve.new.overlay.ledger.tick t =
-    subst (λ (l : LedgerState). IsValid all_accepted (unspent (record (state c.self.inside) { ledger = l })) l.tick t) (sym c.reserve.ensures.overlay.base) inside in
+    let upon : IsValid all_accepted (unspent (record (state c.self.inside) { ledger = c.reserve_for.new.self.ledger })) c.reserve_for.new.self.ledger.tick t =
+    subst (λ (l : LedgerState). IsValid all_accepted (unspent (record (state c.self.inside) { ledger = l })) l.tick t) (sym c.reserve_for.ensures.same.base) inside in
     let same : c.in-Ok.node.tx ≡ t = ap (λ (i : ValidatedTx). i.tx) c.in-Ok.ensures.ok ∙ c.in_ok-try_clone.ensures in
-    subst (λ (s : Transaction). IsValid all_accepted (unspent (record (state c.self.inside) { ledger = c.reserve.new.overlay.ledger })) c.reserve.new.overlay.ledger.tick s) (sym same) upon
+    subst (λ (s : Transaction). IsValid all_accepted (unspent (record (state c.self.inside) { ledger = c.reserve_for.new.self.ledger })) c.reserve_for.new.self.ledger.tick s) (sym same) upon

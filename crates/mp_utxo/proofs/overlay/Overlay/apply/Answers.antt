@@ -6,8 +6,11 @@ use Rattle.std.specs.List.{list_any}
 use Rattle.std.proofs.lemmas.Bool.{false≢true}
 use Rattle.mp_tx.specs.declared.reference.OutRef.{OutRef}
 use Rattle.mp_utxo.specs.Overlay.{Overlay}
+use Rattle.mp_utxo.specs.Inside.Applied.{items}
+use Rattle.mp_utxo.specs.Inside.Bare.{NotesBare, AreNoted}
 use Rattle.mp_utxo.specs.Inside.Changes.{is_made, last_change, Spends, Makes}
 use Rattle.mp_utxo.proofs.Kept.{keeps-push, looks-push, those-push}
+use Rattle.mp_utxo.proofs.Items.{items-push, noted-push}
 use Rattle.mp_utxo.proofs.overlay.Overlay.apply.Goals as goal
 use Rattle.mp_utxo.proofs.overlay.Overlay.apply.Goals.{then-self, else-self}
 
@@ -17,8 +20,8 @@ invariant_of-self c =
     record {
       changes = keeps-push c.self.inside.applied.items _ _ (arc_value c.args.tx) (get c.self.inside.ledger.utxo) c.len-place.result c.self.inside.changes.entries c.spend.new.changes.entries c.make.new.changes.entries
           c.push_reserved.ensures.items refl at
-          (subst (λ inputs. Spends c.self.inside.changes.entries inputs c.spend.new.changes.entries) (c.inputs.ensures.inputs ∙ ap (λ t. t.inputs) c.deref-2.ensures) c.spend.ensures.spends)
-          (subst (λ t. Makes c.spend.new.changes.entries t c.len-place.result c.make.new.changes.entries) c.deref-3.ensures c.make.ensures)
+          (subst (λ inputs. Spends c.self.inside.changes.entries inputs c.spend.new.changes.entries) (c.inputs.ensures.inputs ∙ ap (λ t. t.inputs) c.deref-3.ensures) c.spend.ensures.spends)
+          (subst (λ t. Makes c.spend.new.changes.entries t c.len-place.result c.make.new.changes.entries) c.deref-4.ensures c.make.ensures)
           c.self.invariant.changes;
       apart = λ past. elim c.if-self.branch [
         | then-self w ↦ absurd (false≢true (sym past ∙ w.looks_inside-is ∙ w.if-self.true))
@@ -26,10 +29,14 @@ invariant_of-self c =
             (subst (λ (rs : List OutRef). list_any (λ r. is_made (last_change c.self.inside.changes.entries r)) rs ≡ false) (w.references.ensures.references ∙ ap (λ t. t.references) w.deref.ensures) (sym w.are_any_made-looks_inside.ensures ∙ sym w.looks_inside-is ∙ past))
             (c.self.invariant.apart w.if-self.false)
       ];
+      bare = subst (λ es. AreNoted es c.note_bare.new.bare.entries) (sym (items-push c.self.inside.applied.items _ _ (c.args.ticket, arc_value c.args.tx) c.push_reserved.ensures.items refl))
+          (noted-push (items c.self.inside.applied.items) c.args.ticket (arc_value c.args.tx) c.self.inside.bare.entries c.note_bare.new.bare.entries
+          (subst (λ t. NotesBare c.self.inside.bare.entries c.args.ticket t c.note_bare.new.bare.entries) c.deref-2.ensures c.note_bare.ensures) c.self.invariant.bare);
     }
 
 pub returns : goal.returns
 returns c = record {
   base = Prim.search rules;
   applied = those-push c.self.inside.applied.items _ _ (arc_value c.args.tx) c.push_reserved.ensures.items refl ∙ ap (λ (o : Overlay). o.applied ++ arc_value c.args.tx ∷ []) c.self.view_is;
+  items = items-push c.self.inside.applied.items _ _ (c.args.ticket, arc_value c.args.tx) c.push_reserved.ensures.items refl ∙ ap (λ (o : Overlay). o.items ++ (c.args.ticket, arc_value c.args.tx) ∷ []) c.self.view_is;
 }

@@ -11,4 +11,5 @@ invariant_of-self c = record {
   changes = rebased (places c.self.inside.applied.items) (get c.self.inside.ledger.utxo) (get c.args.ledger.utxo) c.self.inside.changes.entries
       (subst (λ (o : Overlay). IsFed (get o.ledger.utxo) o.applied) (sym c.self.view_is) c.requires.fed) c.self.invariant.changes;
   apart = c.self.invariant.apart;
+  bare = c.self.invariant.bare;
 }

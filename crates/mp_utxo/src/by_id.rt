@@ -1,7 +1,7 @@
 //! Tables by ids.
 
 ghost use Rattle.std.specs.Prelude.{◌≡◌};
-ghost use Rattle.mp_resync.specs.ById.{key_of};
+ghost use Rattle.mp_utxo.specs.ById.{key_of};
 
 use indexmap::IndexMap;
 use mp_memory::Memory;
