@@ -28,7 +28,8 @@ use std::sync::Arc;
 /// Every step has two parts. A `prepare_` call looks at everything, takes all memory, and leaves what the pool holds; `finish`
 /// takes the step that it gave. `submit`, `remove` and `sync` do both.
 ///
-/// What its transactions spend and make, with their tickets, is kept in tables, so that a submit takes no walk over the pool. A contract sees what the pool holds, and the room that was made in its tables.
+/// What its transactions spend and make is kept in tables, and leads to their tickets, so that a submit takes no walk over the pool.
+/// A contract sees what the pool holds, and the room that was made in its tables.
 pub struct SeqPool {
     memory: Memory,
     config: Config,

@@ -18,7 +18,8 @@ use std::sync::Arc;
 pub enum Effect {
     /// The item comes last, and its transaction is applied.
     Append(Node<ValidatedTx>, Arc<Tx, Memory>),
-    /// Those under these tickets stay: all that the overlay has applied, which is large, so that a step would be.
+    /// Those under these tickets stay: all that the overlay has applied. In a block of its own, since a step that is moved would be
+    /// large with it.
     Keep(Box<Overlay, Memory>, Tickets),
     /// Those under these tickets go, and nothing else.
     TakeOut(Tickets),

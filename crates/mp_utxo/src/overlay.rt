@@ -16,7 +16,8 @@ use std::sync::Arc;
 ///
 /// The ledger is shared, and not copied. For each reference that was spent or made the overlay keeps what became of it last,
 /// in a table with the salt of the ledger that it was made over. So what a transaction spends and a later one makes again is there
-/// again, and an output that was made is found through its transaction.
+/// again, and an output that was made is found through its transaction. So is a ticket, by the first output, and in a table of its
+/// own where the transaction has no outputs.
 pub struct Overlay {
     ledger: Ledger,
     applied: Vec<Applied, Memory>,
