@@ -2,3 +2,4 @@ pub mod Spending
 pub mod Making
 pub mod Effect
 pub mod Blocks
+pub mod Differing

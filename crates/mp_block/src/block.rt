@@ -1,17 +1,21 @@
 //! Blocks of transactions.
 
-ghost use Rattle.std.specs.Prelude.{◌≡◌, IfOk, OnOk, IfErr, Ok, map};
+ghost use Rattle.std.specs.Prelude.{◌≡◌, IfOk, OnOk, IfErr, Ok, map, length};
 ghost use Rattle.std.specs.Arc.{arc_value};
 ghost use Rattle.mp_tx.specs.Ledger.{HasBlockBytes};
+ghost use Rattle.mp_tx.specs.Undo.{GoesBack, IsWithin};
 ghost use Rattle.mp_block.specs.Block.{at_tick, apply_block};
+ghost use Rattle.mp_block.specs.Touched.{touched_by_all};
 ghost use Rattle.mp_block.specs.BlockRefusal.{IsBlockRefusal};
 ghost use Rattle.mp_block.specs.Inside.Refused.{HasBadBytes};
 
+use crate::applied_block::AppliedBlock;
 use crate::applying::{after_tx, follow};
 use crate::block_refusal::BlockRefusal;
+use crate::touching::touched_by_all;
 use mp_memory::Memory;
 use mp_rules::Verifier;
-use mp_tx::{Ledger, Tx};
+use mp_tx::{Ledger, Tx, Undo};
 use std::sync::Arc;
 
 // The same outputs at the tick, with these block bytes. They are shared, and not copied.
@@ -30,7 +34,8 @@ fn at_tick(
 
 /// The ledger state after a block of these transactions, which stands at the tick: each is checked by all rules upon the ledger
 /// state after those before it, and takes out what it spends and puts in what it makes. The block bytes are those that the block
-/// after it may have. The ledger state that it is applied to stays as it is, and what both have is shared.
+/// after it may have. The ledger state that it is applied to stays as it is, and what both have is shared. What leads back to it
+/// takes memory in proportion to the block.
 ///
 /// # Errors
 /// `BadBlockBytes` where a block may have no bytes or more than 2^39. Else `Invalid` with the place of the first transaction that
@@ -42,9 +47,12 @@ pub fn apply_block<V: Verifier>(
     block_bytes: u64,
     txs: &[Arc<Tx, Memory>],
     verifier: &V,
-) -> Result<Ledger, BlockRefusal>
-    ensures ok { IfOk result (λ l. apply_block (V.accepts verifier.now)
-        ledger.now tick block_bytes (map arc_value txs.now) ≡ Ok l) }
+) -> Result<AppliedBlock, BlockRefusal>
+    ensures ok { IfOk result (λ b. apply_block (V.accepts verifier.now)
+        ledger.now tick block_bytes (map arc_value txs.now) ≡ Ok b.ledger) }
+    ensures undo { IfOk result (λ b. GoesBack b.ledger b.undo ledger.now) }
+    ensures within { IfOk result
+        (λ b. IsWithin (length (touched_by_all (map arc_value txs.now))) b.undo) }
     ensures block_bytes { OnOk result (HasBlockBytes block_bytes) }
     ensures refused { IfErr result (IsBlockRefusal (V.accepts verifier.now)
         ledger.now tick block_bytes (map arc_value txs.now)) }
@@ -53,5 +61,7 @@ pub fn apply_block<V: Verifier>(
     for (place, tx) in txs.iter().enumerate() {
         now = after_tx(memory, &now, place, tx, verifier)?;
     }
-    Ok(now)
+    let touched = touched_by_all(memory, txs)?;
+    let undo = Undo::between(memory, ledger, &now, &touched)?;
+    Ok(AppliedBlock { ledger: now, undo })
 }

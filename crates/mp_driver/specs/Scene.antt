@@ -17,7 +17,7 @@ use Rattle.mp_names.specs.References.{opening_ref}
 use Rattle.mp_lines.specs.declared.query.Query.{Query}
 use Rattle.mp_lines.specs.Lines.{Line, Blank, Sets, Script, Data, Out, Tx, Submit, Remove, Sync, For, Asks, line_of}
 use Rattle.mp_settings.specs.declared.settings.Settings.{Settings}
-use Rattle.mp_settings.specs.Settings.{no_settings, with_setting, limit_of, last_of}
+use Rattle.mp_settings.specs.Settings.{scenario_settings, with_setting, limit_of, last_of}
 use Rattle.mp_settings.specs.Ledgers.{opening_ledger, ledger_at}
 use Rattle.mp_settings.specs.Verifier.{is_key_and_id}
 use Rattle.mp_answers.specs.AnswerText.{answer_text}
@@ -36,7 +36,7 @@ pub record Scene : Type 0 where
   pub stage : Stage
 
 abbrev pub empty_scene : Scene
-empty_scene = record { names = first_names; settings = no_settings; cursor = 0; stage = Before [] }
+empty_scene = record { names = first_names; settings = scenario_settings; cursor = 0; stage = Before [] }
 
 -- the pool opens with the first command
 abbrev pub pool_at : Settings → Stage → Pool

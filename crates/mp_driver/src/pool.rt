@@ -78,7 +78,13 @@ impl ScenarioPool {
         ensures { IfOk result (λ p. p ≡ pool_at settings.now (Before openings)) }
     {
         let outputs = openings.into_entries();
-        let ledger = make_ledger(memory, settings.tick(), settings.block_bytes(), outputs)?;
+        let ledger = make_ledger(
+            memory,
+            settings.salt(),
+            settings.tick(),
+            settings.block_bytes(),
+            outputs,
+        )?;
         let config = Config {
             limit: settings.limit(),
             last: settings.last(),

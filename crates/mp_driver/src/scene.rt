@@ -79,7 +79,7 @@ impl Scene {
     {
         Ok(Scene {
             names: Names::new(memory)?,
-            settings: Settings::new(),
+            settings: Settings::of_scenario(),
             cursor: 0,
             stage: Stage::Before(Openings::new(memory)),
         })

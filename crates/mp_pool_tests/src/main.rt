@@ -3,6 +3,7 @@
 #![tactic(auto)]
 
 mod history;
+mod rounds;
 mod seqpool;
 mod versions;
 
@@ -14,6 +15,7 @@ use std::thread::Threads;
 
 fn check_all<R: Print + Threads + Wait + Sync>(rt: &R, samples: &Samples) -> io::Result<()> {
     println!(rt; "seqpool {}", seqpool::held(rt, samples)?)?;
+    println!(rt; "rounds {}", rounds::held(rt, samples)?)?;
     println!(rt; "history {}", history::held(rt, samples)?)?;
     println!(rt; "versions {}", versions::held(rt, samples)?)?;
     Ok(())

@@ -16,7 +16,7 @@ use Rattle.mp_lines.specs.declared.query.Query.TheVariants.{Snapshot}
 use Rattle.mp_lines.specs.Lines.{Line, Blank, Sets, Script, Data, Out, Tx, Submit, Remove, Sync, For, Asks, line_of}
 use Rattle.mp_mempool.specs.declared.config.Config.{Config}
 use Rattle.mp_settings.specs.declared.settings.Settings.{Settings}
-use Rattle.mp_settings.specs.Settings.{no_settings, with_setting, limit_of, last_of}
+use Rattle.mp_settings.specs.Settings.{scenario_settings, with_setting, limit_of, last_of}
 use Rattle.mp_settings.specs.Ledgers.{opening_ledger, ledger_at}
 use Rattle.mp_race.specs.Task.{Task, Change, Read}
 
@@ -35,7 +35,7 @@ pub record Draft : Type 0 where
   pub tasks : List Task
 
 abbrev pub empty_draft : Draft
-empty_draft = record { names = first_names; settings = no_settings; outputs = []; tasks = [] }
+empty_draft = record { names = first_names; settings = scenario_settings; outputs = []; tasks = [] }
 
 abbrev pub with_names : Draft → Names → Draft
 with_names d names = record d { names = names }

@@ -43,7 +43,7 @@ impl Draft {
     {
         Ok(Draft {
             names: Names::new(memory)?,
-            settings: Settings::new(),
+            settings: Settings::of_scenario(),
             outputs: Openings::new(memory),
             tasks: Vec::new(memory),
         })

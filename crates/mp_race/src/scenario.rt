@@ -94,7 +94,13 @@ fn finish(memory: Memory, draft: Draft) -> Result<Scenario, NoMemory>
             limit: settings.limit(),
             last: settings.last(),
         },
-        ledger: make_ledger(memory, settings.tick(), settings.block_bytes(), outputs)?,
+        ledger: make_ledger(
+            memory,
+            settings.salt(),
+            settings.tick(),
+            settings.block_bytes(),
+            outputs,
+        )?,
         tasks,
     })
 }

@@ -40,6 +40,7 @@ module _ (accepts : Accepts) (ledger : LedgerState) (ids : List (List ℕ)) wher
       let others : unnamed ids xs ≡ unnamed ids (xs ++ i ∷ []) = sym (unnamed-last ids xs i true is ∙ append-none (unnamed ids xs)) in
       record {
         base = ap (λ o. o.ledger) p.overlay ∙ k.base;
+        salt = ap (λ o. o.salt) p.overlay ∙ k.salt;
         applied = ap (λ o. o.applied) p.overlay ∙ k.applied ∙ ap (λ l. transactions (keep accepts ledger l)) others;
         under = ap (λ o. o.items) p.overlay ∙ k.under ∙ ap (keep accepts ledger) others;
         kept = p.kept ∙ k.kept ∙ ap (λ l. tickets (keep accepts ledger l)) others;
@@ -62,6 +63,7 @@ module _ (accepts : Accepts) (ledger : LedgerState) (ids : List (List ℕ)) wher
       sym (kept_last accepts ledger.tick true (get ledger.utxo) (unnamed ids xs) i there) ∙ ap (λ l. keep accepts ledger l) others in
       record {
         base = p.base ∙ k.base;
+        salt = p.salt ∙ k.salt;
         applied = p.applied ∙ ap (λ l. l ++ i.1 ∷ []) k.applied ∙ sym (transactions-last (keep accepts ledger (unnamed ids xs)) i) ∙ ap transactions more;
         under = p.items ∙ ap (λ l. l ++ i ∷ []) k.under ∙ more;
         kept = p.kept ∙ ap (λ l. l ++ i.0 ∷ []) k.kept ∙ sym (tickets-last (keep accepts ledger (unnamed ids xs)) i) ∙ ap tickets more;
@@ -77,6 +79,7 @@ module _ (accepts : Accepts) (ledger : LedgerState) (ids : List (List ℕ)) wher
       sym (kept_last accepts ledger.tick false (get ledger.utxo) (unnamed ids xs) i there) ∙ ap (λ l. keep accepts ledger l) others in
       record {
         base = ap (λ o. o.ledger) p.overlay ∙ k.base;
+        salt = ap (λ o. o.salt) p.overlay ∙ k.salt;
         applied = ap (λ o. o.applied) p.overlay ∙ k.applied ∙ ap transactions same;
         under = ap (λ o. o.items) p.overlay ∙ k.under ∙ same;
         kept = p.kept ∙ k.kept ∙ ap tickets same;

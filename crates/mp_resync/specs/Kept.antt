@@ -10,6 +10,7 @@ use Rattle.mp_resync.specs.Keep.{transactions, tickets, named, unnamed, keep, dr
 pub record IsKeptOf (accepts : Accepts) (ledger : LedgerState) (items : List (ℕ × Transaction)) (ids : List (List ℕ)) (k : Kept)
     : Type 0 where
   pub base : k.overlay.ledger ≡ ledger
+  pub salt : k.overlay.salt ≡ ledger.salt
   pub applied : k.overlay.applied ≡ transactions (keep accepts ledger (unnamed ids items))
   pub under : k.overlay.items ≡ keep accepts ledger (unnamed ids items)
   pub kept : k.kept ≡ tickets (keep accepts ledger (unnamed ids items))

@@ -1,7 +1,8 @@
 //! Looking at all items anew.
 
-ghost use Rattle.std.specs.Prelude.{◌<◌, ℕ, List, [], All, IfOk, OnOk, is_some};
+ghost use Rattle.std.specs.Prelude.{◌≡◌, ◌<◌, ℕ, List, [], All, IfOk, OnOk, is_some};
 ghost use Rattle.std.specs.Map.{lookup};
+ghost use Rattle.indexmap.specs.IndexMap.{hasher_of};
 ghost use Rattle.mp_tx.specs.Reference.{same_ref};
 ghost use Rattle.mp_tx.specs.Spelling.{id_of};
 ghost use Rattle.mp_rules.specs.Verifier.{Accepts};
@@ -77,6 +78,7 @@ fn handle<V: Verifier>(
 ) -> Result<(), NoMemory>
     requires vouched { IsVouched (V.accepts verifier.now) item.now }
     requires below { AreBelow ticket kept.old }
+    requires salt { hasher_of names.now ≡ kept.old.overlay.salt }
     ensures { OnOk result (Handles (V.accepts verifier.now)
         (is_some (lookup (same_ref (key_of (id_of item.now.tx))) names.now.entries))
         kept.old (ticket, item.now.tx) kept.new) }

@@ -21,7 +21,7 @@ use Rattle.mp_names.specs.Payments.{output_of}
 use Rattle.mp_names.specs.References.{opening_ref}
 use Rattle.mp_lines.specs.Lines.{Line, Blank, Sets, Script, Data, Out, Tx, Submit, Remove, Sync, For, Asks}
 use Rattle.mp_settings.specs.declared.settings.Settings.{Settings}
-use Rattle.mp_settings.specs.Settings.{no_settings, with_setting, block_bytes_of, limit_of, last_of, tick_of}
+use Rattle.mp_settings.specs.Settings.{scenario_settings, with_setting, block_bytes_of, limit_of, last_of, tick_of, salt_of}
 use Rattle.mp_settings.specs.Ledgers.{ledger_at}
 use Rattle.mp_serve.specs.declared.signatures.Signatures.{Signatures}
 use Rattle.mp_serve.specs.declared.beginning.Beginning.{Beginning}
@@ -36,10 +36,10 @@ use Rattle.mp_serve.specs.Texts.{ok_text, bytes_text, show_text, forgotten_text}
 
 -- before the first line
 abbrev pub begun : Signatures → Beginning
-begun signatures = record { signatures = signatures; outs = 0; ledger = ledger_of 0 500000 [] }
+begun signatures = record { signatures = signatures; outs = 0; ledger = ledger_of (salt_of scenario_settings) 0 500000 [] }
 
 abbrev pub new_conversation : Signatures → Conversation
-new_conversation signatures = record { names = first_names; settings = no_settings; cursor = 0; stage = Before (begun signatures) }
+new_conversation signatures = record { names = first_names; settings = scenario_settings; cursor = 0; stage = Before (begun signatures) }
 
 -- the state after a line, and what is answered
 abbrev pub Step : Type 0

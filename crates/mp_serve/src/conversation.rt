@@ -99,8 +99,14 @@ impl Conversation {
     pub fn new(memory: Memory, signatures: Signatures) -> Result<Conversation, NoMemory>
         ensures { IfOk result (λ c. c ≡ new_conversation signatures) }
     {
-        let settings = Settings::new();
-        let ledger = make_ledger(memory, 0, settings.block_bytes(), Vec::new(memory))?;
+        let settings = Settings::of_scenario();
+        let ledger = make_ledger(
+            memory,
+            settings.salt(),
+            0,
+            settings.block_bytes(),
+            Vec::new(memory),
+        )?;
         Ok(Conversation {
             names: Names::new(memory)?,
             settings,

@@ -8,7 +8,7 @@ ghost use Rattle.mp_serve.specs.Inside.Extended.{IsExtended};
 use crate::block::Block;
 use crate::signatures::Signatures;
 use crate::texts::{Text, block_refused_line};
-use mp_block::{BlockRefusal, apply_block};
+use mp_block::{AppliedBlock, BlockRefusal, apply_block};
 use mp_memory::{Memory, NoMemory};
 use mp_names::Names;
 use mp_tx::Ledger;
@@ -42,7 +42,7 @@ pub fn extend(
         block.txs(),
         &signatures,
     ) {
-        Ok(ledger) => Ok(Extended::To(ledger)),
+        Ok(AppliedBlock { ledger, undo: _ }) => Ok(Extended::To(ledger)),
         Err(refusal) => match refusal {
             BlockRefusal::NoMemory => Err(NoMemory),
             BlockRefusal::BadBlockBytes => unreachable!(),

@@ -5,8 +5,12 @@ use Rattle.mp_names.specs.declared.settings.Setting.TheVariants.{BlockBytes, Lim
 use Rattle.mp_names.specs.Once.{set_once}
 use Rattle.mp_settings.specs.declared.settings.Settings.{Settings}
 
-abbrev pub no_settings : Settings
-no_settings = record { block_bytes = None; limit = None; last = None; tick = None }
+abbrev pub no_settings : ℕ → Settings
+no_settings salt = record { block_bytes = None; limit = None; last = None; tick = None; salt = salt }
+
+-- a scenario's salt is no secret
+abbrev pub scenario_settings : Settings
+scenario_settings = no_settings 0
 
 -- each at most once
 abbrev pub with_setting : Settings → Setting → Option Settings
@@ -24,6 +28,9 @@ limit_of s = unwrap_or s.limit 1000000
 
 abbrev pub last_of : Settings → ℕ
 last_of s = unwrap_or s.last 0
+
+abbrev pub salt_of : Settings → ℕ
+salt_of s = s.salt
 
 abbrev pub tick_of : Settings → ℕ
 tick_of s = unwrap_or s.tick 0

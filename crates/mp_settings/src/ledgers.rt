@@ -10,21 +10,19 @@ use mp_memory::{Memory, NoMemory};
 use mp_names::{BlockBytes, NewLedger};
 use mp_tx::{Ledger, LedgerFault, OutRef, Output, Salt};
 
-// Whoever runs a scenario has written it, so nobody is to be kept from choosing where outputs lie in the table.
-const SALT: u64 = 0;
-
 /// The ledger state with these outputs.
 pub fn make_ledger(
     memory: Memory,
+    salt: Salt,
     tick: u64,
     block_bytes: u64,
     outputs: Vec<(OutRef, Output), Memory>,
 ) -> Result<Ledger, NoMemory>
     requires bytes { HasBlockBytes block_bytes }
     requires distinct { AreDistinct (refs outputs.items) }
-    ensures { IfOk result (λ l. l ≡ ledger_of tick block_bytes outputs.items) }
+    ensures { IfOk result (λ l. l ≡ ledger_of salt tick block_bytes outputs.items) }
 {
-    match Ledger::of_outputs(memory, Salt::new(SALT), tick, block_bytes, outputs) {
+    match Ledger::of_outputs(memory, salt, tick, block_bytes, outputs) {
         Ok(ledger) => Ok(ledger),
         Err(fault) => match fault {
             LedgerFault::NoMemory => Err(NoMemory),
@@ -55,5 +53,11 @@ pub fn ledger_at(memory: Memory, settings: &Settings, ledger: NewLedger) -> Resu
         outputs,
     } = ledger;
     let block_bytes = block_bytes_at(settings, &block_bytes);
-    make_ledger(memory, tick, block_bytes, outputs.into_entries())
+    make_ledger(
+        memory,
+        settings.salt(),
+        tick,
+        block_bytes,
+        outputs.into_entries(),
+    )
 }

@@ -2,10 +2,14 @@
 
 use mp_lines::{BLOCK, LAST, LIMIT, TICK};
 use mp_names::{BlockBytes, Limit, LineFault, Reason, Setting, set_once};
+use mp_tx::Salt;
 
 const BLOCK_BYTES: u64 = 500_000;
 
 const CHANGES: u64 = 1_000_000;
+
+// Whoever runs a scenario has written it, so nobody is to be kept from choosing where outputs lie in a table.
+const SALT: u64 = 0;
 
 /// What was set before the first command, and else what holds where nothing is set.
 #[derive(Drop)]
@@ -16,6 +20,8 @@ pub struct Settings {
     pub last: Option<u64>,
     /// The tick of the opening ledger state; 0 where nothing is set.
     pub tick: Option<u64>,
+    /// What the tables of all ledger states are salted with. No line sets it.
+    pub salt: Salt,
 }
 
 impl Settings {
@@ -23,18 +29,27 @@ impl Settings {
     ghost use Rattle.mp_tx.specs.Ledger.{HasBlockBytes};
     ghost use Rattle.mp_names.specs.Fault.{IsBad};
     ghost use Rattle.mp_names.specs.Settings.{IsLimit};
-    ghost use Rattle.mp_settings.specs.Settings.{no_settings, with_setting, block_bytes_of, limit_of, last_of, tick_of};
+    ghost use Rattle.mp_settings.specs.Settings.{no_settings, scenario_settings, with_setting};
+    ghost use Rattle.mp_settings.specs.Settings.{block_bytes_of, limit_of, last_of, tick_of, salt_of};
 
     /// Nothing is set.
-    pub fn new() -> Settings
-        ensures { result ≡ no_settings }
+    pub fn new(salt: Salt) -> Settings
+        ensures { result ≡ no_settings salt }
     {
         Settings {
             block_bytes: None,
             limit: None,
             last: None,
             tick: None,
+            salt,
         }
+    }
+
+    /// Nothing is set, and the salt is that of scenarios, which is no secret.
+    pub fn of_scenario() -> Settings
+        ensures { result ≡ scenario_settings }
+    {
+        Settings::new(Salt::new(SALT))
     }
 
     /// Sets what wasn't set before. After an `Err` nothing has changed.
@@ -73,6 +88,13 @@ impl Settings {
         ensures { result ≡ tick_of self.now }
     {
         self.tick.unwrap_or(0)
+    }
+
+    /// What the tables of all ledger states are salted with.
+    pub fn salt(&self) -> Salt
+        ensures { result ≡ salt_of self.now }
+    {
+        self.salt
     }
 
     /// How many changes there may be; 1,000,000 where nothing is set.

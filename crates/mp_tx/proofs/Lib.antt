@@ -13,3 +13,4 @@ pub mod Repeats
 pub mod Blocks
 pub mod Changed
 pub mod Layering
+pub mod Undoing

@@ -11,4 +11,8 @@ pub mod Lent
 pub mod Outputs
 pub mod Parts
 pub mod Reference
+pub mod Salt
+pub mod Tables
 pub mod Tx
+pub mod Undo
+pub mod UndoView

@@ -1,10 +1,14 @@
--- Laws of transactions and their bytes.
-use Rattle.std.specs.Prelude.{◌≡◌, ◌↔◌, ℕ, List, None, Ok}
+-- Laws of transactions and their bytes, and of blocks.
+use Rattle.std.specs.Prelude.{◌≡◌, ◌↔◌, ℕ, List, ◌++◌, None, Ok}
+use Rattle.mp_tx.specs.declared.reference.OutRef.{OutRef}
+use Rattle.mp_tx.specs.declared.output.Output.{Output}
 use Rattle.mp_tx.specs.Transaction.{Transaction}
 use Rattle.mp_tx.specs.Spelling.{spelling}
 use Rattle.mp_tx.specs.Parts.{AreParts, IsTransaction, Spells}
 use Rattle.mp_tx.specs.Reading.{transaction_of}
 use Rattle.mp_tx.specs.TxFault.{parts_fault}
+use Rattle.mp_tx.specs.Ledger.{LedgerState, refs, ledger_after}
+use Rattle.mp_tx.specs.Undo.{DifferAt}
 
 -- bytes spell at most one transaction, which is the one that reading gives; a transaction has one spelling
 pub record TransactionIsOne : Type 0 where
@@ -16,3 +20,9 @@ pub record TransactionIsOne : Type 0 where
 -- parts have no fault exactly where they may stand in a transaction
 abbrev pub FaultlessIsTransaction : Type 0
 FaultlessIsTransaction = (t : Transaction) → (parts_fault t ≡ None) ↔ IsTransaction t
+
+-- a ledger state after a block differs from the one before it at most where the block spends and makes
+abbrev pub BlockChangesItsOwn : Type 0
+BlockChangesItsOwn =
+    (l : LedgerState) (tick block_bytes : ℕ) (spent : List OutRef) (made : List (OutRef × Output))
+    → DifferAt (spent ++ refs made) l (ledger_after l tick block_bytes spent made)

@@ -17,6 +17,8 @@ pub record LedgerState : Type 0 where
   pub block_bytes : ℕ
   -- the outputs that are there to be spent (the UTxO map of the EUTXO model of Chakravarty et al.)
   pub utxo : Utxo
+  -- the number that the places of references in its tables depend on, which the host keeps secret
+  pub salt : ℕ
 
 -- from 1 to 2^39
 abbrev pub HasBlockBytes : ℕ → Type 0
@@ -39,8 +41,13 @@ pub record IsFirstRepeat (rs : List OutRef) (place : ℕ) : Type 0 where
   -- no earlier one did
   pub before : AreDistinct (take place rs)
 
-abbrev pub ledger_of : ℕ → ℕ → List (OutRef × Output) → LedgerState
-ledger_of tick block_bytes outputs = record { tick = tick; block_bytes = block_bytes; utxo = finite.from_entries outputs }
+abbrev pub ledger_of : ℕ → ℕ → ℕ → List (OutRef × Output) → LedgerState
+ledger_of salt tick block_bytes outputs = record {
+  tick = tick;
+  block_bytes = block_bytes;
+  utxo = finite.from_entries outputs;
+  salt = salt;
+}
 
 -- without what these references lead to
 abbrev pub without : Utxo → List OutRef → Utxo
@@ -50,12 +57,13 @@ without utxo spent = fold remove utxo spent
 abbrev pub with_outputs : Utxo → List (OutRef × Output) → Utxo
 with_outputs utxo made = fold (λ u e. insert u e.0 e.1) utxo made
 
--- after a block: without what was spent, and with what was made
+-- after a block: without what was spent, and with what was made. The salt stays
 abbrev pub ledger_after : LedgerState → ℕ → ℕ → List OutRef → List (OutRef × Output) → LedgerState
 ledger_after l tick block_bytes spent made = record {
   tick = tick;
   block_bytes = block_bytes;
   utxo = with_outputs (without l.utxo spent) made;
+  salt = l.salt;
 }
 
 -- each reference leads to an output, also when those before it are spent

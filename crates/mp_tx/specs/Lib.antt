@@ -9,4 +9,5 @@ pub mod Laws
 pub mod Ledger
 pub mod LedgerFault
 pub mod BlockFault
+pub mod Undo
 pub mod Inside

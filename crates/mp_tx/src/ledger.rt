@@ -3,6 +3,7 @@
 ghost use Rattle.std.specs.Prelude.{◌≡◌, ◌↔◌, [], IsTrue, OnOk, IfErr};
 ghost use Rattle.mp_tx.specs.Ledger.{refs, AreDistinct, HasBlockBytes};
 ghost use Rattle.mp_tx.specs.Inside.LedgerFault.{HasRepeat};
+ghost use Rattle.indexmap.specs.IndexMap.{hasher_of};
 
 mod base;
 mod change;
@@ -74,6 +75,7 @@ fn is_in_range(block_bytes: u64) -> bool
 fn put_outputs(map: &mut Base, outputs: Vec<Entry, Memory>) -> Result<(), LedgerFault>
     requires { map.old.entries ≡ [] }
     ensures all { OnOk result (map.new.entries ≡ outputs.items) }
+    ensures salt { OnOk result (hasher_of map.new ≡ hasher_of map.old) }
     ensures distinct { OnOk result (AreDistinct (refs outputs.items)) }
     ensures fault { IfErr result (HasRepeat (refs outputs.items)) }
 {
@@ -106,7 +108,7 @@ impl Ledger {
         block_bytes: u64,
         outputs: Vec<Entry, Memory>,
     ) -> Result<Ledger, LedgerFault>
-        ensures ok { IfOk result (λ l. l ≡ ledger_of tick block_bytes outputs.items) }
+        ensures ok { IfOk result (λ l. l ≡ ledger_of salt tick block_bytes outputs.items) }
         ensures block_bytes { OnOk result (HasBlockBytes block_bytes) }
         ensures distinct { OnOk result (AreDistinct (refs outputs.items)) }
         ensures fault { IfErr result (λ e. HasFault e block_bytes (refs outputs.items)) }
@@ -172,7 +174,9 @@ impl Ledger {
     }
 
     /// The salt that it was made with.
-    pub fn salt(&self) -> Salt {
+    pub fn salt(&self) -> Salt
+        ensures { result ≡ self.now.salt }
+    {
         self.outputs.salt()
     }
 

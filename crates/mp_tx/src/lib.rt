@@ -19,6 +19,7 @@ mod salt;
 mod signature;
 mod tx;
 mod typed;
+mod undo;
 
 pub use block_fault::BlockFault;
 pub use fault::TxFault;
@@ -34,3 +35,4 @@ pub use reference::{OutRef, TxId};
 pub use salt::Salt;
 pub use signature::{Sig, Signature};
 pub use tx::{MAX_BYTES, MAX_PARTS, Tx, TxParts};
+pub use undo::Undo;

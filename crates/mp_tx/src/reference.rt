@@ -1,12 +1,10 @@
 //! References to outputs, and the ids of transactions.
 
-ghost use Rattle.std.specs.Prelude.{◌≡◌};
-ghost use Rattle.std.specs.Hash as fed;
 ghost use Rattle.std.specs.Cmp.Rules.{hashing};
 ghost use Rattle.std.proofs.Common.{rules};
-ghost use Rattle.mp_tx.specs.Inside.Reference.{word_of};
+ghost use Rattle.mp_tx.specs.Inside.Reference.{written};
 
-use mp_bytes::{Hash as Digest, split_unsigned};
+use mp_bytes::Hash as Digest;
 use std::hash::{Hash, Hasher};
 
 /// The id of a transaction: the digest of its body.
@@ -20,22 +18,16 @@ pub struct OutRef {
     pub index: u16,
 }
 
-// The first eight bytes of the id, with the index folded in.
-fn word(reference: &OutRef) -> u64
-    ensures { result ≡ word_of reference.now }
-{
-    match split_unsigned(&reference.id) {
-        Some((first, _)) => first ^ u64::from(reference.index),
-        None => 0,
-    }
-}
-
 impl Hash for OutRef {
-    ghost hash_input = { λ r. fed.u64 (word_of r) };
+    ghost hash_input = { written };
 
     ghost respects_eq = { Prim.search (hashing, rules) };
 
     fn hash<H: Hasher>(&self, state: &mut H) {
-        state.write_u64(word(self));
+        state.write(&self.id[0..8]);
+        state.write(&self.id[8..16]);
+        state.write(&self.id[16..24]);
+        state.write(&self.id[24..32]);
+        state.write_u16(self.index);
     }
 }

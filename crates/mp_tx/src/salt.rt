@@ -2,21 +2,44 @@
 
 use std::fmt;
 use std::hash::{BuildHasher, FoldHasher, Hasher};
+use std::marker::Model;
 
 /// A number that whoever runs the pool picks at random and keeps secret. The places of references in a table depend on it,
 /// so that nobody else can tell which of them share one. No answer depends on it, and it isn't shown.
 #[derive(Clone, Copy)]
 pub struct Salt {
+    number: u64,
     // It has taken in the number, so that no look-up has to do so again.
     hasher: FoldHasher,
 }
 
+impl Model for Salt {
+    ghost use Rattle.std.specs.Prelude.{◌≡◌, ℕ};
+    ghost use Rattle.mp_tx.specs.Inside.Salt.{fed};
+
+    ghost Value = { ℕ };
+
+    ghost view = { λ salt. salt.number };
+
+    ghost invariant = { λ salt. salt.hasher ≡ fed salt.number };
+
+    ghost inverse = { λ number. record { number = number; hasher = fed number } };
+
+    ghost use Rattle.std.proofs.Common.{sym};
+
+    ghost inverse_ok = { λ salt h i. record { number = salt.number; hasher = sym h i } };
+}
+
 impl Salt {
+    ghost use Rattle.std.specs.Prelude.{◌≡◌};
+
     /// The salt of this number.
-    pub fn new(number: u64) -> Salt {
+    pub fn new(number: u64) -> Salt
+        ensures { result ≡ number }
+    {
         let mut hasher = FoldHasher::default();
         hasher.write_u64(number);
-        Salt { hasher }
+        Salt { number, hasher }
     }
 }
 
@@ -29,9 +52,11 @@ impl fmt::Debug for Salt {
 impl BuildHasher for Salt {
     type Hasher = FoldHasher;
 
-    ghost build_hasher = { λ salt. salt.hasher };
+    ghost use Rattle.mp_tx.specs.Inside.Salt.{fed};
 
-    /// A hasher that has taken in the salt. A reference is one more word for it.
+    ghost build_hasher = { fed };
+
+    /// A hasher that has taken in the salt. A reference is a few words more for it.
     fn build_hasher(&self) -> FoldHasher {
         self.hasher
     }

@@ -47,3 +47,4 @@ pub record LacksOne (old : Overlay) (id : List ℕ) (new : Overlay) : Type 0 whe
   pub base : new.ledger ≡ old.ledger
   pub applied : new.applied ≡ others id old.applied
   pub items : new.items ≡ other_items id old.items
+  pub salt : new.salt ≡ old.salt

@@ -22,16 +22,19 @@ pub record Overlay : Type 0 where
   -- the same, with the ticket that each was applied under
   pub items : List (ℕ × Transaction)
   pub room : Room
+  -- the number that the places of references in its tables depend on, which the host keeps secret
+  pub salt : ℕ
 
 -- the outputs that may be spent after all that was applied
 abbrev pub unspent : Overlay → Unspent
 unspent o = after (get o.ledger.utxo) o.applied
 
--- nothing was applied upon the ledger
+-- nothing was applied upon the ledger, whose salt its tables have
 pub record IsOver (ledger : LedgerState) (o : Overlay) : Type 0 where
   pub base : o.ledger ≡ ledger
   pub nothing : o.applied ≡ []
   pub no_items : o.items ≡ []
+  pub salt : o.salt ≡ ledger.salt
 
 -- the transaction can be applied without memory
 pub record HasRoomFor (room : Room) (t : Transaction) : Type 0 where
@@ -44,12 +47,14 @@ pub record IsSame (old new : Overlay) : Type 0 where
   pub base : new.ledger ≡ old.ledger
   pub applied : new.applied ≡ old.applied
   pub items : new.items ≡ old.items
+  pub salt : new.salt ≡ old.salt
 
 -- new has one transaction more, last, under the ticket
 pub record Applies (old : Overlay) (ticket : ℕ) (t : Transaction) (new : Overlay) : Type 0 where
   pub base : new.ledger ≡ old.ledger
   pub applied : new.applied ≡ old.applied ++ t ∷ []
   pub items : new.items ≡ old.items ++ (ticket, t) ∷ []
+  pub salt : new.salt ≡ old.salt
 
 -- a transaction with the id stands under the ticket
 pub record IsUnder (items : List (ℕ × Transaction)) (id : List ℕ) (ticket : ℕ) : Type 0 where

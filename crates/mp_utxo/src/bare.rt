@@ -1,7 +1,7 @@
 //! Transactions without outputs, to which no reference leads.
 
 ghost use Rattle.std.specs.Prelude.{◌≡◌, ◌<◌, length};
-ghost use Rattle.indexmap.specs.IndexMap.{spare};
+ghost use Rattle.indexmap.specs.IndexMap.{spare, hasher_of};
 ghost use Rattle.mp_utxo.specs.ById.{key_of};
 ghost use Rattle.mp_utxo.specs.Inside.Bare.{noted_at, NotesBare};
 
@@ -14,7 +14,8 @@ pub type Bare = ById<u64>;
 /// Notes the ticket of the transaction, where it has no outputs.
 pub fn note_bare(bare: &mut Bare, ticket: u64, tx: &Tx)
     requires { length tx.now.outputs ≡ 0 → 0 < spare bare.old }
-    ensures { NotesBare bare.old.entries ticket tx.now bare.new.entries }
+    ensures notes { NotesBare bare.old.entries ticket tx.now bare.new.entries }
+    ensures salt { hasher_of bare.new ≡ hasher_of bare.old }
 {
     if tx.outputs().is_empty() && bare.insert(key_of(tx.id()), ticket).is_err() {
         unreachable!()

@@ -2,7 +2,7 @@
 
 ghost use Rattle.std.specs.Prelude.{◌≡◌, ◌+◌, ◌<◌, ◌≤◌, length, IsSome};
 ghost use Rattle.std.specs.List.{list_any};
-ghost use Rattle.indexmap.specs.IndexMap.{spare};
+ghost use Rattle.indexmap.specs.IndexMap.{spare, hasher_of};
 ghost use Rattle.mp_utxo.specs.Inside.Changes.{last_change, spent, unspent_of, place_of, is_made, Notes, SpendsOne, Spends, Makes};
 
 use indexmap::IndexMap;
@@ -29,6 +29,7 @@ fn note(changes: &mut Changes, reference: OutRef, change: Change) -> Option<Chan
     ensures before { result ≡ last_change changes.old.entries reference }
     ensures notes { Notes changes.old.entries reference change changes.new.entries }
     ensures room { spare changes.old ≤ spare changes.new + 1 }
+    ensures salt { hasher_of changes.new ≡ hasher_of changes.old }
 {
     match changes.insert(reference, change) {
         Ok(before) => before,
@@ -41,6 +42,7 @@ pub fn note_again(changes: &mut Changes, reference: &OutRef, change: Change)
     requires { IsSome (last_change changes.old.entries reference.now) }
     ensures notes { Notes changes.old.entries reference.now change changes.new.entries }
     ensures room { spare changes.old ≤ spare changes.new }
+    ensures salt { hasher_of changes.new ≡ hasher_of changes.old }
 {
     match changes.get_mut(reference) {
         Some(noted) => *noted = change,
@@ -53,6 +55,7 @@ fn spend_one(changes: &mut Changes, reference: OutRef)
     requires { 0 < spare changes.old }
     ensures spends { SpendsOne changes.old.entries reference changes.new.entries }
     ensures room { spare changes.old ≤ spare changes.new + 1 }
+    ensures salt { hasher_of changes.new ≡ hasher_of changes.old }
 {
     match note(changes, reference, Change::Spent) {
         None | Some(Change::Spent) => {}
@@ -67,6 +70,7 @@ pub fn spend(changes: &mut Changes, inputs: &[Input])
     requires { length inputs.now ≤ spare changes.old }
     ensures spends { Spends changes.old.entries inputs.now changes.new.entries }
     ensures room { spare changes.old ≤ spare changes.new + length inputs.now }
+    ensures salt { hasher_of changes.new ≡ hasher_of changes.old }
 {
     for input in inputs {
         spend_one(changes, input.from);
@@ -76,7 +80,8 @@ pub fn spend(changes: &mut Changes, inputs: &[Input])
 /// Notes what the transaction makes, where it is the one at this place among those that were applied.
 pub fn make(changes: &mut Changes, tx: &Tx, place: usize)
     requires { length tx.now.outputs ≤ spare changes.old }
-    ensures { Makes changes.old.entries tx.now place changes.new.entries }
+    ensures makes { Makes changes.old.entries tx.now place changes.new.entries }
+    ensures salt { hasher_of changes.new ≡ hasher_of changes.old }
 {
     let count = tx.outputs().len() as u16;
     for index in 0..count {

@@ -144,6 +144,7 @@ impl Overlay {
         ensures base { self.new.ledger ≡ ledger }
         ensures applied { self.new.applied ≡ self.old.applied }
         ensures items { self.new.items ≡ self.old.items }
+        ensures salt { self.new.salt ≡ self.old.salt }
     {
         self.ledger = ledger;
     }

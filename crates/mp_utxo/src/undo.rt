@@ -1,5 +1,7 @@
 //! Taking back what a transaction spent and made.
 
+ghost use Rattle.std.specs.Prelude.{◌≡◌};
+ghost use Rattle.indexmap.specs.IndexMap.{hasher_of};
 ghost use Rattle.mp_utxo.specs.Inside.Changes.{RestoresOne, Restores, ForgetsOne, Forgets};
 
 use crate::changes::{Change, Changes, note_again};
@@ -7,14 +9,16 @@ use mp_tx::{Input, OutRef, Tx};
 
 // Notes that nothing became of the reference.
 fn forget(changes: &mut Changes, reference: &OutRef)
-    ensures { ForgetsOne changes.old.entries reference.now changes.new.entries }
+    ensures notes { ForgetsOne changes.old.entries reference.now changes.new.entries }
+    ensures salt { hasher_of changes.new ≡ hasher_of changes.old }
 {
     let _ = changes.swap_remove(reference);
 }
 
 // Notes that the reference wasn't spent.
 fn restore_one(changes: &mut Changes, reference: &OutRef)
-    ensures { RestoresOne changes.old.entries reference.now changes.new.entries }
+    ensures notes { RestoresOne changes.old.entries reference.now changes.new.entries }
+    ensures salt { hasher_of changes.new ≡ hasher_of changes.old }
 {
     match changes.get(reference).copied() {
         None | Some(Change::Made(_)) => {}
@@ -25,7 +29,8 @@ fn restore_one(changes: &mut Changes, reference: &OutRef)
 
 /// Notes that the inputs spend nothing.
 pub fn restore(changes: &mut Changes, inputs: &[Input])
-    ensures { Restores changes.old.entries inputs.now changes.new.entries }
+    ensures notes { Restores changes.old.entries inputs.now changes.new.entries }
+    ensures salt { hasher_of changes.new ≡ hasher_of changes.old }
 {
     for input in inputs {
         restore_one(changes, &input.from);
@@ -34,7 +39,8 @@ pub fn restore(changes: &mut Changes, inputs: &[Input])
 
 /// Notes that the transaction makes nothing.
 pub fn forget_made(changes: &mut Changes, tx: &Tx)
-    ensures { Forgets changes.old.entries tx.now changes.new.entries }
+    ensures notes { Forgets changes.old.entries tx.now changes.new.entries }
+    ensures salt { hasher_of changes.new ≡ hasher_of changes.old }
 {
     let count = tx.outputs().len() as u16;
     for index in 0..count {

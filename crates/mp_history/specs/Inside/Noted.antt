@@ -21,7 +21,7 @@ pub record Noted : Type 0 where
 
 -- what stands where no state is told
 abbrev pub no_state : Pool
-no_state = empty_pool 0 0 (ledger_of 0 0 [])
+no_state = empty_pool 0 0 (ledger_of 0 0 0 [])
 
 -- what is noted of one history, in order
 abbrev pub notes_of : ℕ → List Noted → List Noted

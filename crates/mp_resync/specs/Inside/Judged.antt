@@ -17,6 +17,7 @@ pub record Keeps (old : Kept) (i : ℕ × Transaction) (new : Kept) : Type 0 whe
   pub base : new.overlay.ledger ≡ old.overlay.ledger
   pub applied : new.overlay.applied ≡ old.overlay.applied ++ i.1 ∷ []
   pub items : new.overlay.items ≡ old.overlay.items ++ i ∷ []
+  pub salt : new.overlay.salt ≡ old.overlay.salt
   pub kept : new.kept ≡ old.kept ++ i.0 ∷ []
   pub named : new.named ≡ old.named
   pub dropped : new.dropped ≡ old.dropped

@@ -31,8 +31,3 @@ changed utxo (c ∷ cs) = changed_at (changed utxo cs) c.0 c.1
 -- with what became of a reference earlier, unless it is there
 abbrev pub with_earlier : Noted → OutRef × Change → Noted
 with_earlier cs c = if is_some (lookup (same_ref c.0) cs) then cs else cs ++ c ∷ []
-
--- those of all layers
-abbrev pub all_of : List Noted → Noted
-all_of [] = []
-all_of (l ∷ ls) = l ++ all_of ls

@@ -1,9 +1,9 @@
 -- What of a reference is hashed.
-use Rattle.std.specs.Prelude.{ℕ, bit_xor}
-use Rattle.std.specs.Option.{option_map_or}
-use Rattle.mp_bytes.specs.Fields.{unsigned_at}
+use Rattle.std.specs.Prelude.{◌∷◌, slice_range}
+use Rattle.std.specs.Hash as fed
 use Rattle.mp_tx.specs.declared.reference.OutRef.{OutRef}
 
--- the first eight bytes of the id, with the index folded in
-abbrev pub word_of : OutRef → ℕ
-word_of r = option_map_or (λ first. bit_xor first.0 r.index) (unsigned_at r.id) 0
+-- the id, eight bytes at a time, and then the index
+abbrev pub written : OutRef → fed.HashWrites
+written r =
+    slice_range r.id 0 8 ∷ slice_range r.id 8 16 ∷ slice_range r.id 16 24 ∷ slice_range r.id 24 32 ∷ fed.u16 r.index

@@ -1,6 +1,7 @@
 //! What became of references.
 
 ghost use Rattle.std.specs.Prelude.{◌≡◌, fold, OnOk};
+ghost use Rattle.indexmap.specs.IndexMap.{hasher_of};
 ghost use Rattle.mp_tx.specs.Ledger.{Utxo};
 ghost use Rattle.mp_tx.specs.Inside.Changes.{changed_at, changed, with_earlier};
 
@@ -47,8 +48,9 @@ impl Change {
 
 /// Notes what became of the reference, in the place of what became of it before.
 pub fn note(changes: &mut Changes, reference: OutRef, change: Change) -> Result<(), NoMemory>
-    ensures { OnOk result ((u : Utxo) → changed u changes.new.entries
+    ensures changed { OnOk result ((u : Utxo) → changed u changes.new.entries
         ≡ changed_at (changed u changes.old.entries) reference change) }
+    ensures salt { OnOk result (hasher_of changes.new ≡ hasher_of changes.old) }
 {
     changes.insert(reference, change)?;
     Ok(())
@@ -56,8 +58,9 @@ pub fn note(changes: &mut Changes, reference: OutRef, change: Change) -> Result<
 
 // Notes what became of the reference earlier, unless the changes have it.
 fn note_earlier(changes: &mut Changes, reference: &OutRef, change: &Change) -> Result<(), NoMemory>
-    ensures { OnOk result (changes.new.entries
+    ensures noted { OnOk result (changes.new.entries
         ≡ with_earlier changes.old.entries (reference.now, change.now)) }
+    ensures salt { OnOk result (hasher_of changes.new ≡ hasher_of changes.old) }
 {
     if !changes.contains_key(reference) {
         changes.insert(*reference, change.share()?)?;
@@ -67,8 +70,9 @@ fn note_earlier(changes: &mut Changes, reference: &OutRef, change: &Change) -> R
 
 /// Notes what became of references earlier.
 pub fn join(changes: &mut Changes, earlier: &Changes) -> Result<(), NoMemory>
-    ensures { OnOk result (changes.new.entries
+    ensures noted { OnOk result (changes.new.entries
         ≡ fold with_earlier changes.old.entries earlier.now.entries) }
+    ensures salt { OnOk result (hasher_of changes.new ≡ hasher_of changes.old) }
 {
     for (reference, change) in earlier {
         note_earlier(changes, reference, change)?;

@@ -3,7 +3,9 @@
 ghost use Rattle.std.specs.Prelude.{◌≡◌, ◌≤◌, ◌++◌, fold, length, IfOk, OnOk, [], option_copied};
 ghost use Rattle.std.specs.Map.{lookup};
 ghost use Rattle.mp_tx.specs.Reference.{same_ref};
-ghost use Rattle.mp_tx.specs.Inside.Changes.{Noted, with_earlier, all_of};
+ghost use Rattle.indexmap.specs.IndexMap.{hasher_of};
+ghost use Rattle.mp_tx.specs.Inside.Changes.{with_earlier};
+ghost use Rattle.mp_tx.specs.Inside.Tables.{all_of};
 
 use crate::ledger::change::{Change, Changes, join};
 use crate::reference::OutRef;
@@ -27,18 +29,20 @@ impl Drop for Layer {
 
 impl Model for Layer {
     ghost use Rattle.std.specs.Arc.{arc_value};
-    ghost use Rattle.mp_tx.specs.Inside.Changes.{Noted};
+    ghost use Rattle.mp_tx.specs.Inside.Tables as told;
+    ghost use Rattle.mp_tx.specs.Inside.Tables.{layer_of};
 
-    ghost Value = { Noted };
+    ghost Value = { told.Layer };
 
-    ghost view = { λ l. (arc_value l.changes).entries };
+    ghost view = { λ l. layer_of (arc_value l.changes) };
 }
 
 impl Layer {
     ghost use Rattle.std.specs.Prelude.{◌≡◌, IfOk};
+    ghost use Rattle.mp_tx.specs.Inside.Tables.{layer_of};
 
     fn of(memory: Memory, changes: Changes) -> Result<Layer, NoMemory>
-        ensures { IfOk result (λ l. l ≡ changes.entries) }
+        ensures { IfOk result (λ l. l ≡ layer_of changes) }
     {
         Ok(Layer {
             changes: Arc::new(memory, changes)?,
@@ -54,7 +58,7 @@ impl Layer {
     }
 
     fn changes(&self) -> &Changes
-        ensures { result.now.entries ≡ self.now }
+        ensures { result.now.entries ≡ self.now.noted }
     {
         &self.changes
     }
@@ -73,9 +77,9 @@ impl Drop for Layers {
 
 impl Model for Layers {
     ghost use Rattle.std.specs.Prelude.{List};
-    ghost use Rattle.mp_tx.specs.Inside.Changes.{Noted};
+    ghost use Rattle.mp_tx.specs.Inside.Tables as told;
 
-    ghost Value = { List Noted };
+    ghost Value = { List told.Layer };
 
     ghost use Rattle.mp_tx.specs.Inside.Layers.{layers_of};
 
@@ -84,6 +88,7 @@ impl Model for Layers {
 
 impl Layers {
     ghost use Rattle.std.specs.Prelude.{◌≡◌, ◌∷◌, [], IfOk};
+    ghost use Rattle.mp_tx.specs.Inside.Tables.{layer_of};
 
     /// No layers.
     pub fn none() -> Layers
@@ -94,7 +99,7 @@ impl Layers {
 
     /// The changes as a layer above the older ones.
     pub fn over(memory: Memory, changes: Changes, older: &[Layer]) -> Result<Layers, NoMemory>
-        ensures { IfOk result (λ l. l ≡ changes.entries ∷ older.now) }
+        ensures { IfOk result (λ l. l ≡ layer_of changes ∷ older.now) }
     {
         let mut layers = Vec::new(memory);
         layers.push(Layer::of(memory, changes)?)?;
@@ -166,8 +171,9 @@ pub fn count_short(layers: &[Layer], above: usize) -> usize
 
 /// Notes what became of references in these layers, which are older than the changes.
 pub fn join_all(changes: &mut Changes, layers: &[Layer]) -> Result<(), NoMemory>
-    ensures { OnOk result (changes.new.entries
+    ensures noted { OnOk result (changes.new.entries
         ≡ fold with_earlier changes.old.entries (all_of layers.now)) }
+    ensures salt { OnOk result (hasher_of changes.new ≡ hasher_of changes.old) }
 {
     for layer in layers {
         join(changes, layer.changes())?;

@@ -3,8 +3,9 @@
 ghost use Rattle.std.specs.Prelude.{◌≡◌, ◌++◌, IfOk};
 ghost use Rattle.std.specs.Arc.{arc_value};
 ghost use Rattle.std.specs.FinMap.{from_entries};
-ghost use Rattle.mp_tx.specs.Ledger.{Utxo};
-ghost use Rattle.mp_tx.specs.Inside.Changes.{changed, all_of};
+ghost use Rattle.indexmap.specs.IndexMap.{hasher_of};
+ghost use Rattle.mp_tx.specs.Inside.Changes.{changed};
+ghost use Rattle.mp_tx.specs.Inside.Tables.{all_of, HaveSalt};
 
 use crate::block_fault::BlockFault;
 use crate::ledger::base::{Base, settled};
@@ -35,20 +36,24 @@ impl Drop for Outputs {
 impl Model for Outputs {
     ghost use Rattle.std.specs.Coded.{codes};
     ghost use Rattle.std.specs.FinMap as finite;
-    ghost use Rattle.mp_tx.specs.Ledger.{Utxo};
+    ghost use Rattle.mp_tx.specs.Inside.Tables as told;
 
-    ghost Value = { Utxo };
+    ghost Value = { told.Outputs };
 
     ghost coded = { Prim.hlevel (codes, finite.code) };
 
-    ghost use Rattle.mp_tx.specs.Inside.Outputs.{utxo};
+    ghost use Rattle.mp_tx.specs.Inside.Outputs.{outputs, HasOneSalt};
 
-    ghost view = { utxo };
+    ghost view = { outputs };
+
+    ghost invariant = { HasOneSalt };
 }
 
 // The outputs of the table after the changes, in a table of their own.
 fn make_table(memory: Memory, base: &Base, changes: Changes) -> Result<Outputs, NoMemory>
-    ensures { IfOk result (λ o. o ≡ changed (from_entries base.now.entries) changes.entries) }
+    ensures utxo { IfOk result
+        (λ o. o.utxo ≡ changed (from_entries base.now.entries) changes.entries) }
+    ensures salt { IfOk result (λ o. o.salt ≡ hasher_of base.now) }
 {
     Outputs::of(memory, settled(memory, base, changes)?)
 }
@@ -60,8 +65,11 @@ fn make_layers(
     changes: Changes,
     older: &[Layer],
 ) -> Result<Outputs, NoMemory>
-    ensures { IfOk result (λ o. o ≡ changed (from_entries (arc_value base.now).entries)
+    requires changes { hasher_of changes ≡ hasher_of (arc_value base.now) }
+    requires older { HaveSalt (hasher_of (arc_value base.now)) older.now }
+    ensures utxo { IfOk result (λ o. o.utxo ≡ changed (from_entries (arc_value base.now).entries)
         (changes.entries ++ all_of older.now)) }
+    ensures salt { IfOk result (λ o. o.salt ≡ hasher_of (arc_value base.now)) }
 {
     let layers = Layers::over(memory, changes, older)?;
     Ok(Outputs {
@@ -73,13 +81,15 @@ fn make_layers(
 impl Outputs {
     ghost use Rattle.std.specs.Prelude.{◌≡◌, IfOk, IfErr, OnOk, Bool, None, is_some, option_copied, []};
     ghost use Rattle.std.specs.FinMap.{get, from_entries};
+    ghost use Rattle.indexmap.specs.IndexMap.{hasher_of};
     ghost use Rattle.mp_tx.specs.Ledger.{without, with_outputs, AreThere, AreFree};
     ghost use Rattle.mp_tx.specs.Inside.Changes.{changed};
     ghost use Rattle.mp_tx.specs.Inside.BlockFault.{IsOfSpent, IsOfMade, IsOfBoth};
 
     /// The outputs of the table.
     pub fn of(memory: Memory, base: Base) -> Result<Outputs, NoMemory>
-        ensures { IfOk result (λ o. o ≡ from_entries base.entries) }
+        ensures utxo { IfOk result (λ o. o.utxo ≡ from_entries base.entries) }
+        ensures salt { IfOk result (λ o. o.salt ≡ hasher_of base) }
     {
         Ok(Outputs {
             base: Arc::new(memory, base)?,
@@ -88,13 +98,15 @@ impl Outputs {
     }
 
     /// The salt of its tables.
-    pub fn salt(&self) -> Salt {
+    pub fn salt(&self) -> Salt
+        ensures { result ≡ self.now.salt }
+    {
         *self.base.hasher()
     }
 
     /// The output under the reference.
     pub fn get(&self, reference: &OutRef) -> Option<&Output>
-        ensures { option_copied result ≡ get self.now reference.now }
+        ensures { option_copied result ≡ get self.now.utxo reference.now }
     {
         match last_change(self.layers.as_slice(), reference) {
             Some(change) => change.output(),
@@ -114,7 +126,8 @@ impl Outputs {
 
     // Whether there is an output under the reference after the changes.
     fn is_there(&self, changes: &Changes, reference: &OutRef) -> bool
-        ensures { result ≡ is_some (get (changed self.now changes.now.entries) reference.now) }
+        ensures { result
+            ≡ is_some (get (changed self.now.utxo changes.now.entries) reference.now) }
     {
         match changes.get(reference) {
             Some(change) => change.output().is_some(),
@@ -126,9 +139,10 @@ impl Outputs {
     fn spend(&self, changes: &mut Changes, spent: &[OutRef]) -> Result<(), BlockFault>
         requires { changes.old.entries ≡ [] }
         ensures ok { OnOk result
-            (changed self.now changes.new.entries ≡ without self.now spent.now) }
-        ensures there { OnOk result (AreThere self.now spent.now) }
-        ensures fault { IfErr result (IsOfSpent self.now spent.now) }
+            (changed self.now.utxo changes.new.entries ≡ without self.now.utxo spent.now) }
+        ensures salt { OnOk result (hasher_of changes.new ≡ hasher_of changes.old) }
+        ensures there { OnOk result (AreThere self.now.utxo spent.now) }
+        ensures fault { IfErr result (IsOfSpent self.now.utxo spent.now) }
     {
         for (place, reference) in spent.iter().enumerate() {
             if !self.is_there(changes, reference) {
@@ -145,11 +159,13 @@ impl Outputs {
         changes: &mut Changes,
         made: Vec<(OutRef, Output), Memory>,
     ) -> Result<(), BlockFault>
-        ensures ok { OnOk result (changed self.now changes.new.entries
-            ≡ with_outputs (changed self.now changes.old.entries) made.items) }
-        ensures free { OnOk result (AreFree (changed self.now changes.old.entries) made.items) }
+        ensures ok { OnOk result (changed self.now.utxo changes.new.entries
+            ≡ with_outputs (changed self.now.utxo changes.old.entries) made.items) }
+        ensures salt { OnOk result (hasher_of changes.new ≡ hasher_of changes.old) }
+        ensures free { OnOk result
+            (AreFree (changed self.now.utxo changes.old.entries) made.items) }
         ensures fault { IfErr result
-            (IsOfMade (changed self.now changes.old.entries) made.items) }
+            (IsOfMade (changed self.now.utxo changes.old.entries) made.items) }
     {
         let mut place = 0;
         for (reference, output) in made {
@@ -170,11 +186,12 @@ impl Outputs {
         made: Vec<(OutRef, Output), Memory>,
     ) -> Result<(), BlockFault>
         requires { changes.old.entries ≡ [] }
-        ensures ok { OnOk result (changed self.now changes.new.entries
-            ≡ with_outputs (without self.now spent.now) made.items) }
-        ensures there { OnOk result (AreThere self.now spent.now) }
-        ensures free { OnOk result (AreFree (without self.now spent.now) made.items) }
-        ensures fault { IfErr result (IsOfBoth self.now spent.now made.items) }
+        ensures ok { OnOk result (changed self.now.utxo changes.new.entries
+            ≡ with_outputs (without self.now.utxo spent.now) made.items) }
+        ensures salt { OnOk result (hasher_of changes.new ≡ hasher_of changes.old) }
+        ensures there { OnOk result (AreThere self.now.utxo spent.now) }
+        ensures free { OnOk result (AreFree (without self.now.utxo spent.now) made.items) }
+        ensures fault { IfErr result (IsOfBoth self.now.utxo spent.now made.items) }
     {
         self.spend(changes, spent)?;
         self.make(changes, made)
@@ -182,7 +199,9 @@ impl Outputs {
 
     // The outputs after the changes. Layers that aren't long enough for these are joined with them, and so is the table.
     fn changed(&self, memory: Memory, changes: Changes) -> Result<Outputs, NoMemory>
-        ensures { IfOk result (λ o. o ≡ changed self.now changes.entries) }
+        requires { hasher_of changes ≡ self.now.salt }
+        ensures utxo { IfOk result (λ o. o.utxo ≡ changed self.now.utxo changes.entries) }
+        ensures salt { IfOk result (λ o. o.salt ≡ self.now.salt) }
     {
         let mut changes = changes;
         let layers = self.layers.as_slice();
@@ -202,10 +221,12 @@ impl Outputs {
         spent: &[OutRef],
         made: Vec<(OutRef, Output), Memory>,
     ) -> Result<Outputs, BlockFault>
-        ensures ok { IfOk result (λ o. o ≡ with_outputs (without self.now spent.now) made.items) }
-        ensures there { OnOk result (AreThere self.now spent.now) }
-        ensures free { OnOk result (AreFree (without self.now spent.now) made.items) }
-        ensures fault { IfErr result (IsOfBoth self.now spent.now made.items) }
+        ensures ok { IfOk result
+            (λ o. o.utxo ≡ with_outputs (without self.now.utxo spent.now) made.items) }
+        ensures salt { IfOk result (λ o. o.salt ≡ self.now.salt) }
+        ensures there { OnOk result (AreThere self.now.utxo spent.now) }
+        ensures free { OnOk result (AreFree (without self.now.utxo spent.now) made.items) }
+        ensures fault { IfErr result (IsOfBoth self.now.utxo spent.now made.items) }
     {
         let room = spent.len().saturating_add(made.len());
         let mut changes = IndexMap::with_capacity_and_hasher(memory, room, self.salt())?;

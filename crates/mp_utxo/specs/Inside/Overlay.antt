@@ -3,7 +3,7 @@ use Rattle.std.specs.Prelude.{◌≡◌, ◌-◌, ℕ, false, List, Option, Some
 use Rattle.std.specs.List.{list_any}
 use Rattle.std.specs.FinMap.{get}
 use Rattle.std.specs.Vec.{vec_len, vec_capacity}
-use Rattle.indexmap.specs.IndexMap.{spare}
+use Rattle.indexmap.specs.IndexMap.{spare, hasher_of}
 use Rattle.mp_tx.specs.declared.reference.OutRef.{OutRef}
 use Rattle.mp_tx.specs.declared.output.Output.{Output}
 use Rattle.mp_tx.specs.Transaction.{Transaction, spends}
@@ -27,6 +27,7 @@ overlay o = record {
     transactions = vec_capacity o.applied - vec_len o.applied;
     bare = spare o.bare;
   };
+  salt = hasher_of o.changes;
 }
 
 -- what stands under a reference after its last change, which is the ledger's where there was none
@@ -63,3 +64,5 @@ pub record IsKept (o : Inside) : Type 0 where
   -- unless it says so, no transaction looks at what one before it made
   pub apart : o.looks_inside ≡ false → AllPairs LooksPast (transactions o.applied.items)
   pub bare : AreNoted (items o.applied.items) o.bare.entries
+  -- both tables have one salt
+  pub salt : hasher_of o.bare ≡ hasher_of o.changes

@@ -24,6 +24,9 @@ handle-requires-clause-below g c =
     c.iter-ticket-items.ensures.rising (c.into_iter-ticket-iterator.ensures.into_iter_gives ∙ c.iter-ticket-items.ensures.all) c.loop-ticket.yielded_by c.in-Some.is c.next.ensures.steps)
     c.loop-ticket.invariant.2
 
+pub handle-requires-clause-salt : goal.handle-requires-clause-salt
+handle-requires-clause-salt g c = c.in_ok-names.ensures.salt ∙ c.salt.ensures ∙ sym c.loop-ticket.invariant.2.salt
+
 pub loop-ticket-preserved : goal.loop-ticket-preserved
 loop-ticket-preserved g c =
     let accepts = g.V.Verifier.accepts c.args.verifier.now in (

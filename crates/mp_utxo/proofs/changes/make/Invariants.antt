@@ -1,5 +1,5 @@
-use Rattle.std.proofs.Common.{◌+◌, ◌≤◌, length}
-use Rattle.indexmap.specs.IndexMap.{spare}
+use Rattle.std.proofs.Common.{◌≡◌, ◌+◌, ◌≤◌, length}
+use Rattle.indexmap.specs.IndexMap.{spare, hasher_of}
 use Rattle.mp_tx.specs.Spelling.{id_of}
 use Rattle.mp_utxo.specs.Inside.Changes.{MakesUpTo}
 use Rattle.mp_utxo.proofs.changes.make.Given as goal
@@ -9,4 +9,5 @@ abbrev pub invariant-loop-index : goal.invariant-loop-index
 invariant-loop-index l = record {
   makes : MakesUpTo l.fn.changes.entries (id_of l.tx) l.index l.place l.changes.entries;
   room : length l.tx.outputs ≤ spare l.changes + l.index;
+  salt : hasher_of l.changes ≡ hasher_of l.fn.changes;
 }

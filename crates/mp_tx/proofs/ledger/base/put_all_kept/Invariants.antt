@@ -1,9 +1,11 @@
 use Rattle.std.proofs.Common.{◌≡◌, fold}
+use Rattle.indexmap.specs.IndexMap.{hasher_of}
 use Rattle.mp_tx.specs.Inside.Base.{with_kept}
 use Rattle.mp_tx.proofs.ledger.base.put_all_kept.Given as goal
 
 -- with those that are left the table comes to all
 abbrev pub invariant-loop-reference : goal.invariant-loop-reference
-invariant-loop-reference l =
-    fold (with_kept l.changes.entries) l.base.entries l.reference-iterator
-    ≡ fold (with_kept l.fn.changes.entries) l.fn.base.entries l.fn.old.entries
+invariant-loop-reference l = record {
+  put : fold (with_kept l.changes.entries) l.base.entries l.reference-iterator ≡ fold (with_kept l.fn.changes.entries) l.fn.base.entries l.fn.old.entries;
+  salt : hasher_of l.base ≡ hasher_of l.fn.base;
+}

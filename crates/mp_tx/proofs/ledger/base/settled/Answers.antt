@@ -5,9 +5,9 @@ use Rattle.mp_tx.specs.Inside.Base.{with_kept, with_change}
 use Rattle.mp_tx.proofs.Changed.{from_entries-settled}
 use Rattle.mp_tx.proofs.ledger.base.settled.Goals as goal
 
-pub returns : goal.returns
-returns c =
+pub returns-clause-settled : goal.returns-clause-settled
+returns-clause-settled c =
     let old = c.args.old.now.entries in
     let cs = c.args.changes.entries in
-    let all = c.in_ok-put_all.ensures ∙ ap (λ es. fold with_change (fold (with_kept cs) es old) cs) c.in_ok-base.ensures.empty in
+    let all = c.in_ok-put_all.ensures.put ∙ ap (λ es. fold with_change (fold (with_kept cs) es old) cs) c.in_ok-base.ensures.empty in
     ap (from_entries {R = ref_cmp}) all ∙ from_entries-settled old cs c.len.ensures.unique c.len-2.ensures.unique

@@ -1,8 +1,11 @@
 use Rattle.std.proofs.Common.{◌≡◌, fold}
+use Rattle.indexmap.specs.IndexMap.{hasher_of}
 use Rattle.mp_tx.specs.Inside.Changes.{with_earlier}
 use Rattle.mp_tx.proofs.ledger.change.join.Given as goal
 
 -- with those that are left the changes come to all
 abbrev pub invariant-loop-reference : goal.invariant-loop-reference
-invariant-loop-reference l =
-    fold with_earlier l.changes.entries l.reference-iterator ≡ fold with_earlier l.fn.changes.entries l.fn.earlier.entries
+invariant-loop-reference l = record {
+  noted : fold with_earlier l.changes.entries l.reference-iterator ≡ fold with_earlier l.fn.changes.entries l.fn.earlier.entries;
+  salt : hasher_of l.changes ≡ hasher_of l.fn.changes;
+}

@@ -7,8 +7,8 @@ use Rattle.mp_tx.specs.Reference.{same_ref}
 use Rattle.mp_tx.proofs.Repeats.{not_there}
 use Rattle.mp_tx.proofs.ledger.change.note_earlier.Goals as goal
 
-pub returns-in_ok-insert : goal.returns-in_ok-insert
-returns-in_ok-insert c =
+pub returns-in_ok-insert-clause-noted : goal.returns-in_ok-insert-clause-noted
+returns-in_ok-insert-clause-noted c =
     let cs = c.args.changes.now.entries in
     let r = c.args.reference.now in
     let absent : is_some (lookup (same_ref r) cs) ≡ false = Prim.search rules in

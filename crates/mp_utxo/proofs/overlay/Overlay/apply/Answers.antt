@@ -21,7 +21,7 @@ invariant_of-self c =
       changes = keeps-push c.self.inside.applied.items _ _ (arc_value c.args.tx) (get c.self.inside.ledger.utxo) c.len-place.result c.self.inside.changes.entries c.spend.new.changes.entries c.make.new.changes.entries
           c.push_reserved.ensures.items refl at
           (subst (λ inputs. Spends c.self.inside.changes.entries inputs c.spend.new.changes.entries) (c.inputs.ensures.inputs ∙ ap (λ t. t.inputs) c.deref-3.ensures) c.spend.ensures.spends)
-          (subst (λ t. Makes c.spend.new.changes.entries t c.len-place.result c.make.new.changes.entries) c.deref-4.ensures c.make.ensures)
+          (subst (λ t. Makes c.spend.new.changes.entries t c.len-place.result c.make.new.changes.entries) c.deref-4.ensures c.make.ensures.makes)
           c.self.invariant.changes;
       apart = λ past. elim c.if-self.branch [
         | then-self w ↦ absurd (false≢true (sym past ∙ w.looks_inside-is ∙ w.if-self.true))
@@ -31,7 +31,8 @@ invariant_of-self c =
       ];
       bare = subst (λ es. AreNoted es c.note_bare.new.bare.entries) (sym (items-push c.self.inside.applied.items _ _ (c.args.ticket, arc_value c.args.tx) c.push_reserved.ensures.items refl))
           (noted-push (items c.self.inside.applied.items) c.args.ticket (arc_value c.args.tx) c.self.inside.bare.entries c.note_bare.new.bare.entries
-          (subst (λ t. NotesBare c.self.inside.bare.entries c.args.ticket t c.note_bare.new.bare.entries) c.deref-2.ensures c.note_bare.ensures) c.self.invariant.bare);
+          (subst (λ t. NotesBare c.self.inside.bare.entries c.args.ticket t c.note_bare.new.bare.entries) c.deref-2.ensures c.note_bare.ensures.notes) c.self.invariant.bare);
+      salt = c.note_bare.ensures.salt ∙ c.self.invariant.salt ∙ sym (c.make.ensures.salt ∙ c.spend.ensures.salt);
     }
 
 pub returns : goal.returns
@@ -39,4 +40,5 @@ returns c = record {
   base = Prim.search rules;
   applied = those-push c.self.inside.applied.items _ _ (arc_value c.args.tx) c.push_reserved.ensures.items refl ∙ ap (λ (o : Overlay). o.applied ++ arc_value c.args.tx ∷ []) c.self.view_is;
   items = items-push c.self.inside.applied.items _ _ (c.args.ticket, arc_value c.args.tx) c.push_reserved.ensures.items refl ∙ ap (λ (o : Overlay). o.items ++ (c.args.ticket, arc_value c.args.tx) ∷ []) c.self.view_is;
+  salt = c.make.ensures.salt ∙ c.spend.ensures.salt ∙ ap (λ (o : Overlay). o.salt) c.self.view_is;
 }

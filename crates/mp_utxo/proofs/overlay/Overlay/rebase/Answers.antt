@@ -12,4 +12,5 @@ invariant_of-self c = record {
       (subst (λ (o : Overlay). IsFed (get o.ledger.utxo) o.applied) (sym c.self.view_is) c.requires.fed) c.self.invariant.changes;
   apart = c.self.invariant.apart;
   bare = c.self.invariant.bare;
+  salt = c.self.invariant.salt;
 }

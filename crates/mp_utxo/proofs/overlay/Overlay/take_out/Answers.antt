@@ -40,8 +40,8 @@ gone c =
     (stands-there (places c.self.inside.applied.items) (get c.self.inside.ledger.utxo) c.self.inside.changes.entries c.args.tx.now c.in-Some.place c.self.invariant.changes going
     (first-at c.self.inside.changes.entries c.args.tx.now c.id.result.now c.unspent_of.result c.id.ensures c.unspent_of.ensures ∙ c.in-Some.is))
     c.vacate.ensures.places going
-    (subst (λ (inputs : List Input). Restores c.self.inside.changes.entries inputs c.restore.new.changes.entries) c.inputs.ensures.inputs c.restore.ensures)
-    c.forget_made.ensures c.self.invariant.changes
+    (subst (λ (inputs : List Input). Restores c.self.inside.changes.entries inputs c.restore.new.changes.entries) c.inputs.ensures.inputs c.restore.ensures.notes)
+    c.forget_made.ensures.notes c.self.invariant.changes
 
 -- where it stands, and that it has outputs
 stands : (c : goal.After-self-1) → standing (places c.self.inside.applied.items) c.in-Some.place ≡ Some c.args.tx.now
@@ -67,6 +67,7 @@ invariant_of-self c =
           (noted-less (items c.self.inside.applied.items) c.args.tx.now c.self.inside.bare.entries (subst Apart (sym same) (apart c))
           (subst (λ ts. In ts c.args.tx.now) (sym same) (in-those (places c.self.inside.applied.items) c.in-Some.place c.args.tx.now (stands c)))
           c.requires.leaf.has_output c.self.invariant.bare);
+      salt = c.self.invariant.salt ∙ sym (c.forget_made.ensures.salt ∙ c.restore.ensures.salt);
     }
 
 pub returns : goal.returns
@@ -74,4 +75,5 @@ returns c = let left = gone c in record {
   base = ap (λ (o : Overlay). o.ledger) c.self.view_is;
   applied = left.others ∙ ap (λ (o : Overlay). others (id_of c.args.tx.now) o.applied) c.self.view_is;
   items = left_items c ∙ ap (λ (o : Overlay). other_items (id_of c.args.tx.now) o.items) c.self.view_is;
+  salt = c.forget_made.ensures.salt ∙ c.restore.ensures.salt ∙ ap (λ (o : Overlay). o.salt) c.self.view_is;
 }

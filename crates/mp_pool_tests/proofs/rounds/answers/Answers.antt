@@ -1,0 +1,5 @@
+use Rattle.mp_pool_samples.proofs.Signed.{signed}
+use Rattle.mp_pool_tests.proofs.rounds.answers.Goals as goal
+
+pub step-requires : goal.step-requires
+step-requires c = signed c.args.pool.now.pool

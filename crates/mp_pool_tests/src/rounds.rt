@@ -1,0 +1,74 @@
+//! What removes cost, round after round: one that takes out a transaction on which no other hangs makes no overlay, and of places that
+//! are vacant no more than some stay.
+use mp_pool_samples::samples::{ALL, REMOVE_FIRST, Samples};
+use mp_pool_samples::{ACCEPTS_ALL, CONFIG};
+use mp_seqpool::{Command, SeqPool};
+use mp_testing::{Seen, count};
+use std::io;
+
+const ROUNDS: u64 = 200;
+
+// A remove of one transaction makes fewer growths.
+const MOST_GROWTHS: u64 = 200;
+
+// Whether the command is answered while the growth is refused that is the `nth` from now, if there are so many.
+fn answers(pool: &mut SeqPool, command: &Command) -> bool {
+    matches!(pool.step(command, &ACCEPTS_ALL), Ok(Ok(_)))
+}
+
+// How many growths the command makes, which is answered where none is refused. Each is refused in turn before.
+fn growths(samples: &Samples, pool: &mut SeqPool, command: &Command) -> Option<u64> {
+    for nth in 1..MOST_GROWTHS {
+        samples.memory.refuse(nth);
+        let is_answered = answers(pool, command);
+        let waits = samples.memory.waits();
+        samples.memory.refuse(0);
+        if is_answered {
+            return if waits { Some(nth - 1) } else { None };
+        }
+    }
+    None
+}
+
+// How many growths it takes to remove the transaction of the first sample, which is submitted before.
+fn round(samples: &Samples, pool: &mut SeqPool) -> Option<u64> {
+    if !answers(pool, samples.command(0)?) {
+        return None;
+    }
+    growths(samples, pool, samples.command(REMOVE_FIRST)?)
+}
+
+// Whether a remove takes more growths than the first one, and so makes an overlay anew.
+fn is_dear(samples: &Samples, pool: &mut SeqPool, first: u64) -> Option<bool> {
+    Some(round(samples, pool)? > first)
+}
+
+// How many rounds make an overlay anew, and the numbers of the first and the last of them, counted from 1.
+fn dear_rounds(samples: &Samples) -> Option<Seen> {
+    let Ok(mut pool) = SeqPool::start(samples.memory, CONFIG, samples.ledger(ALL)?) else {
+        return None;
+    };
+    let cheap = round(samples, &mut pool)?;
+    let mut count = 0u64;
+    let mut first = 0;
+    let mut last = 0;
+    for number in 2..=ROUNDS {
+        if is_dear(samples, &mut pool, cheap)? {
+            count = count.wrapping_add(1);
+            first = if first == 0 { number } else { first };
+            last = number;
+        }
+    }
+    Some([count, first, last, 0, 0, 0])
+}
+
+/// How many cases hold.
+pub fn held(rt: &impl Print, samples: &Samples) -> io::Result<u64> {
+    let wanted = [3, 66, 198, 0, 0, 0];
+    count(
+        rt,
+        "rounds that make an overlay anew",
+        dear_rounds(samples),
+        wanted,
+    )
+}
