@@ -3,7 +3,7 @@ use crate::rows::Row;
 use mp_bundle::Bundle;
 use mp_memory::{Memory, NoMemory};
 use mp_testing::{Call, Seen, TrialFault, Trialled, under_each_refusal};
-use mp_tx::{Ledger, LedgerFault, OutRef, Output, Salt};
+use mp_tx::{Ledger, LedgerFault, OutRef, Output, Salt, Undo};
 
 /// The salt of each ledger state here.
 pub const SALT: u64 = 0x5eed;
@@ -101,10 +101,62 @@ fn tried_block(memory: Memory, outputs: u8) -> Result<Trialled, TrialFault> {
     }
 }
 
-/// Blocks under refusals: one whose changes become a layer, and one whose changes go into a table that is made anew.
-pub fn blocks(memory: Memory) -> [Row; 2] {
+// The ledger state that the undo of the block leads back to.
+fn back(memory: Memory, before: &Ledger) -> Option<Ledger> {
+    let spent = [reference(3, 0)];
+    let Ok(after) = before.after(memory, 7, 2, &spent, Vec::new(memory)) else {
+        return None;
+    };
+    let Ok(undo) = Undo::between(memory, before, &after, &spent) else {
+        return None;
+    };
+    undo.apply(memory, &after).ok()
+}
+
+// The way back to the ledger state before that block.
+#[derive(Drop)]
+struct WayBack {
+    block: Block,
+}
+
+impl Call for WayBack {
+    type Value = Ledger;
+
+    fn make(&self) -> Option<Ledger> {
+        self.block.make()
+    }
+
+    fn call(&self, ledger: &mut Ledger) -> Option<Seen> {
+        let before = back(self.block.memory, &self.block.base)?;
+        *ledger = before;
+        Some(self.look(ledger))
+    }
+
+    fn look(&self, ledger: &Ledger) -> Seen {
+        self.block.look(ledger)
+    }
+}
+
+fn tried_way_back(memory: Memory, outputs: u8) -> Result<Trialled, TrialFault> {
+    match make_block(memory, outputs) {
+        Some(block) => under_each_refusal(&memory, &WayBack { block }),
+        None => Err(TrialFault::NotMade),
+    }
+}
+
+/// Blocks under refusals: those whose changes become a layer, upon few outputs and upon many, and one whose changes go into a table that
+/// is made again; and the ways back from them.
+pub fn blocks(memory: Memory) -> [Row; 5] {
     [
         Row::tried("a layer", tried_block(memory, 9), [7, 2, 0, 4], 7),
         Row::tried("a table", tried_block(memory, 7), [7, 2, 0, 4], 9),
+        Row::tried(
+            "a layer upon many",
+            tried_block(memory, 255),
+            [7, 2, 0, 4],
+            7,
+        ),
+        Row::tried("a layer undone", tried_way_back(memory, 9), [6, 1, 3, 4], 18),
+        Row::tried("a table undone", tried_way_back(memory, 7), [6, 1, 3, 4], 22),
     ]
 }

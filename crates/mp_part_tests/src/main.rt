@@ -3,6 +3,7 @@
 #![tactic(auto)]
 
 mod bundle;
+mod costs;
 mod drops;
 mod handle;
 mod ledger;
@@ -25,6 +26,7 @@ use mp_memory::Memory;
 use rows::tell;
 use std::alloc::Global;
 use std::io;
+use std::rt::Clock;
 use std::thread::Threads;
 use vectors::{Kind, check_file};
 
@@ -38,12 +40,14 @@ fn try_memory(rt: &(impl Print + Threads), memory: Memory, other: Memory) -> io:
 }
 
 fn try_tickets(
-    rt: &(impl Print + Threads),
+    rt: &(impl Print + Threads + Clock),
     alloc: Global,
     memory: Memory,
     other: Memory,
 ) -> io::Result<()> {
     tell(rt, "tickets", &tickets::thrift(memory))?;
+    tell(rt, "rooms of tickets", &tickets::rooms(memory))?;
+    tell(rt, "costs of tickets", &costs::searches(rt, memory))?;
     tell(rt, "drops", &drops::drops(alloc, memory, other))?;
     tell(rt, "tickets of threads", &threads::lists(rt, memory))
 }

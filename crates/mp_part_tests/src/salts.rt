@@ -1,4 +1,4 @@
-//! Ledger states: a share takes no memory, and a state, its shares and those after it keep their salt, which no contract sees.
+//! Ledger states: a share takes no memory, and a state, its shares and those after it hash by their salt.
 use crate::ledger::{SALT, address_at, ledger_with, reference};
 use crate::rows::{Row, without_growth};
 use mp_memory::Memory;

@@ -1,7 +1,7 @@
 //! Ticket lists: a node that was made goes in, and an item goes out, without memory.
 use crate::rows::{Row, without_growth};
 use mp_memory::Memory;
-use mp_testing::Seen;
+use mp_testing::{Call, Seen, TrialFault, Trialled, under_each_refusal};
 use mp_tickets::{Node, TicketList, make_node};
 
 /// Puts the node in under the ticket, if that is greater than each that is there.
@@ -30,6 +30,20 @@ pub fn one_bucket(memory: Memory) -> Option<TicketList<u64>> {
     put(memory, &mut list, 1, 100);
     put(memory, &mut list, 1025, 102_500);
     put(memory, &mut list, 2049, 204_900);
+    Some(list)
+}
+
+/// A list of the tickets from 1 on, with room made for each one before. The item of each is its tenfold.
+pub fn filled(memory: Memory, count: u64) -> Option<TicketList<u64>> {
+    let Ok(mut list) = TicketList::new(memory) else {
+        return None;
+    };
+    for ticket in 1..=count {
+        if list.reserve().is_err() {
+            return None;
+        }
+        put(memory, &mut list, ticket, ticket.wrapping_mul(10));
+    }
     Some(list)
 }
 
@@ -73,6 +87,68 @@ fn unlinked(memory: Memory) -> Option<Seen> {
     memory.refuse(1);
     let seen = unlink(&mut list);
     without_growth(memory, seen)
+}
+
+#[derive(Drop)]
+struct Reserving {
+    memory: Memory,
+    count: u64,
+}
+
+// The length, the items of the first ticket and of one in the middle, the last ticket, and what comes after 700.
+fn look_at(list: &TicketList<u64>) -> Seen {
+    let first = list.get(1).copied().unwrap_or(0);
+    let middle = list.get(512).copied().unwrap_or(0);
+    let [back, _] = pair(list.back());
+    let [next, item] = pair(list.iter_after(700).next());
+    [list.len() as u64, first, middle, back, next, item]
+}
+
+impl Call for Reserving {
+    type Value = TicketList<u64>;
+
+    fn make(&self) -> Option<TicketList<u64>> {
+        filled(self.memory, self.count)
+    }
+
+    fn call(&self, list: &mut TicketList<u64>) -> Option<Seen> {
+        if list.reserve().is_err() {
+            return None;
+        }
+        Some(look_at(list))
+    }
+
+    fn look(&self, list: &TicketList<u64>) -> Seen {
+        look_at(list)
+    }
+}
+
+fn reserved(memory: Memory, count: u64) -> Result<Trialled, TrialFault> {
+    under_each_refusal(&memory, &Reserving { memory, count })
+}
+
+/// Room for one more is made where there are as many items as buckets, and nowhere else.
+pub fn rooms(memory: Memory) -> [Row; 3] {
+    [
+        Row::tried(
+            "room behind 1,023 items",
+            reserved(memory, 1023),
+            [1023, 10, 5120, 1023, 701, 7010],
+            0,
+        ),
+        Row::tried(
+            "room behind 1,024 items",
+            reserved(memory, 1024),
+            [1024, 10, 5120, 1024, 701, 7010],
+            1,
+        ),
+        Row::tried(
+            "room behind 1,025 items",
+            reserved(memory, 1025),
+            [1025, 10, 5120, 1025, 701, 7010],
+            0,
+        ),
+    ]
 }
 
 /// What takes no memory.

@@ -86,7 +86,7 @@ pub rising-joined : (low : ℕ) (xs ys : List (ℕ × Transaction)) → IsRising
 rising-joined low [] ys r s = s
 rising-joined low (x ∷ xs) ys r s = (r.0, rising-joined x.0 xs ys r.1 s)
 
-above_low : (low : ℕ) (ys : List (ℕ × Transaction)) (x : ℕ × Transaction) → IsRisingFrom low ys → Contains ys x → low < x.0
+pub above_low : (low : ℕ) (ys : List (ℕ × Transaction)) (x : ℕ × Transaction) → IsRisingFrom low ys → Contains ys x → low < x.0
 above_low low [] x r c = absurd (let lt = c.1 in omega arith)
 above_low low (y ∷ ys) x r (zero, lt, e) = subst (λ (j : ℕ × Transaction). low < j.0) e r.0
 above_low low (y ∷ ys) x r (suc k, lt, e) = let h = above_low y.0 ys x r.1 (k, omega arith, e) in let l = r.0 in omega arith

@@ -14,10 +14,10 @@ use Rattle.mp_history.specs.Log.{Log, Begins, IsLegalLog, state_after}
 use Rattle.mp_versions.proofs.Histories.{lasts}
 use Rattle.mp_seqpool.specs.Reading.{moved}
 use Rattle.mp_seqpool.proofs.Moving.{moved-append}
-use Rattle.mp_peer.specs.Offers.{Offer, offer_at, offered, cursor_after, IsEachOfferedOnce}
+use Rattle.mp_peer.specs.Offers.{Offer, offer_at, offered, cursor_after, IsEachOfferedOnce, IsEachOfferedAfter}
 use Rattle.mp_peer.proofs.Beginnings.{begins_after, lawful-state}
 use Rattle.mp_peer.proofs.Fronts.{legal-beginning}
-use Rattle.mp_peer.proofs.Rising.{rising-lawful, rising-after, rising-left, rising-joined, increasing, moved-bound, in_offer}
+use Rattle.mp_peer.proofs.Rising.{above_low, rising-lawful, rising-after, rising-left, rising-joined, increasing, moved-bound, in_offer}
 
 -- the cursor is the ticket offered last
 last_one : (accepts : Accepts) (cursor : ℕ) (offers : List Offer) → cursor_after accepts cursor offers ≡ moved cursor (offered accepts cursor offers)
@@ -26,13 +26,16 @@ last_one accepts cursor (o ∷ os) =
     let g : List (ℕ × Transaction) = offer_at accepts cursor o in
     last_one accepts (moved cursor g) os ∙ sym (moved-append cursor g (offered accepts (moved cursor g) os))
 
--- what stands up to the cursor was offered
-abbrev IsWhole : List (ℕ × Transaction) → ℕ → Pool → Type 0
-IsWhole seen cursor p = (x : ℕ × Transaction) → Contains p.items x → x.0 ≤ cursor → Contains seen x
+-- what stands above start and up to the cursor was offered
+abbrev IsWhole : ℕ → List (ℕ × Transaction) → ℕ → Pool → Type 0
+IsWhole start seen cursor p = (x : ℕ × Transaction) → Contains p.items x → start < x.0 → x.0 ≤ cursor → Contains seen x
 
--- nothing stands at 0
-none : (accepts : Accepts) (p : Pool) → IsLawful accepts p → IsWhole [] 0 p
-none accepts p law x c le = let above : 0 < x.0 = All-contains (λ i. 0 < i.0) p.items x (All-unmap (λ i. i.0) (λ k. 0 < k) p.items law.above_zero) c in absurd (omega arith)
+-- nothing stands both above start and up to it
+none : (start : ℕ) (p : Pool) → IsWhole start [] start p
+none start p x c more le = absurd (omega arith)
+
+above_zero : (accepts : Accepts) (p : Pool) → IsLawful accepts p → (x : ℕ × Transaction) → Contains p.items x → 0 < x.0
+above_zero accepts p law x c = All-contains (λ i. 0 < i.0) p.items x (All-unmap (λ i. i.0) (λ k. 0 < k) p.items law.above_zero) c
 
 given : (accepts : Accepts) (p : Pool) → IsLawful accepts p → (x : ℕ × Transaction) → Contains p.items x → x.0 ≤ p.last
 given accepts p law x c = All-contains (λ i. i.0 ≤ p.last) p.items x (All-unmap (λ i. i.0) (λ k. k ≤ p.last) p.items law.given) c
@@ -62,9 +65,9 @@ module _ (accepts : Accepts) (callers : ℕ) (log : Log) (legal : IsLegalLog acc
       rising-joined cursor g (offered accepts (moved cursor g) os) (rises cursor o (All-head (λ f. Begins f.front log) o os are)) (all_rise (moved cursor g) os (All-tail (λ f. Begins f.front log) o os are))
 
   -- it still holds after one offer more
-  one_more : (seen : List (ℕ × Transaction)) (cursor : ℕ) (o : Offer) → Begins o.front log → IsWhole seen cursor (state_after accepts log)
-      → IsWhole (seen ++ offer_at accepts cursor o) (moved cursor (offer_at accepts cursor o)) (state_after accepts log)
-  one_more seen cursor o begins before x c le = by (nat_lt cursor x.0) refl
+  one_more : (start : ℕ) (seen : List (ℕ × Transaction)) (cursor : ℕ) (o : Offer) → Begins o.front log → IsWhole start seen cursor (state_after accepts log)
+      → IsWhole start (seen ++ offer_at accepts cursor o) (moved cursor (offer_at accepts cursor o)) (state_after accepts log)
+  one_more start seen cursor o begins before x c more le = by (nat_lt cursor x.0) refl
     where
       p : Pool
       p = state_after accepts o.front
@@ -86,24 +89,41 @@ module _ (accepts : Accepts) (callers : ℕ) (log : Log) (legal : IsLegalLog acc
       by true e =
           let above : cursor < x.0 = ltb-true cursor x.0 e in
           Contains-append_right seen g x (in_offer cursor 0 p.items g (rising-lawful accepts p law) (begins_after cursor o.count o.bytes p.items) x (then above) above le)
-      by false e = Contains-append_left seen g x (before x c (grind (arith, nat_tests)))
+      by false e = Contains-append_left seen g x (before x c more (grind (arith, nat_tests)))
 
-  whole : (seen : List (ℕ × Transaction)) (cursor : ℕ) (offers : List Offer) → All (λ o. Begins o.front log) offers → IsWhole seen cursor (state_after accepts log)
-      → IsWhole (seen ++ offered accepts cursor offers) (cursor_after accepts cursor offers) (state_after accepts log)
-  whole seen cursor [] are is = subst (λ l. IsWhole l cursor (state_after accepts log)) (sym (append-nil seen)) is
-  whole seen cursor (o ∷ os) are is =
+  whole : (start : ℕ) (seen : List (ℕ × Transaction)) (cursor : ℕ) (offers : List Offer) → All (λ o. Begins o.front log) offers → IsWhole start seen cursor (state_after accepts log)
+      → IsWhole start (seen ++ offered accepts cursor offers) (cursor_after accepts cursor offers) (state_after accepts log)
+  whole start seen cursor [] are is = subst (λ l. IsWhole start l cursor (state_after accepts log)) (sym (append-nil seen)) is
+  whole start seen cursor (o ∷ os) are is =
       let g : List (ℕ × Transaction) = offer_at accepts cursor o in
-      subst (λ l. IsWhole l (cursor_after accepts (moved cursor g) os) (state_after accepts log)) (append_assoc seen g (offered accepts (moved cursor g) os))
-      (whole (seen ++ g) (moved cursor g) os (All-tail (λ f. Begins f.front log) o os are) (one_more seen cursor o (All-head (λ f. Begins f.front log) o os are) is))
+      subst (λ l. IsWhole start l (cursor_after accepts (moved cursor g) os) (state_after accepts log)) (append_assoc seen g (offered accepts (moved cursor g) os))
+      (whole start (seen ++ g) (moved cursor g) os (All-tail (λ f. Begins f.front log) o os are) (one_more start seen cursor o (All-head (λ f. Begins f.front log) o os are) is))
+
+  -- all that is offered, as far as the cursor
+  offered_whole : (start : ℕ) (offers : List Offer) → All (λ o. Begins o.front log) offers → IsWhole start (offered accepts start offers) (cursor_after accepts start offers) (state_after accepts log)
+  offered_whole start offers are = whole start [] start offers are (none start (state_after accepts log))
 
   each_once : (offers : List Offer) → All (λ o. Begins o.front log) offers → IsEachOfferedOnce accepts offers log
   each_once offers are =
-      let all = whole [] 0 offers are (none accepts (state_after accepts log) (lawful-state accepts callers log legal)) in
+      let all = offered_whole 0 offers are in let items : List (ℕ × Transaction) = (state_after accepts log).items in
       record {
         rising = increasing 0 (offered accepts 0 offers) (all_rise 0 offers are);
         last = last_one accepts 0 offers;
-        whole = λ k d lt. all _ (Contains-get_or (state_after accepts log).items k d lt);
+        whole = λ k d lt. let c = Contains-get_or items k d lt in all _ c (above_zero accepts (state_after accepts log) (lawful-state accepts callers log legal) _ c);
+      }
+
+  each_after : (start : ℕ) (offers : List Offer) → All (λ o. Begins o.front log) offers → IsEachOfferedAfter accepts start offers log
+  each_after start offers are =
+      let seen : List (ℕ × Transaction) = offered accepts start offers in let rises = all_rise start offers are in
+      record {
+        above = λ k d lt. above_low start seen _ rises (Contains-get_or seen k d lt);
+        rising = increasing start seen rises;
+        last = last_one accepts start offers;
+        whole = λ k d lt. offered_whole start offers are _ (Contains-get_or (state_after accepts log).items k d lt);
       }
 
 pub offered_once : (accepts : Accepts) (callers : ℕ) (offers : List Offer) (log : Log) → IsLegalLog accepts callers log → All (λ o. Begins o.front log) offers → IsEachOfferedOnce accepts offers log
 offered_once accepts callers offers log legal are = each_once accepts callers log legal offers are
+
+pub offered_after : (accepts : Accepts) (callers start : ℕ) (offers : List Offer) (log : Log) → IsLegalLog accepts callers log → All (λ o. Begins o.front log) offers → IsEachOfferedAfter accepts start offers log
+offered_after accepts callers start offers log legal are = each_after accepts callers log legal start offers are

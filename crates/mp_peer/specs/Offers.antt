@@ -1,5 +1,5 @@
 -- What a peer is offered of a pool.
-use Rattle.std.specs.Prelude.{◌≡◌, ℕ, ◌≤◌, List, [], ◌∷◌, ◌++◌, length, All, Contains}
+use Rattle.std.specs.Prelude.{◌≡◌, ℕ, ◌<◌, ◌≤◌, List, [], ◌∷◌, ◌++◌, length, All, Contains}
 use Rattle.std.specs.List.Sorted.{IsStrictlyIncreasing}
 use mathlib.Core.List.{IsPrefix}
 use Rattle.mp_tx.specs.Transaction.{Transaction}
@@ -53,3 +53,13 @@ module _ (accepts : Accepts) where
     pub last : cursor_after 0 offers ≡ moved 0 (offered 0 offers)
     -- what stands in the pool with a ticket up to the cursor was offered
     pub whole : All (λ i. i.0 ≤ cursor_after 0 offers → Contains (offered 0 offers) i) (state_after accepts log).items
+
+  -- What a reader that begins after the ticket start has offered of the pool with this history.
+  pub record IsEachOfferedAfter (start : ℕ) (offers : List Offer) (log : Log) : Type 0 where
+    -- what is offered comes after start, and tickets rise from the first offer to the last
+    pub above : All (λ i. start < i.0) (offered start offers)
+    pub rising : IsStrictlyIncreasing (tickets (offered start offers))
+    -- the cursor is the last of them, or start
+    pub last : cursor_after start offers ≡ moved start (offered start offers)
+    -- what stands in the pool with a ticket above start and up to the cursor was offered
+    pub whole : All (λ i. start < i.0 → i.0 ≤ cursor_after start offers → Contains (offered start offers) i) (state_after accepts log).items

@@ -6,7 +6,7 @@ ghost use Rattle.mp_rules.specs.Verifier.{Accepts};
 ghost use Rattle.mp_tickets.specs.Tickets.{after};
 ghost use Rattle.mp_history.specs.Log.{Log, IsLegalLog, state_after};
 ghost use Rattle.mp_seqpool.specs.Reading.{within, offer};
-ghost use Rattle.mp_peer.specs.Offers.{Offer, IsLongestOffer, AreOffersOf, IsEachOfferedOnce};
+ghost use Rattle.mp_peer.specs.Offers.{Offer, IsLongestOffer, AreOffersOf, IsEachOfferedOnce, IsEachOfferedAfter};
 ghost use Rattle.mp_peer.specs.Blocks.{IsValidBlock};
 
 /// An offer is the longest beginning of what comes after the cursor that has no more items and no more bytes.
@@ -21,6 +21,13 @@ pub fn offers()
     ensures { (accepts : Accepts) (callers : ℕ) (offers : List Offer) (log : Log)
         → IsLegalLog accepts callers log → AreOffersOf log offers
         → IsEachOfferedOnce accepts offers log }
+{}
+
+/// The same of a reader that began after the ticket `start`, wherever that is: it offers what the pool holds above it, once.
+pub fn offers_after()
+    ensures { (accepts : Accepts) (callers start : ℕ) (offers : List Offer) (log : Log)
+        → IsLegalLog accepts callers log → AreOffersOf log offers
+        → IsEachOfferedAfter accepts start offers log }
 {}
 
 /// The transactions of a block are valid one after the other upon the ledger state that the pool has adopted.

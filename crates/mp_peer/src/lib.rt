@@ -7,5 +7,5 @@ mod laws;
 mod peer_reader;
 
 pub use block::{Block, forge};
-pub use laws::{blocks, longest_offer, offers};
+pub use laws::{blocks, longest_offer, offers, offers_after};
 pub use peer_reader::PeerReader;

@@ -11,8 +11,9 @@ use mp_versions::Snapshot;
 use std::marker::Model;
 
 /// Reads a pool for one peer: each offer has what comes after the last one, so that no transaction is offered twice under one
-/// ticket and none is left out that is still there (`offers`). It keeps a cursor, the ticket that was offered last. Any snapshots
-/// of one pool may be read, and with a reader of its own each peer goes at its own pace. Contracts see the cursor.
+/// ticket and none is left out that is still there (`offers`, and `offers_after` where it began after a ticket). It keeps a
+/// cursor, the ticket that was offered last. Any snapshots of one pool may be read, and with a reader of its own each peer goes
+/// at its own pace. Contracts see the cursor.
 #[derive(Drop)]
 pub struct PeerReader {
     cursor: u64,
@@ -44,7 +45,14 @@ impl PeerReader {
         PeerReader { cursor: 0 }
     }
 
-    /// The ticket that was offered last, or 0.
+    /// A reader that goes on where another one stood, as upon a successor of the pool: after this ticket.
+    pub const fn after(ticket: u64) -> PeerReader
+        ensures { result ≡ ticket }
+    {
+        PeerReader { cursor: ticket }
+    }
+
+    /// The ticket that was offered last, or the one that the reader began after: what `after` takes.
     pub fn cursor(&self) -> u64
         ensures { result ≡ self.now }
     {

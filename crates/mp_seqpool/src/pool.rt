@@ -262,6 +262,7 @@ impl SeqPool {
         ensures room { IfOk result (HasRoom self.new) }
     {
         self.overlay.reserve_for(tx)?;
+        self.items.reserve()?;
         append_step(self.memory, tx, resolved, self.last + 1)
     }
 
@@ -485,6 +486,7 @@ impl SeqPool {
         ensures err { OnErr result (self.new.pool ≡ self.old.pool) }
     {
         self.overlay.reserve_for(tx)?;
+        self.items.reserve()?;
         let applied = Arc::try_clone(tx)?;
         let item = ValidatedTx {
             tx: Arc::try_clone(tx)?,
@@ -775,7 +777,9 @@ impl SeqPool {
         }
     }
 
-    /// The transactions with greater tickets than this one, oldest first. To begin, it takes a step for each of them.
+    /// The transactions with greater tickets than this one, oldest first. To begin, it looks the ticket up. Where it stands
+    /// between those of the pool and no transaction has it, it takes at most a step for each ticket down to the next smaller
+    /// one in the pool, and no more than there are transactions with greater tickets.
     pub fn contents_after(&self, ticket: u64) -> Iter<'_, ValidatedTx>
         ensures all { ticketed result ≡ after self.now.pool.items ticket }
         ensures runs { ShowsInOrder (shown {T = resync.ValidatedTx}) }

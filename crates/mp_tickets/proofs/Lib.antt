@@ -7,6 +7,7 @@ pub mod Boxes
 pub mod Links
 pub mod Taken
 pub mod Pushed
+pub mod Moved
 pub mod Rising
 pub mod Seeks
 pub mod Follows

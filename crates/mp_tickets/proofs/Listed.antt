@@ -40,7 +40,7 @@ module _ {T : Type 0} where
   pub no_item : (ticket : ℕ) (cs : List (StoredNode T)) → HasNone ticket cs → (item_at (pairs cs) ticket ≡ None) × (without (pairs cs) ticket ≡ pairs cs)
   no_item ticket cs h = let none = none_pairs ticket cs h in (item_at-none ticket (pairs cs) none, without-none ticket (pairs cs) none)
 
-  module _ (cs : List (StoredNode T)) (rising : IsRising (pairs cs)) (ticket : ℕ) (f : Found) (found : IsFound ticket cs f) where
+  module _ (cs : List (StoredNode T)) (rising : IsRising (pairs cs)) (m ticket : ℕ) (f : Found) (found : IsFound m ticket cs f) where
     cut : pairs cs ≡ pairs found.0 ++ (found.1.value.ticket, found.1.value.item) ∷ pairs found.2
     cut = ap pairs found.3 ∙ pairs-append found.0 (found.1 ∷ found.2)
 

@@ -1,18 +1,16 @@
 //! The chains through the nodes: one forward and one back over all of them, and one back through each bucket.
-ghost use Rattle.std.specs.Prelude.{◌≡◌, ℕ, ◌<◌, ◌%◌, ◌++◌, ◌∷◌, [], length, IfOk, MatchOption};
+ghost use Rattle.std.specs.Prelude.{◌≡◌, ℕ, ◌<◌, ◌%◌, ◌++◌, ◌∷◌, [], IfOk, MatchOption};
 ghost use Rattle.mp_tickets.specs.Inside.Cell.{AtCell};
 ghost use Rattle.mp_tickets.specs.Tickets.{IsRising};
-ghost use Rattle.mp_tickets.specs.Inside.Chain.{IsChained};
+ghost use Rattle.mp_tickets.specs.Inside.Chain.{bucket_count, IsChained};
 ghost use Rattle.mp_tickets.specs.Inside.Found.{IsFound, IsFirstAfter, HasNone};
 ghost use Rattle.mp_tickets.specs.Inside.Relinks.{MayBeAt, SetsNext, SetsPrev, SetsBucketPrev};
-ghost use Rattle.mp_tickets.specs.Inside.Links.{buckets, pairs};
+ghost use Rattle.mp_tickets.specs.Inside.Links.{pairs};
 
 use crate::node::Link;
 use crate::node_store::{NodePtr, NodeStore};
 use crate::raw_box::RawBox;
 use mp_memory::{Memory, NoMemory};
-
-const BUCKETS: u64 = 1024;
 
 /// The nodes in the order of their tickets, and the ends of each chain.
 pub(crate) struct Chain<T> {
@@ -31,25 +29,27 @@ pub(crate) struct Found {
     pub(crate) bucket_next: Option<NodePtr>,
 }
 
-fn bucket_of(ticket: u64) -> usize
-    ensures { result ≡ ticket % buckets }
-{
-    (ticket % BUCKETS) as usize
-}
-
 impl<T> Chain<T> {
-    /// A chain of no node, with its buckets.
-    pub(crate) fn new(memory: Memory) -> Result<Chain<T>, NoMemory>
+    /// A chain of no node, with so many buckets.
+    pub(crate) fn new(memory: Memory, buckets: usize) -> Result<Chain<T>, NoMemory>
+        requires { 0 < buckets }
         ensures chained { IfOk result (λ c. IsChained c) }
         ensures empty { IfOk result (λ c. c.nodes.cells ≡ []) }
     {
-        let bucket_backs = Vec::from_elem(memory, None, BUCKETS as usize)?;
+        let bucket_backs = Vec::from_elem(memory, None, buckets)?;
         Ok(Chain {
             nodes: NodeStore::new(),
             front: None,
             back: None,
             bucket_backs,
         })
+    }
+
+    fn bucket_of(&self, ticket: u64) -> usize
+        requires { 0 < bucket_count self.now }
+        ensures { result ≡ ticket % bucket_count self.now }
+    {
+        (ticket % self.bucket_backs.len() as u64) as usize
     }
 
     // Makes `next` the one after the node at `at`, and where there is none, the first one.
@@ -77,7 +77,7 @@ impl<T> Chain<T> {
     // The same within a bucket: where there is no node, `bucket_prev` becomes the last one of the bucket.
     fn set_bucket_prev(&mut self, bucket: usize, at: Option<NodePtr>, bucket_prev: Option<NodePtr>)
         requires at { MayBeAt self.old.nodes.cells at }
-        requires within { (bucket < buckets) × (length self.old.bucket_backs.items ≡ buckets) }
+        requires within { bucket < bucket_count self.old }
         ensures { SetsBucketPrev self.old self.new bucket at bucket_prev }
     {
         match at {
@@ -95,7 +95,7 @@ impl<T> Chain<T> {
         ensures pairs { pairs self.new.nodes.cells
             ≡ pairs self.old.nodes.cells ++ (ticket, link.value.item) ∷ [] }
     {
-        let bucket = bucket_of(ticket);
+        let bucket = self.bucket_of(ticket);
         let back = self.back;
         link.ticket = ticket;
         link.prev = back;
@@ -112,10 +112,10 @@ impl<T> Chain<T> {
         requires { IsChained self.now }
         ensures { MatchOption result
             (HasNone ticket self.now.nodes.cells)
-            (IsFound ticket self.now.nodes.cells) }
+            (IsFound (bucket_count self.now) ticket self.now.nodes.cells) }
     {
         let mut bucket_next = None;
-        let mut at = self.bucket_backs[bucket_of(ticket)];
+        let mut at = self.bucket_backs[self.bucket_of(ticket)];
         while let Some(ptr) = at {
             let link = self.nodes.get(ptr);
             if link.ticket == ticket {
@@ -130,7 +130,8 @@ impl<T> Chain<T> {
     /// Takes the node out of each chain, and out of the store.
     pub(crate) fn take(&mut self, found: Found, memory: Memory) -> RawBox<Link<T>, Memory>
         requires chained { IsChained self.old }
-        requires found { (ticket : ℕ) × IsFound ticket self.old.nodes.cells found }
+        requires found { (ticket : ℕ)
+            × IsFound (bucket_count self.old) ticket self.old.nodes.cells found }
         ensures chained { IsChained self.new }
         ensures taken { AtCell self.old.nodes.cells found.ptr.at (λ xs c ys.
             (pairs self.new.nodes.cells ≡ pairs xs ++ pairs ys) × (result.value ≡ c.value)) }
@@ -142,18 +143,35 @@ impl<T> Chain<T> {
             bucket_prev,
             ..
         } = self.nodes.get(found.ptr);
+        let bucket = self.bucket_of(ticket);
         self.set_next(prev, next);
         self.set_prev(next, prev);
-        self.set_bucket_prev(bucket_of(ticket), found.bucket_next, bucket_prev);
+        self.set_bucket_prev(bucket, found.bucket_next, bucket_prev);
         self.nodes.remove(found.ptr, memory)
     }
 
-    /// The first node with a greater ticket. It goes from the back.
+    /// The first node with a greater ticket. It is the first of all, or behind that of the ticket itself, or `seek_after`
+    /// looks for it.
     pub(crate) fn first_after(&self, ticket: u64) -> Option<NodePtr>
         requires chained { IsChained self.now }
         requires rising { IsRising (pairs self.now.nodes.cells) }
         ensures { IsFirstAfter ticket self.now.nodes.cells result }
     {
+        let front = self.front?;
+        if ticket < self.nodes.get(front).ticket {
+            return Some(front);
+        }
+        self.seek_after(ticket)
+    }
+
+    // The same. It goes back from the last node, and down from the ticket to the next one that has a node, a step of each in turn,
+    // and stops where either does.
+    fn seek_after(&self, ticket: u64) -> Option<NodePtr>
+        requires chained { IsChained self.now }
+        requires rising { IsRising (pairs self.now.nodes.cells) }
+        ensures { IsFirstAfter ticket self.now.nodes.cells result }
+    {
+        let mut near = ticket;
         let mut after = None;
         let mut at = self.back;
         while let Some(ptr) = at {
@@ -161,10 +179,41 @@ impl<T> Chain<T> {
             if link.ticket <= ticket {
                 return after;
             }
+            if let Some(found) = self.find(near) {
+                return self.nodes.get(found.ptr).next;
+            }
+            near = near.saturating_sub(1);
             after = at;
             at = link.prev;
         }
         after
+    }
+
+    /// Takes each node out, and links it in as the last one of the other chain.
+    pub(crate) fn move_to(self, to: &mut Chain<T>, memory: Memory)
+    where
+        T: Drop,
+        requires chained { IsChained self }
+        requires to { IsChained to.old }
+        ensures chained { IsChained to.new }
+        ensures pairs { pairs to.new.nodes.cells
+            ≡ pairs to.old.nodes.cells ++ pairs self.nodes.cells }
+    {
+        let Chain {
+            mut nodes,
+            front,
+            back: _,
+            bucket_backs,
+        } = self;
+        drop(bucket_backs);
+        let mut at = front;
+        while let Some(ptr) = at {
+            let link = nodes.remove(ptr, memory).into_box();
+            let next = link.next;
+            to.push(link.ticket, link);
+            at = next;
+        }
+        nodes.end();
     }
 
     /// Drops each item and frees each node.

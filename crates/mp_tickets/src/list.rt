@@ -4,12 +4,17 @@ use crate::iter::Iter;
 use crate::node::Node;
 use mp_memory::{Memory, NoMemory};
 use std::marker::Model;
+use std::mem;
+
+// How many buckets a list has at first.
+const BUCKETS: usize = 1024;
 
 /// Items in the rising order of their tickets, which are above 0. A contract sees the list of tickets with their items.
 ///
 /// Each item lies in a node of its own, which links to the one before it, to the one after it, and to the last one before
-/// it in its bucket. There are 1,024 buckets: a ticket is in the one of its number modulo 1,024, and is looked for there
-/// alone. A new list and a new node take memory, and nothing else does. A node may come from another handle than the list.
+/// it in its bucket. A ticket is in the bucket of its number modulo how many buckets there are, and is looked for there alone.
+/// There are as many buckets as items, or more, where `reserve` went before each push, and never fewer than 1,024.
+/// A new list, a new node and `reserve` take memory, and nothing else does. A node may come from another handle than the list.
 pub struct TicketList<T> {
     chain: Chain<T>,
     memory: Memory,
@@ -35,15 +40,35 @@ impl<T> TicketList<T> {
     ghost use Rattle.std.specs.Map.Iter.{ShowsInOrder};
     ghost use Rattle.mp_tickets.specs.Tickets.{IsRising, item_at, without, after, shown};
 
-    /// A list of no item. It takes the memory of its buckets, and never takes more. An `Err` says that there was none.
+    /// A list of no item. It takes the memory of its first buckets. An `Err` says that there was none.
     pub fn new(memory: Memory) -> Result<TicketList<T>, NoMemory>
         ensures { IfOk result (λ list. list ≡ []) }
     {
         Ok(TicketList {
-            chain: Chain::new(memory)?,
+            chain: Chain::new(memory, BUCKETS)?,
             memory,
             len: 0,
         })
+    }
+
+    /// Doubles the buckets where there are no more of them than items, so that a ticket is still found at once after one
+    /// more push. The items keep their nodes, and nothing that a contract sees changes.
+    ///
+    /// # Errors
+    /// `NoMemory`. A push finds room without it.
+    pub fn reserve(&mut self) -> Result<(), NoMemory>
+    where
+        T: Drop,
+        ensures { self.new ≡ self.old }
+    {
+        let buckets = self.chain.bucket_backs.len();
+        if self.len < buckets {
+            return Ok(());
+        }
+        let larger = Chain::new(self.memory, buckets.saturating_mul(2))?;
+        let chain = mem::replace(&mut self.chain, larger);
+        chain.move_to(&mut self.chain, self.memory);
+        Ok(())
     }
 
     /// Puts the node's item in at the back, under a ticket that is greater than 0 and than each that is there.
@@ -112,8 +137,9 @@ impl<T> TicketList<T> {
         }
     }
 
-    /// Those with a ticket greater than this one, which need not be in the list, in order. To begin, it goes back to the
-    /// first of them from the last, a step for each.
+    /// Those with a ticket greater than this one, in order. Where the ticket is in the list, or below the first, or not below
+    /// the last, it looks at one bucket at most. Else it takes at most as many steps as there are tickets between it and the
+    /// next smaller one in the list, and no more than there are items with a greater ticket.
     pub fn iter_after(&self, ticket: u64) -> Iter<'_, T>
         ensures all { result ≡ after self.now ticket }
         ensures runs { ShowsInOrder (shown {T = T}) }

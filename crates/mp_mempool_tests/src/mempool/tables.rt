@@ -2,7 +2,9 @@
 use crate::mempool::calls::Call;
 use crate::mempool::heard::Heard;
 use crate::mempool::pools::{LONG, Line, play};
-use mp_pool_samples::samples::{ALL, CHAINED, PART, REMOVE_SECOND, RIVAL, SUBMITS, Samples};
+use mp_pool_samples::samples::{
+    ALL, CHAINED, NOTHING, PART, REMOVE_SECOND, RIVAL, SUBMITS, Samples,
+};
 use mp_pool_samples::told::Told;
 use mp_seqpool::Command;
 use mp_testing::{Seen, count};
@@ -65,6 +67,27 @@ const DROPPED: [Line; 6] = [
     (0, Call::Ask(PART), Heard::Entered(4, Told::Synced(3, 0))),
 ];
 
+// A remove of nothing is a change like any other, also of an empty pool.
+const NOTHING_REMOVED: [Line; 5] = [
+    (
+        0,
+        Call::Ask(NOTHING),
+        Heard::Entered(0, Told::Removed(0, 0)),
+    ),
+    (
+        1,
+        Call::Ask(NOTHING),
+        Heard::Entered(1, Told::Removed(0, 0)),
+    ),
+    (0, Call::Ask(1), Heard::Entered(2, Told::Accepted(1))),
+    (
+        1,
+        Call::Ask(NOTHING),
+        Heard::Entered(3, Told::Removed(0, 0)),
+    ),
+    (1, Call::Seen, Heard::Sees(4, 1, 1)),
+];
+
 /// How many owners the transactions have that are submitted, all together.
 pub fn count_owners(commands: &[Command]) -> u64 {
     let mut owners: usize = 0;
@@ -97,8 +120,15 @@ pub fn held_tables(rt: &(impl Print + Wait), samples: &Samples) -> io::Result<u6
     let answers = count(rt, "places and refusals", Some(played), [0; 6])?;
     let played = play(rt, samples, 4, LONG, &SIGHT).seen();
     let sight = count(rt, "a change is seen by all", Some(played), [0; 6])?;
+    let played = play(rt, samples, 2, LONG, &NOTHING_REMOVED).seen();
+    let nothing = count(rt, "a remove of nothing", Some(played), [0; 6])?;
     let owned = SUBMITS as u64;
     let seen = see_dropped(rt, samples);
     let dropped = count(rt, "a dropped pool", Some(seen), [owned, owned, 1, 0, 0, 0])?;
-    Ok(answers.wrapping_add(sight).wrapping_add(dropped))
+    Ok(
+        answers
+            .wrapping_add(sight)
+            .wrapping_add(nothing)
+            .wrapping_add(dropped),
+    )
 }

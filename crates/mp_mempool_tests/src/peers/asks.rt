@@ -17,6 +17,8 @@ pub enum Ask {
     Change(usize),
     /// Another peer comes, which has been offered nothing.
     NewPeer,
+    /// Another peer comes, which goes on after the ticket.
+    PeerAfter(u64),
     /// At most so many items, and at most so many bytes.
     Offer(u64, u64),
     /// At most so many bytes.
@@ -39,8 +41,8 @@ fn change<N: PoolName>(
     }
 }
 
-fn renew(reader: &mut PeerReader) -> Seen {
-    *reader = PeerReader::new();
+fn renew(reader: &mut PeerReader, with: PeerReader) -> Seen {
+    *reader = with;
     [reader.cursor(), 0, 0, 0, 0, 0]
 }
 
@@ -55,7 +57,8 @@ pub fn make<N: PoolName>(
 ) -> Option<Seen> {
     match asked {
         Ask::Change(number) => change(rt, mempool, pass, samples, number),
-        Ask::NewPeer => Some(renew(reader)),
+        Ask::NewPeer => Some(renew(reader, PeerReader::new())),
+        Ask::PeerAfter(ticket) => Some(renew(reader, PeerReader::after(ticket))),
         Ask::Offer(count, bytes) => {
             let snapshot = mempool.reader().snapshot(pass);
             see_offer(samples, reader, &snapshot, count, bytes)

@@ -8,7 +8,7 @@ use mp_testing::Seen;
 pub type Row = (&'static str, Ask, Seen);
 
 /// Each transaction has 181 bytes, so two have 362, and three have 543.
-pub static ROWS: [Row; 41] = [
+pub static ROWS: [Row; 45] = [
     ("an empty pool", Ask::Offer(9, 1_000), [0; 6]),
     ("an empty block", Ask::Forge(1_000), [0; 6]),
     ("a comes", Ask::Change(0), [0; 6]),
@@ -117,5 +117,25 @@ pub static ROWS: [Row; 41] = [
         "the peer goes on",
         Ask::Offer(u64::MAX, u64::MAX),
         [9, 6, 1, 9, 0, 0],
+    ),
+    (
+        "a peer goes on after ticket 6, which is gone",
+        Ask::PeerAfter(6),
+        [6, 0, 0, 0, 0, 0],
+    ),
+    (
+        "what comes after it",
+        Ask::Offer(9, u64::MAX),
+        [789, 456, 3, 9, 0, 0],
+    ),
+    (
+        "a peer goes on after the last",
+        Ask::PeerAfter(9),
+        [9, 0, 0, 0, 0, 0],
+    ),
+    (
+        "nothing comes after that",
+        Ask::Offer(9, u64::MAX),
+        [0, 0, 0, 9, 0, 0],
     ),
 ];

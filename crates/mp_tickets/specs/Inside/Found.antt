@@ -1,17 +1,17 @@
 -- What a search for a ticket comes to.
 use Rattle.std.specs.Prelude.{◌≡◌, ℕ, ◌%◌, List, [], ◌∷◌, ◌++◌, Option, None}
 use Rattle.mp_tickets.specs.Tickets.{after}
-use Rattle.mp_tickets.specs.Inside.Links.{StoredNode, first_of, buckets, pairs, nexts, bucket_prevs}
+use Rattle.mp_tickets.specs.Inside.Links.{StoredNode, first_of, pairs, nexts, bucket_prevs}
 use Rattle.mp_tickets.specs.declared.node_store.NodePtr.{NodePtr}
 use Rattle.mp_tickets.specs.declared.chain.Found.{Found}
 
 module _ {T : Type 0} where
-  -- a node of the ticket lies there, and after it in its bucket comes that one
-  abbrev pub IsFound : ℕ → List (StoredNode T) → Found → Type 0
-  IsFound ticket cs f =
+  -- a node of the ticket lies there, and after it in its bucket, one of m, comes that one
+  abbrev pub IsFound : ℕ → ℕ → List (StoredNode T) → Found → Type 0
+  IsFound m ticket cs f =
       (xs : List (StoredNode T)) × (c : StoredNode T) × (ys : List (StoredNode T))
       × (cs ≡ xs ++ c ∷ ys) × (c.at ≡ f.ptr.at) × (c.value.ticket ≡ ticket)
-      × (f.bucket_next ≡ first_of (bucket_prevs (ticket % buckets) ys) None)
+      × (f.bucket_next ≡ first_of (bucket_prevs m (ticket % m) ys) None)
 
   -- no node has the ticket
   abbrev pub HasNone : ℕ → List (StoredNode T) → Type 0

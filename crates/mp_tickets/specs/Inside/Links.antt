@@ -28,10 +28,6 @@ abbrev pub Back : Option NodePtr → List Step → Type 0
 Back p [] = Unit {0}
 Back p (s ∷ ss) = (s.1 ≡ p) × Back (Some s.0) ss
 
--- how many buckets there are
-abbrev pub buckets : ℕ
-buckets = 1024
-
 -- a node in the store
 abbrev pub StoredNode : Type 0 → Type 0
 StoredNode T = Cell (Link T)
@@ -50,9 +46,9 @@ module _ {T : Type 0} where
   abbrev pub prevs : List (StoredNode T) → List Step
   prevs = map (λ c. (ptr_of c, c.value.prev))
 
-  -- the links of the bucket k
-  abbrev pub bucket_prevs : ℕ → List (StoredNode T) → List Step
-  bucket_prevs k [] = []
-  bucket_prevs k (c ∷ cs) =
-      cond (c.value.ticket % buckets == k) ((ptr_of c, c.value.bucket_prev) ∷ bucket_prevs k cs)
-      (bucket_prevs k cs)
+  -- the links of the bucket k of m
+  abbrev pub bucket_prevs : ℕ → ℕ → List (StoredNode T) → List Step
+  bucket_prevs m k [] = []
+  bucket_prevs m k (c ∷ cs) =
+      cond (c.value.ticket % m == k) ((ptr_of c, c.value.bucket_prev) ∷ bucket_prevs m k cs)
+      (bucket_prevs m k cs)
