@@ -1,115 +1,106 @@
 #!/usr/bin/env python3
-"""A conversation with a pool, as a program around it might hold one, and what that program sees.
+"""A node that keeps transactions in a pool: the events of docs/SERVE.md, one after the other.
 
-    clients/python/example.py PROGRAM | diff clients/python/example.out -
+    python3 clients/python/example.py PROGRAM | diff clients/python/example.out -
 """
 
+from __future__ import annotations
+
+import hashlib
 import sys
+from collections.abc import Iterable
 
 sys.dont_write_bytecode = True
-from keltuvar import BadLine, Item, Pool, Refused
+from keltuvar import Item, Pool, Refused, Undecodable
+
+# The script that always accepts, and the datum without content.
+VALIDATOR, DATUM = b"\x01", b"\x03\x00\x00"
+ADDRESS, DATUM_HASH = hashlib.sha256(VALIDATOR).digest(), hashlib.sha256(DATUM).digest()
+ALICE, BOB = "aa" * 32, "bb" * 32
 
 
-def tell_items(items: list[Item]) -> str:
-    """Gives the names with their tickets."""
-    return ", ".join(f"{name} under {ticket}" for ticket, name in items) or "nothing"
+def output_bytes(coin: int) -> bytes:
+    """Returns the bytes of an output of so much coin."""
+    return ADDRESS + DATUM_HASH + b"\x00\x01" + bytes(33) + coin.to_bytes(8, "big")
 
 
-def tell_refusal(what: str, refused: Refused) -> None:
-    print(f"{what}: refused as {refused.name}", *refused.words)
+def transaction_bytes(spent_id: str, spent_index: int, *coins: int) -> bytes:
+    """Returns the bytes of a transaction that spends an output and pays others, as a wallet does."""
+    spent = bytes.fromhex(spent_id) + spent_index.to_bytes(2, "big")
+    unlock = b"\x00\x01" + VALIDATOR + (b"\x00\x03" + DATUM) * 2
+    outputs = len(coins).to_bytes(2, "big") + b"".join(output_bytes(coin) for coin in coins)
+    always = bytes(8) + b"\xff" * 8
+    return b"\x01\x00\x01" + spent + unlock + outputs + always + bytes(6)
 
 
-def declare(pool: Pool) -> None:
-    """Declares two outputs, and two transactions of which one spends what the other pays."""
-    pool.declare("block", 300)
-    pool.declare("out", "alice", 100)
-    pool.declare("out", "bob", 50)
-    pool.declare("tx", "pay", "in=alice", "out=100")
-    pool.declare("tx", "spend", "in=pay.0", "out=60", "out=40")
+def names(items: Iterable[Item]) -> str:
+    return ", ".join(f"{item.name} under ticket {item.ticket}" for item in items) or "nothing"
 
 
-def hear_bytes(pool: Pool) -> None:
-    """Has the bytes of a transaction come, as from a peer, under another name."""
-    shown = pool.show("pay")
-    print(f"pay has {shown.size} bytes, and they begin with {shown.octets[0]}")
-    heard = pool.bytes("heard", shown.octets)
-    print(f"heard has {heard.size} bytes, and the id of pay: {heard.id == shown.id}")
+def submit(pool: Pool, name: str) -> None:
     try:
-        pool.bytes("cut", shown.octets[:-1])
+        print(f"{name}: accepted under ticket {pool.submit(name)}")
     except Refused as refused:
-        tell_refusal("cut", refused)
+        print(f"{name}: refused as {refused}")
 
 
-def submit(pool: Pool) -> None:
-    """Checks and submits, and is refused what the pool has and what it can't have."""
-    print(f"check heard: it would be taken in under {pool.check('heard')}")
-    print(f"the pool holds {pool.stats().transactions} transactions")
-    print(f"submit heard: {pool.submit('heard')}")
-    for name in ("pay", "spend"):
-        try:
-            print(f"submit {name}: {pool.submit(name)}")
-        except Refused as refused:
-            tell_refusal(f"submit {name}", refused)
+def receive(pool: Pool, name: str, data: bytes) -> None:
+    """A transaction comes from a peer or a wallet."""
     try:
-        pool.submit("nobody")
-    except BadLine as bad:
-        print(f"submit nobody: line {bad.number} is bad")
+        print(f"{name}: {pool.tx_from_bytes(name, data).size} bytes")
+    except Undecodable as undecodable:
+        print(f"{name}: {undecodable}")
+        return
+    submit(pool, name)
 
 
-def offer_and_forge(pool: Pool) -> None:
-    """Offers what there is to a peer, and forges a block, after which the ledger state is another."""
-    print(f"the pool holds {tell_items(pool.snapshot().items)}")
-    print(f"offered: {tell_items(pool.offer(9, 400))}")
-    print(f"offered then: {tell_items(pool.offer(9, 400))}")
+def run_node(pool: Pool) -> None:
+    # The node starts, with the unspent outputs of its ledger state.
+    pool.settings(block=300, tick=1)
+    pool.utxo(ALICE, 0, output_bytes(100))
+    pool.utxo(BOB, 0, output_bytes(50))
+
+    # Transactions come.
+    pay = transaction_bytes(ALICE, 0, 100)
+    pay_id = hashlib.sha256(pay[:-2]).hexdigest()
+    receive(pool, "spend", transaction_bytes(pay_id, 0, 60, 40))
+    receive(pool, "cut", pay[:-1])
+    receive(pool, "pay", pay)
+    submit(pool, "spend")
+    submit(pool, "pay")
+    receive(pool, "save", transaction_bytes(BOB, 0, 50))
+    print(f"the pool holds {names(pool.snapshot().items)}")
+
+    # A peer asks for transactions.
+    offered = pool.offer(9, 400)
+    print(f"offered: {names(offered)}, {len(pool.show(offered[0].name).data)} bytes")
+    print(f"offered then: {names(pool.offer(9, 400))}")
+
+    # A block is forged, and adopted.
     block = pool.forge(300)
-    print(f"a block of {block.size} bytes: {tell_items(block.items)}")
-    kept, dropped = pool.sync(1, ["pay.0", "bob"])
-    print(f"upon the ledger after it {kept} are kept and {dropped} dropped")
+    print(f"a block of {block.size} bytes: {names(block.items)}")
+    change = pool.adopt(2, [item.name for item in block.items])
+    print(f"adopted: tickets {change.kept} stay, {change.dropped} go")
+    pool.forget(*(item.name for item in block.items))
+    submit(pool, "save")
+
+    # The chain is rolled back, and the block's transaction comes again.
+    change = pool.back(1)
+    print(f"rolled back: tickets {change.kept} stay, {change.dropped} go")
+    receive(pool, "again", pay)
     stats = pool.stats()
-    print(f"{stats.transactions} transaction of {stats.size} bytes, {stats.free} bytes are free, {stats.changes} changes")
-
-
-def adopt_and_go_back(pool: Pool) -> None:
-    """Adopts a block of a transaction that the pool holds, goes back before it, and lets a name go."""
-    kept, dropped = pool.adopt(2, ["spend"])
-    print(f"after a block of spend {kept} are kept and {dropped} dropped")
-    kept, dropped = pool.back(1)
-    print(f"before it {kept} are kept; spend is taken in again under {pool.submit('spend')}")
-    print(f"names that went: {pool.forget('heard', 'spend')}")
-
-
-def send_ahead(pool: Pool) -> None:
-    """Sends lines before it reads their answers."""
-    lines = ["snapshot", "lookup 1", "submit pay", "remove spend", "has spend"]
-    for line, answer in zip(lines, pool.send(lines)):
-        print(f"{line}: {answer}")
-
-
-def sign_badly(path: str) -> None:
-    """Submits a transaction with a signature that isn't good, to a pool that looks at it, and to one whose host says that it did."""
-    for verified in (False, True):
-        with Pool(path, verified) as pool:
-            pool.declare("out", "carol", 100)
-            pool.declare("tx", "forged", "in=carol", "out=100", "badsign=7")
-            try:
-                print(f"submit forged: {pool.submit('forged')}")
-            except Refused as refused:
-                tell_refusal("submit forged", refused)
+    print(f"{stats.count} transactions, {stats.size} bytes, {stats.free} free, {stats.changes} changes")
+    print(f"refusals: {dict(stats.refusals)}")
 
 
 def main() -> int:
     if len(sys.argv) != 2:
         print(__doc__, file=sys.stderr)
         return 2
-    with Pool(sys.argv[1]) as pool:
-        declare(pool)
-        hear_bytes(pool)
-        submit(pool)
-        offer_and_forge(pool)
-        adopt_and_go_back(pool)
-        send_ahead(pool)
+    # A node that verifies signatures itself starts it with `signatures="checked"`.
+    with Pool(sys.argv[1], timeout=60) as pool:
+        run_node(pool)
     print(f"the program has ended with status {pool.status}")
-    sign_badly(sys.argv[1])
     return pool.status or 0
 
 

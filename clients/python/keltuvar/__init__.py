@@ -1,0 +1,63 @@
+"""A client of `keltuvar serve`: a transaction pool as a child process.
+
+    with keltuvar.Pool("crates/mp_main/out/mp_main", timeout=10) as pool:
+        pool.out("g0", 100)
+        pool.tx("a", inputs=["g0"], outputs=[100])
+        print(pool.submit("a"))
+
+docs/SERVE.md has the conversation, and docs/FORMATS.md the lines and their answers.
+"""
+
+from .answers import error_in
+from .channel import Stream
+from .errors import (
+    BadLine,
+    Broken,
+    Closed,
+    KeltuvarError,
+    OutOfMemory,
+    Refused,
+    Timeout,
+    Undecodable,
+)
+from .pool import Pool
+from .values import (
+    Block,
+    Bundle,
+    Declared,
+    Input,
+    Item,
+    LedgerChange,
+    Output,
+    Removed,
+    Shown,
+    Snapshot,
+    Stats,
+)
+
+__version__ = "0.1.0"
+
+__all__ = [
+    "BadLine",
+    "Block",
+    "Broken",
+    "Bundle",
+    "Closed",
+    "Declared",
+    "Input",
+    "Item",
+    "KeltuvarError",
+    "LedgerChange",
+    "OutOfMemory",
+    "Output",
+    "Pool",
+    "Refused",
+    "Removed",
+    "Shown",
+    "Snapshot",
+    "Stats",
+    "Stream",
+    "Timeout",
+    "Undecodable",
+    "error_in",
+]

@@ -1,0 +1,155 @@
+"""Lines out and answers in, over two streams, until a moment at which a call gives up."""
+
+from __future__ import annotations
+
+import contextlib
+import math
+import os
+import select
+import time
+from typing import Protocol
+
+_CHUNK = 1 << 16
+# A wait looks so often, in seconds, whether another thread wants it to end.
+_LONGEST_WAIT = 0.5
+# So many bytes of what the program wrote to standard error are kept.
+_ERROR_BYTES = 4096
+
+
+class Stream(Protocol):
+    """A pipe, a socket or a file of one."""
+
+    def fileno(self) -> int:
+        """Returns its file descriptor."""
+        ...
+
+    def close(self) -> object:
+        """Closes it."""
+        ...
+
+
+class Ended(Exception):
+    """The program reads no more lines, or writes no more answers."""
+
+
+class OutOfTime(Exception):
+    """The moment has come, and answers are missing."""
+
+
+class Cancelled(Exception):
+    """Another thread wants the wait to end."""
+
+
+class Unasked(Exception):
+    """The program wrote something before it was asked."""
+
+
+class Channel:
+    """Two streams, which become non-blocking, and a third one for what is said of errors."""
+
+    def __init__(self, answers: Stream, lines: Stream, errors: Stream | None = None) -> None:
+        self._streams = [answers, lines] if errors is None else [answers, lines, errors]
+        self._lines = lines
+        self._answers_fd, self._lines_fd = answers.fileno(), lines.fileno()
+        self._errors_fd = None if errors is None else errors.fileno()
+        self._unfinished: list[bytes] = []
+        self._error_end = b""
+        self._cancelled = False
+        for stream in self._streams:
+            os.set_blocking(stream.fileno(), False)
+
+    def exchange(self, lines: bytes, count: int, until: float) -> list[str]:
+        """Writes the lines, and returns so many answers without their line feeds."""
+        if self._receive() or self._unfinished:
+            raise Unasked
+        unsent = memoryview(lines)
+        answers: list[bytes] = []
+        while True:
+            unsent = unsent[self._send(unsent) :]
+            if len(answers) < count or unsent:
+                self._wait(bool(unsent), until)
+                answers += self._receive()
+            if len(answers) > count or (len(answers) == count and (unsent or self._unfinished)):
+                raise Unasked
+            if len(answers) == count:
+                return [answer.decode("ascii", "backslashreplace") for answer in answers]
+
+    def cancel(self) -> None:
+        """Makes the waits of other threads end within half a second, now and later."""
+        self._cancelled = True
+
+    def end_lines(self) -> None:
+        """Tells the program that there are no further lines."""
+        with contextlib.suppress(OSError):
+            self._lines.close()
+
+    def close(self) -> None:
+        """Closes the streams. What still waits for one of them ends, and reads no other file."""
+        self._cancelled = True
+        self._answers_fd = self._lines_fd = -1
+        self._errors_fd = None
+        for stream in self._streams:
+            with contextlib.suppress(OSError):
+                stream.close()
+
+    def error_text(self) -> str:
+        """Returns the end of what has come of errors."""
+        self._drain_errors()
+        return self._error_end.decode("utf-8", "backslashreplace")
+
+    def _send(self, unsent: memoryview) -> int:
+        """Writes what there is room for, and returns how much that was."""
+        try:
+            return os.write(self._lines_fd, unsent) if unsent else 0
+        except BlockingIOError:
+            return 0
+        except OSError as error:
+            raise Ended from error
+
+    def _receive(self) -> list[bytes]:
+        """Reads what has come, and returns the lines that are whole."""
+        try:
+            chunk = os.read(self._answers_fd, _CHUNK)
+        except BlockingIOError:
+            return []
+        except OSError as error:
+            raise Ended from error
+        if not chunk:
+            raise Ended
+        first, *others = chunk.split(b"\n")
+        self._unfinished.append(first)
+        if not others:
+            return []
+        whole = [b"".join(self._unfinished), *others[:-1]]
+        self._unfinished = [others[-1]] if others[-1] else []
+        return whole
+
+    def _wait(self, sending: bool, until: float) -> None:
+        """Waits until something can be read, or written where there is something to send."""
+        left = until - time.monotonic()
+        if self._cancelled:
+            raise Cancelled
+        if left <= 0:
+            raise OutOfTime
+        events = {self._answers_fd: select.POLLIN}
+        if sending:
+            events[self._lines_fd] = events.get(self._lines_fd, 0) | select.POLLOUT
+        if self._errors_fd is not None:
+            events[self._errors_fd] = select.POLLIN
+        poll = select.poll()
+        for descriptor, mask in events.items():
+            poll.register(descriptor, mask)
+        ready = poll.poll(math.ceil(min(left, _LONGEST_WAIT) * 1000))
+        if any(descriptor == self._errors_fd for descriptor, _ in ready):
+            self._drain_errors()
+
+    def _drain_errors(self) -> None:
+        """Keeps the end of what has come of errors."""
+        try:
+            while self._errors_fd is not None:
+                chunk = os.read(self._errors_fd, _CHUNK)
+                self._error_end = (self._error_end + chunk)[-_ERROR_BYTES:]
+                if not chunk:
+                    self._errors_fd = None
+        except OSError:
+            return
