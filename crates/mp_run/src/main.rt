@@ -1,26 +1,59 @@
 //! The program of a plain `./keltuvar run`: it runs the scenario of standard input, and writes the answers to standard output. It
-//! stands on less than the whole program, so that a first answer comes sooner. It ends with status 0, and with 1 at a fault.
+//! stands on less than the whole program, so that a first answer comes sooner. It ends with status 0, with 1 at a fault, and with 2 where
+//! it is given an argument.
 #![tactic(auto)]
 
-ghost use Rattle.std.specs.Prelude.{◌≡◌, IfErr, IfOk};
+ghost use Rattle.std.specs.Prelude.{◌≡◌, ◌≢◌, IfSome};
 ghost use Rattle.std.specs.Process.{exit_status};
+ghost use Rattle.std.specs.IoError.{error_kind};
+ghost use Rattle.std.specs.declared.io.ErrorKind.TheVariants as kinds;
+ghost use Rattle.mp_run.specs.Status.{status_of, EndsAs};
 
 use mp_driver::{Fault, run};
 use mp_memory::Memory;
+use std::io::{Read, Write};
 use std::process::ExitCode;
+use std::{env, io};
+
+const REFUSED: u8 = 2;
 
 fn main(rt: HostRuntime) -> ExitCode {
-    let ended = match Memory::new(rt.alloc()) {
-        Ok(memory) => run(memory, &mut rt.stdin(), &mut rt.stdout()),
-        Err(_) => Err(Fault::NoMemory),
-    };
-    end(&rt, ended)
+    match count_words(&rt) {
+        Ok(0 | 1) => run_input(&rt),
+        Ok(_) => end_refused(&rt),
+        Err(error) => end_unworded(&rt, error),
+    }
 }
 
-/// After the answers: 0, or 1 and the fault's line.
+// How many words the command line has, the program's name among them.
+fn count_words(rt: &HostRuntime) -> io::Result<usize> {
+    Ok(env::args(rt)?.count())
+}
+
+// Runs the scenario of standard input.
+fn run_input(rt: &HostRuntime) -> ExitCode {
+    match Memory::new(rt.alloc()) {
+        Ok(memory) => run_over(rt, memory, &mut rt.stdin(), &mut rt.stdout()),
+        Err(_) => end(rt, Err(Fault::NoMemory)),
+    }
+}
+
+// Runs the scenario that the reader gives, and writes the answers to the writer.
+fn run_over<R: Read, W: Write>(
+    rt: &HostRuntime,
+    memory: Memory,
+    reader: &mut R,
+    writer: &mut W,
+) -> ExitCode
+    ensures { IfSome (R.remaining reader.old) (λ bytes. EndsAs bytes
+        (W.contents writer.old) (W.contents writer.new) (exit_status result)) }
+{
+    end(rt, run(memory, reader, writer))
+}
+
+// After the answers: 0, or 1 and the fault's line.
 fn end(rt: &HostRuntime, ended: Result<(), Fault>) -> ExitCode
-    ensures done { IfOk ended (λ _. exit_status result ≡ 0) }
-    ensures fault { IfErr ended (λ _. exit_status result ≡ 1) }
+    ensures { exit_status result ≡ status_of ended }
 {
     match ended {
         Ok(()) => ExitCode::SUCCESS,
@@ -28,5 +61,25 @@ fn end(rt: &HostRuntime, ended: Result<(), Fault>) -> ExitCode
             let _ = rt.eprintln(fault);
             ExitCode::FAILURE
         }
+    }
+}
+
+// Where there is an argument: 2.
+fn end_refused(rt: &HostRuntime) -> ExitCode
+    ensures { exit_status result ≡ 2 }
+{
+    let _ = rt.eprintln("mp_run: it takes no arguments: the scenario is on standard input");
+    ExitCode::from(REFUSED)
+}
+
+// Where the command line can't be read: 2, or 1 where there is no memory for it.
+fn end_unworded(rt: &HostRuntime, error: io::Error) -> ExitCode
+    ensures refused { error_kind error ≢ kinds.OutOfMemory → exit_status result ≡ 2 }
+    ensures memory { error_kind error ≡ kinds.OutOfMemory → exit_status result ≡ 1 }
+{
+    let _ = rt.eprintln(format_args!("mp_run: the command line can't be read: {error}"));
+    match error.kind() {
+        io::ErrorKind::OutOfMemory => ExitCode::FAILURE,
+        _ => ExitCode::from(REFUSED),
     }
 }
