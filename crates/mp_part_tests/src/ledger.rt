@@ -156,7 +156,17 @@ pub fn blocks(memory: Memory) -> [Row; 5] {
             [7, 2, 0, 4],
             7,
         ),
-        Row::tried("a layer undone", tried_way_back(memory, 9), [6, 1, 3, 4], 18),
-        Row::tried("a table undone", tried_way_back(memory, 7), [6, 1, 3, 4], 22),
+        Row::tried(
+            "a layer undone",
+            tried_way_back(memory, 9),
+            [6, 1, 3, 4],
+            20,
+        ),
+        Row::tried(
+            "a table undone",
+            tried_way_back(memory, 7),
+            [6, 1, 3, 4],
+            24,
+        ),
     ]
 }

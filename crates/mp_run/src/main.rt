@@ -3,7 +3,7 @@
 //! it is given an argument.
 #![tactic(auto)]
 
-ghost use Rattle.std.specs.Prelude.{◌≡◌, ◌≢◌, IfSome};
+ghost use Rattle.std.specs.Prelude.{◌≡◌, ◌≢◌, ◌<◌, IfSome};
 ghost use Rattle.std.specs.Process.{exit_status};
 ghost use Rattle.std.specs.IoError.{error_kind};
 ghost use Rattle.std.specs.declared.io.ErrorKind.TheVariants as kinds;
@@ -19,10 +19,19 @@ const REFUSED: u8 = 2;
 
 fn main(rt: HostRuntime) -> ExitCode {
     match count_words(&rt) {
-        Ok(0 | 1) => run_input(&rt),
-        Ok(_) => end_refused(&rt),
+        Ok(words) => run_unless_asked(&rt, words),
         Err(error) => end_unworded(&rt, error),
     }
+}
+
+// Runs the scenario of standard input, unless there are words behind the program's name.
+fn run_unless_asked(rt: &HostRuntime, words: usize) -> ExitCode
+    ensures { 1 < words → exit_status result ≡ 2 }
+{
+    if words > 1 {
+        return end_refused(rt);
+    }
+    run_input(rt)
 }
 
 // How many words the command line has, the program's name among them.
