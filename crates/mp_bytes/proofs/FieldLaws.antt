@@ -1,4 +1,4 @@
--- A field that is read is the field that was written, and what was written is read again.
+-- A field that is read is the one that was written, and a field that was written is read again.
 use Rattle.std.proofs.Common.{◌≡◌, ℕ, ◌^◌, ◌<◌, ◌≤◌, ltb, false, List, ◌++◌, length, take, drop, Option, Some, None, refl, sym, ap, subst, ◌∙◌, arith}
 use Rattle.std.specs.Prelude.{ℤ}
 use Rattle.std.specs.Option.{option_and_then}
@@ -128,7 +128,7 @@ unsigned_is text rest n len e =
 pub unsigned_again : (n : ℕ) (rest : List ℕ) → n < 2 ^ 64 → unsigned_at (to_be_bytes w64 n ++ rest) ≡ Some (n, rest)
 unsigned_again n rest lt = unsigned_is (to_be_bytes w64 n) rest n refl (from_be_bytes-to_be_bytes_8 n lt)
 
--- the front of bytes, and what follows it, are bytes
+-- a prefix of bytes, and what follows it, are bytes
 pub IsBytes-front : (front rest : List ℕ) → IsBytes (front ++ rest) → IsBytes front
 IsBytes-front front rest fits = subst IsBytes (take_at front rest (length front) refl) (IsBytes-take (length front) (front ++ rest) fits)
 

@@ -1,4 +1,4 @@
--- Digests of bytes that are met again and again.
+-- Digests of bytes that occur again and again.
 use Rattle.std.proofs.Common.{◌≡◌, [], ◌∷◌, refl}
 use Rattle.sha2.specs.Sha256.{sha256, digest_bytes, hash_after, compress, rounds, schedule, first_words}
 

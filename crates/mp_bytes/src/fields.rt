@@ -1,10 +1,12 @@
-//! Fields at the front of bytes, each with the bytes after it. Numbers are big-endian.
+//! Fields at the front of bytes. Each function returns the field and the bytes after it, or `None` if there are too few
+//! bytes.
+//! Numbers are big-endian.
 
 ghost use Rattle.std.specs.Prelude.{◌≡◌, ◌<◌, ◌^◌, IfSome};
 ghost use Rattle.std.specs.Option.{option_map};
 ghost use Rattle.mp_bytes.specs.Fields.{number_at, unsigned_at, count_at, run_at, sized_at};
 
-/// A number of eight bytes, in two's complement.
+/// A number of 8 bytes, in two's complement.
 #[tactic(auto, unfolding(crate::specs::Fields::number_at))]
 pub fn split_number(bytes: &[u8]) -> Option<(i64, &[u8])>
     ensures { option_map (λ f. (f.0, f.1.now)) result ≡ number_at bytes.now }
@@ -13,7 +15,7 @@ pub fn split_number(bytes: &[u8]) -> Option<(i64, &[u8])>
     Some((i64::from_be_bytes(*number), rest))
 }
 
-/// An unsigned number of eight bytes.
+/// An unsigned number of 8 bytes.
 #[tactic(auto, unfolding(crate::specs::Fields::unsigned_at))]
 pub fn split_unsigned(bytes: &[u8]) -> Option<(u64, &[u8])>
     ensures { option_map (λ f. (f.0, f.1.now)) result ≡ unsigned_at bytes.now }
@@ -22,7 +24,7 @@ pub fn split_unsigned(bytes: &[u8]) -> Option<(u64, &[u8])>
     Some((u64::from_be_bytes(*number), rest))
 }
 
-/// A count of two bytes.
+/// A count of 2 bytes.
 #[tactic(auto, unfolding(crate::specs::Fields::count_at))]
 pub fn split_count(bytes: &[u8]) -> Option<(u16, &[u8])>
     ensures { option_map (λ f. (f.0, f.1.now)) result ≡ count_at bytes.now }
@@ -31,7 +33,7 @@ pub fn split_count(bytes: &[u8]) -> Option<(u16, &[u8])>
     Some((u16::from_be_bytes(*count), rest))
 }
 
-/// So many bytes.
+/// The first `len` bytes.
 #[tactic(auto, unfolding(crate::specs::Fields::run_at))]
 pub fn split_run(bytes: &[u8], len: usize) -> Option<(&[u8], &[u8])>
     ensures { option_map (λ f. (f.0.now, f.1.now)) result ≡ run_at len bytes.now }
@@ -39,7 +41,7 @@ pub fn split_run(bytes: &[u8], len: usize) -> Option<(&[u8], &[u8])>
     bytes.split_at_checked(len)
 }
 
-/// So many bytes, the number of which is known beforehand.
+/// The first `N` bytes.
 #[tactic(auto, unfolding(crate::specs::Fields::run_at))]
 pub fn split_array<const N: usize>(bytes: &[u8]) -> Option<(&[u8; N], &[u8])>
     ensures { option_map (λ f. (f.0.now, f.1.now)) result ≡ run_at N bytes.now }
@@ -47,7 +49,7 @@ pub fn split_array<const N: usize>(bytes: &[u8]) -> Option<(&[u8; N], &[u8])>
     bytes.split_first_chunk::<N>()
 }
 
-/// So many bytes as a count of two bytes says.
+/// A count of 2 bytes, and then that many bytes, without the count.
 #[tactic(auto, unfolding(crate::specs::Fields::sized_at))]
 pub fn split_sized(bytes: &[u8]) -> Option<(&[u8], &[u8])>
     ensures { option_map (λ f. (f.0.now, f.1.now)) result ≡ sized_at bytes.now }

@@ -8,7 +8,7 @@ use sha2::{Digest, Sha256};
 /// A SHA-256 digest (FIPS 180-4).
 pub type Hash = [u8; 32];
 
-// The script of one operator that gives true, and the datum of no fields: nearly every input carries both.
+// The script of the one operator that gives true, and the datum of no fields: nearly every input has both.
 pub(crate) const TRUE_SCRIPT: [u8; 1] = [0x01];
 
 pub(crate) const UNIT_DATUM: [u8; 3] = [0x03, 0x00, 0x00];

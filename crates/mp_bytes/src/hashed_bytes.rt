@@ -1,4 +1,4 @@
-//! Bytes that are kept with their digest.
+//! Bytes that are stored with their digest.
 
 use crate::hash::{Hash, TRUE_SCRIPT, TRUE_SCRIPT_HASH, UNIT_DATUM, UNIT_DATUM_HASH, digest};
 use mp_memory::{Memory, NoMemory};
@@ -28,7 +28,7 @@ impl Model for Digested {
     ghost invariant = { λ d. d.hash ≡ sha256 d.bytes.items };
 }
 
-// Nearly every input carries the first two, so these take no memory. Several owners may share others.
+// Nearly every input has the first two, so these take no memory. Several owners may share the others.
 #[derive(Debug, Drop)]
 enum Kept {
     TrueScript,
@@ -36,7 +36,7 @@ enum Kept {
     Shared(Arc<Digested, Memory>),
 }
 
-/// Bytes with their SHA-256 digest (FIPS 180-4), which is computed once. Contracts see the bytes.
+/// Bytes with their SHA-256 digest (FIPS 180-4), which is computed once. Contracts see only the bytes.
 #[derive(Debug)]
 pub struct HashedBytes {
     kept: Kept,
@@ -61,8 +61,10 @@ impl HashedBytes {
     ghost use Rattle.std.specs.Prelude.{◌≡◌, IfOk};
     ghost use Rattle.sha2.specs.Sha256.{sha256};
 
-    /// A copy of the bytes, in two growths: of their number, and of what owners share. The bytes `01` and `030000`, of the
-    /// script of one operator that gives true and the datum of no fields, take none.
+    /// A copy of the bytes, in two allocations: one of exactly their length, and one of what owners share.
+    /// The bytes `01` (the script of the one operator that gives true) and `030000` (the datum of no fields) take no
+    /// allocation.
+    /// Returns `NoMemory` if an allocation fails.
     pub fn of(memory: Memory, bytes: &[u8]) -> Result<HashedBytes, NoMemory>
         ensures { IfOk result (λ kept. kept ≡ bytes.now) }
     {
@@ -85,7 +87,7 @@ impl HashedBytes {
         })
     }
 
-    /// The same bytes, which are shared, and not copied. `NoMemory` where they are shared too often.
+    /// The same bytes, shared and not copied. Returns `NoMemory` if there are too many owners.
     pub fn share(&self) -> Result<HashedBytes, NoMemory>
         ensures { IfOk result (λ kept. kept ≡ self.now) }
     {

@@ -1,4 +1,4 @@
-//! Bytes: the fields at their front, their SHA-256 digest, and bytes that are kept with it.
+//! Bytes: fields at their front, their SHA-256 digest, and bytes that are stored with it.
 #![tactic(auto)]
 
 mod fields;

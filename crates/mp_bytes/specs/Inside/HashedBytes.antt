@@ -1,4 +1,4 @@
--- The bytes that are kept.
+-- The bytes that are stored.
 use Rattle.std.specs.Prelude.{ℕ, List, [], ◌∷◌}
 use Rattle.std.specs.Arc.{arc_value}
 use Rattle.mp_bytes.specs.declared.hashed_bytes.Kept.{Kept}
