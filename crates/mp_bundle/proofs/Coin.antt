@@ -48,26 +48,26 @@ above o Greater e h k = e
 pub is_coin : (t : Token) → same_token t coin ≡ true → t ≡ coin
 is_coin t same = (same_token-Decides t coin).0 same
 
--- a token that isn't coin isn't tied with it
+-- a token that isn't coin doesn't compare equal to it
 pub not_coin : (t : Token) → same_token t coin ≡ false → eq_by_cmp token_cmp t coin ≡ false
 not_coin t other = not_tied t coin (λ same. let yes = (same_token-Decides t coin).1 same in Prim.cc)
 
--- what is neither coin nor less is above it
+-- a token that is neither coin nor less is greater
 above_coin : (t : Token) → is_lt (token_cmp t coin) ≡ false → eq_by_cmp token_cmp t coin ≡ false → token_cmp coin t ≡ Less
 above_coin t least other = above _ _ (token_total.antisymm coin t) least other
 
--- what is tied with coin isn't above it
+-- a token that compares equal to coin isn't greater
 pub tied_not_above : (q : Token) → eq_by_cmp token_cmp q coin ≡ true → is_lt (token_cmp coin q) ≡ false
 tied_not_above q same = ap (λ t. is_lt (token_cmp coin t)) (token_exact q coin (equal _ same)) ∙ ap is_lt (tied_itself token_total coin)
 
--- none of what is above coin has a quantity at coin or below
+-- entries of tokens greater than coin have no quantity of coin, or of anything below it
 pub none_below : (es : List Entry) (q : Token) → below_all token_cmp coin es ≡ true → is_lt (token_cmp coin q) ≡ false → find token_cmp q es ≡ None
 none_below [] q below low = refl
 none_below (e ∷ es) q below low =
     let other : is_eq (token_cmp q e.0) ≡ false = not_tied q e.0 (λ same. let no = subst (λ t. is_lt (token_cmp coin t) ≡ false) same low in let yes = first_so (is_lt (token_cmp coin e.0)) (below_all token_cmp coin es) below in Prim.cc) in
     ap (λ b. cond b (Some e.1) (find token_cmp q es)) other ∙ none_below es q (second_so _ _ below) low
 
--- entries above coin have none of it
+-- entries of tokens greater than coin have no coin
 pub no_coin : (es : List Entry) → below_all token_cmp coin es ≡ true → is_sorted token_cmp es ≡ true → SplitsCoin es (pos 0) es
 no_coin es below rising = record {
   rising = ap (λ b. b && is_sorted token_cmp es) below ∙ rising;
@@ -77,13 +77,13 @@ no_coin es below rising = record {
   ] refl;
 }
 
--- entries of which the first is above coin are all above it
+-- if the first token is greater than coin, all are
 pub all_above : (e : Entry) (es : List Entry) → is_sorted token_cmp (e ∷ es) ≡ true → is_lt (token_cmp e.0 coin) ≡ false → same_token e.0 coin ≡ false → below_all token_cmp coin (e ∷ es) ≡ true
 all_above e es rising least other =
     let is_above = above_coin e.0 least (not_coin e.0 other) in
     ap (λ o. is_lt o && below_all token_cmp coin es) is_above ∙ below_from_less coin e.0 es is_above (first_so _ _ rising)
 
--- a quantity of coin beside the entries
+-- a quantity of coin before the entries
 pub at_coin : (n : ℤ) (es : List Entry) → quantity_of ((coin, n) ∷ es) coin ≡ n
 at_coin n es = ap (λ o. unwrap_or (cond (is_eq o) (Some n) (find token_cmp coin es)) (pos 0)) (tied_itself token_total coin)
 

@@ -20,7 +20,7 @@ use Rattle.mp_bundle.proofs.Search.{equal, less}
 use Rattle.mp_bundle.proofs.Coin.{at_coin, past_coin, same_beside, tied_not_above}
 use Rattle.mp_bundle.proofs.TotalsLemmas.{find_below, total-nonzero}
 
--- the entries have the token with the quantity that the others have, or not at all
+-- the entries have the token with the same quantity as the others, or not at all
 abbrev Agree : List Entry → List Entry → Token → Type 0
 Agree es fs q = (quantity_of es q ≡ quantity_of fs q) ⊎ (find token_cmp q es ≡ None)
 
@@ -45,7 +45,7 @@ below_trans q a [] h below = refl
 below_trans q a (e ∷ es) h below =
     ap (λ o. is_lt o && below_all token_cmp q es) (token_total.trans q a e.0 h (less _ (first_so _ _ below))) ∙ below_trans q a es h (second_so _ _ below)
 
--- what the entries come to, from the first on
+-- what the search finds, from the first entry on
 abbrev Found : List Entry → List Entry → Option Token → Type 0
 Found es fs found = MatchOption found ((q : Token) → Agree es fs q) (IsFirstOf es fs)
 
@@ -80,7 +80,7 @@ found_first (e ∷ es) fs rising =
       | false ↦ λ t. found_here e es fs rising (λ same. let s = (signed_Decides (quantity_of fs e.0) e.1).1 same in Prim.cc)
     ] refl
 
--- what each side has as the other, or not at all, both have alike
+-- both sides agree on a token that each has with the quantity of the other, or not at all
 alike : (es fs : List Entry) (q : Token) → Agree es fs q → Agree fs es q → quantity_of es q ≡ quantity_of fs q
 alike es fs q (inl same) other = same
 alike es fs q (inr none) (inl same) = sym same
@@ -109,7 +109,7 @@ join es fs (Some a) (Some b) f g =
       | false ↦ λ e. record { differs = f.differs; least = λ q lt. alike es fs q (f.before q lt) (g.before q (not_above a b q e lt)) }
     ] refl
 
--- what the totals come to, from the first token at which they differ
+-- what the search finds, from the first token at which the totals differ
 abbrev Least : List Entry → List Entry → Option Token → Type 0
 Least es fs found = MatchOption found ((q : Token) → quantity_of es q ≡ quantity_of fs q) (IsLeast es fs)
 
@@ -124,7 +124,7 @@ module _ (a b : Sum) (es fs : List Entry) (is_a : (q : Token) → total_of a q �
   pub difference : is_sorted token_cmp es ≡ true → is_sorted token_cmp fs ≡ true → MatchOption (lesser (first_unlike es fs) (first_unlike fs es)) (AreAlike a b) (IsFirstDifference a b)
   difference rise_es rise_fs = seen _ (join es fs (first_unlike es fs) (first_unlike fs es) (found_first es fs rise_es) (found_first fs es rise_fs))
 
--- where coin stands beside entries that are all above it
+-- coin before entries that are all greater
 abbrev AreAbove : List Entry → Type 0
 AreAbove es = (q : Token) → is_lt (token_cmp coin q) ≡ false → quantity_of es q ≡ pos 0
 
@@ -160,7 +160,7 @@ module _ (s t : Inside) (held_s : IsHeld s) (held_t : IsHeld t) where
   pub coin_differs : (s.coin ≢ t.coin) → IsFirstDifference (sum_of s) (sum_of t) coin
   coin_differs differs = seen_of (Some coin) (least_at_coin s.totals.entries t.totals.entries held_s.above held_t.above s.coin t.coin differs)
 
-  -- where there is as much coin
+  -- if the quantities of coin are equal
   pub difference_past : s.coin ≡ t.coin → is_sorted token_cmp s.totals.entries ≡ true → is_sorted token_cmp t.totals.entries ≡ true
       → (found : Option Token) → lesser (first_unlike s.totals.entries t.totals.entries) (first_unlike t.totals.entries s.totals.entries) ≡ found → MatchOption found (AreAlike (sum_of s) (sum_of t)) (IsFirstDifference (sum_of s) (sum_of t))
   difference_past same rise_s rise_t found is =

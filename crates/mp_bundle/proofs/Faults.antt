@@ -33,7 +33,7 @@ below_from_less a b [] h below = refl
 below_from_less a b (e ∷ es) h below =
     both_true (ap is_lt (token_total.trans a b e.0 h (less _ (first_so _ _ below)))) (below_from_less a b es h (second_so _ _ below))
 
--- a chain of tests that comes to nothing failed each
+-- if a chain of tests gives nothing, each failed
 no_test : (a b c d : Bool) → cond (not a) (Some NotRising) (cond b (Some ZeroQuantity) (cond c (Some NameTooLong) (cond d (Some QuantityRange) None))) ≡ None → (a ≡ true) × (b ≡ false) × (c ≡ false) × (d ≡ false)
 no_test true false false false e = (refl, refl, refl, refl)
 no_test false b c d e = Prim.cc

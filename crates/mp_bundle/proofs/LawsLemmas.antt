@@ -38,7 +38,7 @@ found_nonzero (x ∷ es) q n each e =
       | false ↦ λ rest. found_nonzero es q n each.1 rest
     ] e
 
--- a quantity that isn't zero tells that its token is there
+-- if a quantity isn't zero, its token is present
 nonzero_found : (es : List Entry) (q : Token) → AllByRecursion IsEntry es → (o : Option ℤ) → find token_cmp q es ≡ o → find token_cmp q es ≡ cond (int_eq (unwrap_or o (pos 0)) (pos 0)) None (Some (unwrap_or o (pos 0)))
 nonzero_found es q each None e = e
 nonzero_found es q each (Some n) e = e ∙ ap (λ b. cond b None (Some n)) (sym (apart n (found_nonzero es q n each e)))
@@ -71,7 +71,7 @@ moved a b c d e = omega (arith, ints)
 regroup : (new next old quantity over : ℤ) → new ≡ next +ℤ over → next ≡ old +ℤ quantity → new ≡ old +ℤ (quantity +ℤ over)
 regroup new next old quantity over e f = omega (arith, ints)
 
--- a sum's total after bundles is what it was before, and the quantities
+-- the total of a sum after bundles is the total before and their quantities
 total_after : (old : Sum) (bundles : List (List Entry)) (new : Sum) → AddsAll old bundles new → (q : Token) → total_of new q ≡ total_of old q +ℤ total_over bundles q
 total_after old [] new is q = ap (λ s. total_of s q) is ∙ nothing_more (total_of old q)
 total_after old (bundle ∷ bundles) new (next, adds, rest) q = regroup _ _ _ _ _ (total_after next bundles new rest q) (adds.totals q)
@@ -99,7 +99,7 @@ one_more bundles bundle old new is adds = record {
   totals = λ q. adds.totals q ∙ ap (λ n. n +ℤ quantity_of bundle q) (is.totals q) ∙ sym (over-push bundles bundle q);
 }
 
--- how far a number is above zero, and how far below
+-- how far a number is above zero, or below
 abbrev above : ℤ → ℕ
 above (pos n) = n
 above (negsuc n) = 0

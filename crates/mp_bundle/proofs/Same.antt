@@ -1,4 +1,4 @@
--- Bundles that have the same content are one.
+-- Bundles with the same content are equal.
 use Rattle.std.proofs.Common.{◌≡◌, List, ap}
 use Rattle.std.specs.Prelude.{Decides}
 use Rattle.std.specs.Ordering.{int_eq}

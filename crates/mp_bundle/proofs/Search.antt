@@ -1,4 +1,4 @@
--- Looking a token up among entries that rise.
+-- Searching for a token among entries in strictly increasing order.
 use Rattle.std.proofs.Common.{◌≡◌, ℕ, zero, suc, ◌<◌, ◌≤◌, pos, true, false, cond, List, [], ◌∷◌, length, get_or, refl, sym, ap, subst, ◌∙◌, arith, inl, inr}
 use Rattle.std.specs.List.{AllByRecursion}
 use Rattle.std.proofs.lemmas.Bool.Decides.{nat_tests}
@@ -33,7 +33,7 @@ less_at (e ∷ es) i zero d rising lt within = absurd (omega arith)
 less_at (e ∷ es) zero (suc j) d rising lt within = below_at e.0 es j d (first_so _ _ rising) (omega arith)
 less_at (e ∷ es) (suc i) (suc j) d rising lt within = less_at es i j d (second_so _ _ rising) (omega arith) (omega arith)
 
--- what is less than b compares to q no higher than b does
+-- if a is less than b, it compares to q no higher than b does
 no_higher : (a b q : Token) → token_cmp a b ≡ Less → (o : Ordering) → token_cmp b q ≡ o → ordering_index (token_cmp a q) ≤ ordering_index o
 no_higher a b q h Less e = subst (λ r. ordering_index r ≤ 0) (sym (token_total.trans a b q h e)) (omega arith)
 no_higher a b q h Equal e = subst (λ r. ordering_index r ≤ 1) (sym h ∙ alike_right token_total b q a e) (omega arith)
@@ -50,7 +50,7 @@ comparisons_rise es q rising i j d le within = elim (cases_lt i j) [
   | inr ge ↦ subst (λ k. ordering_index (token_cmp (get_or es i d).0 q) ≤ ordering_index (token_cmp (get_or es k d).0 q)) {x = i} (omega arith) (omega arith)
 ]
 
--- the entry at a place is the one that is found
+-- the entry at an index is the one that is found
 found_at : (es : List Entry) (place : ℕ) (d : Entry) (q : Token) → is_sorted token_cmp es ≡ true → place < length es → token_cmp (get_or es place d).0 q ≡ Equal → find token_cmp q es ≡ Some (get_or es place d).1
 found_at [] place d q rising within same = absurd (omega arith)
 found_at (e ∷ es) zero d q rising within same = ap (λ o. cond (is_eq o) (Some e.1) (find token_cmp q es)) (tied_back token_total e.0 q same)
@@ -59,7 +59,7 @@ found_at (e ∷ es) (suc place) d q rising within same =
     ap (λ o. cond (is_eq o) (Some e.1) (find token_cmp q es)) (token_total.antisymm q e.0 ∙ ap ordering_reverse before)
     ∙ found_at es place d q (second_so _ _ rising) (omega arith) same
 
--- a token that ties with none is not found
+-- a token that compares equal to none isn't found
 none_found : (es : List Entry) (q : Token) → ((j : ℕ) (d : Entry) → j < length es → is_eq (token_cmp q (get_or es j d).0) ≡ false) → find token_cmp q es ≡ None
 none_found [] q apart = refl
 none_found (e ∷ es) q apart =
@@ -85,7 +85,7 @@ equal Greater e = Prim.cc
 pub not_tied : (a b : Token) → (a ≢ b) → is_eq (token_cmp a b) ≡ false
 not_tied a b apart = elim (is_eq (token_cmp a b)) as (λ v. is_eq (token_cmp a b) ≡ v → v ≡ false) [ true ↦ λ e. absurd (apart (token_exact a b (equal _ e))) | false ↦ λ e. refl ] refl
 
--- a token with a long name is none of a bundle's
+-- a token with a long name isn't in a bundle
 pub long_absent : (es : List Entry) (q : Token) → AllByRecursion IsEntry es → 32 < length q.name → find token_cmp q es ≡ None
 long_absent [] q each long = refl
 long_absent (e ∷ es) q each long =

@@ -1,4 +1,4 @@
--- What a sum keeps when a bundle is added.
+-- What a sum preserves when a bundle is added.
 use Rattle.std.proofs.Common.{◌≡◌, ℕ, ◌+◌, ◌-◌, ◌*◌, ◌^◌, ◌<◌, ◌≤◌, ℤ, pos, ◌+ℤ◌, true, false, cond, List, [], ◌∷◌, refl, sym, ap, subst, ◌∙◌, arith}
 use Rattle.std.specs.Prelude.{Some, None}
 use Rattle.std.specs.Option.{unwrap_or}
@@ -33,7 +33,7 @@ one_more n a b h k = record { least = omega (arith, ints); greatest = omega (ari
 far_within : (n : ℕ) (a : ℤ) → n ≤ 2 ^ 32 → IsWithin (n * (2 ^ 63 - 1)) a → IsWithin (2 ^ 127 - 1) a
 far_within n a few h = record { least = omega (arith, ints); greatest = omega (arith, ints) }
 
--- a total of zero is seen as none
+-- a total of zero is seen as no total
 pub none_nonzero : nonzero_of ((coin, pos 0) ∷ []) ≡ nonzero_of []
 none_nonzero = same_nonzero ((coin, pos 0) ∷ []) [] (λ q. elim (eq_by_cmp token_cmp q coin) as (λ b. unwrap_or (cond b (Some (pos 0)) None) (pos 0) ≡ pos 0) [ true ↦ refl | false ↦ refl ])
 

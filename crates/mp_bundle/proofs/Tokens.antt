@@ -13,7 +13,7 @@ use Rattle.mp_bundle.specs.Token.{token, token_cmp, same_token}
 pub token_total : IsTotalOrder token_cmp
 token_total = then_total (on_total (λ t. t.policy) nat_list_cmp_total) (on_total (λ t. t.name) nat_list_cmp_total)
 
--- tokens that the order ties are one
+-- tokens that compare equal are equal
 pub token_exact : IsAntisymmetric token_cmp
 token_exact a b e = ap (λ (p : List ℕ × List ℕ). token p.0 p.1) (exact_pairs (slice_cmp nat_cmp) (slice_cmp nat_cmp) exact_bytes exact_bytes (a.policy, a.name) (b.policy, b.name) e)
 

@@ -24,7 +24,7 @@ use Rattle.mp_bundle.specs.Inside.Totals.{HasRoom, KeepsTotals, nonzero_of}
 use Rattle.mp_bundle.proofs.Tokens.{token_total, token_exact}
 use Rattle.mp_bundle.proofs.Search.{equal, less}
 
--- a map's look-up finds what the entries have
+-- the look-up of a map finds what the entries have
 find-lookup : (es : List Entry) (q : Token) → find token_cmp q es ≡ lookup (is_at (token_cmp q)) es
 find-lookup [] q = refl
 find-lookup (e ∷ es) q = ap (cond (is_at (token_cmp q) e.0) (Some e.1)) (find-lookup es q)
@@ -41,7 +41,7 @@ room_after_update : (old new : BTreeMap Token ℤ) (k : Token) (v : ℤ) → Upd
 room_after_update old new k v h q has =
     subst IsSome (sym (h.0 q)) (elim (eq_by_cmp token_cmp k q) as (λ b. IsSome (cond b (Some v) (tree.get token_cmp old q))) [ true ↦ refl | false ↦ has ])
 
--- a total of zero at a token that has none
+-- a total of zero for a token that has none
 pub zero_put : (old new : BTreeMap Token ℤ) (k : Token) → tree.get token_cmp old k ≡ None → Updates token_cmp old new k (Some (pos 0)) → KeepsTotals old new
 zero_put old new k none h = record {
   same = λ q. after_update old new k (pos 0) h q
@@ -77,12 +77,12 @@ pub raised_room : (old : BTreeMap Token ℤ) (new : ℤ → BTreeMap Token ℤ) 
     → (q : Token) → ContainsKey token_cmp old q → ContainsKey token_cmp (new w) q
 raised_room old new k holds total w some = room_after_update old (new w) k w ((holds w).3 (subst IsSome (sym some) refl))
 
--- a token that is below all is not among them
+-- a token that is less than all isn't among them
 pub find_below : (es : List Entry) (q : Token) → below_all token_cmp q es ≡ true → find token_cmp q es ≡ None
 find_below [] q below = refl
 find_below (e ∷ es) q below = ap (λ o. cond (is_eq o) (Some e.1) (find token_cmp q es)) (less _ (first_so _ _ below)) ∙ find_below es q (second_so _ _ below)
 
--- the quantity of a token is that of the first entry and that of the others
+-- the quantity of a token is its quantity in the first entry and in the others
 quantity-cons : (e : Entry) (es : List Entry) (q : Token) → is_sorted token_cmp (e ∷ es) ≡ true → quantity_of (e ∷ es) q ≡ cond (eq_by_cmp token_cmp e.0 q) e.1 (pos 0) +ℤ quantity_of es q
 quantity-cons e es q rising =
     ap (λ b. unwrap_or (cond b (Some e.1) (find token_cmp q es)) (pos 0)) ((eq_by_cmp_equiv token_total).symm q e.0)
@@ -129,14 +129,14 @@ value_of_nonzero n = elim (int_eq n (pos 0)) as (λ z. int_eq n (pos 0) ≡ z �
   | false ↦ λ z. refl
 ] refl
 
--- the totals that aren't zero tell all totals
+-- the totals that aren't zero determine all totals
 pub total-nonzero : (es : List Entry) (q : Token) → unwrap_or (get (nonzero_of es) q) (pos 0) ≡ quantity_of es q
 total-nonzero es q = ap (λ o. unwrap_or o (pos 0)) (get-nonzero es q) ∙ value_of_nonzero (quantity_of es q)
 
 pub same_nonzero : (es fs : List Entry) → ((q : Token) → quantity_of es q ≡ quantity_of fs q) → nonzero_of es ≡ nonzero_of fs
 same_nonzero es fs h = same_map token_total token_exact _ _ (λ q. get-nonzero es q ∙ ap some_nonzero (h q) ∙ sym (get-nonzero fs q))
 
--- a map's entries rise
+-- the entries of a map are in strictly increasing order
 lower_all : (k : Token) (es : List Entry) → AllByRecursion (λ q. token_cmp k q ≡ Less) (keys_of es) → below_all token_cmp k es ≡ true
 lower_all k [] h = refl
 lower_all k (e ∷ es) h = ap (λ o. is_lt o && below_all token_cmp k es) h.0 ∙ lower_all k es h.1
@@ -149,12 +149,12 @@ pub none_from_is_some : {X : Type 0} (o : Option X) → is_some o ≡ false → 
 none_from_is_some None h = refl
 none_from_is_some (Some x) h = Prim.cc
 
--- the first of the entries that are left has its quantity
+-- the first remaining entry has its quantity
 pub first_quantity : (es : List Entry) (i : ℕ) (e : Entry) → is_sorted token_cmp es ≡ true → i < length es → e ≡ get_or es i e → quantity_of (drop i es) e.0 ≡ e.1
 first_quantity es i e rising lt is =
     let split : drop i es ≡ e ∷ drop (i + 1) es = drop-cons es i e lt ∙ ap (λ x. x ∷ drop (suc i) es) (sym is) ∙ ap (λ n. e ∷ drop n es) (sym (add-one i)) in
     ap (λ xs. quantity_of xs e.0) split ∙ ap (λ o. unwrap_or (cond (is_eq o) (Some e.1) (find token_cmp e.0 (drop (i + 1) es))) (pos 0)) (tied_itself token_total e.0)
 
--- what is added now is no longer left
+-- what is added now no longer remains
 pub regroup : (now by next left rest whole : ℤ) → next ≡ now +ℤ by → left ≡ by +ℤ rest → now +ℤ left ≡ whole → next +ℤ rest ≡ whole
 regroup now by next left rest whole a b c = omega (arith, ints)

@@ -1,5 +1,5 @@
--- A bundle: how much there is of each token (token bundles of Chakravarty et al., Native Custom
--- Tokens in the Extended UTXO Model).
+-- A bundle: the quantity of each token (token bundles of Chakravarty et al., Native Custom Tokens in the Extended UTXO
+-- Model).
 use Rattle.std.specs.Prelude.{◌≡◌, ◌≢◌, ℕ, ◌^◌, ◌-◌, ◌≤◌, ℤ, pos, neg_ℤ, ◌≤ℤ◌, List, ◌∷◌, length, IsTrue, if◌then◌else◌}
 use Rattle.std.specs.Option.{unwrap_or}
 use Rattle.std.specs.List.{AllByRecursion}
@@ -12,15 +12,15 @@ use Rattle.mp_bundle.specs.Token.{coin, token_cmp}
 abbrev pub Entry : Type 0
 Entry = Token × ℤ
 
--- the quantity of a token, which is 0 where there is none
+-- the quantity of a token, or 0 if there is none
 abbrev pub quantity_of : List Entry → Token → ℤ
 quantity_of entries token = unwrap_or (find token_cmp token entries) (pos 0)
 
--- so much coin, and then entries of other tokens
+-- a quantity of coin, and then entries of other tokens
 abbrev pub with_coin : ℤ → List Entry → List Entry
 with_coin n others = if int_eq n (pos 0) then others else (coin, n) ∷ others
 
--- entries are a quantity of coin, and others that are above it
+-- entries are a quantity of coin, and others whose tokens are greater than coin
 pub record SplitsCoin (entries : List Entry) (quantity : ℤ) (others : List Entry) : Type 0 where
   pub rising : IsTrue (is_sorted token_cmp ((coin, quantity) ∷ others))
   pub same : (token : Token)
@@ -31,13 +31,13 @@ pub record IsWithin (most : ℕ) (n : ℤ) : Type 0 where
   pub least : neg_ℤ (pos most) ≤ℤ n
   pub greatest : n ≤ℤ pos most
 
--- what may stand in a bundle
+-- which entries a bundle may have
 pub record IsEntry (e : Entry) : Type 0 where
   pub short : length e.0.name ≤ 32
   pub nonzero : e.1 ≢ pos 0
   pub within : IsWithin (2 ^ 63 - 1) e.1
 
--- each token is less than the next, so none stands twice
+-- each token is less than the next, so none occurs twice
 pub record IsBundle (entries : List Entry) : Type 0 where
   pub rising : IsTrue (is_sorted token_cmp entries)
   pub each : AllByRecursion IsEntry entries

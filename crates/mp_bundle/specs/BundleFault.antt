@@ -1,4 +1,4 @@
--- Which fault entries have that make no bundle.
+-- The fault of entries that make no bundle.
 use Rattle.std.specs.Prelude.{◌≡◌, ℕ, ◌^◌, ◌-◌, Bool, true, not, ◌||◌, ℤ, pos, neg_ℤ, int_lt, List, [], ◌∷◌, length, map, Option, Some, None, nat_lt, if◌then◌else◌}
 use Rattle.std.specs.Option.{option_or}
 use Rattle.std.specs.Ordering.{is_lt, int_eq}
@@ -33,7 +33,7 @@ follows (Some before) token = is_lt (token_cmp before token)
 unfoldable pub is_out_of_range : ℤ → Bool
 is_out_of_range n = int_lt n (neg_ℤ (pos (2 ^ 63 - 1))) || int_lt (pos (2 ^ 63 - 1)) n
 
--- the fault of an entry, after the token of the one before: the first in the order of their numbers
+-- the fault of an entry, given the token of the entry before: the fault with the least number
 abbrev pub entry_fault : Option Token → Entry → Option BundleFault
 entry_fault before e =
     if not (follows before e.0) then Some NotRising
@@ -50,7 +50,7 @@ fault_after before (e ∷ es) = option_or (entry_fault before e) (fault_after (S
 abbrev pub fault_of : List Entry → Option BundleFault
 fault_of entries = fault_after None entries
 
--- an answer for these entries. Memory may be wanting for any
+-- an answer for these entries; an allocation failure is always possible
 abbrev pub IsFaultOf : List Entry → BundleFault → Type 0
 IsFaultOf entries NoMemory = Unit {0}
 IsFaultOf entries fault = fault_of entries ≡ Some fault

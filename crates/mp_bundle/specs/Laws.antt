@@ -6,11 +6,11 @@ use Rattle.mp_bundle.specs.Bundle.{Entry, quantity_of, IsBundle}
 use Rattle.mp_bundle.specs.BundleFault.{fault_of}
 use Rattle.mp_bundle.specs.Sum.{Sum, nothing, Adds, AddsAll, AreAlike, IsSumOf, IsFirstDifference}
 
--- entries have no fault exactly where they are those of a bundle
+-- entries have no fault exactly when they are the entries of a bundle
 abbrev pub FaultlessIsBundle : Type 0
 FaultlessIsBundle = (entries : List Entry) → (fault_of entries ≡ None) ↔ IsBundle entries
 
--- a bundle is determined by its quantities
+-- the quantities determine a bundle
 abbrev pub QuantitiesDetermine : Type 0
 QuantitiesDetermine =
     (a b : List Entry) → IsBundle a → IsBundle b
@@ -21,7 +21,7 @@ abbrev pub TotalIsSum : Type 0
 TotalIsSum =
     (bundles : List (List Entry)) (sum : Sum) → AddsAll nothing bundles sum → IsSumOf bundles sum
 
--- with one more bundle, the sum of bundles is that of one more
+-- adding one more bundle to the sum of n bundles gives the sum of n + 1
 abbrev pub OneMore : Type 0
 OneMore =
     (bundles : List (List Entry)) (bundle : List Entry) (old new : Sum)
@@ -33,6 +33,6 @@ OrderIsFree =
     (bundles others : List (List Entry)) (a b : Sum) → IsPermutation bundles others
     → AddsAll nothing bundles a → AddsAll nothing others b → AreAlike a b
 
--- two sums have no first difference exactly where all totals are equal
+-- two sums have no first difference exactly when all their totals are equal
 abbrev pub DifferencesAreFound : Type 0
 DifferencesAreFound = (a b : Sum) → ((token : Token) → ¬ IsFirstDifference a b token) ↔ AreAlike a b

@@ -13,11 +13,11 @@ pub record Sum : Type 0 where
   pub added : ℕ
   pub nonzero : FinMap token_cmp ℤ
 
--- the sum of no bundle
+-- the sum of no bundles
 abbrev pub nothing : Sum
 nothing = record { added = 0; nonzero = finite.empty }
 
--- the total of a token, which is 0 where there is none
+-- the total of a token, or 0 if there is none
 abbrev pub total_of : Sum → Token → ℤ
 total_of sum token = unwrap_or (get sum.nonzero token) (pos 0)
 
@@ -36,7 +36,7 @@ abbrev pub total_over : List (List Entry) → Token → ℤ
 total_over [] token = pos 0
 total_over (bundle ∷ bundles) token = quantity_of bundle token +ℤ total_over bundles token
 
--- what the sum of these bundles is
+-- what it means to be the sum of these bundles
 pub record IsSumOf (bundles : List (List Entry)) (sum : Sum) : Type 0 where
   pub added : sum.added ≡ length bundles
   pub totals : (token : Token) → total_of sum token ≡ total_over bundles token

@@ -9,7 +9,7 @@ use Rattle.mp_bundle.specs.declared.token.Token.{Token}
 abbrev pub token : List ℕ → List ℕ → Token
 token policy name = record { policy = policy; name = name }
 
--- coin is the token whose policy is zeros and whose name is empty
+-- coin is the token with a policy of zeros and the empty name
 abbrev pub coin : Token
 coin = token (replicate 32 0) []
 
@@ -17,7 +17,7 @@ coin = token (replicate 32 0) []
 abbrev pub short_token : List ℕ → List ℕ → Option Token
 short_token policy name = if nat_le (length name) 32 then Some (token policy name) else None
 
--- by the policy's bytes, and then by the name's, a proper prefix being less
+-- by the bytes of the policy, and then by those of the name; a proper prefix is less
 abbrev pub token_cmp : Token → Token → Ordering
 token_cmp a b =
     ordering_then (slice_cmp nat_cmp a.policy b.policy) (slice_cmp nat_cmp a.name b.name)

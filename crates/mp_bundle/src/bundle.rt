@@ -12,15 +12,16 @@ use mp_memory::{Memory, NoMemory};
 use std::marker::Model;
 use std::sync::Arc;
 
-// Entries that several bundles may have.
+// Entries that several bundles may share.
 type Shared = Arc<Vec<Entry, Memory>, Memory>;
 
-/// A finite map from tokens to quantities that aren't zero, from -(2^63 - 1) to 2^63 - 1. Contracts see its entries, in the
-/// rising order of their tokens. Coin takes no memory. Several owners may share the entries of other tokens.
+/// A finite map from tokens to quantities. A quantity isn't zero, and is from -(2^63 - 1) to 2^63 - 1. Contracts see
+/// the entries, in strictly increasing order of their tokens. Coin takes no memory. Several owners may share the
+/// entries of other tokens.
 #[derive(Debug)]
 pub struct Bundle {
     coin: i64,
-    // Of other tokens, if there are some.
+    // The entries of other tokens, if there are any.
     others: Option<Shared>,
 }
 
@@ -44,7 +45,7 @@ impl Model for Bundle {
     ghost invariant = { λ b. IsParted b.coin (entries_in b.others) };
 }
 
-// How much coin there is, and the entries of other tokens.
+// The quantity of coin, and the entries of other tokens.
 fn part_coin(entries: Vec<Entry, Memory>) -> (i64, Vec<Entry, Memory>)
     requires { fault_of entries.items ≡ None }
     ensures whole { with_coin result.0 result.1.items ≡ entries.items }
@@ -59,7 +60,7 @@ fn part_coin(entries: Vec<Entry, Memory>) -> (i64, Vec<Entry, Memory>)
     (coin, others)
 }
 
-// What a bundle keeps of the entries of other tokens.
+// What a bundle stores for the entries of other tokens.
 fn to_shared(memory: Memory, entries: Vec<Entry, Memory>) -> Result<Option<Shared>, NoMemory>
     ensures { IfOk result (λ s. entries_in s ≡ entries.items) }
 {
@@ -77,7 +78,7 @@ impl Bundle {
     ghost use Rattle.mp_bundle.specs.Bundle.{quantity_of, with_coin, SplitsCoin, IsBundle};
     ghost use Rattle.mp_bundle.specs.BundleFault.{entries_of, fault_of, IsFaultOf};
 
-    /// The bundle of no token. It takes no memory.
+    /// The bundle without tokens. It takes no memory.
     pub fn empty() -> Bundle
         ensures { result ≡ [] }
     {
@@ -87,12 +88,14 @@ impl Bundle {
         }
     }
 
-    /// The bundle of these entries, in two growths, in one where there are none but of coin, or in none where there are none.
+    /// The bundle of these entries. It makes two allocations, one if all entries are of coin, and none if there are no
+    /// entries.
     ///
     /// # Errors
-    /// The fault of the first entry that has one, and of those the one of the least number: `NotRising` where its token
-    /// isn't greater than that of the entry before, `ZeroQuantity`, `NameTooLong` where the name has more than 32 bytes, and
-    /// `QuantityRange` where the quantity is -2^63. `NoMemory` may stand in place of each answer.
+    /// The fault of the first entry that has one. If this entry has several, the one with the least number:
+    /// `NotRising` if its token isn't greater than the token of the entry before, `ZeroQuantity`, `NameTooLong` if the
+    /// name has more than 32 bytes, and `QuantityRange` if the quantity is -2^63.
+    /// `NoMemory` may be returned instead of any answer.
     pub fn of_entries(memory: Memory, entries: Vec<Given, Memory>) -> Result<Bundle, BundleFault>
         ensures ok { IfOk result (λ b. b ≡ entries_of entries.items) }
         ensures faultless { OnOk result (fault_of (entries_of entries.items) ≡ None) }
@@ -105,7 +108,8 @@ impl Bundle {
         Ok(Bundle::of_faultless(memory, entries)?)
     }
 
-    /// The bundle of entries that have no fault, as they stand, in one growth, or in none where there are none but of coin.
+    /// The bundle of entries that have no fault, in their order. It makes one allocation, or none if there are only
+    /// entries of coin.
     pub fn of_faultless(memory: Memory, entries: Vec<Entry, Memory>) -> Result<Bundle, NoMemory>
         requires { fault_of entries.items ≡ None }
         ensures { IfOk result (λ b. b ≡ entries.items) }
@@ -117,7 +121,8 @@ impl Bundle {
         })
     }
 
-    /// The same bundle. Entries of other tokens than coin are shared, and not copied: `NoMemory` where they are shared too often.
+    /// The same bundle. The entries of tokens other than coin are shared and not copied. Returns `NoMemory` if there
+    /// are too many owners.
     pub fn share(&self) -> Result<Bundle, NoMemory>
         ensures { IfOk result (λ b. b ≡ self.now) }
     {
@@ -131,7 +136,7 @@ impl Bundle {
         })
     }
 
-    /// The quantity of a token, which is 0 where there is none.
+    /// The quantity of a token, or 0 if the bundle doesn't have it.
     pub fn quantity(&self, policy: &PolicyId, name: &[u8]) -> i64
         ensures { result ≡ quantity_of self.now (token policy.now name.now) }
     {
@@ -143,21 +148,21 @@ impl Bundle {
         }
     }
 
-    /// Whether it has no token.
+    /// Whether the bundle has no tokens.
     pub fn is_empty(&self) -> bool
         ensures { result ≡ (length self.now == 0) }
     {
         self.coin == 0 && self.others().is_empty()
     }
 
-    /// How much coin there is.
+    /// The quantity of coin.
     pub fn coin(&self) -> i64
         ensures { result ≡ quantity_of self.now coin }
     {
         self.coin
     }
 
-    /// Its other tokens with their quantities, in rising order.
+    /// The other tokens with their quantities, in strictly increasing order.
     pub fn others(&self) -> &[Entry]
         ensures whole { with_coin (quantity_of self.now coin) result.now ≡ self.now }
         ensures split { SplitsCoin self.now (quantity_of self.now coin) result.now }
@@ -179,7 +184,7 @@ impl PartialEq for Bundle {
 
     ghost laws = { partial_equiv_from_equiv same_entries_equiv };
 
-    /// Bundles are equal where they have the same quantity of each token.
+    /// Bundles are equal if they have the same quantity of each token.
     fn eq(&self, other: &Bundle) -> bool
         ensures gives { result ≡ same_entries self.now other.now }
         ensures same { IsTrue result ↔ (self.now ≡ other.now) }

@@ -1,4 +1,4 @@
-//! Entries of bundles, and the check of those that are given.
+//! Entries of bundles, and the check of given entries.
 
 ghost use Rattle.std.specs.Prelude.{◌≡◌, ◌≤◌, All, IsTrue, IfOk, length, is_none};
 ghost use Rattle.std.specs.FinMap.{is_sorted};
@@ -70,7 +70,7 @@ fn token_follows(before: Option<Token>, token: &Token) -> bool
     }
 }
 
-/// Whether an entry may stand in a bundle behind one of this token, or first.
+/// Whether an entry may follow one of this token in a bundle, or be the first if there is none.
 pub fn may_follow(before: Option<Token>, entry: &Entry) -> bool
     ensures { result ≡ is_none (entry_fault before entry.now) }
 {
@@ -107,7 +107,7 @@ fn to_entry(given: &Given) -> Entry
     (token, given.2)
 }
 
-/// The entries, in one growth of just their number.
+/// The entries, in one allocation of exactly their number.
 pub fn to_entries(memory: Memory, given: &[Given]) -> Result<Vec<Entry, Memory>, NoMemory>
     requires { All (λ g. length g.1.items ≤ 32) given.now }
     ensures { IfOk result (λ entries. entries.items ≡ entries_of given.now) }
@@ -119,7 +119,7 @@ pub fn to_entries(memory: Memory, given: &[Given]) -> Result<Vec<Entry, Memory>,
     Ok(entries)
 }
 
-/// The quantity of a token among entries that rise.
+/// The quantity of a token among entries in strictly increasing order.
 pub fn quantity_at(entries: &[Entry], token: &Token) -> i64
     requires { IsTrue (is_sorted token_cmp entries.now) }
     ensures { result ≡ quantity_of entries.now token.now }

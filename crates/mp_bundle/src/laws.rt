@@ -2,12 +2,12 @@
 
 ghost use Rattle.mp_bundle.specs.Laws.{FaultlessIsBundle, QuantitiesDetermine, TotalIsSum, OneMore, OrderIsFree, DifferencesAreFound};
 
-/// Entries have no fault exactly where they are those of a bundle.
+/// Entries have no fault exactly when they are the entries of a bundle.
 pub fn faultless_is_bundle()
     ensures { FaultlessIsBundle }
 {}
 
-/// A bundle is determined by its quantities.
+/// The quantities determine a bundle.
 pub fn quantities_determine()
     ensures { QuantitiesDetermine }
 {}
@@ -17,7 +17,7 @@ pub fn total_is_sum()
     ensures { TotalIsSum }
 {}
 
-/// With one more bundle, the sum of bundles is that of one more.
+/// Adding one more bundle to the sum of n bundles gives the sum of n + 1.
 pub fn one_more()
     ensures { OneMore }
 {}
@@ -27,7 +27,7 @@ pub fn order_is_free()
     ensures { OrderIsFree }
 {}
 
-/// Two sums have no first difference exactly where all totals are equal.
+/// Two sums have no first difference exactly when all their totals are equal.
 pub fn differences_are_found()
     ensures { DifferencesAreFound }
 {}

@@ -7,12 +7,13 @@ use mp_memory::{Memory, NoMemory};
 use std::collections::BTreeMap;
 use std::marker::Model;
 
-/// The sum of bundles: how many were added, and the total of each token. Contracts see the totals that aren't zero.
+/// The sum of bundles: their number, and the total of each token. Contracts see the totals that aren't zero.
 ///
-/// The total of coin stands apart, so that a bundle of coin alone is added without memory. The others are a map in the order
-/// of their tokens. Adding a bundle of m tokens to totals of n takes about m log n steps, and no pass over all n, whichever
-/// tokens a stranger picks. First each token without a total gets one of zero, which no reader can tell from none. Only this
-/// takes memory, and a refusal half way leaves each total as it was. Then each quantity is added to a total that is there,
+/// The total of coin is stored apart, so adding a bundle of only coin takes no memory. The other totals are a map in
+/// the order of their tokens. Adding a bundle of m tokens to n totals takes about m log n steps, whichever tokens an
+/// attacker picks.
+/// First, each token without a total gets a total of zero, which readers can't distinguish from no total. Only this
+/// step takes memory. If it fails half way, each total is as before. Then each quantity is added to an existing total,
 /// which can't fail.
 pub struct Sum {
     coin: i128,
@@ -51,7 +52,7 @@ impl Sum {
     ghost use Rattle.mp_bundle.specs.Token.{token};
     ghost use Rattle.mp_bundle.specs.Sum.{nothing, total_of, Adds, AreAlike, IsFirstDifference};
 
-    /// The sum of no bundle. It takes no memory.
+    /// The sum of no bundles. It takes no memory.
     pub fn new(memory: Memory) -> Sum
         ensures { result ≡ nothing }
     {
@@ -62,10 +63,10 @@ impl Sum {
         }
     }
 
-    /// Adds a bundle. At most 2^32 may be added. Only tokens other than coin take memory.
+    /// Adds a bundle. At most 2^32 bundles may be added. Only tokens other than coin take memory.
     ///
     /// # Errors
-    /// `NoMemory`, which leaves the sum as it was.
+    /// `NoMemory`, and then the sum is as before.
     pub fn add(&mut self, bundle: &Bundle) -> Result<(), NoMemory>
         requires { self.old.added < 2 ^ 32 }
         ensures ok { OnOk result (Adds self.old bundle.now self.new) }
@@ -80,7 +81,7 @@ impl Sum {
         Ok(())
     }
 
-    /// The total of a token, which is 0 where there is none.
+    /// The total of a token, or 0 if the sum doesn't have it.
     pub fn total(&self, policy: &PolicyId, name: &[u8]) -> i128
         ensures { result ≡ total_of self.now (token policy.now name.now) }
     {
@@ -91,7 +92,7 @@ impl Sum {
         }
     }
 
-    /// How many bundles were added.
+    /// The number of bundles that were added.
     pub fn added(&self) -> u64
         ensures same { result ≡ self.now.added }
         ensures few { result ≤ 2 ^ 32 }

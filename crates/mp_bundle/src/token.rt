@@ -7,14 +7,14 @@ use crate::token_name::{MAX_NAME_BYTES, TokenName};
 /// The id of the policy under which a token is forged.
 pub type PolicyId = [u8; 32];
 
-/// A token: a policy, and a name under it. Tokens are ordered by policy, and then by name.
+/// A token: a policy, and a name under it. Tokens are ordered by policy and then by name.
 #[derive(Clone, Copy, Debug, PartialEq, Eq, PartialOrd, Ord)]
 pub struct Token {
     pub policy: PolicyId,
     pub name: TokenName,
 }
 
-/// The policy of coin. Coin is the token under it whose name is empty.
+/// The policy of coin. Coin is the token with this policy and the empty name.
 pub const COIN: PolicyId = [0; 32];
 
 impl Token {
@@ -28,7 +28,7 @@ impl Token {
         name: TokenName::EMPTY,
     };
 
-    /// The token of this policy and this name, if there is one.
+    /// The token of this policy and this name, or `None` if the name has more than 32 bytes.
     pub fn of(policy: &PolicyId, name: &[u8]) -> Option<Token>
         ensures { result ≡ short_token policy.now name.now }
     {
@@ -41,7 +41,7 @@ impl Token {
         })
     }
 
-    /// Whether it is coin, which no token is less than.
+    /// Whether it is coin, the least token.
     pub fn is_coin(&self) -> bool
         ensures same { result ≡ same_token self.now coin }
         ensures least { is_lt (token_cmp self.now coin) ≡ false }

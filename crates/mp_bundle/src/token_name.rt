@@ -12,7 +12,8 @@ use std::marker::Model;
 /// The most bytes that a name may have.
 pub const MAX_NAME_BYTES: usize = 32;
 
-/// The name of a token under its policy: 0 to 32 bytes. Names are ordered by their bytes, a proper prefix first.
+/// The name of a token under its policy: 0 to 32 bytes. Names are ordered by their bytes, and a proper prefix comes
+/// first.
 #[derive(Clone, Copy, Debug)]
 pub struct TokenName {
     bytes: [u8; 32],
@@ -36,13 +37,13 @@ impl Model for TokenName {
 }
 
 impl TokenName {
-    /// The name of no byte.
+    /// The empty name.
     pub const EMPTY: TokenName = TokenName {
         bytes: [0; 32],
         len: 0,
     };
 
-    /// The name of these bytes, at most 32.
+    /// The name of these bytes. There are at most 32.
     pub fn of(name: &[u8]) -> TokenName
         requires { length name.now ≤ 32 }
         ensures { result ≡ name.now }

@@ -1,4 +1,4 @@
-//! Totals by token. A total of zero can't be told from none.
+//! Totals by token. Readers can't distinguish a total of zero from no total.
 
 ghost use Rattle.std.specs.Prelude.{◌≡◌, ◌-◌, ◌^◌, ◌+ℤ◌, IsTrue, IsSome, OnOk, option_copied, if◌then◌else◌, pos};
 ghost use Rattle.std.specs.FinMap.{is_sorted};
@@ -14,10 +14,10 @@ use crate::token::Token;
 use mp_memory::{Memory, NoMemory};
 use std::collections::BTreeMap;
 
-/// A total for each token that was added, also where it is zero.
+/// A total for each token that was added, including totals of zero.
 pub type Totals = BTreeMap<Token, i128, Memory>;
 
-/// The total of a token.
+/// The total of a token, or 0 if there is none.
 pub fn total_at(totals: &Totals, token: &Token) -> i128
     ensures { result ≡ quantity_of totals.now.entries token.now }
 {
@@ -34,7 +34,7 @@ fn make_room_for(totals: &mut Totals, token: &Token) -> Result<(), NoMemory>
     Ok(())
 }
 
-/// Makes a total of zero for each token that has none. It is the one step that takes memory.
+/// Makes a total of zero for each token that has none. Only this step takes memory.
 pub fn make_room(totals: &mut Totals, entries: &[Entry]) -> Result<(), NoMemory>
     ensures kept { KeepsTotals totals.old totals.new }
     ensures room { OnOk result (HasRoom totals.new entries.now) }
@@ -69,7 +69,7 @@ pub fn raise_all(totals: &mut Totals, entries: &[Entry])
     }
 }
 
-/// The token of the first total that the others don't have.
+/// The first token whose total differs in the others.
 pub fn first_unlike<'a>(totals: &'a Totals, others: &Totals) -> Option<&'a Token>
     ensures found { option_copied result ≡ first_unlike totals.now.entries others.now.entries }
     ensures rising { IsTrue (is_sorted token_cmp totals.now.entries) }
@@ -88,7 +88,7 @@ fn precedes(first: &Token, second: &Token) -> bool
     first.cmp(second).is_lt()
 }
 
-/// The lesser token of two that there may be.
+/// The lesser of two tokens, either of which may be missing.
 pub fn lesser<'a>(first: Option<&'a Token>, second: Option<&'a Token>) -> Option<&'a Token>
     ensures { option_copied result
         ≡ lesser (option_copied first.entry) (option_copied second.entry) }

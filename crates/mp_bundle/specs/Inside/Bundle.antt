@@ -7,12 +7,12 @@ use Rattle.std.specs.declared.vec.Vec.{Vec}
 use Rattle.mp_bundle.specs.Token.{coin, token_cmp}
 use Rattle.mp_bundle.specs.Bundle.{Entry, with_coin, IsBundle}
 
--- the entries, where there are some
+-- the entries, if there are any
 abbrev pub entries_in : {Y Z : Type 0} → Option (Arc (Vec Entry Y) Z) → List Entry
 entries_in None = []
 entries_in (Some shared) = (arc_value shared).items
 
--- so much coin and the others are a bundle, and none of the others is of coin
+-- the coin and the others are a bundle, and none of the others is coin
 pub record IsParted (n : ℤ) (others : List Entry) : Type 0 where
   pub bundle : IsBundle (with_coin n others)
   pub above : IsTrue (below_all token_cmp coin others)

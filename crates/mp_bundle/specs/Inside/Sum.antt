@@ -1,4 +1,4 @@
--- What a sum keeps, and how it is seen.
+-- What a sum stores, and its view.
 use Rattle.std.specs.Prelude.{◌≡◌, ◌-◌, ◌*◌, ◌^◌, ◌<◌, ◌≤◌, false, pos, List, ◌∷◌, length}
 use Rattle.std.specs.Ordering.{is_lt}
 use Rattle.mp_bundle.specs.declared.sum.Sum.TheInside.{Inside}
@@ -15,8 +15,8 @@ totals_of s = (coin, s.coin) ∷ s.totals.entries
 abbrev pub sum_of : Inside → Sum
 sum_of s = record { added = s.added; nonzero = nonzero_of (totals_of s) }
 
--- totals of at most 2^32 bundles: each fits, and a token with a long name has none. The others are
--- above coin
+-- the totals of at most 2^32 bundles: each fits, a token with a long name has none, and the other tokens are greater
+-- than coin
 pub record IsHeld (s : Inside) : Type 0 where
   pub few : s.added ≤ 2 ^ 32
   pub within : (token : Token)

@@ -1,18 +1,18 @@
--- The name of a token, kept in 32 bytes of which the last are zeros.
+-- The name of a token, stored in 32 bytes, the last of which are zeros.
 use Rattle.std.specs.Prelude.{◌≡◌, ℕ, ◌-◌, ◌≤◌, List, ◌++◌, length, take, drop, replicate}
 use Rattle.std.proofs.Common.{sym, ap, subst, ◌∙◌}
 use Rattle.std.proofs.lemmas.List.{length-take-le, take-append-drop}
 use Rattle.mp_bundle.specs.declared.token_name.TokenName.TheInside.{Inside}
 
--- the bytes that are seen
+-- the bytes of the name
 abbrev pub name : Inside → List ℕ
 name t = take t.len t.bytes
 
--- what is kept of a name
+-- what is stored for a name
 abbrev pub padded : List ℕ → Inside
 padded bytes = record { bytes = bytes ++ replicate (32 - length bytes) 0; len = length bytes }
 
--- zeros stand after the name
+-- the bytes after the name are zeros
 pub record IsPadded (t : Inside) : Type 0 where
   pub fits : t.len ≤ 32
   pub zeros : drop t.len t.bytes ≡ replicate (32 - t.len) 0

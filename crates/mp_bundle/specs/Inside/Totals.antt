@@ -1,4 +1,4 @@
--- What a sum keeps: a total for each token that was added, also where it is zero.
+-- What a sum stores: a total for each token that was added, including totals of zero.
 use Rattle.std.specs.Prelude.{◌≡◌, ◌-◌, ◌^◌, not, ℤ, pos, ◌+ℤ◌, List, [], ◌∷◌, Option, Some, None, if◌then◌else◌, All}
 use Rattle.std.specs.FinMap.{FinMap, empty, insert, remove}
 use Rattle.std.specs.Ordering.{eq_by_cmp, int_eq, is_lt}
@@ -46,13 +46,13 @@ HasSpan totals entries =
     (token : Token)
     → IsWithin (2 ^ 127 - 1) (quantity_of totals.entries token +ℤ quantity_of entries token)
 
--- the token of the first total that the others don't have
+-- the first token whose total differs in the others
 abbrev pub first_unlike : List Entry → List Entry → Option Token
 first_unlike [] others = None
 first_unlike (e ∷ es) others =
     if not (int_eq (quantity_of others e.0) e.1) then Some e.0 else first_unlike es others
 
--- the lesser token of two that there may be
+-- the lesser of two tokens, either of which may be missing
 abbrev pub lesser : Option Token → Option Token → Option Token
 lesser None b = b
 lesser (Some a) None = Some a

@@ -29,7 +29,7 @@ overflow_add-self c =
     let held : FitsSigned w128 c.self.inside.coin = search rules in
     omega (arith, ints, c.from.ensures, fits.least, fits.greatest)
 
--- the sum of coin fits, so it is what is kept
+-- the sum of coin fits, so it is what is stored
 coin_is : (c : goal.After-self-3-1) → to_z w128 (of_z w128 (to_z w128 (of_z w128 c.self.inside.coin) +ℤ to_z w128 (of_z w128 c.from.result))) ≡ c.self.inside.coin +ℤ c.coin-coin.result
 coin_is c =
     let few = subst (λ (s : Sum). s.added < 2 ^ 32) (sym c.self.view_is) c.requires in
