@@ -1,4 +1,4 @@
--- What is read is spelled so, and what is spelled so is read.
+-- What is read has this spelling, and what has this spelling is read.
 use Rattle.std.proofs.Common.{◌≡◌, ℕ, zero, suc, ◌^◌, ◌<◌, ◌≤◌, false, eqb, List, [], ◌∷◌, ◌++◌, length, Option, Result, Ok, Err, refl, sym, ap, subst, ◌∙◌, append_assoc, arith}
 use Rattle.std.specs.Prelude.{ℤ}
 use Rattle.std.specs.Int.{w16, w64, to_be_bytes, cast_unsigned}
@@ -139,7 +139,7 @@ ended (Ok (d, [])) e = (d, refl)
 ended (Ok (d, b ∷ bytes)) e = absurd cc
 ended (Err f) e = absurd cc
 
--- a walk that ends with the bytes has met a datum
+-- if a walk ends at the end of the bytes, they are a datum
 pub walked_is_datum : (bytes rest : List ℕ) → IsBytes bytes → Ok rest ≡ rest_of (datum_read 16 bytes) → length rest ≡ 0 → IsDatum bytes
 walked_is_datum bytes [] fits e len =
     let w = ended (datum_read 16 bytes) e in
@@ -149,6 +149,6 @@ walked_is_datum bytes (b ∷ rest) fits e len = absurd cc
 refused : (d : Datum) (f : DataFault) (r : Result Datum DataFault) → r ≡ Ok d → r ≡ Err f → f ≡ NoMemory
 refused d f r e g = absurd cc
 
--- what is spelled is not refused but for memory
+-- only an allocation failure can refuse bytes that spell a datum
 pub spelled_is_not_refused : (f : DataFault) (bytes : List ℕ) (d : Datum) → Spells bytes d → datum_of bytes ≡ Err f → f ≡ NoMemory
 spelled_is_not_refused f bytes d s e = refused d f (datum_of bytes) (spelled_is_read bytes d s) e

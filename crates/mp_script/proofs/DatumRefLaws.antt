@@ -13,7 +13,7 @@ use Rattle.mp_bytes.proofs.Bytes.{some_is}
 use Rattle.mp_bytes.proofs.FieldLaws.{number_again, count_again, sized_again}
 use Rattle.mp_script.proofs.DataLaws.{spelled_is_read}
 
--- the datum that is spelled is the one that is seen
+-- the datum that is spelled is the one that contracts see
 pub tree_is : (bytes : List ℕ) (d : Datum) → Spells bytes d → tree_of bytes ≡ d
 tree_is bytes d s = ap or_unit (spelled_is_read bytes d s)
 
@@ -55,7 +55,7 @@ items_are_seen bytes (d, s) = ap items_seen (spelled_so bytes d s) ∙ items_of_
 
 -- ---- runs of data
 
--- the items of a list, and none of another datum
+-- the items of a list; another datum has none
 abbrev inner : Datum → Items
 inner (number n) = none
 inner (octets bytes) = none
@@ -101,7 +101,7 @@ many_bytes (item d ds) = omega (arith, many_bytes ds, spelling_is_longer d, leng
 pub run_is_short : (bytes : List ℕ) (n : ℕ) (rest : List ℕ) → IsRun bytes n rest → n ≤ length bytes
 run_is_short bytes n rest r = omega (arith, many_bytes r.items, r.number, ap length r.split, length-append (spellings r.items) rest)
 
--- a run with its head taken off
+-- a run without its head
 record Beheaded (bytes : List ℕ) (n : ℕ) (rest : List ℕ) : Type 0 where
   more : ℕ
   after : List ℕ
@@ -139,7 +139,7 @@ head_is_there bytes (suc n) rest r some e =
     let b = run_beheaded bytes n rest r in
     none_is_some (head_at bytes) (b.more, b.after) e b.head
 
--- what is left of a run behind its head
+-- what is left of a run after its head
 pub record Behind (bytes : List ℕ) (n : ℕ) (rest : List ℕ) (x : ℕ × List ℕ) : Type 0 where
   pub run : IsRun x.1 (n - 1 + x.0) rest
   pub shorter : length x.1 < length bytes
@@ -259,6 +259,6 @@ item_is_datum bytes own items place d isd is e spelled =
 pub items_fit : (bytes : List ℕ) (items : Items) → IsDatum bytes → tree_of bytes ≡ list items → AllFit items
 items_fit bytes items isd is = (subst (λ (x : Datum). Spells bytes x) is (tree_spelled bytes isd)).fits.1
 
--- data are the same where their bytes are
+-- data are the same if their bytes are
 pub same_bytes : (a b : List ℕ) → IsDatum a → IsDatum b → pointwise nat_eq a b ≡ same_datum (tree_of a) (tree_of b)
 same_bytes a b d e = ap (λ (t : List ℕ). pointwise nat_eq t b) (tree_spelled a d).spelled ∙ ap (pointwise nat_eq (spelling (tree_of a))) (tree_spelled b e).spelled

@@ -1,4 +1,4 @@
--- What a pass over a script's operators keeps.
+-- What a pass over the operators of a script preserves.
 use Rattle.std.proofs.Common.{◌≡◌, ℕ, zero, suc, ◌+◌, ◌*◌, ◌<◌, ◌≤◌, cond, leb, List, [], ◌∷◌, length, Some, Result, Ok, Err, refl, sym, ap, subst, ◌∙◌, arith}
 use Rattle.std.specs.Prelude.{map}
 use Rattle.mp_script.specs.declared.fault.ScriptFault.{ScriptFault}
@@ -35,7 +35,7 @@ made_acts s (op.on_three o) (c ∷ []) x e = absurd cc
 made_acts s (op.on_three o) (c ∷ b ∷ []) x e = absurd cc
 made_acts s (op.on_three o) (c ∷ b ∷ a ∷ waiting) x e = subst (λ (y : Tree × List Tree). Acts s (op.on_three o) (c ∷ b ∷ a ∷ waiting) y) (ok_is (ternary o a b c, waiting) x e) (record { operands = omega arith; values = refl })
 
--- ---- how many wait: at each depth up to two stand before a third
+-- ---- the size of the stack: at each depth, at most two precede a third
 
 abbrev Held : List Tree → ℕ → Type 0
 Held [] most = Unit {0}

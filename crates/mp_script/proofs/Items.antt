@@ -21,7 +21,7 @@ rest-of-items read n bytes = after-first read n (read bytes)
 one-less : (n k : ℕ) → k < n → n - k ≡ suc (n - (k + 1))
 one-less n k h = omega arith
 
--- after one datum of those that are left
+-- after one of the remaining data
 pub next-item : (read : List ℕ → Read Datum) (n k : ℕ) (bytes : List ℕ) (total first : Result (List ℕ) DataFault) → k < n → rest_of (items_read read (n - k) bytes) ≡ total → first ≡ rest_of (read bytes) → (first >>= λ rest. rest_of (items_read read (n - (k + 1)) rest)) ≡ total
 next-item read n k bytes total first h e f =
     ap (λ r. r >>= λ rest. rest_of (items_read read (n - (k + 1)) rest)) f ∙ sym (rest-of-items read (n - (k + 1)) bytes) ∙ ap (λ m. rest_of (items_read read m bytes)) (sym (one-less n k h)) ∙ e

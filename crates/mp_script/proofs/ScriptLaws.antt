@@ -1,4 +1,4 @@
--- What is read is spelled so, and what is spelled so is read.
+-- What is read has this spelling, and what has this spelling is read.
 use Rattle.std.proofs.Common.{◌≡◌, ℕ, zero, suc, ◌+◌, ◌-◌, ◌≤◌, Bool, true, false, cond, leb, max, List, [], ◌∷◌, ◌++◌, length, Result, Ok, Err, refl, sym, ap, subst, ◌∙◌, append_assoc, arith}
 use Rattle.std.specs.Prelude.{map, OnOk}
 use Rattle.std.proofs.lemmas.Bool.{leb-true, le-leb}
@@ -73,9 +73,9 @@ reading_ends room depths [] total none one e =
     (a.0, sym e ∙ a.1)
 reading_ends room depths (b ∷ rest) total none one e = absurd (omega (arith, none))
 
--- ---- what is read is spelled so
+-- ---- what is read has this spelling
 
--- what waits, as it was read
+-- the stack, as its expressions were read
 abbrev spelled : List Tree → List ℕ
 spelled [] = []
 spelled (w ∷ waiting) = spelled waiting ++ spelling w
@@ -167,7 +167,7 @@ read_is_spelled text t fits e =
     let r = was_read 1024 [] text t fits tt e in
     record { fits = r.fits; short = omega (arith, r.short); shallow = r.shallow; spelled = r.joined }
 
--- ---- and what is spelled so is read
+-- ---- and what has this spelling is read
 
 opened : (o : Operator) (room : ℕ) (waiting : List Tree) (rest : List ℕ) → reads put (suc room) waiting (op_bytes o ++ rest) ≡ (operator_read (op_bytes o ++ rest) >>= λ x. put x.0 waiting >>= λ next. reads put room next x.1)
 opened (op.int n) room waiting rest = refl
@@ -249,7 +249,7 @@ depths_are_refused text f e = seen_err (script_of text) f (sym (reads_depths 102
 refused : (t : Tree) (f : ScriptFault) (r : Result Tree ScriptFault) → r ≡ Ok t → r ≡ Err f → f ≡ NoMemory
 refused t f r e g = absurd cc
 
--- what is spelled is not refused but for memory
+-- only an allocation failure can refuse text that spells a script
 pub spelled_is_not_refused : (f : ScriptFault) (text : List ℕ) (t : Tree) → Spells text t → script_of text ≡ Err f → f ≡ NoMemory
 spelled_is_not_refused f text t s e = refused t f (script_of text) (spelled_is_read text t s) e
 

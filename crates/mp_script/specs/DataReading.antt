@@ -1,4 +1,4 @@
--- Reading a datum: what stands at the front of bytes, with the bytes after it, or the first fault from the left.
+-- Reading a datum: the datum at the front of bytes and the bytes after it, or the first fault from the left.
 use Rattle.std.specs.Prelude.{◌≡◌, ◌⊎◌, ℕ, zero, suc, List, [], ◌∷◌, Result, Ok, Err, if◌then◌else◌, nat_eq}
 use Rattle.mp_script.specs.declared.fault.DataFault.{DataFault}
 use Rattle.mp_script.specs.declared.fault.DataFault.TheVariants.{NoMemory, Truncated, BadTag, TooDeep, Trailing}
@@ -19,7 +19,7 @@ octets_read bytes = do
   run ← or_fault Truncated (sized_at bytes)
   Ok (octets run.0, run.1)
 
--- so many data, each as `read` has it
+-- n data, each read by `read`
 abbrev pub items_read : (List ℕ → Read Datum) → ℕ → List ℕ → Read Items
 items_read read zero bytes = Ok (none, bytes)
 items_read read (suc n) bytes = do
@@ -33,7 +33,7 @@ list_read read bytes = do
   items ← items_read read n.0 n.1
   Ok (list items.0, items.1)
 
--- a datum up to a depth
+-- a datum of at most this depth
 abbrev pub datum_read : ℕ → List ℕ → Read Datum
 datum_read most [] = Err Truncated
 datum_read zero (tag ∷ bytes) = Err TooDeep
@@ -56,10 +56,10 @@ abbrev pub or_unit : Result Datum DataFault → Datum
 or_unit (Ok d) = d
 or_unit (Err e) = list none
 
--- the datum that the bytes spell, and where they spell none the empty list
+-- the datum that the bytes spell, or the empty list if they spell none
 abbrev pub tree_of : List ℕ → Datum
 tree_of bytes = or_unit (datum_of bytes)
 
--- the fault is the first one, or want of memory where there is none
+-- the fault is the first one; if there is none, it is an allocation failure
 abbrev pub IsFaultOf : List ℕ → DataFault → Type 0
 IsFaultOf bytes fault = (datum_of bytes ≡ Err fault) ⊎ ((fault ≡ NoMemory) × IsDatum bytes)

@@ -20,7 +20,7 @@ count none = 0
 count (item d ds) = suc (count ds)
 
 abbrev mutual
-  -- a number, bytes and the empty list have depth 1, another list one more than its deepest item
+  -- numbers, bytes and the empty list have depth 1; the depth of another list is one more than that of its deepest item
   pub depth : Datum → ℕ
   depth (number n) = 1
   depth (octets bytes) = 1
@@ -31,7 +31,7 @@ abbrev mutual
   deepest (item d ds) = max (depth d) (deepest ds)
 
 abbrev mutual
-  -- numbers have 64 bits, bytes and lists up to 65,535 members
+  -- numbers have 64 bits; bytes and lists have at most 65,535 members
   pub Fits : Datum → Type 0
   Fits (number n) = FitsSigned w64 n
   Fits (octets bytes) = length bytes < 2 ^ 16
@@ -42,7 +42,7 @@ abbrev mutual
   AllFit (item d ds) = Fits d × AllFit ds
 
 abbrev mutual
-  -- a tag, and then eight bytes in two's complement, or a 2-byte count and so many bytes or data
+  -- a tag, and then 8 bytes in two's complement, or a 2-byte count and that many bytes or data
   pub spelling : Datum → List ℕ
   spelling (number n) = 1 ∷ to_be_bytes w64 (cast_unsigned w64 n)
   spelling (octets bytes) = 2 ∷ to_be_bytes w16 (length bytes) ++ bytes
@@ -62,22 +62,22 @@ pub record Spells (bytes : List ℕ) (d : Datum) : Type 0 where
 abbrev pub IsDatum : List ℕ → Type 0
 IsDatum bytes = (d : Datum) × Spells bytes d
 
--- the number of a datum that is one
+-- the number, if the datum is one
 abbrev pub number_in : Datum → Option ℤ
 number_in (number n) = Some n
 number_in _ = None
 
--- the bytes of a datum that is bytes
+-- the bytes, if the datum is bytes
 abbrev pub octets_in : Datum → Option (List ℕ)
 octets_in (octets bytes) = Some bytes
 octets_in _ = None
 
--- how many items a list has
+-- the number of items, if the datum is a list
 abbrev pub length_in : Datum → Option ℕ
 length_in (list items) = Some (count items)
 length_in _ = None
 
--- the item at a place, from 0
+-- the item at an index, from 0
 abbrev pub item_at : Items → ℕ → Option Datum
 item_at none place = None
 item_at (item d ds) zero = Some d

@@ -1,4 +1,4 @@
--- What a script comes to in a view: one case for each operator.
+-- The value of a script in a view: one case for each operator.
 use Rattle.std.specs.Prelude.{ℕ, ◌^◌, ℤ, pos, negsuc, ◌+ℤ◌, ◌-ℤ◌, ◌*ℤ◌, Bool, true, false, not, List, [], ◌∷◌, length, Option, None, Some, if◌then◌else◌, nat_eq, nat_lt, nat_le, int_lt, int_le, slice_get}
 use Rattle.std.specs.Bool.{beq}
 use Rattle.std.specs.Ordering.{int_eq}
@@ -31,12 +31,12 @@ abbrev pub datum_in : Value → Option Datum
 datum_in (tree d) = Some d
 datum_in _ = None
 
--- a place in a list: a number from 0 to 2^64 - 1
+-- an index into a list: a number from 0 to 2^64 - 1
 abbrev pub place_in : Value → Option ℕ
 place_in (whole (pos n)) = if nat_lt n (2 ^ 64) then Some n else None
 place_in _ = None
 
--- what becomes of what there is, and Nothing where there is none
+-- a function of the value that is there, or Nothing if there is none
 abbrev pub on : {A : Type 0} → Option A → (A → Value) → Value
 on None f = nothing
 on (Some a) f = f a
@@ -54,7 +54,7 @@ on_wholes f a b = on (wholes_in a b) (λ p. f p.0 p.1)
 abbrev pub negation : Value → Value
 negation a = on (truth_in a) (λ b. truth (not b))
 
--- Kleene's and: what is no truth value counts as Nothing
+-- Kleene's conjunction: what is no truth value counts as Nothing
 abbrev pub conjunction : Option Bool → Option Bool → Value
 conjunction (Some false) b = truth false
 conjunction (Some true) (Some b) = truth b
@@ -63,7 +63,7 @@ conjunction None (Some false) = truth false
 conjunction None (Some true) = nothing
 conjunction None None = nothing
 
--- Kleene's or
+-- Kleene's disjunction
 abbrev pub disjunction : Option Bool → Option Bool → Value
 disjunction (Some true) b = truth true
 disjunction (Some false) (Some b) = truth b
@@ -77,11 +77,11 @@ choice (Some true) a b = a
 choice (Some false) a b = b
 choice None a b = nothing
 
--- two data are the same where their bytes are
+-- two data are the same if their bytes are
 abbrev pub same_datum : Datum → Datum → Bool
 same_datum d e = pointwise nat_eq (spelling d) (spelling e)
 
--- whether two values of one kind are equal
+-- whether two values of the same kind are equal
 abbrev pub equality : Value → Value → Value
 equality (truth a) (truth b) = truth (beq a b)
 equality (whole a) (whole b) = truth (int_eq a b)
@@ -113,36 +113,36 @@ name_in _ = None
 abbrev pub token_in : Value → Value → Option Token
 token_in p n = option_and_then (λ policy. option_map (token policy) (name_in n)) (hash_in p)
 
--- how much of a token there is
+-- the quantity of a token
 abbrev pub amount : Option Token → (Token → ℤ) → Value
 amount t quantity = on t (λ t. whole (quantity t))
 
--- how much of a token a bundle has
+-- the quantity of a token in a bundle
 abbrev pub bundle_quantity : List Entry → Value → Value → Value
 bundle_quantity bundle p n = amount (token_in p n) (quantity_of bundle)
 
--- how much of a token an output pays to an address
+-- the quantity of a token that an output pays to an address
 abbrev pub paid_by : PaidTo → List ℕ → Token → ℤ
 paid_by o address t = if pointwise nat_eq o.address address then quantity_of o.bundle t else pos 0
 
--- how much of a token the outputs pay to an address
+-- the quantity of a token that the outputs pay to an address
 abbrev pub paid_to : List ℕ → Token → List PaidTo → ℤ
 paid_to address t [] = pos 0
 paid_to address t (o ∷ outputs) = paid_by o address t +ℤ paid_to address t outputs
 
--- the same where the address and the token are values
+-- the same for an address and a token that are values
 abbrev pub paid_quantity : List PaidTo → Value → Value → Value → Value
 paid_quantity outputs x p n = on (hash_in x) (λ address. amount (token_in p n) (λ t. paid_to address t outputs))
 
 -- ---- data
 
--- the datum at a place of a list
+-- the datum at an index of a list
 abbrev pub list_item : Value → Value → Option Datum
 list_item d n = option_and_then (λ list. option_and_then (item_in list) (place_in n)) (datum_in d)
 
 -- ---- keys
 
--- whether a key is among those that signed
+-- whether a key is among those that have signed
 abbrev pub has_signed : List (List ℕ) → List ℕ → Bool
 has_signed keys key = list_any (λ k. pointwise nat_eq k key) keys
 
@@ -151,7 +151,7 @@ has_signed keys key = list_any (λ k. pointwise nat_eq k key) keys
 abbrev pub reference_at : List Referred → Value → Option Referred
 reference_at references n = option_and_then (λ place. slice_get references place) (place_in n)
 
--- how much of a token the output holds that a reference names
+-- the quantity of a token in the output that a reference names
 abbrev pub ref_quantity : List Referred → Value → Value → Value → Value
 ref_quantity references n p name = on (reference_at references n) (λ r. bundle_quantity r.bundle p name)
 

@@ -50,7 +50,7 @@ ternary_code ternary.If = 0x13
 ternary_code ternary.Paid = 0x56
 ternary_code ternary.RefQuantity = 0x63
 
--- the first that has the byte
+-- the first that has this byte
 abbrev pub with_code : {A : Type 0} → (A → ℕ) → List A → ℕ → Option A
 with_code code_of [] code = None
 with_code code_of (a ∷ more) code = if nat_eq code (code_of a) then Some a else with_code code_of more code

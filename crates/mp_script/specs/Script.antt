@@ -16,7 +16,7 @@ pub data Tree : Type 0 where
   binary : Binary → Tree → Tree → Tree
   ternary : Ternary → Tree → Tree → Tree → Tree
 
--- a leaf has depth 1, another operator one more than its deepest operand
+-- a leaf has depth 1; the depth of another operator is one more than that of its deepest operand
 abbrev pub depth : Tree → ℕ
 depth (int n) = 1
 depth (bytes b) = 1
@@ -25,7 +25,7 @@ depth (unary o a) = suc (depth a)
 depth (binary o a b) = suc (max (depth a) (depth b))
 depth (ternary o a b c) = suc (max (depth a) (max (depth b) (depth c)))
 
--- how many operators it has
+-- the number of operators
 abbrev pub size : Tree → ℕ
 size (int n) = 1
 size (bytes b) = 1
@@ -34,7 +34,7 @@ size (unary o a) = suc (size a)
 size (binary o a b) = suc (size a + size b)
 size (ternary o a b c) = suc (size a + size b + size c)
 
--- numbers have 64 bits, bytes are up to 255
+-- numbers have 64 bits; there are at most 255 bytes
 abbrev pub Fits : Tree → Type 0
 Fits (int n) = FitsSigned w64 n
 Fits (bytes b) = length b < 2 ^ 8
@@ -43,7 +43,7 @@ Fits (unary o a) = Fits a
 Fits (binary o a b) = Fits a × Fits b
 Fits (ternary o a b c) = Fits a × Fits b × Fits c
 
--- Int has its number in eight bytes, in two's complement, and Bytes a 1-byte length and so many bytes
+-- Int has its number in 8 bytes, in two's complement; Bytes has a 1-byte length and that many bytes
 abbrev pub spelling : Tree → List ℕ
 spelling (int n) = 2 ∷ to_be_bytes w64 (cast_unsigned w64 n)
 spelling (bytes b) = 3 ∷ length b ∷ b

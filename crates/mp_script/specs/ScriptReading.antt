@@ -1,4 +1,4 @@
--- Reading a script: the operators from the left, each over the expressions that wait for it, or the first fault.
+-- Reading a script: the operators from the left, each applied to the expressions on the stack, or the first fault.
 use Rattle.std.specs.Prelude.{◌≡◌, ◌⊎◌, ℕ, zero, suc, List, [], ◌∷◌, Option, None, Some, Result, Ok, Err, if◌then◌else◌, nat_eq, nat_le}
 use Rattle.std.specs.Option.{option_map}
 use Rattle.mp_script.specs.declared.fault.ScriptFault.{ScriptFault}
@@ -40,13 +40,13 @@ operator_read (code ∷ text) =
     else if nat_eq code 3 then bytes_read text
     else plain_of code >>= λ o. Ok (o, text)
 
--- the one that waits
+-- the only expression on the stack
 abbrev pub alone : {W : Type 0} → List W → Result W ScriptFault
 alone [] = Err NotOneExpression
 alone (w ∷ []) = Ok w
 alone (w ∷ v ∷ waiting) = Err NotOneExpression
 
--- up to so many operators, each of which is put in the place of its operands among those that wait, the last one first
+-- at most n operators, each of which replaces its operands on the stack, the last one first
 abbrev pub reads : {W : Type 0} → (Operator → List W → Result (List W) ScriptFault) → ℕ → List W → List ℕ → Result W ScriptFault
 reads put room waiting [] = alone waiting
 reads put zero waiting (code ∷ text) = operator_read (code ∷ text) >>= λ o. Err TooLong
@@ -55,7 +55,7 @@ reads put (suc room) waiting (code ∷ text) = do
   next ← put o.0 waiting
   reads put room next o.1
 
--- the expression that an operator makes of those that wait, and what goes on waiting
+-- the expression that an operator makes of the top of the stack, and what stays on it
 abbrev pub made : Operator → List Tree → Result (Tree × List Tree) ScriptFault
 made (op.int n) waiting = Ok (int n, waiting)
 made (op.bytes b) waiting = Ok (bytes b, waiting)
@@ -65,7 +65,7 @@ made (op.on_two o) (b ∷ a ∷ waiting) = Ok (binary o a b, waiting)
 made (op.on_three o) (c ∷ b ∷ a ∷ waiting) = Ok (ternary o a b c, waiting)
 made o waiting = Err Underflow
 
--- it waits in turn, up to a depth of 64
+-- the expression goes on the stack, if its depth is at most 64
 abbrev pub put : Operator → List Tree → Result (List Tree) ScriptFault
 put o waiting = made o waiting >>= λ x. if nat_le (depth x.0) 64 then Ok (x.0 ∷ x.1) else Err TooDeep
 
@@ -73,6 +73,6 @@ put o waiting = made o waiting >>= λ x. if nat_le (depth x.0) 64 then Ok (x.0 �
 abbrev pub script_of : List ℕ → Result Tree ScriptFault
 script_of text = reads put 1024 [] text
 
--- the fault is the first one, or want of memory where there is none
+-- the fault is the first one; if there is none, it is an allocation failure
 abbrev pub IsFaultOf : List ℕ → ScriptFault → Type 0
 IsFaultOf text fault = (script_of text ≡ Err fault) ⊎ ((fault ≡ NoMemory) × IsScript text)

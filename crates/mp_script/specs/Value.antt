@@ -1,4 +1,4 @@
--- What an expression comes to.
+-- The value of an expression.
 use Rattle.std.specs.Prelude.{ℕ, ℤ, Bool, List}
 use Rattle.mp_script.specs.declared.value.Value as code
 use Rattle.mp_script.specs.declared.value.Value.TheVariants as variant

@@ -1,4 +1,4 @@
--- What a script sees where it runs.
+-- What a script sees when it runs.
 use Rattle.std.specs.Prelude.{ℕ, ℤ, List, map, Option}
 use Rattle.std.specs.Option.{option_map}
 use Rattle.mp_bundle.specs.declared.token.Token.{Token}
@@ -21,18 +21,18 @@ pub record Referred : Type 0 where
   pub datum_hash : List ℕ
   pub bundle : List Entry
 
--- the transaction, and the script's own place in it
+-- the transaction, and the script's own part in it
 pub record View : Type 0 where
   -- the hash of the script that runs
   pub own_hash : List ℕ
-  -- of the output that the script guards; a policy script has none of these three
+  -- of the output that the script locks; a policy script has none of these three
   pub datum : Option Datum
   pub redeemer : Option Datum
   pub own_value : Option (List Entry)
-  -- the first and the last tick of the interval
+  -- the first and the last tick of the validity interval
   pub from : ℕ
   pub to : ℕ
-  -- the keys that signed
+  -- the keys that have signed
   pub keys : List (List ℕ)
   -- the total of each token over all outputs that are spent
   pub spent : Token → ℤ
@@ -46,7 +46,7 @@ paid_to_of o = record { address = o.address.now; bundle = o.value.now }
 abbrev pub referred_of : referred_code.Referred → Referred
 referred_of o = record { address = o.address.now; datum_hash = o.datum_hash.now; bundle = o.value.now }
 
--- what is seen by a view
+-- what contracts see of a view
 abbrev pub view_of : view_code.View → View
 view_of v = record {
   own_hash = v.own_hash.now;

@@ -11,7 +11,7 @@ use mp_bytes::{Hash, HashedBytes};
 use mp_memory::{Memory, NoMemory};
 use std::marker::Model;
 
-/// A datum: a whole number, bytes, or a list of data, up to a depth of 16. Contracts see its bytes.
+/// A datum: a whole number, bytes, or a list of data, with a depth of at most 16. Contracts see its bytes.
 #[derive(Debug)]
 pub struct Data {
     spelled: HashedBytes,
@@ -53,13 +53,13 @@ impl Data {
     ghost use Rattle.mp_script.specs.Datum.{Datum, Spells, IsDatum};
     ghost use Rattle.mp_script.specs.DataReading.{IsFaultOf};
 
-    /// The datum that the bytes spell, kept in two growths, of just their number and of what owners share. The list of no
-    /// items takes none.
+    /// The datum that the bytes spell, stored in two allocations: one of exactly their length, and one of what owners
+    /// share. The list without items takes no allocation.
     ///
     /// # Errors
-    /// The first fault from the left. For each datum in reading order: `Truncated` where no byte is left, `TooDeep` where it
-    /// would stand at depth 17, `BadTag` where its first byte is no tag, and `Truncated` where bytes of it are missing. At
-    /// the end `Trailing` where bytes are left. `NoMemory` may stand in place of a datum.
+    /// The first fault from the left. For each datum, in reading order: `Truncated` if no byte is left, `TooDeep` if
+    /// its depth would be 17, `BadTag` if its first byte is no tag, and `Truncated` if some of its bytes are missing.
+    /// At the end: `Trailing` if bytes are left. `NoMemory` may be returned instead of a datum.
     pub fn decode(memory: Memory, bytes: &[u8]) -> Result<Data, DataFault>
         ensures found { IfOk result (λ d. (d ≡ bytes.now) × IsDatum bytes.now) }
         ensures only { (d : Datum) → Spells bytes.now d → IfErr result (λ e. e ≡ faults.NoMemory) }
@@ -71,7 +71,7 @@ impl Data {
         })
     }
 
-    /// The same datum. Its bytes are shared, and not copied: `NoMemory` where they are shared too often.
+    /// The same datum. Its bytes are shared and not copied. Returns `NoMemory` if there are too many owners.
     pub fn share(&self) -> Result<Data, NoMemory>
         ensures { IfOk result (λ d. d ≡ self.now) }
     {

@@ -10,7 +10,7 @@ use crate::walk::{LIST, NUMBER, OCTETS};
 use mp_bytes::{split_count, split_number, split_sized};
 use std::marker::Model;
 
-/// A part of a datum, or all of it, borrowed. Contracts see its bytes.
+/// A borrowed datum, or a part of one. Contracts see its bytes.
 #[derive(Debug, Drop)]
 pub struct DatumRef<'a> {
     bytes: &'a [u8],
@@ -27,7 +27,7 @@ impl<'a> Model for DatumRef<'a> {
     ghost invariant = { λ p. IsDatum p.bytes.now };
 }
 
-// The bytes behind a tag, where it is the one that is wanted.
+// The bytes after the tag, if it is the one that is wanted.
 fn behind(bytes: &[u8], wanted: u8) -> Option<&[u8]>
     ensures { option_map (λ b. b.now) result ≡ behind bytes.now wanted }
 {
@@ -72,7 +72,7 @@ fn number_head(bytes: &[u8]) -> Option<(u16, &[u8])>
     Some((0, rest))
 }
 
-// How many data stand in the datum at the front, and the bytes after its head.
+// The number of data in the datum at the front, and the bytes after its head.
 #[tactic(auto, unfolding(crate::specs::Inside::DatumRef::head_at))]
 fn head(bytes: &[u8]) -> Option<(u16, &[u8])>
     ensures { option_map (λ f. (f.0, f.1.now)) result ≡ head_at bytes.now }
@@ -86,7 +86,7 @@ fn head(bytes: &[u8]) -> Option<(u16, &[u8])>
     }
 }
 
-// The bytes after so many data.
+// The bytes after `count` data.
 fn skip(bytes: &[u8], count: u64) -> &[u8]
     requires { (rest : List ℕ) × IsRun bytes.now count rest }
     ensures { (rest : List ℕ) → IsRun bytes.now count rest → result.now ≡ rest }
@@ -103,7 +103,7 @@ fn skip(bytes: &[u8], count: u64) -> &[u8]
     rest
 }
 
-// The bytes of the item at a place.
+// The bytes of the item at an index.
 fn item_bytes(bytes: &[u8], place: u64) -> &[u8]
     requires { (items : Items) × AreItems bytes.now items place }
     ensures { (items : Items) → AllFit items → place < count items → bytes.now ≡ spellings items →
@@ -136,21 +136,21 @@ impl<'a> DatumRef<'a> {
         self.bytes
     }
 
-    /// The number, where it is one.
+    /// The number, if the datum is one.
     pub fn number(&self) -> Option<i64>
         ensures { result ≡ number_in (tree_of self.now) }
     {
         number_in(self.bytes)
     }
 
-    /// The bytes that it holds, where it is bytes.
+    /// The bytes that it holds, if the datum is bytes.
     pub fn octets(&self) -> Option<&'a [u8]>
         ensures { option_map (λ b. b.now) result ≡ octets_in (tree_of self.now) }
     {
         octets_in(self.bytes)
     }
 
-    /// How many items it has, where it is a list.
+    /// The number of items, if the datum is a list.
     pub fn length(&self) -> Option<u16>
         ensures { result ≡ length_in (tree_of self.now) }
     {
@@ -158,7 +158,7 @@ impl<'a> DatumRef<'a> {
         Some(count)
     }
 
-    /// The item at a place, from 0, where it is a list that has one.
+    /// The item at an index, from 0, if the datum is a list that has one there.
     pub fn item(&self, place: u64) -> Option<DatumRef<'a>>
         ensures { option_map tree_of result ≡ item_in (tree_of self.now) place }
     {

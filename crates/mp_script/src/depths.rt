@@ -10,7 +10,7 @@ use crate::fault::ScriptFault;
 use crate::operator::{Operator, operator_at};
 use crate::stack::Stack;
 
-/// The most operators of a script.
+/// The greatest number of operators in a script.
 pub const MAX_OPERATORS: usize = 1024;
 
 /// The greatest depth of a script.
@@ -25,7 +25,7 @@ fn operand(depths: &mut Depths) -> Result<u8, ScriptFault>
     depths.pop().ok_or(ScriptFault::Underflow)
 }
 
-// The depth of the deepest operand, which is 0 where there is none. The operands are taken off.
+// The depth of the deepest operand, or 0 if there is none. Removes the operands.
 fn deepest_operand(depths: &mut Depths, operator: &Operator) -> Result<u8, ScriptFault>
     ensures ok { IfOk result (λ d. deepest (operator_of operator.now) depths.old ≡
         Ok (d, depths.new)) }
@@ -48,7 +48,7 @@ fn deepest_operand(depths: &mut Depths, operator: &Operator) -> Result<u8, Scrip
     }
 }
 
-// Puts the depth of what the operator makes in the place of its operands' depths.
+// Replaces the depths of the operands by the depth of the operator's expression.
 fn build(depths: &mut Depths, operator: &Operator) -> Result<(), ScriptFault>
     requires { length depths.old < 1024 }
     ensures ok { OnOk result (put_depth (operator_of operator.now) depths.old ≡ Ok depths.new) }

@@ -23,7 +23,7 @@ use crate::stack::Stack;
 use crate::value::Value;
 use crate::view::View;
 
-// No script has more operands waiting: at each of 64 depths two stand before a third.
+// No script has more operands on the stack: at each of 64 depths, at most two precede a third.
 const MAX_WAITING: usize = 128;
 
 type Values<'a> = Stack<Value<'a>, MAX_WAITING>;
@@ -91,7 +91,7 @@ fn operand<'a>(stack: &mut Values<'a>) -> Value<'a>
     value
 }
 
-// Puts what the operator makes in the place of its operands.
+// Replaces the operands by the operator's value.
 fn act<'a>(stack: &mut Values<'a>, operator: Operator<'a>, view: &View<'a>)
     requires operands { arity (operator_of operator) ≤ length stack.old }
     requires room { length stack.old < 128 }
@@ -122,7 +122,7 @@ fn act<'a>(stack: &mut Values<'a>, operator: Operator<'a>, view: &View<'a>)
     stack.push(value);
 }
 
-/// The value of a script in a view. It takes no memory, and goes once over the operators.
+/// The value of a script in a view. It takes no memory, and passes once over the operators.
 pub fn eval<'a>(script: &'a Script, view: &View<'a>) -> Value<'a>
     requires { length view.now.outputs.now ≤ 256 }
     ensures { (tree : Tree) → Spells script.now tree → value_of result ≡

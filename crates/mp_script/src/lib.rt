@@ -1,7 +1,7 @@
-//! Data, scripts, and what a script's value is where it runs.
+//! Data, scripts, and the values of scripts.
 //!
-//! A datum and a script are kept as their bytes, which were found whole when they were decoded. So decoding makes one growth,
-//! what is read again is a slice of those bytes, and evaluation takes no memory.
+//! A datum and a script are stored as their bytes, which `decode` has checked. So decoding needs few allocations: a
+//! later read returns a slice of those bytes, and evaluation takes no memory.
 #![tactic(auto)]
 
 mod data;

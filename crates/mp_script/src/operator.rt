@@ -180,8 +180,10 @@ fn octets_at(bytes: &[u8]) -> Result<(Operator<'_>, &[u8]), ScriptFault>
     Ok((Operator::Bytes(octets), rest))
 }
 
-/// The operator at the front, and the bytes after it. Its fault is `BadOperator` where the first byte is no operator's, and
-/// else `Truncated` where bytes are missing.
+/// The operator at the front, and the bytes after it.
+///
+/// # Errors
+/// `BadOperator` if the first byte is no operator's, and else `Truncated` if bytes are missing.
 #[tactic(auto, unfolding(crate::specs::ScriptReading::operator_read))]
 pub fn operator_at(bytes: &[u8]) -> Result<(Operator<'_>, &[u8]), ScriptFault>
     ensures { seen (λ x. (operator_of x.0, x.1.now)) result ≡ operator_read bytes.now }

@@ -10,7 +10,7 @@ use mp_bytes::{Hash, HashedBytes};
 use mp_memory::{Memory, NoMemory};
 use std::marker::Model;
 
-/// A script: one expression of up to 1,024 operators, up to a depth of 64. Contracts see its bytes.
+/// A script: one expression of at most 1,024 operators, with a depth of at most 64. Contracts see its bytes.
 #[derive(Debug)]
 pub struct Script {
     spelled: HashedBytes,
@@ -48,14 +48,15 @@ impl Script {
     ghost use Rattle.mp_script.specs.Script.{Tree, Spells, IsScript};
     ghost use Rattle.mp_script.specs.ScriptReading.{IsFaultOf};
 
-    /// The script that the bytes spell, kept in two growths, of just their number and of what owners share. The one operator
-    /// that gives true takes none.
+    /// The script that the bytes spell, stored in two allocations: one of exactly their length, and one of what owners
+    /// share. The one operator that gives true takes no allocation.
     ///
     /// # Errors
-    /// The first fault from the left. For each operator: `BadOperator` where its byte is none's, `Truncated` where further
-    /// bytes are missing, `TooLong` where it is the 1,025th, `Underflow` where fewer expressions wait than it has operands,
-    /// and `TooDeep` where what it makes is deeper than 64. At the end `NotOneExpression` where anything but one expression
-    /// waits. `NoMemory` may stand in place of a script.
+    /// The first fault from the left. For each operator: `BadOperator` if its byte is no operator's, `Truncated` if
+    /// further bytes are missing, `TooLong` if it is the 1,025th, `Underflow` if fewer expressions are on the stack
+    /// than it has operands, and `TooDeep` if its expression is deeper than 64.
+    /// At the end: `NotOneExpression` if the stack doesn't have exactly one expression. `NoMemory` may be returned
+    /// instead of a script.
     pub fn decode(memory: Memory, bytes: &[u8]) -> Result<Script, ScriptFault>
         ensures found { IfOk result (λ s. (s ≡ bytes.now) × IsScript bytes.now) }
         ensures only { (t : Tree) → Spells bytes.now t → IfErr result (λ e. e ≡ faults.NoMemory) }
@@ -67,7 +68,7 @@ impl Script {
         })
     }
 
-    /// The same script. Its bytes are shared, and not copied: `NoMemory` where they are shared too often.
+    /// The same script. Its bytes are shared and not copied. Returns `NoMemory` if there are too many owners.
     pub fn share(&self) -> Result<Script, NoMemory>
         ensures { IfOk result (λ s. s ≡ self.now) }
     {

@@ -1,9 +1,9 @@
-//! A stack of a fixed room, which takes no memory.
+//! A stack of fixed capacity, which takes no memory.
 
 use arrayvec::ArrayVec;
 use std::marker::Model;
 
-/// A stack of at most `N`. Contracts see what is on it, the top first.
+/// A stack of at most `N` items. Contracts see its items, the top first.
 #[derive(Drop)]
 pub struct Stack<T: Default + Drop, const N: usize> {
     places: ArrayVec<T, N>,
@@ -29,7 +29,7 @@ impl<T: Default + Drop, const N: usize> Stack<T, N> {
         }
     }
 
-    /// How many are on it.
+    /// The number of items.
     pub fn len(&self) -> usize
         ensures same { result ≡ length self.now }
         ensures room { result ≤ N }
@@ -37,7 +37,7 @@ impl<T: Default + Drop, const N: usize> Stack<T, N> {
         self.places.len()
     }
 
-    /// Puts one on top. There has to be room.
+    /// Puts an item on top. The stack must not be full.
     pub fn push(&mut self, item: T)
         requires { length self.old < N }
         ensures { self.new ≡ item ∷ self.old }
@@ -45,7 +45,7 @@ impl<T: Default + Drop, const N: usize> Stack<T, N> {
         self.places.push(item);
     }
 
-    /// Takes the top one.
+    /// Takes the top item, if there is one.
     pub fn pop(&mut self) -> Option<T>
         ensures some { IfSome result (λ item. self.old ≡ item ∷ self.new) }
         ensures none { IfNone result ((self.old ≡ []) × (self.new ≡ [])) }

@@ -1,11 +1,11 @@
-//! What a script, and each part of it, comes to.
+//! The value of a script, and of each part of it.
 
 use crate::datum_ref::DatumRef;
 
-/// What an expression comes to.
+/// The value of an expression.
 #[derive(Debug, Default, Drop)]
 pub enum Value<'a> {
-    /// There is no value: an operand had the wrong kind, a number left 128 bits, or a place was absent.
+    /// There is no value: an operand had the wrong kind, a number didn't fit 128 bits, or an index was out of range.
     #[default]
     Nothing,
     /// A truth value.

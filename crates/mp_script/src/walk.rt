@@ -39,7 +39,7 @@ fn octets_end(bytes: &[u8]) -> Result<&[u8], DataFault>
     Ok(rest)
 }
 
-// The bytes after so many data, each of a depth up to `most_depth`.
+// The bytes after `count` data, each with a depth of at most `most_depth`, or the first fault from the left.
 #[cycle(walk)]
 fn items_end(bytes: &[u8], count: u16, most_depth: u8) -> Result<&[u8], DataFault>
     ensures { seen (λ rest. rest.now) result ≡
@@ -64,7 +64,7 @@ fn list_end(bytes: &[u8], most_depth: u8) -> Result<&[u8], DataFault>
     items_end(rest, count, most_depth)
 }
 
-/// The bytes after the datum at the front, of a depth up to `most_depth`, or the first fault from the left.
+/// The bytes after the datum at the front, whose depth is at most `most_depth`, or the first fault from the left.
 #[cycle(walk)]
 pub fn datum_end(bytes: &[u8], most_depth: u8) -> Result<&[u8], DataFault>
     ensures { seen (λ rest. rest.now) result ≡ rest_of (datum_read most_depth bytes.now) }

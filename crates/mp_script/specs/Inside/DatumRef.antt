@@ -4,7 +4,7 @@ use Rattle.std.specs.Option.{option_map, option_and_then}
 use Rattle.mp_bytes.specs.Fields.{number_at, count_at, sized_at}
 use Rattle.mp_script.specs.Datum.{Datum, Items, count, AllFit, spelling, spellings, item_at}
 
--- the bytes behind a tag
+-- the bytes after a tag
 abbrev pub behind : List ℕ → ℕ → Option (List ℕ)
 behind [] tag = None
 behind (b ∷ bytes) tag = if nat_eq b tag then Some bytes else None
@@ -15,7 +15,7 @@ number_seen bytes = option_map (λ n. n.0) (option_and_then number_at (behind by
 unfoldable pub octets_seen : List ℕ → Option (List ℕ)
 octets_seen bytes = option_map (λ run. run.0) (option_and_then sized_at (behind bytes 2))
 
--- how many items there are, and their bytes
+-- the number of items, and their bytes
 unfoldable pub items_seen : List ℕ → Option (ℕ × List ℕ)
 items_seen bytes = option_and_then count_at (behind bytes 3)
 
@@ -24,7 +24,7 @@ abbrev pub bare : {A : Type 0} → Option (A × List ℕ) → Option (ℕ × Lis
 bare None = None
 bare (Some field) = Some (0, field.1)
 
--- how many data stand in the datum at the front, and the bytes after its head
+-- the number of data in the datum at the front, and the bytes after its head
 unfoldable pub head_at : List ℕ → Option (ℕ × List ℕ)
 head_at [] = None
 head_at (tag ∷ bytes) =
@@ -33,15 +33,15 @@ head_at (tag ∷ bytes) =
     else if nat_eq tag 3 then count_at bytes
     else None
 
--- the bytes are data, one of which stands at the place
+-- the bytes are data, one of which is at the index
 abbrev pub AreItems : List ℕ → Items → ℕ → Type 0
 AreItems bytes items place = AllFit items × (place < count items) × (bytes ≡ spellings items)
 
--- the bytes are the item at the place
+-- the bytes are the item at the index
 abbrev pub IsItem : Items → ℕ → List ℕ → Type 0
 IsItem items place bytes = (d : Datum) × (item_at items place ≡ Some d) × (bytes ≡ spelling d)
 
--- the bytes are so many data, and then a rest
+-- the bytes are n data, and then a rest
 pub record IsRun (bytes : List ℕ) (n : ℕ) (rest : List ℕ) : Type 0 where
   pub items : Items
   pub number : count items ≡ n

@@ -1,4 +1,4 @@
--- Reading a script with the depth of each expression in the place of its tree.
+-- Reading a script with the depth of each expression instead of its tree.
 use Rattle.std.specs.Prelude.{ℕ, suc, List, ◌∷◌, Result, Ok, Err, if◌then◌else◌, nat_le, max}
 use Rattle.mp_script.specs.declared.fault.ScriptFault.{ScriptFault}
 use Rattle.mp_script.specs.declared.fault.ScriptFault.TheVariants.{Underflow, TooDeep}
@@ -6,7 +6,7 @@ use Rattle.mp_bytes.specs.Reading.{◌>>=◌}
 use Rattle.mp_script.specs.Operators.{Operator}
 use Rattle.mp_script.specs.Operators as op
 
--- the depth of the deepest operand, which is 0 where there is none, and the depths that go on waiting
+-- the depth of the deepest operand, or 0 if there is none, and the depths that stay on the stack
 abbrev pub deepest : Operator → List ℕ → Result (ℕ × List ℕ) ScriptFault
 deepest (op.int n) depths = Ok (0, depths)
 deepest (op.bytes b) depths = Ok (0, depths)

@@ -17,7 +17,7 @@ fn truth(value: &Value) -> Option<bool>
     }
 }
 
-/// The other truth value.
+/// The negation of a truth value.
 pub fn not<'a>(a: &Value<'a>) -> Value<'a>
     ensures { value_of result ≡ negation (value_of a.now) }
 {
@@ -27,7 +27,7 @@ pub fn not<'a>(a: &Value<'a>) -> Value<'a>
     }
 }
 
-/// Kleene's and: false where either is false, true where both are true.
+/// Kleene's conjunction: false if either is false, true if both are true.
 pub fn and<'a>(a: &Value<'a>, b: &Value<'a>) -> Value<'a>
     ensures { value_of result ≡
         conjunction (truth_in (value_of a.now)) (truth_in (value_of b.now)) }
@@ -39,7 +39,7 @@ pub fn and<'a>(a: &Value<'a>, b: &Value<'a>) -> Value<'a>
     }
 }
 
-/// Kleene's or: true where either is true, false where both are false.
+/// Kleene's disjunction: true if either is true, false if both are false.
 pub fn or<'a>(a: &Value<'a>, b: &Value<'a>) -> Value<'a>
     ensures { value_of result ≡
         disjunction (truth_in (value_of a.now)) (truth_in (value_of b.now)) }
@@ -51,7 +51,7 @@ pub fn or<'a>(a: &Value<'a>, b: &Value<'a>) -> Value<'a>
     }
 }
 
-/// The second where the first is true, the third where it is false. The other one may be anything.
+/// The second if the first is true, the third if it is false. The one that isn't chosen may be anything.
 pub fn choice<'a>(condition: Value<'a>, a: Value<'a>, b: Value<'a>) -> Value<'a>
     ensures { value_of result ≡
         choice (truth_in (value_of condition.entry)) (value_of a.entry) (value_of b.entry) }
@@ -69,7 +69,7 @@ fn same(a: &DatumRef, b: &DatumRef) -> bool
     a.bytes() == b.bytes()
 }
 
-/// Whether two values of one kind are equal.
+/// Whether two values of the same kind are equal.
 pub fn equal<'a>(a: &Value<'a>, b: &Value<'a>) -> Value<'a>
     ensures { value_of result ≡ equality (value_of a.now) (value_of b.now) }
 {

@@ -11,7 +11,7 @@ use crate::value::Value;
 use crate::view::{Address, PaidTo};
 use mp_bundle::PolicyId;
 
-// How much of a token the output holds, where it has the address.
+// The quantity of a token in the output, or 0 if it has another address.
 fn paid_by(output: &PaidTo, address: &Address, policy: &PolicyId, name: &[u8]) -> i64
     ensures { result ≡ paid_by (paid_to_of output.now) address.now (token policy.now name.now) }
 {
@@ -34,7 +34,7 @@ fn total(outputs: &[PaidTo], address: &Address, policy: &PolicyId, name: &[u8]) 
     total
 }
 
-/// How much of a token the outputs with an address hold.
+/// The quantity of a token in all outputs with an address.
 pub fn paid<'a>(
     address: &Value<'a>,
     policy: &Value<'a>,

@@ -21,7 +21,7 @@ fn referred<'s, 'a>(at: &Value<'a>, references: &'s [Referred<'a>]) -> Option<&'
     }
 }
 
-/// The address of the output that a reference names.
+/// The address of the output that a reference input names.
 pub fn address<'a>(at: &Value<'a>, references: &[Referred<'a>]) -> Value<'a>
     ensures { value_of result ≡
         on (reference_at (map referred_of references.now) (value_of at.now))
@@ -36,7 +36,7 @@ pub fn address<'a>(at: &Value<'a>, references: &[Referred<'a>]) -> Value<'a>
     }
 }
 
-/// Its datum hash.
+/// The datum hash of that output.
 pub fn datum_hash<'a>(at: &Value<'a>, references: &[Referred<'a>]) -> Value<'a>
     ensures { value_of result ≡
         on (reference_at (map referred_of references.now) (value_of at.now))
@@ -51,7 +51,7 @@ pub fn datum_hash<'a>(at: &Value<'a>, references: &[Referred<'a>]) -> Value<'a>
     }
 }
 
-/// How much of a token it holds.
+/// The quantity of a token in that output.
 pub fn quantity<'a>(
     at: &Value<'a>,
     policy: &Value<'a>,

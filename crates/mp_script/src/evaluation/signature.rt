@@ -14,7 +14,7 @@ fn has_signed(keys: &[Key], wanted: &Key) -> bool
     keys.iter().any(|key| key == wanted)
 }
 
-/// Whether there is a signature of a key.
+/// Whether this key has signed.
 pub fn signed_by<'a>(key: &Value<'a>, keys: &[Key]) -> Value<'a>
     ensures { value_of result ≡
         on (hash_in (value_of key.now)) (λ key. truth (has_signed keys.now key)) }

@@ -11,7 +11,7 @@ use crate::value::Value;
 use mp_bundle::{Bundle, MAX_NAME_BYTES, PolicyId, Sum};
 use mp_bytes::Hash;
 
-/// The 32 bytes that a value is, where it is so many.
+/// The bytes of a value, if it is 32 bytes.
 pub fn hash_of<'a>(value: &Value<'a>) -> Option<&'a Hash>
     ensures { option_map (λ b. b.now) result ≡ hash_in (value_of value.now) }
 {
@@ -30,7 +30,7 @@ fn name_of<'a>(value: &Value<'a>) -> Option<&'a [u8]>
     }
 }
 
-/// The policy of 32 bytes and the name of up to 32 that two values are, where they are so many.
+/// The policy and the name, if the values are bytes: 32 for the policy, and at most 32 for the name.
 pub fn token_of<'a>(policy: &Value<'a>, name: &Value<'a>) -> Option<(&'a PolicyId, &'a [u8])>
     ensures { option_map (λ t. token t.0.now t.1.now) result ≡
         token_in (value_of policy.now) (value_of name.now) }
@@ -41,7 +41,7 @@ pub fn token_of<'a>(policy: &Value<'a>, name: &Value<'a>) -> Option<(&'a PolicyI
     }
 }
 
-/// How much of a token a bundle holds.
+/// The quantity of a token in a bundle.
 pub fn bundle_quantity<'a>(policy: &Value<'a>, name: &Value<'a>, bundle: &Bundle) -> Value<'a>
     ensures { value_of result ≡
         bundle_quantity bundle.now (value_of policy.now) (value_of name.now) }
@@ -52,7 +52,7 @@ pub fn bundle_quantity<'a>(policy: &Value<'a>, name: &Value<'a>, bundle: &Bundle
     }
 }
 
-/// How much of a token the spent output holds.
+/// The quantity of a token in the output that is being spent.
 pub fn own<'a>(policy: &Value<'a>, name: &Value<'a>, own_value: Option<&Bundle>) -> Value<'a>
     ensures { value_of result ≡
         on own_value.entry
@@ -64,7 +64,7 @@ pub fn own<'a>(policy: &Value<'a>, name: &Value<'a>, own_value: Option<&Bundle>)
     }
 }
 
-/// How much of a token all spent outputs hold.
+/// The quantity of a token in all spent outputs.
 pub fn spent<'a>(policy: &Value<'a>, name: &Value<'a>, sum: &Sum) -> Value<'a>
     ensures { value_of result ≡
         amount (token_in (value_of policy.now) (value_of name.now)) (total_of sum.now) }

@@ -1,4 +1,4 @@
-//! Looks into data.
+//! Access to data.
 
 ghost use Rattle.std.specs.Prelude.{◌≡◌, pos};
 ghost use Rattle.std.specs.Option.{option_map, option_and_then};
@@ -56,7 +56,7 @@ fn item_of<'a>(list: &Value<'a>, at: &Value<'a>) -> Option<DatumRef<'a>>
     }
 }
 
-/// The number of a datum that is a number.
+/// The number, if the datum is one.
 pub fn as_int<'a>(datum: &Value<'a>) -> Value<'a>
     ensures { value_of result ≡
         on (option_and_then number_in (datum_in (value_of datum.now))) whole }
@@ -67,7 +67,7 @@ pub fn as_int<'a>(datum: &Value<'a>) -> Value<'a>
     }
 }
 
-/// The bytes of a datum that is bytes.
+/// The bytes, if the datum is bytes.
 pub fn as_bytes<'a>(datum: &Value<'a>) -> Value<'a>
     ensures { value_of result ≡
         on (option_and_then octets_in (datum_in (value_of datum.now))) octets }
@@ -78,7 +78,7 @@ pub fn as_bytes<'a>(datum: &Value<'a>) -> Value<'a>
     }
 }
 
-/// The number of items of a list.
+/// The number of items, if the datum is a list.
 pub fn length<'a>(datum: &Value<'a>) -> Value<'a>
     ensures { value_of result ≡
         on (option_and_then length_in (datum_in (value_of datum.now))) (λ n. whole (pos n)) }
@@ -89,7 +89,7 @@ pub fn length<'a>(datum: &Value<'a>) -> Value<'a>
     }
 }
 
-/// The item of a list at a place, from 0.
+/// The item of a list at an index, from 0.
 pub fn item<'a>(datum: &Value<'a>, at: &Value<'a>) -> Value<'a>
     ensures { value_of result ≡ on (list_item (value_of datum.now) (value_of at.now)) tree }
 {

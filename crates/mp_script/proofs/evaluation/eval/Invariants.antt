@@ -6,7 +6,7 @@ use Rattle.mp_script.specs.Value.{value_of}
 use Rattle.mp_script.specs.Inside.Waiting.{Stands}
 use Rattle.mp_script.proofs.evaluation.eval.Given as goal
 
--- the stack has the values of what waits
+-- the stack has the values of its expressions
 abbrev pub invariant-loop-operator : goal.invariant-loop-operator
 invariant-loop-operator l = (tree : Tree) → Spells l.script tree → Stands (view_of l.view) tree l.rest (map value_of l.stack)
 

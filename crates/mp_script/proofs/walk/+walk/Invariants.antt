@@ -12,7 +12,7 @@ decreases-items_end l = 3 * l.most_depth + 1
 abbrev pub decreases-list_end : goal.decreases-list_end
 decreases-list_end l = 3 * l.most_depth + 2
 
--- what is left leads where all lead
+-- the remaining data have the end of all data
 abbrev pub invariant-items_end-loop : goal.invariant-items_end-loop
 invariant-items_end-loop l =
     rest_of (items_read (datum_read l.most_depth) (l.count - l.counter) l.rest) ≡ rest_of (items_read (datum_read l.most_depth) l.count l.bytes)

@@ -5,7 +5,7 @@ use Rattle.mp_script.specs.View.{paid_to_of}
 use Rattle.mp_script.specs.Meaning.{paid_to}
 use Rattle.mp_script.proofs.evaluation.paid.total.Given as goal
 
--- what was paid so far and what is left make what is paid in all
+-- the sum so far and the sum of the remaining outputs make the whole sum
 abbrev pub invariant-loop-output : goal.invariant-loop-output
 invariant-loop-output l = record {
   sum : l.total +ℤ paid_to l.address (token l.policy l.name) (map paid_to_of (drop l.output-index l.outputs)) ≡ paid_to l.address (token l.policy l.name) (map paid_to_of l.outputs);
