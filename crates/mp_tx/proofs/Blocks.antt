@@ -1,4 +1,4 @@
--- What a block spends and makes, one after another.
+-- What a block spends and makes, one output after another.
 use Rattle.std.proofs.Common.{◌≡◌, ℕ, ◌+◌, ◌<◌, ◌≤◌, true, false, List, [], ◌∷◌, ◌++◌, length, get_or, take, drop, refl, sym, ap, subst, ◌∙◌, drop-cons, length-drop, add-one, arith}
 use Rattle.std.specs.Prelude.{is_some, IsSome, IsNone}
 use Rattle.std.specs.FinMap.{get, insert, remove}
@@ -15,7 +15,7 @@ take_none (x ∷ xs) = refl
 
 -- ---- what is spent
 
--- the changes tell of what is spent before the place, and all of it was there
+-- the changes are what is spent before the index, and all of it was there
 pub record IsSpent (u : Utxo) (spent : List OutRef) (cs : Noted) (place : ℕ) : Type 0 where
   pub tells : changed u cs ≡ without u (take place spent)
   pub there : AreThere u (take place spent)
@@ -50,7 +50,7 @@ all_spent u spent cs place end before = (before.tells ∙ ap (without u) (take_a
 
 -- ---- what is made
 
--- the changes tell of what is made before the place, none of it was there, and the others are left
+-- the changes are what is made before the index, none of it was there, and the others remain
 pub record IsMade (v u : Utxo) (made left : List (OutRef × Output)) (cs : Noted) (place : ℕ) : Type 0 where
   pub tells : changed v cs ≡ with_outputs u (take place made)
   pub free : AreFree u (take place made)
@@ -73,7 +73,7 @@ first {x = x} e = ap (λ l. get_or l 0 x) e
 rest_of : {X : Type 0} {x y : X} {xs ys : List X} → x ∷ xs ≡ y ∷ ys → xs ≡ ys
 rest_of e = ap (drop 1) e
 
--- the first of those that are left stands at the place
+-- the first remaining item is at the index
 next : {X : Type 0} (xs : List X) (place : ℕ) (x : X) (left : List X) → x ∷ left ≡ drop place xs → (place < length xs) × (x ≡ get_or xs place x) × (left ≡ drop (place + 1) xs)
 next xs place x left split =
     let len = ap length split ∙ length-drop place xs in
@@ -100,7 +100,7 @@ first_taken v u made left cs place e there before =
       before = before.free;
     }
 
--- nothing is left
+-- nothing remains
 done : {X : Type 0} (xs : List X) (place : ℕ) → [] ≡ drop place xs → length xs ≤ place
 done xs place none = let len = ap length none ∙ length-drop place xs in omega arith
 

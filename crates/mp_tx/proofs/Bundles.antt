@@ -1,4 +1,4 @@
--- A bundle that is read was spelled so, and one that is spelled is read.
+-- A bundle that is read has this spelling, and one that has this spelling is read.
 use Rattle.std.proofs.Common.{◌≡◌, ℕ, ◌≤◌, ◌-◌, ◌^◌, arith, Bool, true, List, [], ◌∷◌, ◌++◌, length, Option, None, Some, Result, Ok, refl, sym, ap, subst, ◌∙◌, append_assoc, nat_lt}
 use Rattle.std.specs.Prelude.{ℤ, not, is_none}
 use Rattle.std.specs.Int.{w64, to_be_bytes, cast_unsigned}

@@ -1,4 +1,4 @@
--- What changes make of outputs.
+-- What changes do to outputs.
 use Rattle.std.proofs.Common.{◌≡◌, Bor, Bool, true, false, List, [], ◌∷◌, ◌++◌, refl, sym, ap, subst, ◌∙◌}
 use Rattle.std.specs.Prelude.{Option, None, Some, cond, fold, is_some}
 use Rattle.std.specs.Option.{option_or, option_copied}
@@ -29,7 +29,7 @@ same_itself a = same-ties a a ∙ (tied-Decides a a).1 refl
 pub same_utxo : (u v : Utxo) → ((q : OutRef) → get u q ≡ get v q) → u ≡ v
 same_utxo u v alike = same_map ref_total ref_exact u v alike
 
--- what stands under a reference after what became of it
+-- the output of a reference after its change
 abbrev pub after : Option Change → Option Output → Option Output
 after None o = o
 after (Some c) o = output_of c
@@ -53,7 +53,7 @@ pub copied_some : (o : Option (Bor Output)) → is_some o ≡ is_some (option_co
 copied_some None = refl
 copied_some (Some x) = refl
 
--- what is found in the list of a table and in the changes is what stands in the map
+-- the look-up in the changes and then in the list of a table is the look-up in the map
 pub found-changed : (bs : List (OutRef × Output)) (cs : Noted) (q : OutRef) (l : Option Change) → l ≡ lookup (same_ref q) cs → after l (lookup (same_ref q) bs) ≡ get (changed (from_entries {R = ref_cmp} bs) cs) q
 found-changed bs cs q l is =
     ap (λ m. after m (lookup (same_ref q) bs)) is
@@ -83,7 +83,7 @@ or_some : {X : Type 0} (o p : Option X) → is_some o ≡ true → option_or o p
 or_some None p e = Prim.cc
 or_some (Some x) p e = refl
 
--- a change of a reference that is there already makes no difference when it comes later
+-- an older change of a reference that has a newer one makes no difference
 known : (cs : Noted) (c : OutRef × Change) (q : OutRef) → is_some (lookup (same_ref c.0) cs) ≡ true → lookup (same_ref q) cs ≡ lookup (same_ref q) (cs ++ c ∷ [])
 known cs c q there = sym (by (same_ref q c.0) refl)
   where
@@ -98,7 +98,7 @@ lookup-with_earlier cs c q = by (is_some (lookup (same_ref c.0) cs)) refl
     by true e = ap (λ b. lookup (same_ref q) (cond b cs (cs ++ c ∷ []))) e ∙ known cs c q e
     by false e = ap (λ b. lookup (same_ref q) (cond b cs (cs ++ c ∷ []))) e
 
--- joined changes tell what the newer ones do after the older ones
+-- joined changes are the newer ones after the older ones
 pub changed-joined : (u : Utxo) (cs es : Noted) → changed u (fold with_earlier cs es) ≡ changed (changed u es) cs
 changed-joined u cs [] = refl
 changed-joined u cs (e ∷ es) =
@@ -129,15 +129,15 @@ lookup-insert_entry {X} (e ∷ es) k v q = by (lookup-insert_entry es k v q) (sa
         ∙ ap (λ o. cond (same_ref q e.0) (Some e.1) o) rest
         ∙ swapped (same_ref q e.0) (same_ref q k) (Some e.1) (Some v) (lookup (same_ref q) es) (λ a b. let same = sym (same_exact q k b) ∙ same_exact q e.0 a in let tie = ap (same_ref k) (sym same) ∙ same_itself k in Prim.cc)
 
--- to note a change is to make it
+-- recording a change applies it
 pub changed-insert_entry : (u : Utxo) (cs : Noted) (r : OutRef) (c : Change) → changed u (insert_entry same_ref cs r c) ≡ changed_at (changed u cs) r c
 changed-insert_entry u cs r c = changed_alike u (insert_entry same_ref cs r c) ((r, c) ∷ cs) (lookup-insert_entry cs r c)
 
--- ---- a table that is made anew
+-- ---- a table that is built from scratch
 same_laws : IsEquivalence same_ref
 same_laws = subst IsEquivalence (sym (λ i a b. same-ties a b i)) (eq_by_cmp_equiv ref_total)
 
--- of references that differ none that comes later is the first
+-- if references are distinct, the first doesn't occur later
 none_later : {X : Type 0} (q : OutRef) (e : OutRef × X) (es : List (OutRef × X)) → IsDistinct same_ref (keys_of (e ∷ es)) → same_ref q e.0 ≡ true → lookup (same_ref q) es ≡ None
 none_later q e es distinct same = lookup-none (same_ref q) es (none_past_head same_laws q e es distinct same)
 
@@ -145,7 +145,7 @@ either : {X : Type 0} (b : Bool) (x : Option X) → x ≡ cond b x x
 either true x = refl
 either false x = refl
 
--- what the table has under a reference after it was put in, if it was made
+-- the output of a reference in the table after its change was added, if it made one
 abbrev put : Option Change → Option Output → Option Output
 put None o = o
 put (Some Spent) o = o
@@ -217,7 +217,7 @@ settled None b = or_none b
 settled (Some Spent) b = refl
 settled (Some (Made output)) b = refl
 
--- the old outputs of which nothing became, and those that were made, are the outputs after the changes
+-- the old outputs without changes, and those that were made, are the outputs after the changes
 pub from_entries-settled : (bs : List (OutRef × Output)) (cs : Noted) → IsDistinct same_ref (keys_of bs) → IsDistinct same_ref (keys_of cs) → from_entries {R = ref_cmp} (fold with_change (fold (with_kept cs) [] bs) cs) ≡ changed (from_entries bs) cs
 from_entries-settled bs cs old new = same_utxo _ _ (λ q.
     sym (lookup-get _ q)

@@ -1,4 +1,4 @@
--- What holds of each item that is read, and of the order in which they stand.
+-- What holds of each item that is read, and of the order of the items.
 use Rattle.std.proofs.Common.{◌≡◌, ℕ, zero, suc, ◌<◌, ◌^◌, arith, Bool, true, List, [], ◌∷◌, ◌++◌, length, Option, None, Some, Ok, refl, sym, ap, subst, ◌∙◌, append_assoc, nat_lt}
 use Rattle.std.specs.Prelude.{flat_map, map, not}
 use Rattle.std.specs.Int.{w16, to_be_bytes}
@@ -16,16 +16,16 @@ use Rattle.mp_tx.specs.Rising.{follows, rises_after}
 use Rattle.mp_tx.specs.Reading.{Read, field, require, items_read, counted_read, few_count_read, few_read}
 use Rattle.mp_tx.proofs.Entries.{require_ok}
 
--- each item is good behind the key of the one before it
+-- each item is good after the key of the one before it
 abbrev pub EachAfter : {K X : Type 0} → (X → K) → (Option K → X → Type 0) → Option K → List X → Type 0
 EachAfter key Good before [] = Unit {0}
 EachAfter key Good before (x ∷ xs) = Good before x × EachAfter key Good (Some (key x)) xs
 
--- what is read is good, and was spelled so
+-- what is read is good, and has this spelling
 abbrev pub IsSound : {K X : Type 0} → (Option K → List ℕ → Read X) → (X → List ℕ) → (Option K → X → Type 0) → Type 0
 IsSound read spelled Good = (before : _) (bytes : List ℕ) (x : _) → IsBytes bytes → read before bytes ≡ Ok x → Takes bytes (spelled x.0) x.1 × Good before x.0
 
--- what is good and spelled is read
+-- what is good and has this spelling is read
 abbrev pub IsComplete : {K X : Type 0} → (Option K → List ℕ → Read X) → (X → List ℕ) → (Option K → X → Type 0) → Type 0
 IsComplete read spelled Good = (before : _) (x : _) (rest : List ℕ) → Good before x → read before (spelled x ++ rest) ≡ Ok (x, rest)
 
@@ -61,7 +61,7 @@ items_again {K} {X} key read spelled Good complete (x ∷ xs) before rest good =
     ∙ ap (λ (r : Read X). r >>= λ first. items_read key read (Some (key first.0)) (length xs) first.1 >>= λ more. Ok (first.0 ∷ more.0, more.1)) (complete before x (flat_map spelled xs ++ rest) good.0)
     ∙ ap (λ (r : Read (List X)). r >>= λ more. Ok (x ∷ more.0, more.1)) (items_again key read spelled Good complete xs (Some (key x)) rest good.1)
 
--- ---- behind a count
+-- ---- after a count
 
 pub record CountedWere {K X : Type 0} (key : X → K) (spelled : X → List ℕ) (Good : Option K → X → Type 0) (most : ℕ) (bytes : List ℕ) (x : List X × List ℕ) : Type 0 where
   pub takes : Takes bytes (counted spelled x.0) x.1
@@ -120,7 +120,7 @@ few_again {K} {X} key read spelled Good complete xs rest few good =
 
 -- ---- orders
 
--- it comes behind the one before it, and is what it is to be by itself
+-- it comes after the one before it, and is valid by itself
 abbrev pub Comes : {K X : Type 0} → (K → K → Ordering) → (X → K) → (X → Type 0) → Option K → X → Type 0
 Comes cmp key Is before x = (follows cmp before (key x) ≡ true) × Is x
 

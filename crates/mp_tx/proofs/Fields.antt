@@ -1,4 +1,4 @@
--- What the fields of a transaction are, once read, and that they are read again.
+-- Fields of a transaction that are read are the ones that were written, and they are read again.
 use Rattle.std.proofs.Common.{◌≡◌, ℕ, ◌<◌, ◌≤◌, ◌^◌, arith, Bool, true, List, ◌++◌, length, Option, Some, Result, Ok, Err, refl, ap, subst, ◌∙◌, append_assoc, nat_lt}
 use Rattle.std.specs.Prelude.{not, is_ok}
 use Rattle.std.specs.Int.{w16, w64, to_be_bytes}
@@ -21,7 +21,7 @@ use Rattle.mp_tx.specs.Reading.{field, require, ref_read, script_read, data_read
 use Rattle.mp_tx.proofs.Entries.{require_ok}
 use Rattle.mp_tx.proofs.Wholes.{script_is_ok, datum_is_ok}
 
--- so many bytes are read again
+-- n bytes are read again
 pub array_again : (n : ℕ) (run rest : List ℕ) → length run ≡ n → run_at n (run ++ rest) ≡ Some (run, rest)
 array_again n run rest len = subst (λ (k : ℕ). run_at k (run ++ rest) ≡ Some (run, rest)) len (run_again run rest)
 

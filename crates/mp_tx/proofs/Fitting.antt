@@ -1,4 +1,4 @@
--- Parts of a transaction that is small are few and short, since its spelling has them all.
+-- The parts of a small transaction are few and short, since its spelling contains them all.
 use Rattle.std.proofs.Common.{◌≡◌, ℕ, ◌<◌, ◌≤◌, ◌^◌, List, [], ◌∷◌, ◌++◌, length, arith}
 use Rattle.std.specs.Prelude.{flat_map}
 use Rattle.std.specs.Int.{w16, w64, to_be_bytes, cast_unsigned}
@@ -24,13 +24,13 @@ left_short a b n le = let e = length-append a b in omega arith
 right_short : (a b : List ℕ) (n : ℕ) → length (a ++ b) ≤ n → length b ≤ n
 right_short a b n le = let e = length-append a b in omega arith
 
--- each item's bytes are short where all are
+-- the bytes of each item are short if all together are
 each_short : {X : Type 0} (spelled : X → List ℕ) (n : ℕ) (xs : List X) → length (flat_map spelled xs) ≤ n → All (λ x. length (spelled x) ≤ n) xs
 each_short spelled n [] le = All-nil (λ x. length (spelled x) ≤ n)
 each_short spelled n (x ∷ xs) le =
     All-cons (λ x. length (spelled x) ≤ n) x xs (left_short (spelled x) (flat_map spelled xs) n le) (each_short spelled n xs (right_short (spelled x) (flat_map spelled xs) n le))
 
--- there are no more items than bytes, where each has one
+-- there are at most as many items as bytes, if each has a byte
 few_items : {X : Type 0} (spelled : X → List ℕ) (xs : List X) → All (λ x. 1 ≤ length (spelled x)) xs → length xs ≤ length (flat_map spelled xs)
 few_items spelled [] all = omega arith
 few_items spelled (x ∷ xs) all =
@@ -39,7 +39,7 @@ few_items spelled (x ∷ xs) all =
     let e = length-append (spelled x) (flat_map spelled xs) in
     omega arith
 
--- what two facts say of each item
+-- two facts of each item give a third
 both : {X : Type 0} (P Q R : X → Type 0) → ((x : X) → P x → Q x → R x) → (xs : List X) → All P xs → All Q xs → AllByRecursion R xs
 both P Q R f [] p q = tt
 both P Q R f (x ∷ xs) p q = (f x (All-head P x xs p) (All-head Q x xs q), both P Q R f xs (All-tail P x xs p) (All-tail Q x xs q))
@@ -121,7 +121,7 @@ each_signature_some (s ∷ ss) all =
 
 -- ---- all of them
 
--- what a body is made of, short where it is short
+-- the parts of a body, short if the body is
 record AreShort (t : Transaction) : Type 0 where
   inputs : length (flat_map input_bytes t.inputs) ≤ 16384
   outputs : length (flat_map output_bytes t.outputs) ≤ 16384

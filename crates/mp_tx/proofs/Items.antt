@@ -5,7 +5,7 @@ use Rattle.mp_tx.specs.declared.fault.TxFault.{TxFault}
 use Rattle.std.specs.Prelude.{slice_get, length}
 use Rattle.mp_tx.specs.Reading.{Read, items_read, itself}
 
--- items that are read, behind others
+-- items that are read, after others
 abbrev pub behind : {X : Type 0} → List X → Read (List X) → Read (List X)
 behind front more = more >>= λ m. Ok (front ++ m.0, m.1)
 
@@ -18,7 +18,7 @@ pub last_key-push : {K X : Type 0} (key : X → K) (before : Option K) (xs : Lis
 last_key-push key before [] x = refl
 last_key-push key before (y ∷ ys) x = last_key-push key (Some (key y)) ys x
 
--- what is left to be read makes, behind what was read, what all of it makes
+-- reading the remaining items, after those that were read, gives what reading all gives
 pub record IsOnTheWay {K X : Type 0} (key : X → K) (read : Option K → List ℕ → Read X) (left : ℕ) (all : Read (List X)) (done : List X) (before : Option K) (rest : List ℕ) : Type 0 where
   pub last : before ≡ last_key key None done
   pub same : behind done (items_read key read before left rest) ≡ all
@@ -37,7 +37,7 @@ after-first done x (Err e) = refl
 one_more : (n k : ℕ) → k < n → n - k ≡ suc (n - (k + 1))
 one_more n k lt = omega arith
 
--- an item was read
+-- the next item was read
 pub goes_on : {K X : Type 0} (key : X → K) (read : Option K → List ℕ → Read X) (n k : ℕ) (all : Read (List X)) (done : List X) (before : Option K) (rest : List ℕ) (x : X) (after : List ℕ) → k < n → IsOnTheWay key read (n - k) all done before rest → read before rest ≡ Ok (x, after) → IsOnTheWay key read (n - (k + 1)) all (done ++ x ∷ []) (Some (key x)) after
 goes_on {X = X} key read n k all done before rest x after lt way is = record {
   last = sym (last_key-push key None done x);
@@ -48,7 +48,7 @@ goes_on {X = X} key read n k all done before rest x after lt way is = record {
       ∙ way.same;
 }
 
--- an item wasn't
+-- the next item has a fault
 pub stops : {K X : Type 0} (key : X → K) (read : Option K → List ℕ → Read X) (n k : ℕ) (all : Read (List X)) (done : List X) (before : Option K) (rest : List ℕ) (e : TxFault) → k < n → IsOnTheWay key read (n - k) all done before rest → read before rest ≡ Err e → all ≡ Err e
 stops key read n k all done before rest e lt way is =
     sym way.same ∙ ap (λ m. behind done (items_read key read before m rest)) (one_more n k lt)
@@ -73,7 +73,7 @@ last_of : {X : Type 0} (before : Option X) (x : X) (xs : List X) → last_key it
 last_of before x [] = refl
 last_of before x (y ∷ ys) = last_of (Some x) y ys
 
--- the last one is at the place before the end
+-- the last item is at the index before the end
 pub last_is : {X : Type 0} (xs : List X) → slice_get xs (length xs - 1) ≡ last_key itself None xs
 last_is [] = refl
 last_is (x ∷ xs) = ap (slice_get (x ∷ xs)) (one_less (length xs)) ∙ sym (last_of None x xs)
@@ -81,7 +81,7 @@ last_is (x ∷ xs) = ap (slice_get (x ∷ xs)) (one_less (length xs)) ∙ sym (l
     one_less : (n : ℕ) → suc n - 1 ≡ n
     one_less n = omega arith
 
--- an item was read that is its own key
+-- the next item, which is its own key, was read
 pub goes_on_last : {X : Type 0} (read : Option X → List ℕ → Read X) (n k : ℕ) (all : Read (List X)) (done : List X) (rest : List ℕ) (x : X) (after : List ℕ) → k < n → IsOnTheWay itself read (n - k) all done (last_key itself None done) rest → read (last_key itself None done) rest ≡ Ok (x, after) → IsOnTheWay itself read (n - (k + 1)) all (done ++ x ∷ []) (last_key itself None (done ++ x ∷ [])) after
 goes_on_last read n k all done rest x after lt way is =
     subst (λ b. IsOnTheWay itself read (n - (k + 1)) all (done ++ x ∷ []) b after) (sym (last_key-push itself None done x))

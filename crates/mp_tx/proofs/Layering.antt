@@ -53,7 +53,7 @@ found_at ls i l r c lt is before found =
     ∙ lookup-append (same_ref r) l.noted rest
     ∙ ap (λ o. option_or o (lookup (same_ref r) rest)) found
 
--- joined with the newest layers, the changes lie above the others as they did above all
+-- joined with the newest layers, the changes have the same effect on the others as on all
 pub layered : (u : Utxo) (cs new : Noted) (ls : List Layer) (n : ℕ) → new ≡ fold with_earlier cs (all_of (take n ls)) → changed u (new ++ all_of (drop n ls)) ≡ changed (changed u (all_of ls)) cs
 layered u cs new ls n is =
     let older = all_of (drop n ls) in
@@ -62,7 +62,7 @@ layered u cs new ls n is =
     ∙ changed-joined (changed u older) cs (all_of (take n ls))
     ∙ ap (λ v. changed v cs) (sym (changed-append u (all_of (take n ls)) older) ∙ ap (changed u) (sym (all_of-append (take n ls) (drop n ls)) ∙ ap all_of (take-append-drop n ls)))
 
--- and where they are joined with all, they lie above the table
+-- joined with all layers, they are directly above the table
 pub settled_layers : (u : Utxo) (cs new : Noted) (ls : List Layer) (n : ℕ) → new ≡ fold with_earlier cs (all_of (take n ls)) → drop n ls ≡ [] → changed u new ≡ changed (changed u (all_of ls)) cs
 settled_layers u cs new ls n is none =
     ap (changed u) (sym (append-nil new) ∙ ap (λ ms. new ++ all_of ms) (sym none)) ∙ layered u cs new ls n is

@@ -80,7 +80,7 @@ pub too_large : (t : Transaction) → order_fault t ≡ None → is_small t ≡ 
 too_large t none large =
     ap (λ (f : Option TxFault). option_or f (cond (is_small t) None (Some TooLarge))) none ∙ ap (λ (b : Bool). cond b None (Some TooLarge)) large
 
--- ---- want of memory
+-- ---- allocation failures
 
 pub only_memory : (e : TxFault) → ((e ≢ NoMemory) → ⊥) → e ≡ NoMemory
 only_memory NoMemory h = refl

@@ -1,4 +1,5 @@
--- Inputs, references, outputs, policy scripts and signatures: what is read was spelled so, and what is spelled is read.
+-- Inputs, references, outputs, policy scripts and signatures: what is read has this spelling, and what has this
+-- spelling is read.
 use Rattle.std.proofs.Common.{◌≡◌, ℕ, true, List, [], ◌∷◌, ◌++◌, Option, Some, refl, ap, subst, ◌∙◌, append_assoc}
 use Rattle.std.specs.Prelude.{not}
 use Rattle.std.specs.List.{AllByRecursion}
@@ -63,7 +64,7 @@ input_again before i rest good =
 
 -- ---- references
 
--- not spent by these inputs, and a reference
+-- a reference that these inputs don't spend
 abbrev pub IsLookedAt : List Input → OutRef → Type 0
 IsLookedAt inputs r = (not (spends inputs r) ≡ true) × IsRef r
 

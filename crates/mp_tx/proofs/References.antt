@@ -23,7 +23,7 @@ is_eq-then Less q = refl
 is_eq-then Equal q = refl
 is_eq-then Greater q = refl
 
--- references are equal where the order ties them
+-- references are equal if they compare equal
 pub same-ties : (a b : OutRef) → (pointwise nat_eq a.id b.id && (a.index == b.index)) ≡ is_eq (ref_cmp a b)
 same-ties a b =
     ap (λ t. t && (a.index == b.index)) (texts_ties a.id b.id)
@@ -40,11 +40,11 @@ found-ties : (test : OutRef → Bool) (r : OutRef) → test ≡ eq_by_cmp ref_cm
 found-ties test r e [] = refl
 found-ties test r e (o ∷ os) = λ i. cond (e i o.0) (Some o.1) (found-ties test r e os i)
 
--- looking through the list answers as its map does
+-- searching the list finds what its map has
 pub lookup-get : (outputs : List (OutRef × Output)) (r : OutRef) → lookup (same_ref r) outputs ≡ get (from_entries {R = ref_cmp} outputs) r
 lookup-get outputs r = found-ties (same_ref r) r (same_is_tie r) outputs ∙ sym (get-from_entries ref_total outputs r)
 
--- references that the order ties are one
+-- references that compare equal are equal
 pub ref_exact : (a b : OutRef) → ref_cmp a b ≡ Equal → a ≡ b
 ref_exact a b e = ap (λ (p : List ℕ × ℕ). record { id = p.0; index = p.1 }) (exact_pairs (slice_cmp nat_cmp) nat_cmp exact_bytes exact_unsigned (a.id, a.index) (b.id, b.index) e)
 
@@ -56,7 +56,7 @@ equal Greater e = Prim.cc
 pub tied-Decides : (r q : OutRef) → Decides (eq_by_cmp ref_cmp r q) (q ≡ r)
 tied-Decides r q = (λ e. sym (ref_exact r q (equal _ e)), λ e. ap (λ k. is_eq (ref_cmp r k)) e ∙ ap is_eq (tied_itself ref_total r))
 
--- a reference is found exactly where it is among those of the outputs
+-- a reference is found exactly when the outputs have it
 pub found-Decides : (outputs : List (OutRef × Output)) (r : OutRef) → Decides (is_some (lookup (same_ref r) outputs)) (Contains (refs outputs) r)
 found-Decides outputs r =
     let any = Decides-contains (refs outputs) r _ (Decides-by_or (eq_by_cmp ref_cmp r) (λ q. q ≡ r) (list_any (eq_by_cmp ref_cmp r)) (tied-Decides r) refl (λ x xs. refl) (refs outputs)) in

@@ -1,4 +1,4 @@
--- References that stand twice.
+-- References that occur twice.
 use Rattle.std.proofs.Common.{◌≡◌, ◌≢◌, ℕ, ◌<◌, List, [], ◌∷◌, ◌++◌, length, get_or, take, sym, ap, subst, ◌∙◌, append_assoc, append-nil, length-append, take_at, refl, true, false, arith}
 use Rattle.std.specs.Prelude.{Contains, Option, is_some, Some, None}
 use Rattle.std.specs.Map.{lookup}
@@ -10,7 +10,7 @@ use Rattle.mp_tx.specs.Reference.{same_ref}
 use Rattle.mp_tx.specs.Ledger.{refs, AreDistinct, IsFirstRepeat}
 use Rattle.mp_tx.proofs.References.{found-Decides}
 
--- of all outputs these are in the map, in their order, and the others are left
+-- the map has these of all outputs, in order, and the others remain
 pub record IsPut (all held left : List (OutRef × Output)) : Type 0 where
   pub whole : held ++ left ≡ all
   pub distinct : AreDistinct (refs held)

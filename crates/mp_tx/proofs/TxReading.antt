@@ -1,4 +1,4 @@
--- What is read as a transaction was spelled so, and a transaction that is spelled is read.
+-- What is read as a transaction has this spelling, and a transaction with this spelling is read.
 use Rattle.std.proofs.lemmas.List.{take_at, length-append}
 use Rattle.std.proofs.Common.{take, ◌-◌, ◌≡◌, ◌⊎◌, ℕ, ◌<◌, ◌≤◌, ◌^◌, arith, Bool, true, false, List, [], ◌∷◌, ◌++◌, length, Option, None, Result, Ok, Err, refl, sym, ap, subst, ◌∙◌, append_assoc, nat_lt, nat_eq, inl, inr, cond}
 use Rattle.std.specs.Prelude.{not, map, IsTrue}
@@ -116,7 +116,7 @@ references_again inputs (r ∷ refs) rest few good =
     (require_step (not (nat_lt 256 n)) TooLarge (n, items ++ rest) _ _ (is_few n few)
     (items_again itself (reference_read inputs) ref_bytes (Looked inputs) (reference_again inputs) (r ∷ refs) None rest good)))
 
--- ---- what stands before the signatures
+-- ---- everything before the signatures
 
 pub record BodyWas (bytes : List ℕ) (x : Transaction × List ℕ) : Type 0 where
   pub takes : Takes bytes (body x.0) x.1
@@ -257,7 +257,7 @@ pub size_is : (bytes : List ℕ) (t : Transaction) → bytes ≡ spelling t → 
 unfolding size_of
 size_is bytes t e = sym (ap length e)
 
--- what was read before the signatures, and the whole
+-- what was read before the signatures, and the whole transaction
 pub record TransactionWas (bytes : List ℕ) (t : Transaction) : Type 0 where
   pub rest : List ℕ
   pub before : bytes ≡ body t ++ rest
@@ -324,7 +324,7 @@ transaction_again bytes t s =
     (ap (λ (b : List ℕ). counted_read itself signature_read b) (sym (append_nil sigs)) ∙ counted_again itself signature_read signature_bytes (Comes signature_cmp itself IsSignature) signature_again t.signatures [] s.parts.few_signatures (own_comes signature_cmp IsSignature t.signatures s.fits.signatures_rise s.parts.signatures))
     refl)
 
--- ---- what stands before the signatures, as a slice
+-- ---- everything before the signatures, as a slice
 
 pub rest_shorter : (bytes front rest : List ℕ) → bytes ≡ front ++ rest → length rest ≤ length bytes
 rest_shorter bytes front rest e = omega (arith, ap length e, length-append front rest)

@@ -1,4 +1,4 @@
--- What leads back from the ledger state after a block.
+-- Going back from the ledger state after a block.
 use Rattle.std.proofs.Common.{◌≤◌, length-append, ◌≡◌, ℕ, zero, suc, ◌+◌, ◌<◌, Bool, true, false, ◌||◌, ◌&&◌, List, [], ◌∷◌, ◌++◌, length, get_or, take, cond, refl, sym, ap, subst, ◌∙◌, arith, append-nil}
 use Rattle.std.specs.Prelude.{Option, None, Some, is_some, if◌then◌else◌}
 use Rattle.std.specs.List.{list_any, IsDistinct, AllByRecursion, flat_map}
@@ -17,7 +17,7 @@ use Rattle.mp_tx.specs.Inside.Undo.{entry_of, found, leading, AreOf}
 use Rattle.mp_tx.proofs.References.{ref_total, same-ties}
 use Rattle.mp_tx.proofs.Changed.{same_exact, same_itself, same_utxo}
 
--- ---- where all are there none is missing, and where all are free none is taken
+-- ---- if all are there none is missing, and if all are free none is taken
 
 there_at : (u : Utxo) (rs : List OutRef) (place : ℕ) (d : OutRef) → AreThere u rs → place < length rs → is_some (get (without u (take place rs)) (get_or rs place d)) ≡ true
 there_at u [] place d there lt = absurd (omega arith)
@@ -44,7 +44,7 @@ none_taken u es place free taken =
     let yes = taken.taken (r, o) in
     Prim.cc
 
--- ---- what stands under a reference when others are taken out and put in
+-- ---- the output of a reference after others are removed and added
 
 get-less : (u : Utxo) (r q : OutRef) → get (remove u r) q ≡ cond (same_ref q r) None (get u q)
 get-less u r q = get-remove ref_total u r q ∙ ap (λ b. cond b None (get u q)) (sym (same-ties q r))
@@ -69,7 +69,7 @@ or_parts : (a b : Bool) → (a || b) ≡ false → (a ≡ false) × (b ≡ false
 or_parts true b e = Prim.cc
 or_parts false b e = (refl, e)
 
--- what isn't made stays
+-- what isn't made stays as it is
 pub get-unmade : (u : Utxo) (es : List (OutRef × Output)) (q : OutRef) → list_any (same_ref q) (refs es) ≡ false → get (with_outputs u es) q ≡ get u q
 get-unmade u [] q not = refl
 get-unmade u (e ∷ es) q not =
@@ -78,11 +78,11 @@ get-unmade u (e ∷ es) q not =
     ∙ get-more u e.0 e.1 q
     ∙ ap (λ b. cond b (Some e.1) (get u q)) parts.0
 
--- nothing is under any of both
+-- neither list has the reference
 none_of_both : (r : OutRef) (xs ys : List OutRef) → list_any (same_ref r) (xs ++ ys) ≡ false → (list_any (same_ref r) xs ≡ false) × (list_any (same_ref r) ys ≡ false)
 none_of_both r xs ys e = or_parts _ _ (sym (list_any-append (same_ref r) xs ys) ∙ e)
 
--- a block changes nothing but what it spends and makes
+-- a block changes only what it spends and makes
 pub differ-after : (l : LedgerState) (tick block_bytes : ℕ) (spent : List OutRef) (made : List (OutRef × Output)) → DifferAt (spent ++ refs made) l (ledger_after l tick block_bytes spent made)
 differ-after l tick block_bytes spent made = record {
   salt = refl;
@@ -93,7 +93,7 @@ differ-after l tick block_bytes spent made = record {
       ∙ ap (λ b. cond b None (get l.utxo r)) parts.0;
 }
 
--- ---- what is found under references, put in
+-- ---- the outputs of references, added
 
 put_in : Bool → Option Output → Option Output → Option Output
 put_in b found old = cond (b && is_some found) found old
@@ -141,7 +141,7 @@ get-found u w (k ∷ ks) q =
     ∙ ap (put_in (list_any (same_ref q) ks) (get u q)) (one_put w k (get u k) q)
     ∙ put_more k q u (list_any (same_ref q) ks) (get u k) (get w q) refl
 
--- ---- those that lead to outputs
+-- ---- the references that lead to outputs
 
 one_leads : (q k : OutRef) (b : Bool) → list_any (same_ref q) (if b then k ∷ [] else []) ≡ (same_ref q k && b)
 one_leads q k true = by (same_ref q k)
@@ -175,9 +175,9 @@ any-leading v (k ∷ ks) q =
     ∙ ap (λ b. (same_ref q k && is_some (get v k)) || b) (any-leading v ks q)
     ∙ leads_more k q v (list_any (same_ref q) ks)
 
--- ---- back
+-- ---- going back
 
--- under these references nothing is left once those are taken out that lead to outputs
+-- these references lead to nothing once those that lead to outputs are removed
 none_left : (v : Utxo) (ks : List OutRef) (q : OutRef) → list_any (same_ref q) ks ≡ true → get (without v (leading v ks)) q ≡ None
 none_left v ks q among =
     get-without v (leading v ks) q
@@ -245,7 +245,7 @@ free_first : (u w : Utxo) (k : OutRef) (es : List (OutRef × Output)) (o : Optio
 free_first u w k es None none with_it without_it = without_it
 free_first u w k es (Some x) none with_it without_it = (ap is_some none, with_it x)
 
--- where nothing stands under them, what is found under them elsewhere can be put in, one after another
+-- if these references lead to nothing, their outputs elsewhere can be added, one after another
 pub found-free : (u w : Utxo) (ks : List OutRef) → IsDistinct same_ref ks → ((q : OutRef) → list_any (same_ref q) ks ≡ true → get w q ≡ None) → AreFree w (found u ks)
 unfolding IsDistinct
 found-free u w [] once none = tt
@@ -272,7 +272,7 @@ found-push u ks k = sym (flat_map-append (λ r. entry_of r (get u r)) ks (k ∷ 
 pub leading-push : (v : Utxo) (ks : List OutRef) (k : OutRef) → leading v ks ++ (if is_some (get v k) then k ∷ [] else []) ≡ leading v (ks ++ k ∷ [])
 leading-push v ks k = sym (flat_map-append (λ r. if is_some (get v r) then r ∷ [] else []) ks (k ∷ []) ∙ ap (λ rs. leading v ks ++ rs) (one (λ r. if is_some (get v r) then r ∷ [] else []) k))
 
--- ---- all that was looked at
+-- ---- all references that were noted
 
 or_none : (b : Bool) → (b || false) ≡ b
 or_none true = refl
@@ -328,7 +328,7 @@ goes-back touched before after n u differ of seen bytes tick block_bytes spent m
       back = λ i. record { tick = tick i; block_bytes = block_bytes i; utxo = same i; salt = differ.salt i };
     }
 
--- ---- how many there are
+-- ---- their number
 
 pub none-counted : (ks : List OutRef) → ks ≡ [] → length ks ≤ 0
 none-counted ks none = subst (λ rs. length rs ≤ 0) (sym none) (omega arith)

@@ -1,4 +1,4 @@
--- Why a ledger state has none after a block.
+-- Why a block can't be applied to a ledger state.
 use Rattle.std.specs.Prelude.{ℕ, List}
 use Rattle.mp_tx.specs.declared.block_fault.BlockFault.{BlockFault}
 use Rattle.mp_tx.specs.declared.block_fault.BlockFault.TheVariants.{NoMemory, BadBlockBytes, Missing, Repeated}
@@ -6,7 +6,7 @@ use Rattle.mp_tx.specs.declared.reference.OutRef.{OutRef}
 use Rattle.mp_tx.specs.declared.output.Output.{Output}
 use Rattle.mp_tx.specs.Ledger.{LedgerState, HasBlockBytes, without, AreThere, IsFirstMissing, IsFirstTaken}
 
--- Block bytes are looked at first, then what is spent, then what is made. Memory may be wanting for any block.
+-- the checks are made in this order: block bytes, what is spent, what is made; an allocation failure is always possible
 abbrev pub HasBlockFault : BlockFault → LedgerState → ℕ → List OutRef → List (OutRef × Output) → Type 0
 HasBlockFault NoMemory l block_bytes spent made = Unit {0}
 HasBlockFault BadBlockBytes l block_bytes spent made = ¬ HasBlockBytes block_bytes

@@ -10,18 +10,18 @@ use Rattle.mp_tx.specs.TxFault.{parts_fault}
 use Rattle.mp_tx.specs.Ledger.{LedgerState, refs, ledger_after}
 use Rattle.mp_tx.specs.Undo.{DifferAt}
 
--- bytes spell at most one transaction, which is the one that reading gives; a transaction has one spelling
+-- bytes spell at most one transaction, which is the one that decoding returns; a transaction has one spelling
 pub record TransactionIsOne : Type 0 where
   pub spelled_once : (bytes : List ℕ) (t u : Transaction) → Spells bytes t → Spells bytes u → t ≡ u
   pub read : (bytes : List ℕ) (t : Transaction) → Spells bytes t → transaction_of bytes ≡ Ok t
   pub one_spelling : (a b : List ℕ) (t : Transaction) → Spells a t → Spells b t → a ≡ b
   pub is_spelled : (t : Transaction) → AreParts t → IsTransaction t → Spells (spelling t) t
 
--- parts have no fault exactly where they may stand in a transaction
+-- parts have no fault exactly when a transaction may have them
 abbrev pub FaultlessIsTransaction : Type 0
 FaultlessIsTransaction = (t : Transaction) → (parts_fault t ≡ None) ↔ IsTransaction t
 
--- a ledger state after a block differs from the one before it at most where the block spends and makes
+-- the ledger states before and after a block differ at most where the block spends and makes
 abbrev pub BlockChangesItsOwn : Type 0
 BlockChangesItsOwn =
     (l : LedgerState) (tick block_bytes : ℕ) (spent : List OutRef) (made : List (OutRef × Output))

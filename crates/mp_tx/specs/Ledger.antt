@@ -13,11 +13,11 @@ Utxo = FinMap ref_cmp Output
 pub record LedgerState : Type 0 where
   -- the time, in ticks
   pub tick : ℕ
-  -- how many bytes a block may have
+  -- the greatest size of a block, in bytes
   pub block_bytes : ℕ
-  -- the outputs that are there to be spent (the UTxO map of the EUTXO model of Chakravarty et al.)
+  -- the outputs that can be spent (the UTxO map of the EUTXO model of Chakravarty et al.)
   pub utxo : Utxo
-  -- the number that the places of references in its tables depend on, which the host keeps secret
+  -- the secret number that the hash tables depend on
   pub salt : ℕ
 
 -- from 1 to 2^39
@@ -28,17 +28,17 @@ HasBlockBytes n = (1 ≤ n) × (n ≤ 2 ^ 39)
 abbrev pub refs : List (OutRef × Output) → List OutRef
 refs outputs = map (λ e. e.0) outputs
 
--- no reference stands twice
+-- no reference occurs twice
 abbrev pub AreDistinct : List OutRef → Type 0
 AreDistinct rs = AllPairs (λ a b. a ≢ b) rs
 
--- the first place whose reference stood before
+-- the first index whose reference occurs before
 pub record IsFirstRepeat (rs : List OutRef) (place : ℕ) : Type 0 where
-  -- a reference stands at the place
+  -- the index is in range
   pub within : place < length rs
-  -- it stood before
+  -- its reference occurs before it
   pub again : HoldsAt (Contains (take place rs)) rs place
-  -- no earlier one did
+  -- this holds of no earlier index
   pub before : AreDistinct (take place rs)
 
 abbrev pub ledger_of : ℕ → ℕ → ℕ → List (OutRef × Output) → LedgerState
@@ -49,7 +49,7 @@ ledger_of salt tick block_bytes outputs = record {
   salt = salt;
 }
 
--- without what these references lead to
+-- without the outputs of these references
 abbrev pub without : Utxo → List OutRef → Utxo
 without utxo spent = fold remove utxo spent
 
@@ -57,7 +57,7 @@ without utxo spent = fold remove utxo spent
 abbrev pub with_outputs : Utxo → List (OutRef × Output) → Utxo
 with_outputs utxo made = fold (λ u e. insert u e.0 e.1) utxo made
 
--- after a block: without what was spent, and with what was made. The salt stays
+-- after a block: without what was spent, and with what was made; the salt stays
 abbrev pub ledger_after : LedgerState → ℕ → ℕ → List OutRef → List (OutRef × Output) → LedgerState
 ledger_after l tick block_bytes spent made = record {
   tick = tick;
@@ -66,30 +66,30 @@ ledger_after l tick block_bytes spent made = record {
   salt = l.salt;
 }
 
--- each reference leads to an output, also when those before it are spent
+-- each reference leads to an output, after those before it are spent
 abbrev pub AreThere : Utxo → List OutRef → Type 0
 AreThere utxo [] = Unit {0}
 AreThere utxo (r ∷ rs) = IsSome (get utxo r) × AreThere (remove utxo r) rs
 
--- each reference leads to no output, also when those before it are made
+-- each reference leads to no output, after those before it are made
 abbrev pub AreFree : Utxo → List (OutRef × Output) → Type 0
 AreFree utxo [] = Unit {0}
 AreFree utxo (e ∷ es) = IsNone (get utxo e.0) × AreFree (insert utxo e.0 e.1) es
 
--- the first place whose reference leads to no output, or was spent before
+-- the first index whose reference leads to no output, or occurs before
 pub record IsFirstMissing (utxo : Utxo) (spent : List OutRef) (place : ℕ) : Type 0 where
-  -- a reference stands at the place
+  -- the index is in range
   pub within : place < length spent
-  -- it leads to nothing once those before it are spent
+  -- its reference leads to nothing once those before it are spent
   pub missing : HoldsAt (λ r. IsNone (get (without utxo (take place spent)) r)) spent place
-  -- no earlier one did
+  -- this holds of no earlier index
   pub before : AreThere utxo (take place spent)
 
--- the first place whose reference leads to an output, or was made before
+-- the first index whose reference leads to an output, or occurs before
 pub record IsFirstTaken (utxo : Utxo) (made : List (OutRef × Output)) (place : ℕ) : Type 0 where
-  -- an output stands at the place
+  -- the index is in range
   pub within : place < length made
-  -- its reference leads to one once those before it are made
+  -- its reference leads to an output once those before it are made
   pub taken : HoldsAt (λ e. IsSome (get (with_outputs utxo (take place made)) e.0)) made place
-  -- no earlier one's did
+  -- this holds of no earlier index
   pub before : AreFree utxo (take place made)

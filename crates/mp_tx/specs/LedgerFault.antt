@@ -5,7 +5,7 @@ use Rattle.mp_tx.specs.declared.ledger_fault.LedgerFault.TheVariants.{NoMemory, 
 use Rattle.mp_tx.specs.declared.reference.OutRef.{OutRef}
 use Rattle.mp_tx.specs.Ledger.{HasBlockBytes, IsFirstRepeat}
 
--- Block bytes are looked at first. Memory may be wanting for any outputs.
+-- block bytes are checked first; an allocation failure is always possible
 abbrev pub HasFault : LedgerFault → ℕ → List OutRef → Type 0
 HasFault NoMemory block_bytes rs = Unit {0}
 HasFault (Repeated place) block_bytes rs = HasBlockBytes block_bytes × IsFirstRepeat rs place

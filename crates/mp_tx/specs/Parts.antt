@@ -1,4 +1,4 @@
--- Which parts may stand in a transaction, and which bytes spell one.
+-- Which parts a transaction may have, and which bytes spell one.
 use Rattle.std.specs.Prelude.{◌≡◌, ℕ, ◌<◌, ◌≤◌, ◌^◌, List, length, IsTrue}
 use Rattle.std.specs.List.{AllByRecursion}
 use Rattle.mp_bundle.specs.Bundle.{Entry, IsBundle}
@@ -13,12 +13,12 @@ use Rattle.mp_tx.specs.Rising.{rises}
 use Rattle.mp_tx.specs.Transaction.{Transaction, spent_refs, script_cmp, signature_cmp, spends_none}
 use Rattle.mp_tx.specs.Spelling.{spelling, size_of}
 
--- an id of 32 bytes, and an index of two
+-- an id of 32 bytes, and an index of 2
 pub record IsRef (r : OutRef) : Type 0 where
   pub id : length r.id ≡ 32
   pub index : r.index < 2 ^ 16
 
--- bytes whose length fits two bytes, and which are a script or a datum
+-- bytes whose length fits 2 bytes, and which are a script or a datum
 pub record IsSized (Whole : List ℕ → Type 0) (bytes : List ℕ) : Type 0 where
   pub whole : Whole bytes
   pub short : length bytes < 2 ^ 16
@@ -29,7 +29,7 @@ pub record IsInput (i : Input) : Type 0 where
   pub datum : IsSized IsDatum i.datum
   pub redeemer : IsSized IsDatum i.redeemer
 
--- a bundle with a number of entries that fits two bytes, each with a policy of 32 bytes
+-- a bundle whose number of entries fits 2 bytes, each with a policy of 32 bytes
 pub record IsValue (entries : List Entry) : Type 0 where
   pub bundle : IsBundle entries
   pub few : length entries < 2 ^ 16
@@ -44,7 +44,7 @@ pub record IsSignature (s : Signature) : Type 0 where
   pub key : length s.key ≡ 32
   pub sig : length s.sig ≡ 64
 
--- Each part is what it is to be by itself.
+-- each part is valid by itself
 pub record AreParts (t : Transaction) : Type 0 where
   pub inputs : AllByRecursion IsInput t.inputs
   pub references : AllByRecursion IsRef t.references
@@ -57,13 +57,13 @@ pub record AreParts (t : Transaction) : Type 0 where
   pub signatures : AllByRecursion IsSignature t.signatures
   pub few_signatures : length t.signatures < 2 ^ 16
 
--- They may stand together.
+-- the parts are valid together
 pub record IsTransaction (t : Transaction) : Type 0 where
   pub inputs_rise : IsTrue (rises ref_cmp (spent_refs t.inputs))
   pub references_rise : IsTrue (rises ref_cmp t.references)
   pub scripts_rise : IsTrue (rises script_cmp t.scripts)
   pub signatures_rise : IsTrue (rises signature_cmp t.signatures)
-  -- nothing is both spent and looked at
+  -- nothing is both spent and read
   pub unspent : IsTrue (spends_none t.inputs t.references)
   pub interval : t.from ≤ t.to
   pub few_inputs : length t.inputs ≤ 256

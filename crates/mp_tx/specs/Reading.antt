@@ -1,4 +1,4 @@
--- Reading a transaction from the left, with the first fault.
+-- Reading a transaction from the left, up to the first fault.
 use Rattle.std.specs.Prelude.{◌≡◌, ◌≢◌, ℕ, zero, suc, Bool, not, List, [], ◌∷◌, length, Option, None, Some, Result, Ok, Err, is_none, is_ok, if◌then◌else◌, nat_eq, nat_lt}
 use Rattle.mp_bytes.specs.Fields.{number_at, unsigned_at, count_at, run_at, sized_at}
 use Rattle.mp_bytes.specs.Reading.{◌>>=◌, or_fault}
@@ -17,19 +17,19 @@ use Rattle.mp_tx.specs.Reference.{ref_cmp}
 use Rattle.mp_tx.specs.Rising.{follows}
 use Rattle.mp_tx.specs.Transaction.{Transaction, script_cmp, signature_cmp, spends}
 
--- what stands at the front of bytes, with the bytes after it, or a fault
+-- a value at the front of bytes, with the bytes after it, or a fault
 abbrev pub Read : Type 0 → Type 0
 Read A = Result (A × List ℕ) TxFault
 
--- a field whose bytes have to be there
+-- a field, or `Truncated` if its bytes are missing
 abbrev pub field : {A : Type 0} → Option (A × List ℕ) → Read A
 field o = or_fault Truncated o
 
--- what has been read, where it passes a test
+-- what was read, if it passes a test, and else the fault
 abbrev pub require : {A : Type 0} → Bool → TxFault → A → Result A TxFault
 require test fault x = if test then Ok x else Err fault
 
--- so many items, each read with a view to the key of the one before it
+-- n items, each read with the key of the one before it
 abbrev pub items_read : {K X : Type 0} → (X → K) → (Option K → List ℕ → Read X) → Option K → ℕ → List ℕ → Read (List X)
 items_read key read before zero bytes = Ok ([], bytes)
 items_read key read before (suc n) bytes = do
@@ -37,7 +37,7 @@ items_read key read before (suc n) bytes = do
   more ← items_read key read (Some (key first.0)) n first.1
   Ok (first.0 ∷ more.0, more.1)
 
--- a count, and so many items
+-- a count, and that many items
 abbrev pub counted_read : {K X : Type 0} → (X → K) → (Option K → List ℕ → Read X) → List ℕ → Read (List X)
 counted_read key read bytes = do
   n ← field (count_at bytes)
@@ -49,17 +49,17 @@ few_count_read bytes = do
   n ← field (count_at bytes)
   require (not (nat_lt 256 n.0)) TooLarge n
 
--- so many items
+-- a count of at most 256, and that many items
 abbrev pub few_read : {K X : Type 0} → (X → K) → (Option K → List ℕ → Read X) → List ℕ → Read (List X)
 few_read key read bytes = do
   n ← few_count_read bytes
   items_read key read None n.0 n.1
 
--- of an item that is its own key
+-- the key of an item that is its own key
 abbrev pub itself : {X : Type 0} → X → X
 itself x = x
 
--- what a reader of the code comes to is what is defined, or memory was wanting
+-- a reader in the code returns what the definition has, or an allocation fails
 abbrev pub Reads : {X A : Type 0} → (X → A) → Result X TxFault → Result A TxFault → Type 0
 Reads view (Ok x) outcome = outcome ≡ Ok (view x)
 Reads view (Err e) outcome = e ≢ NoMemory → outcome ≡ Err e
@@ -82,7 +82,7 @@ data_read bytes = do
   text ← field (sized_at bytes)
   require (is_ok (datum_of text.0)) BadData text
 
--- the order is looked at before the validator is read
+-- the order is checked before the validator is read
 unfoldable pub input_read : Option OutRef → List ℕ → Read Input
 input_read before bytes = do
   from ← ref_read bytes
@@ -92,7 +92,7 @@ input_read before bytes = do
   redeemer ← data_read datum.1
   Ok (record { from = next.0; validator = validator.0; datum = datum.0; redeemer = redeemer.0 }, redeemer.1)
 
--- a reference that isn't greater than the one before it is told first, and then one that is an input
+-- the first check is that a reference is greater than the one before it, the second that it is no input
 unfoldable pub reference_read : List Input → Option OutRef → List ℕ → Read OutRef
 reference_read inputs before bytes = do
   r ← ref_read bytes
@@ -103,7 +103,7 @@ unfoldable pub byte_read : List ℕ → Read ℕ
 byte_read [] = Err Truncated
 byte_read (b ∷ bytes) = Ok (b, bytes)
 
--- a name that is too long is told before it is read, and all else once the whole entry is
+-- a name that is too long is reported before it is read, and everything else after the whole entry
 unfoldable pub entry_read : Option Token → List ℕ → Read Entry
 entry_read before bytes = do
   policy ← field (run_at 32 bytes)
@@ -117,7 +117,7 @@ entry_read before bytes = do
 unfoldable pub bundle_read : List ℕ → Read (List Entry)
 bundle_read bytes = counted_read (λ e. e.0) entry_read bytes
 
--- outputs stand in any order
+-- outputs may have any order
 unfoldable pub output_read : Option Output → List ℕ → Read Output
 output_read before bytes = do
   address ← field (run_at 32 bytes)
@@ -125,14 +125,14 @@ output_read before bytes = do
   value ← bundle_read datum_hash.1
   Ok (record { address = address.0; datum_hash = datum_hash.0; value = value.0 }, value.1)
 
--- from the first tick to the last
+-- the first tick and the last
 unfoldable pub interval_read : List ℕ → Read (ℕ × ℕ)
 interval_read bytes = do
   from ← field (unsigned_at bytes)
   to ← field (unsigned_at from.1)
   require (not (nat_lt to.0 from.0)) BadInterval ((from.0, to.0), to.1)
 
--- the order is looked at after the script
+-- the order is checked after the script
 unfoldable pub policy_read : Option (List ℕ) → List ℕ → Read (List ℕ)
 policy_read before bytes = do
   script ← script_read bytes
@@ -146,13 +146,13 @@ signature_read before bytes = do
 
 -- ---- the whole
 
--- format 1 or format 2
+-- version 1 or 2
 unfoldable pub version_read : List ℕ → Read ℕ
 version_read bytes = do
   version ← byte_read bytes
   if nat_eq version.0 1 then Ok version else require (nat_eq version.0 2) BadVersion version
 
--- format 1 has no references, and format 2 has some
+-- format 1 has no references, and format 2 has at least one
 unfoldable pub references_read : ℕ → List Input → List ℕ → Read (List OutRef)
 references_read version inputs bytes =
     if nat_eq version 1 then Ok ([], bytes) else do
@@ -166,7 +166,7 @@ abbrev pub whole : {A : Type 0} → A × List ℕ → Result A TxFault
 whole (x, []) = Ok x
 whole (x, b ∷ bytes) = Err Trailing
 
--- what stands before the signatures, without signatures
+-- everything before the signatures, without signatures
 unfoldable pub body_read : List ℕ → Read Transaction
 body_read bytes = do
   version ← version_read bytes
@@ -190,7 +190,7 @@ body_read bytes = do
     scripts.1,
   )
 
--- the transaction that the bytes spell, or the first fault; what is too long isn't read
+-- the transaction that the bytes spell, or the first fault; bytes that are too long aren't read
 unfoldable pub transaction_of : List ℕ → Result Transaction TxFault
 transaction_of bytes =
     if nat_lt 16384 (length bytes) then Err TooLarge else do

@@ -29,12 +29,12 @@ output_bytes o = o.address ++ o.datum_hash ++ bundle_bytes o.value
 unfoldable pub signature_bytes : Signature → List ℕ
 signature_bytes s = s.key ++ s.sig
 
--- a transaction without references is spelled in format 1, one with references in format 2
+-- a transaction without references has format 1, and one with references has format 2
 abbrev pub version_of : List OutRef → ℕ
 version_of [] = 1
 version_of (r ∷ refs) = 2
 
--- format 1 has no place for references
+-- format 1 has no references
 abbrev pub references_bytes : List OutRef → List ℕ
 references_bytes [] = []
 references_bytes (r ∷ refs) = counted ref_bytes (r ∷ refs)
@@ -52,7 +52,7 @@ body t =
 unfoldable pub spelling : Transaction → List ℕ
 spelling t = body t ++ counted signature_bytes t.signatures
 
--- signatures don't count
+-- signatures aren't hashed
 unfoldable pub id_of : Transaction → List ℕ
 id_of t = sha256 (body t)
 

@@ -1,4 +1,4 @@
--- Transactions, and which parts may stand in one (the EUTXO and native-token papers of Chakravarty et al., and CIP-31).
+-- Transactions and their parts (the EUTXO and native-token papers of Chakravarty et al., and CIP-31).
 use Rattle.std.specs.Prelude.{ℕ, Bool, not, List, map}
 use Rattle.std.specs.List.{list_all, list_any}
 use Rattle.std.specs.Ordering.{nat_cmp, ordering_then}
@@ -12,27 +12,27 @@ use Rattle.mp_tx.specs.declared.signature.Signature.{Signature}
 use Rattle.mp_tx.specs.Reference.{same_ref}
 
 pub record Transaction : Type 0 where
-  -- what it spends, in rising order
+  -- what it spends, in strictly increasing order
   pub inputs : List Input
-  -- the outputs that it looks at and doesn't spend, in rising order
+  -- the outputs that it reads and doesn't spend, in strictly increasing order
   pub references : List OutRef
   -- what it pays
   pub outputs : List Output
-  -- the first and the last tick at which it may be applied
+  -- the first and the last tick at which it is valid
   pub from : ℕ
   pub to : ℕ
-  -- what it forges, and burns where a quantity is negative
+  -- what it forges; a negative quantity burns
   pub forge : List Entry
-  -- the bytes of the policy scripts that it carries, in rising order
+  -- the bytes of the policy scripts that it carries, in strictly increasing order
   pub scripts : List (List ℕ)
-  -- who has signed it, in rising order
+  -- its signatures, in strictly increasing order
   pub signatures : List Signature
 
--- what inputs spend
+-- what the inputs spend
 abbrev pub spent_refs : List Input → List OutRef
 spent_refs inputs = map (λ i. i.from) inputs
 
--- by the bytes
+-- by their bytes
 abbrev pub script_cmp : List ℕ → List ℕ → Ordering
 script_cmp a b = slice_cmp nat_cmp a b
 

@@ -1,4 +1,4 @@
--- Which fault parts and bytes have that make no transaction.
+-- The fault of parts or bytes that make no transaction.
 use Rattle.std.specs.Prelude.{◌≡◌, ℕ, ◌&&◌, Bool, not, List, length, Option, None, Some, Err, if◌then◌else◌, nat_le, nat_lt}
 use Rattle.std.specs.Option.{option_or}
 use Rattle.mp_tx.specs.declared.fault.TxFault.{TxFault}
@@ -30,7 +30,7 @@ all_rise t = rises ref_cmp (spent_refs t.inputs) && rises ref_cmp t.references &
 abbrev pub is_small : Transaction → Bool
 is_small t = nat_le (length t.inputs) 256 && nat_le (length t.references) 256 && nat_le (length t.outputs) 256 && nat_le (size_of t) 16384
 
--- the fault in how parts stand to each other, the first in this order
+-- the first fault in the order of the parts, in this order
 abbrev pub order_fault : Transaction → Option TxFault
 order_fault t =
     if not (all_rise t) then Some NotRising
@@ -38,16 +38,16 @@ order_fault t =
     else if nat_lt t.to t.from then Some BadInterval
     else None
 
--- the fault of parts: what is too large is told last
+-- the fault of parts; their size is checked last
 abbrev pub parts_fault : Transaction → Option TxFault
 parts_fault t = option_or (order_fault t) (if is_small t then None else Some TooLarge)
 
--- why these parts make no transaction. Memory may be wanting for any
+-- why these parts make no transaction; an allocation failure is always possible
 abbrev pub IsPartsFault : Transaction → TxFault → Type 0
 IsPartsFault t NoMemory = Unit {0}
 IsPartsFault t fault = parts_fault t ≡ Some fault
 
--- why these bytes spell no transaction. Memory may be wanting for any
+-- why these bytes spell no transaction; an allocation failure is always possible
 abbrev pub IsBytesFault : List ℕ → TxFault → Type 0
 IsBytesFault bytes NoMemory = Unit {0}
 IsBytesFault bytes fault = transaction_of bytes ≡ Err fault

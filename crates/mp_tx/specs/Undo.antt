@@ -21,7 +21,7 @@ pub record Undo : Type 0 where
 abbrev pub undone : LedgerState → Undo → LedgerState
 undone l u = ledger_after l u.tick u.block_bytes u.made u.spent
 
--- what was made is there, and what was spent isn't then
+-- what was made is there, and what was spent isn't there once that is removed
 pub record CanUndo (l : LedgerState) (u : Undo) : Type 0 where
   pub block_bytes : HasBlockBytes u.block_bytes
   pub there : AreThere l.utxo u.made
@@ -32,12 +32,12 @@ pub record GoesBack (after : LedgerState) (u : Undo) (before : LedgerState) : Ty
   pub can : CanUndo after u
   pub back : undone after u ≡ before
 
--- it has no more outputs than so many, nor more references
+-- it has at most this many outputs, and at most this many references
 pub record IsWithin (count : ℕ) (u : Undo) : Type 0 where
   pub spent : length u.spent ≤ count
   pub made : length u.made ≤ count
 
--- but for their ticks and block bytes the ledger states differ at most under these references
+-- except for their ticks and block bytes, the ledger states differ at most at these references
 pub record DifferAt (touched : List OutRef) (before after : LedgerState) : Type 0 where
   pub salt : after.salt ≡ before.salt
   pub others : (r : OutRef) → list_any (same_ref r) touched ≡ false → get after.utxo r ≡ get before.utxo r

@@ -26,7 +26,7 @@ use policy::fill_policies;
 use reference::fill_references;
 use signature::fill_signatures;
 
-// Format 1 or format 2.
+// The version: 1 or 2.
 #[tactic(auto, unfolding(crate::specs::Reading::version_read))]
 fn read_version(bytes: &[u8]) -> Result<(u8, &[u8]), TxFault>
     ensures { seen (λ x. (x.0, x.1.now)) result ≡ version_read bytes.now }
@@ -38,7 +38,7 @@ fn read_version(bytes: &[u8]) -> Result<(u8, &[u8]), TxFault>
     }
 }
 
-// Puts what stands before the signatures into parts that are empty, and gives the bytes after it.
+// Fills empty parts with everything before the signatures, and returns the bytes after it.
 #[tactic(auto, unfolding(crate::specs::Reading::body_read))]
 fn fill_body<'a>(memory: Memory, parts: &mut TxParts, bytes: &'a [u8]) -> Result<&'a [u8], TxFault>
     requires { AreEmpty parts.old }
@@ -56,7 +56,7 @@ fn fill_body<'a>(memory: Memory, parts: &mut TxParts, bytes: &'a [u8]) -> Result
     fill_policies(memory, &mut parts.scripts, rest)
 }
 
-/// Puts the transaction that the bytes spell into parts that are empty, and gives the bytes before its signatures.
+/// Fills empty parts with the transaction that the bytes spell, and returns the bytes before its signatures.
 #[tactic(auto, unfolding(crate::specs::Reading::transaction_of))]
 pub fn fill_parts<'a>(
     memory: Memory,

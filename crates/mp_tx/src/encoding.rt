@@ -16,7 +16,7 @@ use mp_bundle::{Bundle, Entry, Token};
 use mp_memory::{Memory, NoMemory};
 use mp_script::Script;
 
-// The last two bytes of a count. Where it has more, the transaction is too large.
+// The last two bytes of a count. A transaction with a greater count is too large anyway.
 fn last_bytes(count: usize) -> [u8; 2]
     ensures { result ≡ to_be_bytes w16 count }
 {
@@ -77,7 +77,7 @@ fn put_counted_refs(out: &mut Vec<u8, Memory>, references: &[OutRef]) -> Result<
     Ok(())
 }
 
-// Format 1 has no place for references.
+// Format 1 has no references.
 fn put_references(out: &mut Vec<u8, Memory>, references: &[OutRef]) -> Result<(), NoMemory>
     ensures { OnOk result (out.new.items ≡ out.old.items ++ references_bytes references.now) }
 {
@@ -112,7 +112,7 @@ fn put_bundle(out: &mut Vec<u8, Memory>, bundle: &Bundle) -> Result<(), NoMemory
     put_entries(out, others)
 }
 
-// How many entries there are, of which one is of coin and stands before so many others.
+// Appends the number of entries, which are one of coin and `others` more, and then the entry of coin.
 fn put_coin(out: &mut Vec<u8, Memory>, quantity: i64, others: usize) -> Result<(), NoMemory>
     requires { others < 2 ^ 63 }
     ensures { OnOk result (out.new.items
@@ -178,7 +178,7 @@ fn put_signature(out: &mut Vec<u8, Memory>, signature: &Signature) -> Result<(),
     Ok(())
 }
 
-/// Puts the signatures behind what is there.
+/// Appends the signatures.
 pub fn put_signatures(out: &mut Vec<u8, Memory>, signatures: &[Signature]) -> Result<(), NoMemory>
     ensures { OnOk result
         (out.new.items ≡ out.old.items ++ counted signature_bytes signatures.now) }
@@ -196,7 +196,7 @@ fn version_of(references: &[OutRef]) -> u8
     if references.is_empty() { 1 } else { 2 }
 }
 
-/// Puts everything before the signatures behind what is there.
+/// Appends everything before the signatures.
 #[tactic(auto, unfolding(crate::specs::Spelling::body))]
 pub fn put_body(out: &mut Vec<u8, Memory>, parts: &Parts<'_>) -> Result<(), NoMemory>
     ensures { OnOk result (out.new.items ≡ out.old.items ++ body (lent parts.now)) }

@@ -1,4 +1,4 @@
-//! What few transactions have.
+//! What only few transactions have.
 
 ghost use Rattle.std.specs.Prelude.{◌≡◌, IfOk};
 ghost use Rattle.mp_tx.specs.Inside.Extras.{references_in, scripts_in};
@@ -7,7 +7,7 @@ use crate::reference::OutRef;
 use mp_memory::{Memory, NoMemory};
 use mp_script::Script;
 
-/// What few transactions have: references, and policy scripts.
+/// What only few transactions have: references and policy scripts.
 #[derive(Debug)]
 pub struct Extras {
     pub references: Vec<OutRef, Memory>,
@@ -23,7 +23,7 @@ impl Drop for Extras {
     }
 }
 
-/// References and policy scripts apart, in one growth, or in none where there are neither.
+/// References and policy scripts, stored apart in one allocation, or in none if there are neither.
 pub fn keep_apart(
     memory: Memory,
     references: Vec<OutRef, Memory>,

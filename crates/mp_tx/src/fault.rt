@@ -8,12 +8,12 @@ use mp_memory::NoMemory;
 use std::alloc::{AllocError, AllocFailed};
 use thiserror::Error;
 
-/// Why bytes or parts make no transaction. `NoMemory` may stand in place of any.
+/// Why bytes or parts make no transaction. `NoMemory` may be returned instead of any answer.
 #[derive(Clone, Copy, Debug, PartialEq, Eq, Error)]
 pub enum TxFault {
     #[error("no memory")]
     NoMemory,
-    /// A field's bytes aren't all there.
+    /// Some bytes of a field are missing.
     #[error("the bytes end within the transaction")]
     Truncated,
     #[error("bytes follow the transaction")]
@@ -24,7 +24,7 @@ pub enum TxFault {
     /// An input, a reference, a policy script or a signature isn't greater than the one before it.
     #[error("a part isn't greater than the one before it")]
     NotRising,
-    /// A name has over 32 bytes, a quantity is 0 or -2^63, or an entry isn't greater than the one before it.
+    /// A name has more than 32 bytes, a quantity is 0 or -2^63, or an entry isn't greater than the one before it.
     #[error("a bundle is malformed")]
     BadBundle,
     /// A validator or a policy script is no script.
@@ -36,13 +36,13 @@ pub enum TxFault {
     /// The first tick is greater than the last.
     #[error("the interval ends before it begins")]
     BadInterval,
-    /// Over 256 inputs, references or outputs, or over 16,384 bytes.
+    /// There are more than 256 inputs, references or outputs, or more than 16,384 bytes.
     #[error("the transaction is too large")]
     TooLarge,
-    /// A reference is spent by an input of the same transaction.
+    /// A reference is also spent by an input of the transaction.
     #[error("a reference is also an input")]
     ReferenceSpent,
-    /// Format 2 has no reference.
+    /// The transaction has format 2, and no references.
     #[error("format 2 has no references")]
     NoReferences,
 }

@@ -1,4 +1,4 @@
-//! Lists that seldom have more than one item.
+//! Lists that rarely have more than one item.
 
 ghost use Rattle.std.specs.Prelude.{◌≡◌};
 ghost use Rattle.mp_tx.specs.Inside.Few.{those};
@@ -6,7 +6,8 @@ ghost use Rattle.mp_tx.specs.Inside.Few.{those};
 use mp_memory::Memory;
 use std::marker::Model;
 
-// One item, which is seen as a slice. It is a type of its own, since the checker has no rule for the drop of an enum with an array.
+// One item, which is seen as a slice. It has a type of its own, as the checker has no rule for the drop of an enum with
+// an array.
 #[derive(Debug, Drop)]
 struct Lone<T> {
     item: [T; 1],
@@ -18,7 +19,7 @@ enum Kept<T> {
     Several(Vec<T, Memory>),
 }
 
-/// A list that doesn't grow. One item stands in the list itself, and takes no memory. Contracts see the items.
+/// A list of fixed length. A single item is stored in the list itself, and takes no memory. Contracts see the items.
 #[derive(Debug)]
 pub struct Few<T> {
     kept: Kept<T>,
@@ -54,7 +55,7 @@ fn keep_exact<T: Drop>(items: Vec<T, Memory>) -> Kept<T>
 }
 
 impl<T: Drop> Few<T> {
-    /// These items, in exact room. It takes no memory, and that of a lone item is given back.
+    /// A list of these items, with no spare capacity. It takes no memory, and frees that of a single item.
     pub fn of(items: Vec<T, Memory>) -> Few<T>
         ensures { result ≡ items.items }
     {

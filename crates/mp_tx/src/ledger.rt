@@ -21,15 +21,16 @@ use indexmap::IndexMap;
 use mp_memory::{Memory, NoMemory};
 use std::marker::Model;
 
-/// The most bytes that a block may have: 2^39.
+/// The greatest block bytes: 2^39.
 pub const MAX_BLOCK_BYTES: u64 = 1 << 39;
 
 /// An output with its reference.
 type Entry = (OutRef, Output);
 
-/// A ledger state: a tick, the bytes that a block may have, and a finite map from references to outputs. Several owners may
-/// share the map. Looking an output up takes no walk over the others: the map is a table whose places depend on a salt, with
-/// a few smaller ones above it where the state came about by blocks.
+/// A ledger state: a tick, the block bytes, and a finite map from references to outputs. Several owners may share the
+/// map.
+/// A look-up doesn't pass over the outputs. The map is a hash table that depends on a salt. A state that blocks have
+/// changed has a few smaller tables on top.
 pub struct Ledger {
     tick: u64,
     block_bytes: u64,
@@ -63,15 +64,15 @@ impl Model for Ledger {
     ghost invariant = { λ l. HasBlockBytes l.block_bytes };
 }
 
-// Whether a block may have so many bytes.
+// Whether the block bytes are from 1 to 2^39.
 fn is_in_range(block_bytes: u64) -> bool
     ensures { IsTrue result ↔ HasBlockBytes block_bytes }
 {
     1 <= block_bytes && block_bytes <= MAX_BLOCK_BYTES
 }
 
-// Puts outputs into a map that is empty, up to the first whose reference stood before. Its place is the number of those
-// that the map has.
+// Puts outputs into an empty map, up to the first whose reference occurs before. Its index is then the length of the
+// map.
 fn put_outputs(map: &mut Base, outputs: Vec<Entry, Memory>) -> Result<(), LedgerFault>
     requires { map.old.entries ≡ [] }
     ensures all { OnOk result (map.new.entries ≡ outputs.items) }
@@ -95,12 +96,12 @@ impl Ledger {
     ghost use Rattle.mp_tx.specs.Ledger.{ledger_after, without, AreThere, AreFree};
     ghost use Rattle.mp_tx.specs.BlockFault.{HasBlockFault};
 
-    /// The ledger state of these outputs, in one pass over them and five growths, or one where there are none. The salt is the
-    /// host's to pick at random and to keep secret.
+    /// The ledger state of these outputs, in one pass and five allocations, or in one allocation if there are no
+    /// outputs. The host picks the salt at random and keeps it secret.
     ///
     /// # Errors
-    /// `BadBlockBytes` where a block may have no bytes or more than 2^39, and else `Repeated` with the first place whose
-    /// reference stood before. `NoMemory` may stand in place of each.
+    /// `BadBlockBytes` if the block bytes are 0 or greater than 2^39. Else `Repeated` with the first index whose
+    /// reference occurs before. `NoMemory` may be returned instead of any answer.
     pub fn of_outputs(
         memory: Memory,
         salt: Salt,
@@ -125,13 +126,14 @@ impl Ledger {
         })
     }
 
-    /// The ledger state after a block: without what was spent, and with what was made. This one stays as it is, and what both
-    /// have is shared. Over many blocks the cost is in proportion to the block, and not to the ledger.
+    /// The ledger state after a block: without what was spent, and with what was made. This state doesn't change, and
+    /// shares with the new one what both have. Over many blocks, the cost is in proportion to the block and not to the
+    /// ledger.
     ///
     /// # Errors
-    /// `BadBlockBytes` as `of_outputs` has it. Else `Missing` with the first place in `spent` whose reference leads to no output or
-    /// was spent before. Else `Repeated` with the first place in `made` whose reference leads to an output that isn't spent or was
-    /// made before. `NoMemory` may stand in place of each.
+    /// `BadBlockBytes` as for `of_outputs`. Else `Missing` with the first index in `spent` whose reference leads to no
+    /// output or occurs before. Else `Repeated` with the first index in `made` whose reference leads to an output that
+    /// isn't spent, or occurs before. `NoMemory` may be returned instead of any answer.
     pub fn after(
         &self,
         memory: Memory,
@@ -158,14 +160,14 @@ impl Ledger {
         })
     }
 
-    /// The tick that it stands at.
+    /// The tick of the state.
     pub fn tick(&self) -> u64
         ensures { result ≡ self.now.tick }
     {
         self.tick
     }
 
-    /// How many bytes a block may have: 1 to 2^39.
+    /// The greatest size of a block, in bytes: 1 to 2^39.
     pub fn block_bytes(&self) -> u64
         ensures same { result ≡ self.now.block_bytes }
         ensures range { HasBlockBytes result }
@@ -173,7 +175,7 @@ impl Ledger {
         self.block_bytes
     }
 
-    /// The salt that it was made with.
+    /// The salt that it was created with.
     pub fn salt(&self) -> Salt
         ensures { result ≡ self.now.salt }
     {
@@ -187,7 +189,7 @@ impl Ledger {
         self.outputs.get(reference)
     }
 
-    /// The same ledger state. The outputs are shared, and not copied.
+    /// The same ledger state. The outputs are shared and not copied. Returns `NoMemory` if there are too many owners.
     pub fn share(&self) -> Result<Ledger, NoMemory>
         ensures { IfOk result (λ l. l ≡ self.now) }
     {

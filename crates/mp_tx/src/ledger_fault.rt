@@ -8,15 +8,15 @@ use mp_memory::NoMemory;
 use std::alloc::{AllocError, AllocFailed};
 use thiserror::Error;
 
-/// Why outputs make no ledger state. `NoMemory` may stand in place of the others.
+/// Why outputs make no ledger state. `NoMemory` may be returned instead of any answer.
 #[derive(Clone, Copy, Debug, PartialEq, Eq, Error)]
 pub enum LedgerFault {
     #[error("no memory")]
     NoMemory,
-    /// The first place, from 0, whose reference an earlier output has. It is told where the block bytes are in range.
+    /// The first index, from 0, whose reference an earlier output has. Reported only if the block bytes are in range.
     #[error("output {0} has the reference of an earlier one")]
     Repeated(usize),
-    /// A block may not have 0 bytes, nor more than 2^39.
+    /// The block bytes are 0, or greater than 2^39.
     #[error("the block bytes are not 1 to 549755813888")]
     BadBlockBytes,
 }

@@ -1,4 +1,4 @@
-//! How the parts of a transaction stand to each other.
+//! The rules of order between the parts of a transaction.
 
 ghost use Rattle.std.specs.Prelude.{◌≡◌};
 ghost use Rattle.std.specs.Option.{option_copied};
@@ -131,7 +131,7 @@ fn spends_none(inputs: &[Input], references: &[OutRef]) -> bool
         .all(|reference| !spends(inputs, reference))
 }
 
-/// The fault in how the parts stand to each other, if there is one.
+/// The first fault in the order of the parts, if there is one.
 pub fn order_fault(parts: &Parts<'_>) -> Option<TxFault>
     ensures { result ≡ order_fault (lent parts.now) }
 {

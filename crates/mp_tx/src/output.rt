@@ -5,7 +5,8 @@ use mp_bytes::Hash;
 use mp_memory::NoMemory;
 use mp_script::Address;
 
-/// An output (the EUTXO and native-token papers of Chakravarty et al.): a bundle that is locked by a script and names a datum.
+/// An output (the EUTXO and native-token papers of Chakravarty et al.): a bundle that a script locks, and the hash of a
+/// datum.
 #[derive(Debug, PartialEq, Eq, Drop)]
 pub struct Output {
     /// The hash of the script that locks it.
@@ -18,7 +19,8 @@ pub struct Output {
 impl Output {
     ghost use Rattle.std.specs.Prelude.{◌≡◌, IfOk};
 
-    /// The same output. The entries of its bundle are shared, and not copied: `NoMemory` where they are shared too often.
+    /// The same output. The entries of its bundle are shared and not copied. Returns `NoMemory` if there are too many
+    /// owners.
     pub fn share(&self) -> Result<Output, NoMemory>
         ensures { IfOk result (λ o. o ≡ self.now) }
     {

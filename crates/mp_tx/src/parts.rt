@@ -1,4 +1,4 @@
-//! The parts of a transaction, wherever they are kept.
+//! The parts of a transaction, wherever they are stored.
 
 use crate::input::Input;
 use crate::output::Output;
@@ -7,7 +7,7 @@ use crate::signature::Signature;
 use mp_bundle::Bundle;
 use mp_script::Script;
 
-/// The parts of a transaction, as they are lent by what keeps them.
+/// The borrowed parts of a transaction.
 #[derive(Clone, Copy)]
 pub struct Parts<'a> {
     pub inputs: &'a [Input],

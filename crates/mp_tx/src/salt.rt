@@ -1,15 +1,15 @@
-//! The secret that the places of references in a table depend on.
+//! The secret that hash tables of references depend on.
 
 use std::fmt;
 use std::hash::{BuildHasher, FoldHasher, Hasher};
 use std::marker::Model;
 
-/// A number that whoever runs the pool picks at random and keeps secret. The places of references in a table depend on it,
-/// so that nobody else can tell which of them share one. No answer depends on it, and it isn't shown.
+/// A number that the host picks at random and keeps secret. The slots of references in a hash table depend on it, so
+/// nobody else can find references that collide. No answer depends on it, and no output contains it.
 #[derive(Clone, Copy)]
 pub struct Salt {
     number: u64,
-    // It has taken in the number, so that no look-up has to do so again.
+    // It has already hashed the number, so that no look-up has to.
     hasher: FoldHasher,
 }
 
@@ -33,7 +33,7 @@ impl Model for Salt {
 impl Salt {
     ghost use Rattle.std.specs.Prelude.{◌≡◌};
 
-    /// The salt of this number.
+    /// The salt with this number.
     pub fn new(number: u64) -> Salt
         ensures { result ≡ number }
     {
@@ -56,7 +56,7 @@ impl BuildHasher for Salt {
 
     ghost build_hasher = { fed };
 
-    /// A hasher that has taken in the salt. A reference is a few words more for it.
+    /// A hasher that has already hashed the salt. A reference takes a few more words.
     fn build_hasher(&self) -> FoldHasher {
         self.hasher
     }

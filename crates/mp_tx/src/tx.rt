@@ -24,30 +24,31 @@ use mp_memory::{Memory, NoMemory};
 use mp_script::Script;
 use std::marker::Model;
 
-/// The most inputs that a transaction has, the most references, and the most outputs.
+/// The greatest number of inputs, of references, and of outputs of a transaction.
 pub const MAX_PARTS: usize = 256;
 
-/// The most bytes that a transaction has.
+/// The greatest number of bytes of a transaction.
 pub const MAX_BYTES: usize = 16_384;
 
-/// What a transaction is made of. Inputs, references, policy scripts and signatures are to rise; outputs keep their order.
+/// The parts of a transaction. Inputs, references, policy scripts and signatures have to be strictly increasing.
+/// Outputs keep their order.
 #[derive(Debug)]
 pub struct TxParts {
-    /// What it spends. They rise by what they spend.
+    /// What it spends, in strictly increasing order of the references.
     pub inputs: Vec<Input, Memory>,
-    /// The outputs that it looks at and doesn't spend (CIP-31).
+    /// The outputs that it reads and doesn't spend (CIP-31), in strictly increasing order of the references.
     pub references: Vec<OutRef, Memory>,
     /// What it pays.
     pub outputs: Vec<Output, Memory>,
-    /// The first tick at which it may be applied.
+    /// The first tick at which it is valid.
     pub from: u64,
-    /// The last tick at which it may be applied.
+    /// The last tick at which it is valid.
     pub to: u64,
-    /// What it forges, and burns where a quantity is negative.
+    /// What it forges. A negative quantity burns.
     pub forge: Bundle,
-    /// The policy scripts that it carries. They rise by their bytes.
+    /// The policy scripts that it carries, in strictly increasing order of their bytes.
     pub scripts: Vec<Script, Memory>,
-    /// Who has signed it. They rise by key, and then by the signature.
+    /// Its signatures, in strictly increasing order of the keys, and then of the signatures.
     pub signatures: Vec<Signature, Memory>,
 }
 
@@ -88,7 +89,7 @@ impl TxParts {
         }
     }
 
-    // The transaction of parts that may stand together, with their id and size.
+    // The transaction of parts that are in order, with their id and size.
     fn keep(self, memory: Memory, id: TxId, size: u64) -> Result<Tx, NoMemory>
         requires fits { IsTransaction (parts_of self) }
         requires id { id ≡ id_of (parts_of self) }
@@ -134,7 +135,8 @@ impl TxParts {
     }
 }
 
-/// A transaction of the extended UTXO model with native tokens (Chakravarty et al.). Its id and size are kept from construction.
+/// A transaction of the extended UTXO model with native tokens (Chakravarty et al.). Its id and size are computed once,
+/// when it is constructed.
 #[derive(Debug)]
 pub struct Tx {
     inputs: Few<Input>,
@@ -186,7 +188,7 @@ fn has_few_parts(parts: &Parts<'_>) -> bool
         && parts.outputs.len() <= MAX_PARTS
 }
 
-// The id and the size of the transaction that these parts make, or the first fault of theirs.
+// The id and the size of the transaction that these parts make, or their first fault.
 fn measure(memory: Memory, parts: &Parts<'_>) -> Result<(TxId, u64), TxFault>
     ensures fits { OnOk result (IsTransaction (lent parts.now)) }
     ensures id { IfOk result (λ m. m.0 ≡ id_of (lent parts.now)) }
@@ -222,10 +224,11 @@ impl Tx {
     /// The transaction of these parts.
     ///
     /// # Errors
-    /// The first in this order: `NotRising` where an input, a reference, a policy script or a signature isn't greater than the
-    /// one before it, `ReferenceSpent` where a reference is also an input, `BadInterval` where the first tick is greater than
-    /// the last, and `TooLarge` where there are over 256 inputs, references or outputs, or over 16,384 bytes. `NoMemory` may
-    /// stand in place of each answer.
+    /// The first in this order: `NotRising` if an input, a reference, a policy script or a signature isn't greater than
+    /// the one before it, `ReferenceSpent` if a reference is also an input, `BadInterval` if the first tick is greater
+    /// than the last, and `TooLarge` if there are more than 256 inputs, references or outputs, or more than 16,384
+    /// bytes.
+    /// `NoMemory` may be returned instead of any answer.
     pub fn of_parts(memory: Memory, parts: TxParts) -> Result<Tx, TxFault>
         ensures ok { IfOk result (λ t. t ≡ parts_of parts) }
         ensures fits { IfOk result IsTransaction }
@@ -250,13 +253,14 @@ impl Tx {
         }
     }
 
-    /// The transaction that the bytes spell, in format 1 or format 2. Nothing takes memory but what is kept,
-    /// and for a moment the room of a lone input and a lone output.
+    /// The transaction that the bytes spell, in format 1 or format 2. Memory is taken only for what is stored, and for
+    /// a moment for the capacity of a single input and a single output.
     ///
     /// # Errors
-    /// `TooLarge` where there are over 16,384 bytes, and else the first fault from the left: each field whose bytes aren't all
-    /// there is `Truncated`, and each that is malformed has the fault that names it. At the end `Trailing` where bytes are
-    /// left. `NoMemory` may stand in place of each answer.
+    /// `TooLarge` if there are more than 16,384 bytes, and else the first fault from the left. A field with missing
+    /// bytes has `Truncated`, and a malformed one has the fault that names it. At the end: `Trailing` if bytes are
+    /// left.
+    /// `NoMemory` may be returned instead of any answer.
     pub fn decode(memory: Memory, bytes: &[u8]) -> Result<Tx, TxFault>
         ensures found { IfOk result (Spells bytes.now) }
         ensures only { (t : Transaction) → Spells bytes.now t →
@@ -268,7 +272,8 @@ impl Tx {
         Ok(parts.keep(memory, digest(body), bytes.len() as u64)?)
     }
 
-    /// Its bytes, which `decode` reads back, made in one growth of just their number. Want of memory is the only error.
+    /// Its bytes, which `decode` reads back, in one allocation of exactly their number. The only error is an allocation
+    /// failure.
     pub fn encode(&self, memory: Memory) -> Result<Vec<u8, Memory>, NoMemory>
         ensures spelling { IfOk result (λ v. v.items ≡ spelling self.now) }
         ensures spells { IfOk result (λ v. Spells v.items self.now) }
@@ -281,14 +286,14 @@ impl Tx {
         Ok(bytes)
     }
 
-    /// The SHA-256 (FIPS 180-4) of its bytes before the signature count.
+    /// The SHA-256 (FIPS 180-4) of its bytes before the count of signatures.
     pub fn id(&self) -> &TxId
         ensures { result.now ≡ id_of self.now }
     {
         &self.id
     }
 
-    /// How many bytes it has, at most 16,384.
+    /// The number of its bytes, at most 16,384.
     pub fn size(&self) -> u64
         ensures size { result ≡ size_of self.now }
         ensures most { result ≤ 16384 }
@@ -296,7 +301,7 @@ impl Tx {
         self.size
     }
 
-    /// What it spends, in rising order of the references.
+    /// What it spends, in strictly increasing order of the references.
     pub fn inputs(&self) -> &[Input]
         ensures inputs { result.now ≡ self.now.inputs }
         ensures fits { IsTransaction self.now }
@@ -304,7 +309,7 @@ impl Tx {
         self.inputs.as_slice()
     }
 
-    /// The outputs that it looks at and doesn't spend (CIP-31), in rising order.
+    /// The outputs that it reads and doesn't spend (CIP-31), in strictly increasing order of the references.
     pub fn references(&self) -> &[OutRef]
         ensures references { result.now ≡ self.now.references }
         ensures fits { IsTransaction self.now }
@@ -315,7 +320,7 @@ impl Tx {
         }
     }
 
-    /// What it pays, in the order in which its parts had them.
+    /// What it pays, in the order of its parts.
     pub fn outputs(&self) -> &[Output]
         ensures outputs { result.now ≡ self.now.outputs }
         ensures fits { IsTransaction self.now }
@@ -323,7 +328,7 @@ impl Tx {
         self.outputs.as_slice()
     }
 
-    /// The first tick at which it may be applied.
+    /// The first tick at which it is valid.
     pub fn from(&self) -> u64
         ensures from { result ≡ self.now.from }
         ensures fits { IsTransaction self.now }
@@ -331,7 +336,7 @@ impl Tx {
         self.from
     }
 
-    /// The last tick at which it may be applied.
+    /// The last tick at which it is valid.
     pub fn to(&self) -> u64
         ensures to { result ≡ self.now.to }
         ensures fits { IsTransaction self.now }
@@ -339,14 +344,14 @@ impl Tx {
         self.to
     }
 
-    /// What it forges, and burns where a quantity is negative.
+    /// What it forges. A negative quantity burns.
     pub fn forge(&self) -> &Bundle
         ensures { result.now ≡ self.now.forge }
     {
         &self.forge
     }
 
-    /// The policy scripts that it carries, in rising order of their bytes.
+    /// The policy scripts that it carries, in strictly increasing order of their bytes.
     pub fn scripts(&self) -> &[Script]
         ensures scripts { result.now ≡ self.now.scripts }
         ensures fits { IsTransaction self.now }
@@ -357,7 +362,7 @@ impl Tx {
         }
     }
 
-    /// Who has signed it, in rising order.
+    /// Its signatures, in strictly increasing order.
     pub fn signatures(&self) -> &[Signature]
         ensures signatures { result.now ≡ self.now.signatures }
         ensures fits { IsTransaction self.now }

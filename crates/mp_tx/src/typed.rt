@@ -1,4 +1,4 @@
-//! What the types of a transaction's parts say of them. Looking costs nothing when it runs.
+//! What the types of a transaction's parts guarantee. It costs nothing when the program runs.
 
 ghost use Rattle.std.specs.Prelude.{◌≡◌, ◌<◌, ◌^◌, length, All};
 ghost use Rattle.mp_script.specs.Script.{IsScript};
@@ -124,7 +124,7 @@ fn look_at_signatures(signatures: &[Signature])
     }
 }
 
-/// What the types of all parts say.
+/// What the types of all parts guarantee.
 pub fn look_at(parts: &Parts<'_>)
     ensures { AreTyped (lent parts.now) }
 {

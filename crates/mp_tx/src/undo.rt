@@ -16,8 +16,8 @@ use indexmap::IndexSet;
 use mp_memory::{Memory, NoMemory};
 use std::marker::Model;
 
-/// What a block changed of a ledger state: it leads from the one after the block to the one before it. It takes memory in
-/// proportion to what the block spent and made, and not to the ledger.
+/// What a block changed: it leads from the ledger state after the block to the one before. Its memory is in proportion
+/// to what the block spent and made, and not to the ledger.
 pub struct Undo {
     tick: u64,
     block_bytes: u64,
@@ -46,7 +46,7 @@ impl Model for Undo {
     ghost view = { undo };
 }
 
-// References that were looked at, with what they led to before a block and lead to after it.
+// References, each with what it led to before a block and leads to after it.
 #[derive(Drop)]
 struct Notes {
     seen: IndexSet<OutRef, Salt, Memory>,
@@ -54,7 +54,7 @@ struct Notes {
     made: Vec<OutRef, Memory>,
 }
 
-// Puts a share of the output under the reference last, if there is one.
+// Appends a share of the output of the reference, if there is one.
 fn push_output(
     spent: &mut Vec<(OutRef, Output), Memory>,
     ledger: &Ledger,
@@ -70,7 +70,7 @@ fn push_output(
     Ok(())
 }
 
-// Puts the reference last, if it leads to an output.
+// Appends the reference, if it leads to an output.
 fn push_leading(
     made: &mut Vec<OutRef, Memory>,
     ledger: &Ledger,
@@ -86,7 +86,7 @@ fn push_leading(
     Ok(())
 }
 
-// The same outputs, which are shared.
+// The same outputs, shared.
 fn shares(
     memory: Memory,
     outputs: &[(OutRef, Output)],
@@ -100,7 +100,7 @@ fn shares(
     Ok(shares)
 }
 
-// The ledger state without what was made and with what was spent, where that can be.
+// The ledger state without what was made and with what was spent, if there is one.
 fn put_back(
     memory: Memory,
     after: &Ledger,
@@ -132,7 +132,7 @@ impl Notes {
     ghost use Rattle.mp_tx.specs.Ledger.{Utxo};
     ghost use Rattle.mp_tx.specs.Inside.Undo.{AreOf};
 
-    // No reference was looked at.
+    // Notes without references.
     fn none(memory: Memory, salt: Salt, room: usize) -> Result<Notes, NoMemory>
         ensures of { (before after : Utxo) → IfOk result (AreOf before after) }
         ensures none { IfOk result (λ n. n.seen.keys ≡ []) }
@@ -144,7 +144,7 @@ impl Notes {
         })
     }
 
-    // Looks at the reference, unless it was looked at.
+    // Notes the reference, unless it was noted before.
     fn note(&mut self, before: &Ledger, after: &Ledger, reference: &OutRef) -> Result<(), NoMemory>
         requires { AreOf before.now.utxo after.now.utxo self.old }
         ensures of { OnOk result (AreOf before.now.utxo after.now.utxo self.new) }
@@ -158,7 +158,7 @@ impl Notes {
         push_leading(&mut self.made, after, reference)
     }
 
-    // Looks at all of these.
+    // Notes all of these.
     fn note_all(
         &mut self,
         before: &Ledger,
@@ -183,10 +183,7 @@ impl Undo {
     ghost use Rattle.std.specs.Prelude.{◌≡◌, IfOk, length};
     ghost use Rattle.mp_tx.specs.Undo.{CanUndo, GoesBack, IsWithin, DifferAt, undone};
 
-    /// What leads from the ledger state after a block to the one before it, where they differ at most under these references.
-    ///
-    /// # Errors
-    /// `NoMemory`.
+    /// The undo of a block, from the ledger states before and after it. They may differ only at these references.
     pub fn between(
         memory: Memory,
         before: &Ledger,
@@ -212,10 +209,8 @@ impl Undo {
         })
     }
 
-    /// The ledger state before the block, where this is the one after it. This one stays as it is, and what both have is shared.
-    ///
-    /// # Errors
-    /// `NoMemory`.
+    /// The ledger state before the block, given the one after it. That one doesn't change, and shares with the new one
+    /// what both have.
     pub fn apply(&self, memory: Memory, after: &Ledger) -> Result<Ledger, NoMemory>
         requires { CanUndo after.now self.now }
         ensures { IfOk result (λ l. l ≡ undone after.now self.now) }

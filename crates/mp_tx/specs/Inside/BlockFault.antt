@@ -1,4 +1,5 @@
--- Why outputs have none after a block. Block bytes are nothing to a map. Memory may be wanting for any block.
+-- Why a block can't be applied to a map of outputs. The map ignores block bytes. An allocation failure is always
+-- possible.
 use Rattle.std.specs.Prelude.{List}
 use Rattle.mp_tx.specs.declared.block_fault.BlockFault.{BlockFault}
 use Rattle.mp_tx.specs.declared.block_fault.BlockFault.TheVariants.{NoMemory, BadBlockBytes, Missing, Repeated}
@@ -6,21 +7,21 @@ use Rattle.mp_tx.specs.declared.reference.OutRef.{OutRef}
 use Rattle.mp_tx.specs.declared.output.Output.{Output}
 use Rattle.mp_tx.specs.Ledger.{Utxo, without, AreThere, IsFirstMissing, IsFirstTaken}
 
--- of what is spent
+-- for what is spent
 abbrev pub IsOfSpent : Utxo → List OutRef → BlockFault → Type 0
 IsOfSpent utxo spent NoMemory = Unit {0}
 IsOfSpent utxo spent BadBlockBytes = ⊥
 IsOfSpent utxo spent (Missing place) = IsFirstMissing utxo spent place
 IsOfSpent utxo spent (Repeated place) = ⊥
 
--- of what is made
+-- for what is made
 abbrev pub IsOfMade : Utxo → List (OutRef × Output) → BlockFault → Type 0
 IsOfMade utxo made NoMemory = Unit {0}
 IsOfMade utxo made BadBlockBytes = ⊥
 IsOfMade utxo made (Missing place) = ⊥
 IsOfMade utxo made (Repeated place) = IsFirstTaken utxo made place
 
--- of what is spent, and then of what is made
+-- for what is spent, and then for what is made
 abbrev pub IsOfBoth : Utxo → List OutRef → List (OutRef × Output) → BlockFault → Type 0
 IsOfBoth utxo spent made NoMemory = Unit {0}
 IsOfBoth utxo spent made BadBlockBytes = ⊥

@@ -1,4 +1,4 @@
--- What a transaction keeps apart, since few have it.
+-- What only few transactions have, stored apart.
 use Rattle.std.specs.Prelude.{ℕ, List, [], Option, Some, None}
 use Rattle.std.specs.declared.boxed.Box.{Box}
 use Rattle.mp_tx.specs.declared.reference.OutRef.{OutRef}

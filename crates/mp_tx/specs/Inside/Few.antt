@@ -1,4 +1,4 @@
--- What a list of few items keeps.
+-- What a list of few items stores.
 use Rattle.std.specs.Prelude.{List}
 use Rattle.mp_tx.specs.declared.few.Kept.{Kept}
 use Rattle.mp_tx.specs.declared.few.Kept.TheVariants.{One, Several}

@@ -1,4 +1,4 @@
--- How layers are seen.
+-- How contracts see layers.
 use Rattle.std.specs.Prelude.{List, [], Option, None, Some}
 use Rattle.std.specs.Arc.{arc_value}
 use Rattle.std.specs.declared.sync.Arc.{Arc}

@@ -1,4 +1,4 @@
--- How a ledger state is seen.
+-- How contracts see a ledger state.
 use Rattle.mp_tx.specs.declared.ledger.Ledger.TheInside.{Inside}
 use Rattle.mp_tx.specs.Ledger.{LedgerState}
 

@@ -1,4 +1,4 @@
--- How parts are seen that are lent.
+-- How contracts see borrowed parts.
 use Rattle.mp_tx.specs.declared.parts.Parts.{Parts}
 use Rattle.mp_tx.specs.Transaction.{Transaction}
 

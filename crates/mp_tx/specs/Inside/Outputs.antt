@@ -1,4 +1,4 @@
--- How outputs are seen: those of the table, after the changes of all layers.
+-- How contracts see outputs: those of the table, after the changes of all layers.
 use Rattle.std.specs.Prelude.{ℕ}
 use Rattle.std.specs.FinMap.{from_entries}
 use Rattle.std.specs.Arc.{arc_value}

@@ -1,4 +1,4 @@
--- What the types of parts alone say of them. How many and how long they are isn't among it.
+-- What the types of parts guarantee by themselves. Their numbers and lengths aren't among it.
 use Rattle.std.specs.Prelude.{◌≡◌, ◌<◌, ◌^◌, List, length}
 use Rattle.std.specs.List.{All}
 use Rattle.mp_bundle.specs.Bundle.{Entry, IsBundle}

@@ -1,4 +1,4 @@
--- Tables of outputs and of what became of references, each with the salt that its places depend on.
+-- Tables of outputs and of changes of references, each with the salt of its hash table.
 use Rattle.std.specs.Prelude.{◌≡◌, ℕ, List, [], ◌∷◌, ◌++◌, All}
 use Rattle.indexmap.specs.IndexMap.{IndexMap, hasher_of}
 use Rattle.mp_tx.specs.declared.reference.OutRef.{OutRef}
@@ -8,7 +8,7 @@ use Rattle.mp_tx.specs.Inside.Changes.{Noted}
 
 pub record Layer : Type 0 where
   pub salt : ℕ
-  -- references with what became of each
+  -- references with their changes
   pub noted : Noted
 
 pub record Outputs : Type 0 where
@@ -19,11 +19,11 @@ pub record Outputs : Type 0 where
 abbrev pub layer_of : IndexMap OutRef Change ℕ → Layer
 layer_of changes = record { salt = hasher_of changes; noted = changes.entries }
 
--- what became of references in all layers, the newest first
+-- the changes of all layers, the newest first
 abbrev pub all_of : List Layer → Noted
 all_of [] = []
 all_of (l ∷ ls) = l.noted ++ all_of ls
 
--- the tables of all layers have the salt
+-- the tables of all layers have this salt
 abbrev pub HaveSalt : ℕ → List Layer → Type 0
 HaveSalt salt layers = All (λ l. l.salt ≡ salt) layers

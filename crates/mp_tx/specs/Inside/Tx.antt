@@ -1,4 +1,4 @@
--- What a transaction keeps.
+-- What a transaction stores.
 use Rattle.std.specs.Prelude.{◌≡◌}
 use Rattle.mp_tx.specs.declared.tx.Tx.TheInside.{Inside}
 use Rattle.mp_tx.specs.Transaction.{Transaction}

@@ -1,4 +1,4 @@
--- How what a block changed is seen.
+-- How contracts see what a block changed.
 use Rattle.mp_tx.specs.declared.undo.Undo.TheInside.{Inside}
 use Rattle.mp_tx.specs.Undo.{Undo}
 

@@ -10,7 +10,7 @@ use mp_bundle::{Bundle, Entry, MAX_NAME_BYTES, Token, may_follow};
 use mp_bytes::{split_array, split_count, split_number, split_run};
 use mp_memory::Memory;
 
-// The bytes that an entry has at the least.
+// The least number of bytes of an entry.
 const LEAST_ENTRY_BYTES: usize = 41;
 
 #[tactic(auto, unfolding(crate::specs::Reading::entry_read))]
@@ -40,7 +40,7 @@ fn read_entry(before: Option<Token>, bytes: &[u8]) -> Result<(Entry, &[u8]), TxF
     Ok((entry, rest))
 }
 
-// Puts so many entries into a vector that is empty, and gives the bytes after them.
+// Puts this many entries into an empty vector, and returns the bytes after them.
 fn put_entries<'a>(
     entries: &mut Vec<Entry, Memory>,
     count: u16,
@@ -65,7 +65,7 @@ fn put_entries<'a>(
     Ok(rest)
 }
 
-/// A bundle, in two growths, or in none where there are no bytes for an entry.
+/// A bundle, in two allocations, or in none if there are too few bytes for an entry.
 #[tactic(auto, unfolding(crate::specs::Reading::bundle_read))]
 pub fn read_bundle(memory: Memory, bytes: &[u8]) -> Result<(Bundle, &[u8]), TxFault>
     ensures { Reads (λ x. (x.0, x.1.now)) result (bundle_read bytes.now) }

@@ -49,7 +49,7 @@ pub fn read_count(bytes: &[u8]) -> Result<(u16, &[u8]), TxFault>
     Ok((count, rest))
 }
 
-/// A script behind its length.
+/// A script, after its length.
 #[tactic(auto, unfolding(crate::specs::Reading::script_read))]
 pub fn read_script(memory: Memory, bytes: &[u8]) -> Result<(Script, &[u8]), TxFault>
     ensures { Reads (λ x. (x.0, x.1.now)) result (script_read bytes.now) }
@@ -64,7 +64,7 @@ pub fn read_script(memory: Memory, bytes: &[u8]) -> Result<(Script, &[u8]), TxFa
     }
 }
 
-/// A datum behind its length.
+/// A datum, after its length.
 #[tactic(auto, unfolding(crate::specs::Reading::data_read))]
 pub fn read_data(memory: Memory, bytes: &[u8]) -> Result<(Data, &[u8]), TxFault>
     ensures { Reads (λ x. (x.0, x.1.now)) result (data_read bytes.now) }

@@ -34,7 +34,7 @@ fn read_input(
     Ok((input, rest))
 }
 
-// Puts so many inputs into a vector that is empty, and gives the bytes after them.
+// Puts this many inputs into an empty vector, and returns the bytes after them.
 fn put_inputs<'a>(
     memory: Memory,
     inputs: &mut Vec<Input, Memory>,
@@ -60,7 +60,7 @@ fn put_inputs<'a>(
     Ok(rest)
 }
 
-/// Puts at most 256 inputs into a vector that is empty, and gives the bytes after them.
+/// Puts a count of at most 256 inputs into an empty vector, and returns the bytes after them.
 pub fn fill_inputs<'a>(
     memory: Memory,
     inputs: &mut Vec<Input, Memory>,

@@ -31,7 +31,7 @@ fn read_output(memory: Memory, bytes: &[u8]) -> Result<(Output, &[u8]), TxFault>
     Ok((output, rest))
 }
 
-// Puts so many outputs into a vector that is empty, and gives the bytes after them.
+// Puts this many outputs into an empty vector, and returns the bytes after them.
 fn put_outputs<'a>(
     memory: Memory,
     outputs: &mut Vec<Output, Memory>,
@@ -55,7 +55,7 @@ fn put_outputs<'a>(
     Ok(rest)
 }
 
-/// Puts at most 256 outputs into a vector that is empty, and gives the bytes after them.
+/// Puts a count of at most 256 outputs into an empty vector, and returns the bytes after them.
 pub fn fill_outputs<'a>(
     memory: Memory,
     outputs: &mut Vec<Output, Memory>,

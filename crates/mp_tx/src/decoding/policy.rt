@@ -11,7 +11,7 @@ use mp_bytes::split_count;
 use mp_memory::Memory;
 use mp_script::Script;
 
-// The bytes that a policy script has at the least, with its length.
+// The least number of bytes of a policy script, with its length.
 const LEAST_POLICY_BYTES: usize = 3;
 
 #[tactic(auto, unfolding(crate::specs::Reading::policy_read))]
@@ -30,7 +30,7 @@ fn read_policy<'a>(
     Ok((script, rest))
 }
 
-// Puts so many policy scripts into a vector that is empty, and gives the bytes after them.
+// Puts this many policy scripts into an empty vector, and returns the bytes after them.
 fn put_policies<'a>(
     memory: Memory,
     scripts: &mut Vec<Script, Memory>,
@@ -54,7 +54,7 @@ fn put_policies<'a>(
     Ok(rest)
 }
 
-/// Puts the policy scripts into a vector that is empty, and gives the bytes after them.
+/// Puts the policy scripts into an empty vector, and returns the bytes after them.
 pub fn fill_policies<'a>(
     memory: Memory,
     scripts: &mut Vec<Script, Memory>,

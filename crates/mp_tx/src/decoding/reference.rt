@@ -33,7 +33,7 @@ fn read_reference<'a>(
     Ok((reference, rest))
 }
 
-// Puts so many references into a vector that is empty, and gives the bytes after them.
+// Puts this many references into an empty vector, and returns the bytes after them.
 fn put_references<'a>(
     references: &mut Vec<OutRef, Memory>,
     inputs: &[Input],
@@ -59,7 +59,8 @@ fn put_references<'a>(
     Ok(rest)
 }
 
-/// Puts the references into a vector that is empty, and gives the bytes after them: none in format 1, and 1 to 256 in format 2.
+/// Puts the references into an empty vector, and returns the bytes after them. Format 1 has none, and format 2 has 1 to
+/// 256.
 #[tactic(auto, unfolding(crate::specs::Reading::references_read))]
 pub fn fill_references<'a>(
     references: &mut Vec<OutRef, Memory>,

@@ -32,7 +32,7 @@ fn read_signature(before: Option<Signature>, bytes: &[u8]) -> Result<(Signature,
     Ok((signature, rest))
 }
 
-// Puts so many signatures into a vector that is empty, and gives the bytes after them.
+// Puts this many signatures into an empty vector, and returns the bytes after them.
 fn put_signatures<'a>(
     signatures: &mut Vec<Signature, Memory>,
     count: u16,
@@ -57,7 +57,7 @@ fn put_signatures<'a>(
     Ok(rest)
 }
 
-/// Puts the signatures into a vector that is empty, and gives the bytes after them.
+/// Puts the signatures into an empty vector, and returns the bytes after them.
 pub fn fill_signatures<'a>(
     signatures: &mut Vec<Signature, Memory>,
     bytes: &'a [u8],

@@ -13,10 +13,10 @@ use crate::salt::Salt;
 use indexmap::IndexMap;
 use mp_memory::{Memory, NoMemory};
 
-/// Outputs under their references.
+/// Outputs by their references.
 pub type Base = IndexMap<OutRef, Output, Salt, Memory>;
 
-// Puts a share of the output in, unless the changes have its reference.
+// Adds a share of the output, unless the changes have its reference.
 fn put_kept(
     base: &mut Base,
     changes: &Changes,
@@ -33,7 +33,7 @@ fn put_kept(
     Ok(())
 }
 
-// Puts shares of the old outputs in, but for those whose references the changes have.
+// Adds shares of the old outputs, except those whose references the changes have.
 fn put_all_kept(base: &mut Base, changes: &Changes, old: &Base) -> Result<(), NoMemory>
     ensures put { OnOk result (base.new.entries
         ≡ fold (with_kept changes.now.entries) base.old.entries old.now.entries) }
@@ -45,7 +45,7 @@ fn put_all_kept(base: &mut Base, changes: &Changes, old: &Base) -> Result<(), No
     Ok(())
 }
 
-// Puts the output in, if one was made.
+// Adds the output, if one was made.
 fn put_change(base: &mut Base, reference: OutRef, change: Change) -> Result<(), NoMemory>
     ensures put { OnOk result
         (base.new.entries ≡ with_change base.old.entries (reference, change)) }
@@ -57,7 +57,7 @@ fn put_change(base: &mut Base, reference: OutRef, change: Change) -> Result<(), 
     Ok(())
 }
 
-// Puts the outputs in that were made.
+// Adds the outputs that were made.
 fn put_changes(base: &mut Base, changes: Changes) -> Result<(), NoMemory>
     ensures put { OnOk result
         (base.new.entries ≡ fold with_change base.old.entries changes.entries) }
@@ -69,7 +69,7 @@ fn put_changes(base: &mut Base, changes: Changes) -> Result<(), NoMemory>
     Ok(())
 }
 
-// Puts shares of the old outputs in, but for those whose references the changes have, and then what the changes made.
+// Adds shares of the old outputs, except those whose references the changes have, and then what the changes made.
 fn put_all(base: &mut Base, old: &Base, changes: Changes) -> Result<(), NoMemory>
     ensures put { OnOk result (base.new.entries ≡ fold with_change
         (fold (with_kept changes.entries) base.old.entries old.now.entries) changes.entries) }

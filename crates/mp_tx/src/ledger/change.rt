@@ -1,4 +1,4 @@
-//! What became of references.
+//! Changes of references.
 
 ghost use Rattle.std.specs.Prelude.{◌≡◌, fold, OnOk};
 ghost use Rattle.indexmap.specs.IndexMap.{hasher_of};
@@ -11,21 +11,21 @@ use crate::salt::Salt;
 use indexmap::IndexMap;
 use mp_memory::{Memory, NoMemory};
 
-/// What became of a reference.
+/// The change of a reference: its output was spent, or made.
 #[derive(Drop)]
 pub enum Change {
     Spent,
     Made(Output),
 }
 
-/// What became of each reference that was spent or made.
+/// The change of each reference that was spent or made.
 pub type Changes = IndexMap<OutRef, Change, Salt, Memory>;
 
 impl Change {
     ghost use Rattle.std.specs.Prelude.{◌≡◌, IfOk, option_copied};
     ghost use Rattle.mp_tx.specs.Inside.Changes.{output_of};
 
-    /// The output that stands under the reference after the change.
+    /// The output of the reference after the change, if there is one.
     pub fn output(&self) -> Option<&Output>
         ensures { option_copied result ≡ output_of self.now }
     {
@@ -35,7 +35,7 @@ impl Change {
         }
     }
 
-    /// The same change. The entries of the output's bundle are shared, and not copied.
+    /// The same change. The entries of the output's bundle are shared and not copied.
     pub fn share(&self) -> Result<Change, NoMemory>
         ensures { IfOk result (λ c. c ≡ self.now) }
     {
@@ -46,7 +46,7 @@ impl Change {
     }
 }
 
-/// Notes what became of the reference, in the place of what became of it before.
+/// Records the change of a reference, and replaces an earlier one.
 pub fn note(changes: &mut Changes, reference: OutRef, change: Change) -> Result<(), NoMemory>
     ensures changed { OnOk result ((u : Utxo) → changed u changes.new.entries
         ≡ changed_at (changed u changes.old.entries) reference change) }
@@ -56,7 +56,7 @@ pub fn note(changes: &mut Changes, reference: OutRef, change: Change) -> Result<
     Ok(())
 }
 
-// Notes what became of the reference earlier, unless the changes have it.
+// Records an earlier change of the reference, unless the changes have one.
 fn note_earlier(changes: &mut Changes, reference: &OutRef, change: &Change) -> Result<(), NoMemory>
     ensures noted { OnOk result (changes.new.entries
         ≡ with_earlier changes.old.entries (reference.now, change.now)) }
@@ -68,7 +68,7 @@ fn note_earlier(changes: &mut Changes, reference: &OutRef, change: &Change) -> R
     Ok(())
 }
 
-/// Notes what became of references earlier.
+/// Records earlier changes of references that the changes don't have.
 pub fn join(changes: &mut Changes, earlier: &Changes) -> Result<(), NoMemory>
     ensures noted { OnOk result (changes.new.entries
         ≡ fold with_earlier changes.old.entries earlier.now.entries) }

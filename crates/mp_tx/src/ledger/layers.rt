@@ -1,4 +1,4 @@
-//! Layers of changes, newest first.
+//! Layers of changes, the newest first.
 
 ghost use Rattle.std.specs.Prelude.{◌≡◌, ◌≤◌, ◌++◌, fold, length, IfOk, OnOk, [], option_copied};
 ghost use Rattle.std.specs.Map.{lookup};
@@ -13,7 +13,7 @@ use mp_memory::{Memory, NoMemory};
 use std::marker::Model;
 use std::sync::Arc;
 
-/// How many times as long as what lies above it a layer is at least.
+/// A layer has at least this many times as many changes as all layers above it.
 pub const RATIO: usize = 8;
 
 /// Changes that several owners may share.
@@ -64,7 +64,7 @@ impl Layer {
     }
 }
 
-/// Layers of changes, newest first. Several owners may share them.
+/// Layers of changes, the newest first. Several owners may share them.
 pub struct Layers {
     layers: Option<Arc<Vec<Layer, Memory>, Memory>>,
 }
@@ -97,7 +97,7 @@ impl Layers {
         Layers { layers: None }
     }
 
-    /// The changes as a layer above the older ones.
+    /// The changes as a layer on top of the older ones.
     pub fn over(memory: Memory, changes: Changes, older: &[Layer]) -> Result<Layers, NoMemory>
         ensures { IfOk result (λ l. l ≡ layer_of changes ∷ older.now) }
     {
@@ -109,7 +109,7 @@ impl Layers {
         })
     }
 
-    /// The same layers, which are shared.
+    /// The same layers, shared.
     pub fn share(&self) -> Result<Layers, NoMemory>
         ensures { IfOk result (λ l. l ≡ self.now) }
     {
@@ -131,7 +131,7 @@ impl Layers {
     }
 }
 
-// Puts shares of the layers at the end.
+// Appends shares of the layers.
 fn push_shares(layers: &mut Vec<Layer, Memory>, older: &[Layer]) -> Result<(), NoMemory>
     ensures { OnOk result (layers.new.items ≡ layers.old.items ++ older.now) }
 {
@@ -141,7 +141,7 @@ fn push_shares(layers: &mut Vec<Layer, Memory>, older: &[Layer]) -> Result<(), N
     Ok(())
 }
 
-/// What became of the reference last.
+/// The last change of the reference, if there is one.
 pub fn last_change<'a>(layers: &'a [Layer], reference: &OutRef) -> Option<&'a Change>
     ensures { option_copied result ≡ lookup (same_ref reference.now) (all_of layers.now) }
 {
@@ -153,7 +153,7 @@ pub fn last_change<'a>(layers: &'a [Layer], reference: &OutRef) -> Option<&'a Ch
     None
 }
 
-/// How many of the newest layers are to be joined with what lies above them and has this length, so that the others are long
+/// How many of the newest layers have to be joined with changes of this length, so that the other layers are long
 /// enough.
 pub fn count_short(layers: &[Layer], above: usize) -> usize
     ensures { result ≤ length layers.now }
@@ -169,7 +169,7 @@ pub fn count_short(layers: &[Layer], above: usize) -> usize
     layers.len()
 }
 
-/// Notes what became of references in these layers, which are older than the changes.
+/// Records the changes of these layers, which are older, unless a newer change of the reference exists.
 pub fn join_all(changes: &mut Changes, layers: &[Layer]) -> Result<(), NoMemory>
     ensures noted { OnOk result (changes.new.entries
         ≡ fold with_earlier changes.old.entries (all_of layers.now)) }

@@ -19,9 +19,9 @@ use mp_memory::{Memory, NoMemory};
 use std::marker::Model;
 use std::sync::Arc;
 
-/// A finite map from references to outputs, made of a table and of layers of changes above it, which several maps may share.
-/// The table and each layer is at least RATIO times as long as the layers above it. So there are few layers, and what a block
-/// costs is, over many blocks, in proportion to the block.
+/// A finite map from references to outputs: a table, and layers of changes on top, which several maps may share.
+/// The table and each layer is at least `RATIO` times as long as the layers above it. So there are few layers, and over
+/// many blocks the cost of a block is in proportion to the block.
 pub struct Outputs {
     base: Arc<Base, Memory>,
     layers: Layers,
@@ -58,7 +58,7 @@ fn make_table(memory: Memory, base: &Base, changes: Changes) -> Result<Outputs, 
     Outputs::of(memory, settled(memory, base, changes)?)
 }
 
-// The outputs of the table after the older changes and these, which become a layer above those.
+// The outputs of the table after the older changes and after these, which become a layer on top.
 fn make_layers(
     memory: Memory,
     base: &Arc<Base, Memory>,
@@ -104,7 +104,7 @@ impl Outputs {
         *self.base.hasher()
     }
 
-    /// The output under the reference.
+    /// The output of the reference, if there is one.
     pub fn get(&self, reference: &OutRef) -> Option<&Output>
         ensures { option_copied result ≡ get self.now.utxo reference.now }
     {
@@ -114,7 +114,7 @@ impl Outputs {
         }
     }
 
-    /// The same outputs, which are shared.
+    /// The same outputs, shared.
     pub fn share(&self) -> Result<Outputs, NoMemory>
         ensures { IfOk result (λ o. o ≡ self.now) }
     {
@@ -124,7 +124,7 @@ impl Outputs {
         })
     }
 
-    // Whether there is an output under the reference after the changes.
+    // Whether the reference leads to an output after the changes.
     fn is_there(&self, changes: &Changes, reference: &OutRef) -> bool
         ensures { result
             ≡ is_some (get (changed self.now.utxo changes.now.entries) reference.now) }
@@ -135,7 +135,7 @@ impl Outputs {
         }
     }
 
-    // Notes the references as spent, up to the first that leads to no output.
+    // Records the references as spent, up to the first that leads to no output.
     fn spend(&self, changes: &mut Changes, spent: &[OutRef]) -> Result<(), BlockFault>
         requires { changes.old.entries ≡ [] }
         ensures ok { OnOk result
@@ -153,7 +153,7 @@ impl Outputs {
         Ok(())
     }
 
-    // Notes the outputs as made, up to the first whose reference leads to one.
+    // Records the outputs as made, up to the first whose reference leads to one.
     fn make(
         &self,
         changes: &mut Changes,
@@ -178,7 +178,7 @@ impl Outputs {
         Ok(())
     }
 
-    // Notes the references as spent and then the outputs as made, up to the first fault.
+    // Records the references as spent and then the outputs as made, up to the first fault.
     fn note_block(
         &self,
         changes: &mut Changes,
@@ -197,7 +197,8 @@ impl Outputs {
         self.make(changes, made)
     }
 
-    // The outputs after the changes. Layers that aren't long enough for these are joined with them, and so is the table.
+    // The outputs after the changes. Layers that aren't long enough to be under these are joined with them, and so is
+    // the table.
     fn changed(&self, memory: Memory, changes: Changes) -> Result<Outputs, NoMemory>
         requires { hasher_of changes ≡ self.now.salt }
         ensures utxo { IfOk result (λ o. o.utxo ≡ changed self.now.utxo changes.entries) }

@@ -3,7 +3,7 @@ use Rattle.indexmap.specs.IndexMap.{hasher_of}
 use Rattle.mp_tx.specs.Inside.Base.{with_kept}
 use Rattle.mp_tx.proofs.ledger.base.put_all_kept.Given as goal
 
--- with those that are left the table comes to all
+-- with the remaining ones, the table is the whole one
 abbrev pub invariant-loop-reference : goal.invariant-loop-reference
 invariant-loop-reference l = record {
   put : fold (with_kept l.changes.entries) l.base.entries l.reference-iterator ≡ fold (with_kept l.fn.changes.entries) l.fn.base.entries l.fn.old.entries;

@@ -5,7 +5,7 @@ use Rattle.mp_tx.specs.Reference.{same_ref}
 use Rattle.mp_tx.specs.Inside.Undo.{AreOf}
 use Rattle.mp_tx.proofs.undo.Notes.note_all.Given as goal
 
--- the references before the index were looked at
+-- the references before the index were noted
 abbrev pub invariant-loop-reference : goal.invariant-loop-reference
 invariant-loop-reference l = record {
   of : AreOf l.before.utxo l.after.utxo l.self;
