@@ -1,4 +1,4 @@
--- What may be spent after transactions.
+-- What can be spent after transactions.
 use Rattle.std.proofs.Common.{◌≡◌, ◌⊎◌, Bool, true, false, List, [], ◌∷◌, ◌++◌, if◌then◌else◌, refl, sym, ap, subst, ◌∙◌, inl, inr, ⊎_elim, get_or}
 use Rattle.std.specs.Prelude.{Option, None, Some, IsSome, is_some, All}
 use Rattle.std.specs.List.{AllByRecursion}
@@ -23,12 +23,12 @@ pub after-join : (u : Unspent) (xs ys : List Transaction) → after u (xs ++ ys)
 after-join u [] ys = refl
 after-join u (x ∷ xs) ys = after-join (apply x u) xs ys
 
--- what stands under a reference afterwards comes of what stood there alone
+-- the output of a reference afterwards depends only on what it led to before
 pub after-at : (u v : Unspent) (ts : List Transaction) (r : OutRef) → u r ≡ v r → after u ts r ≡ after v ts r
 after-at u v [] r e = e
 after-at u v (x ∷ ts) r e = after-at (apply x u) (apply x v) ts r (ap (λ (o : Option Output). option_or (output_made x r) (if spends x.inputs r then None else o)) e)
 
--- ---- where none makes an output under the reference
+-- ---- if none makes an output at the reference
 
 pub none_some : (o : Option Output) → o ≡ None → IsSome o → ⊥
 none_some o e h = false≢true (sym (ap is_some e) ∙ h)
@@ -53,7 +53,7 @@ some_left : (b : Bool) (o : Option Output) → IsSome (if b then None else o) �
 some_left true o h = absurd (false≢true h)
 some_left false o h = refl
 
--- what isn't there doesn't come
+-- what isn't there isn't added
 pub never : (u : Unspent) (ts : List Transaction) (r : OutRef) → Unmade ts r → u r ≡ None → after u ts r ≡ None
 never u [] r unmade e = e
 never u (x ∷ ts) r unmade e = never (apply x u) ts r unmade.1 (apply-unmade x u r unmade.0 ∙ none_left (spends x.inputs r) (u r) e)
@@ -66,7 +66,7 @@ was_there u (x ∷ ts) r unmade h =
     let left : apply x u r ≡ (if spends x.inputs r then None else u r) = apply-unmade x u r unmade.0 in
     rest ∙ left ∙ some_left (spends x.inputs r) (u r) (subst (λ (o : Option Output). IsSome o) (rest ∙ left) h)
 
--- ---- where one output alone is made under the reference
+-- ---- if only one output is made at the reference
 
 abbrev pub IsOr : Output → Option Output → Type 0
 IsOr o m = (m ≡ None) ⊎ (m ≡ Some o)
@@ -84,7 +84,7 @@ pub only_one : (o : Output) (u : Unspent) (ts : List Transaction) (r : OutRef) �
 only_one o u [] r made h = h
 only_one o u (x ∷ ts) r made h = only_one o (apply x u) ts r made.1 (made_or o (output_made x r) (if spends x.inputs r then None else u r) made.0 (left_or o (spends x.inputs r) (u r) h))
 
--- ---- where all is there that they spend
+-- ---- if everything that they spend is there
 
 ne_true : (b : Bool) → (b ≡ true → ⊥) → b ≡ false
 ne_true true h = absurd (h refl)
@@ -96,14 +96,14 @@ spends_not v t r e there = list_any_none (λ (i : Input). same_ref r i.from) t.i
     (λ k d lt. ne_true (same_ref r (get_or t.inputs k d).from)
     (λ same. none_some (v (get_or t.inputs k d).from) (sym (ap v (same-exact r (get_or t.inputs k d).from same)) ∙ e) (there k d lt)))
 
--- where nothing stands under the reference and none makes it, those that are fed leave it as it is, whatever stands there
+-- if the reference leads to nothing and none makes it, transactions whose inputs are there leave it as it is
 pub untouched : (v w : Unspent) (ts : List Transaction) (r : OutRef) → Unmade ts r → IsFed v ts → v r ≡ None → after w ts r ≡ w r
 untouched v w [] r unmade fed e = refl
 untouched v w (x ∷ ts) r unmade fed e =
     let s : spends x.inputs r ≡ false = spends_not v x r e fed.0 in
     untouched (apply x v) (apply x w) ts r unmade.1 fed.1 (apply-past x v r unmade.0 s ∙ e) ∙ apply-past x w r unmade.0 s
 
--- the one in the middle is fed, and those behind it
+-- the one in the middle has its inputs, and so have those after it
 pub fed_at : (u : Unspent) (xs : List Transaction) (t : Transaction) (ys : List Transaction) → IsFed u (xs ++ t ∷ ys) → All (λ i. IsSome (after u xs i.from)) t.inputs × IsFed (apply t (after u xs)) ys
 fed_at u [] t ys fed = fed
 fed_at u (x ∷ xs) t ys fed = fed_at (apply x u) xs t ys fed.1

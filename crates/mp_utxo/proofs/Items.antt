@@ -41,7 +41,7 @@ given ss = filter_map (λ s. s) ss
 abbrev txs : Items → List Transaction
 txs es = map (λ e. e.1) es
 
--- ---- what is among others
+-- ---- members of a list
 
 pub contains-in : {X : Type 0} (xs : List X) (x : X) → In xs x → Contains xs x
 contains-in [] x h = absurd h
@@ -68,7 +68,7 @@ pub in-txs : (es : Items) (n : ℕ) (t : Transaction) → In es (n, t) → In (t
 in-txs [] n t h = absurd h
 in-txs (e ∷ es) n t h = ⊎_elim (λ (is : e ≡ (n, t)). inl (ap (λ (i : ℕ × Transaction). i.1) is)) (λ (k : In es (n, t)). inr (in-txs es n t k)) h
 
--- ---- what was applied, with tickets
+-- ---- the applied transactions, with tickets
 
 one_trans : {A : Type 0} (f : A → Transaction) (n : ℕ) (x : Option A) (ss : Slots) (ps : Places) → txs (given ss) ≡ those ps → txs (given (option_map {U = ℕ × Transaction} (λ u. (n, f u)) x ∷ ss)) ≡ those (option_map f x ∷ ps)
 one_trans f n None ss ps e = e
@@ -82,7 +82,7 @@ one_slot : {A : Type 0} (f : A → Transaction) (n : ℕ) (x : Option A) (t : Tr
 one_slot f n None t e = absurd (none-some t e)
 one_slot f n (Some u) t e = ap (λ v. Some (n, v)) (same_Some (f u) t e)
 
--- the ticket of the transaction that stands at a place
+-- the ticket of the transaction at a place
 pub record IsTicketAt (applied : List Applied) (place : ℕ) (t : Transaction) : Type 0 where
   pub ticket : ℕ
   pub at : option_map (λ a. a.ticket) (slice_get applied place) ≡ Some ticket
@@ -151,11 +151,11 @@ less_one es t id (Some k) apart there some h =
       bare = h.bare;
     }
 
--- with one transaction less, which has outputs
+-- with one transaction less, if it has outputs
 pub noted-less : (es : Items) (t : Transaction) (noted : Noted) → Apart (txs es) → In (txs es) t → 0 < length t.outputs → AreNoted es noted → AreNoted (other_items (id_of t) es) noted
 noted-less es t noted apart there some are = λ id. less_one es t id (noted_at noted (key_of id)) apart there some (are id)
 
--- ---- one less
+-- ---- one transaction less
 
 all_pass : {X : Type 0} (p : X → Bool) (xs : List X) → AllByRecursion (λ x. p x ≡ true) xs → filter p xs ≡ xs
 all_pass p [] a = refl
@@ -183,7 +183,7 @@ one_less xs n t ys h =
     (others_pass (id_of t) xs (before_it (txs xs) t (txs ys) apart))
     (others_pass (id_of t) ys (turned (id_of t) (txs ys) (apart-back (txs xs) (t ∷ txs ys) apart).0))
 
--- a place is vacated at which the transaction stands
+-- the transaction's place is vacated
 pub items-less : (old new : List Applied) (place : ℕ) (t : Transaction) → standing (places old) place ≡ Some t → slots new ≡ set (slots old) place None → Apart (transactions old) → items new ≡ other_items (id_of t) (items old)
 items-less old new place t stands vacated apart =
     let at = ticket-at old place t stands in
@@ -192,7 +192,7 @@ items-less old new place t stands vacated apart =
     let is : items new ≡ given c.front ++ given c.back = ap given (vacated ∙ c.vacated) ∙ filter_map-append (λ (s : Option (ℕ × Transaction)). s) c.front (None ∷ c.back) in
     is ∙ sym (ap (other_items (id_of t)) was ∙ one_less (given c.front) at.ticket t (given c.back) (subst (λ es. Apart (txs es)) was (subst Apart (sym (items-txs old)) apart)))
 
--- ---- what an id leads to
+-- ---- the transaction of an id
 
 made_place : (ps : Places) (r : OutRef) (o : Option Change) (place : ℕ) → place_of o ≡ Some place → IsMadeSo ps r o → MakesAt ps place r
 made_place ps r None place e made = absurd (none-some place e)
@@ -200,7 +200,7 @@ made_place ps r (Some Spent) place e made = absurd (none-some place e)
 made_place ps r (Some (Made p)) place e made = subst (λ (k : ℕ). MakesAt ps k r) (same_Some p place e) made
 made_place ps r (Some (MadeThenSpent p)) place e made = subst (λ (k : ℕ). MakesAt ps k r) (same_Some p place e) made
 
--- the ticket at the place where its first output was made
+-- the ticket at the place that made its first output
 pub record IsFound (applied : List Applied) (id : List ℕ) (place : ℕ) : Type 0 where
   pub ticket : ℕ
   pub at : option_map (λ a. a.ticket) (slice_get applied place) ≡ Some ticket
@@ -234,7 +234,7 @@ no_id (e ∷ es) id a b =
       no_id es id a.1 b.1,
     )
 
--- where its first output wasn't made, and it isn't noted, there is none
+-- if its first output wasn't made and no ticket is recorded, there is no such transaction
 pub none-found : (applied : List Applied) (id : List ℕ) (o : Option Change) → place_of o ≡ None → IsMadeSo (places applied) (key_of id) o → HaveOutputs (items applied) id → HasNone (items applied) id
 none-found applied id o e made outputs =
     let made_none = λ (t : Transaction). output_made t (key_of id) ≡ None in

@@ -1,4 +1,4 @@
--- What an overlay keeps when one more transaction is applied.
+-- What an overlay preserves when one more transaction is applied.
 use Rattle.std.proofs.Common.{◌≡◌, ℕ, Bool, true, false, ◌||◌, List, [], ◌∷◌, ◌++◌, length, get_or, if◌then◌else◌, refl, sym, ap, subst, ◌∙◌}
 use Rattle.std.specs.Prelude.{Option, Some, None, IsSome, All, AllPairs, slice_get}
 use Rattle.std.specs.List.{list_any}
@@ -25,9 +25,9 @@ use Rattle.mp_utxo.proofs.After.{after-append, apply-unmade}
 use Rattle.mp_utxo.proofs.Places.{those-append, standing-push, standing-last}
 use Rattle.mp_utxo.proofs.Makers.{own-made, makes-at, other-unmade}
 
--- ---- what was, with one more behind it
+-- ---- the old transactions, with one more after them
 
--- a change says the same
+-- a change still holds
 stays : (ps : Places) (t : Transaction) (u : Unspent) (r : OutRef) (o : Option Change) → IsMadeSo ps r o → changed (ps ++ Some t ∷ []) u r o ≡ changed ps u r o
 stays ps t u r None made = refl
 stays ps t u r (Some Spent) made = refl
@@ -45,7 +45,7 @@ or_true : (b : Bool) → b || true ≡ true
 or_true true = refl
 or_true false = refl
 
--- the last one spends it, or one before it did
+-- the last transaction or an earlier one spends it
 spent_by_last : (ps : Places) (t : Transaction) (r : OutRef) → spends t.inputs r ≡ true → SomeSpends (those (ps ++ Some t ∷ [])) r
 spent_by_last ps t r s =
     subst (λ ts. SomeSpends ts r) (sym (those-append ps (Some t ∷ [])))
@@ -56,7 +56,7 @@ spent_before ps t r some =
     subst (λ ts. SomeSpends ts r) (sym (those-append ps (Some t ∷ [])))
     (list_any-append (λ x. spends x.inputs r) (those ps) (t ∷ []) ∙ ap (λ b. b || (spends t.inputs r || false)) some)
 
--- it was made so, where the transaction makes no output under the reference
+-- it was still made like this, if the transaction makes no output at the reference
 still : (ps : Places) (t : Transaction) (r : OutRef) (o : Option Change) → output_made t r ≡ None → IsMadeSo ps r o → IsMadeSo (ps ++ Some t ∷ []) r o
 still ps t r None e made = still_none ps t r e made
 still ps t r (Some Spent) e made = (still_none ps t r e made.0, spent_before ps t r made.1)
@@ -75,9 +75,9 @@ gone ps u r (Some Spent) = refl
 gone ps u r (Some (Made place)) = refl
 gone ps u r (Some (MadeThenSpent place)) = refl
 
--- ---- what becomes of a reference
+-- ---- the change of a reference
 
--- what became of a reference after the transaction has spent and made
+-- the change of a reference after the transaction has spent and made
 abbrev both : Bool → Bool → ℕ → Option Change → Option Change
 both own spends place o = if own then Some (Made place) else (if spends then Some (spent o) else o)
 
@@ -102,7 +102,7 @@ made-both ps t r true sp o own s made = record { maker = t; stands = standing-la
 made-both ps t r false true o own s made = still_spent ps t r o (other-unmade t r own) s made
 made-both ps t r false false o own s made = still ps t r o (other-unmade t r own) made
 
--- the changes tell what may be spent after the transaction too
+-- the changes also determine what can be spent after the transaction
 keeps : (ps : Places) (t : Transaction) (u : Unspent) (old mid new : Noted) → Spends old t.inputs mid → Makes mid t (length ps) new → AreKept ps u old → AreKept (ps ++ Some t ∷ []) u new
 keeps ps t u old mid new spent made kept = record {
   tell = λ r. ap (changed (ps ++ Some t ∷ []) u r) (last-both t (length ps) old mid new spent made r)
@@ -112,7 +112,7 @@ keeps ps t u old mid new spent made kept = record {
       (made-both ps t r (is_own (id_of t) (length t.outputs) r) (spends t.inputs r) (last_change old r) refl refl (kept.made r));
 }
 
--- ---- what it looks at
+-- ---- what it reads
 
 unmade : (ps : Places) (r : OutRef) (o : Option Change) → is_made o ≡ false → IsMadeSo ps r o → NoneMakes (those ps) r
 unmade ps r None e made = made
@@ -128,7 +128,7 @@ none-any : {X : Type 0} (test : X → Bool) (xs : List X) → list_any test xs �
 none-any test [] e = All-nil (λ x. test x ≡ false)
 none-any test (x ∷ xs) e = let h = or_false (test x) (list_any test xs) e in All-cons (λ x. test x ≡ false) x xs h.0 (none-any test xs h.1)
 
--- none looks at what one before it made, where the last one doesn't
+-- if the last transaction doesn't read what one before it made, then none does
 pub looks-past : (ps : Places) (t : Transaction) (u : Unspent) (noted : Noted) → AreKept ps u noted → list_any (λ r. is_made (last_change noted r)) t.references ≡ false → AllPairs LooksPast (those ps)
     → AllPairs LooksPast (those (ps ++ Some t ∷ []))
 looks-past ps t u noted kept none apart =
@@ -136,13 +136,13 @@ looks-past ps t u noted kept none apart =
     (all_pairs_push LooksPast (those ps) t apart (λ k d lt j e within.
     unmade ps (get_or t.references j e) (last_change noted (get_or t.references j e)) (none-any (λ r. is_made (last_change noted r)) t.references none j e within) (kept.made (get_or t.references j e)) k d lt))
 
--- ---- as they are held
+-- ---- as they are stored
 
 pushed-places : (applied pushed : List Applied) (more : Applied) (t : Transaction) → pushed ≡ applied ++ more ∷ [] → option_map arc_value more.tx ≡ Some t → places pushed ≡ places applied ++ Some t ∷ []
 pushed-places applied pushed more t is held =
     ap places is ∙ map-append (λ (a : Applied). option_map arc_value a.tx) applied (more ∷ []) ∙ ap (λ x. places applied ++ x ∷ []) held
 
--- of these, with one more behind them
+-- with one more transaction after them
 pub keeps-push : (applied pushed : List Applied) (more : Applied) (t : Transaction) (u : Unspent) (place : ℕ) (old mid new : Noted) → pushed ≡ applied ++ more ∷ [] → option_map arc_value more.tx ≡ Some t → place ≡ length applied → Spends old t.inputs mid → Makes mid t place new → AreKept (places applied) u old → AreKept (places pushed) u new
 keeps-push applied pushed more t u place old mid new is held at spent made kept =
     subst (λ ps. AreKept ps u new) (sym (pushed-places applied pushed more t is held))

@@ -1,4 +1,4 @@
--- What shows that nothing hangs on a transaction.
+-- Why nothing depends on a transaction.
 use Rattle.std.proofs.Common.{◌≡◌, ℕ, ◌<◌, Bool, true, false, ◌&&◌, List, length, get_or, refl, sym, ap, subst, ◌∙◌, inl, inr, arith}
 use Rattle.std.specs.Prelude.{Option, Some, None, IsSome, is_some, is_none, AllPairs, slice_get}
 use Rattle.std.specs.List.{list_all}
@@ -20,7 +20,7 @@ use Rattle.mp_utxo.specs.Inside.Overlay.{changed, IsMadeSo, MakesAt, AreKept}
 use Rattle.mp_utxo.specs.Inside.Leaf.{is_new_unspent, HasNewUnspent, is_told_by_one, is_of_one}
 use Rattle.mp_utxo.proofs.Makers.{makes-id, makes-at}
 
--- what the one at the place made
+-- what the transaction at the place made
 pub made-is : (ps : Places) (r : OutRef) (place : ℕ) (at : MakesAt ps place r) → made_at ps place r.index ≡ output_made at.maker r
 made-is ps r place at = ap (option_and_then (λ (t : Transaction). slice_get t.outputs r.index)) at.stands ∙ sym (makes-at at.maker r at.makes)
 
@@ -35,7 +35,7 @@ is_none-none (Some x) e = absurd (false≢true e)
 some_within : {X : Type 0} (xs : List X) (k : ℕ) → IsSome (slice_get xs k) → k < length xs
 some_within xs k h = grind (arith, gets)
 
--- a reference of one of its outputs
+-- a reference to one of its outputs
 own-at : (t : Transaction) (r : OutRef) → IsSome (output_made t r) → (r.index < length t.outputs) × (own_ref t r.index ≡ r)
 own-at t r h = (some_within t.outputs r.index (subst (λ (o : Option Output). IsSome o) (makes-at t r h) h), ap (λ (id : List ℕ). record { id = id; index = r.index }) (sym (makes-id t r h)))
 

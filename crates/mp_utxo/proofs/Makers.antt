@@ -1,4 +1,4 @@
--- Who makes an output under a reference, where no id stands twice.
+-- Which transaction makes an output at a reference, if no id occurs twice.
 use Rattle.std.proofs.Common.{◌≡◌, ◌≢◌, ℕ, zero, suc, Bool, true, false, ◌&&◌, not, cond, nat_eq, nat_lt, List, [], ◌∷◌, ◌++◌, length, if◌then◌else◌, refl, sym, ap, subst, ◌∙◌, inl, inr, ⊎_elim, arith}
 use Rattle.std.specs.Prelude.{Option, None, Some, IsSome, is_some, AllPairs, slice_get, map}
 use Rattle.std.specs.List.{AllByRecursion}
@@ -26,7 +26,7 @@ some_there : (b : Bool) (o : Option Output) → IsSome (if b then o else None) �
 some_there true o h = (refl, refl)
 some_there false o h = absurd (false≢true h)
 
--- what it makes stands under its id
+-- its outputs are at its id
 pub makes-id : (t : Transaction) (r : OutRef) → IsSome (output_made t r) → r.id ≡ id_of t
 makes-id t r h = let s = some_there (pointwise nat_eq r.id (id_of t)) (slice_get t.outputs r.index) h in (bytes_decides r.id (id_of t)).0 s.0
 
@@ -57,7 +57,7 @@ pub by-another : (t m : Transaction) (r : OutRef) → IsSome (output_made m r) �
 by-another t m r h ne = ap (λ (b : Bool). if b then slice_get t.outputs r.index else None)
     (ne_true (pointwise nat_eq r.id (id_of t)) (λ e. ne (sym ((bytes_decides r.id (id_of t)).0 e) ∙ makes-id m r h)))
 
--- ---- many of them, with ids that differ
+-- ---- many transactions, with distinct ids
 
 abbrev pub Apart : List Transaction → Type 0
 Apart [] = Unit {0}
@@ -102,20 +102,20 @@ pub apart-front : (xs zs : List Transaction) → Apart (xs ++ zs) → Apart xs
 apart-front [] zs a = tt
 apart-front (x ∷ xs) zs a = (front (λ y. id_of x ≢ id_of y) xs zs a.0, apart-front xs zs a.1)
 
--- none behind its maker makes it
+-- no transaction after its maker makes it
 pub unmade-behind : (xs zs : List Transaction) (m : Transaction) (r : OutRef) → Apart (xs ++ zs) → In xs m → IsSome (output_made m r) → Unmade zs r
 unmade-behind [] zs m r a h made = absurd h
 unmade-behind (x ∷ xs) zs m r a h made = ⊎_elim
     (λ (e : x ≡ m). others_unmade x r zs (subst (λ (t : Transaction). IsSome (output_made t r)) (sym e) made) (back (λ y. id_of x ≢ id_of y) xs zs a.0))
     (λ (k : In xs m). unmade-behind xs zs m r a.1 k made) h
 
--- none before its maker makes it
+-- no transaction before its maker makes it
 pub unmade-before : (xs zs : List Transaction) (m : Transaction) (r : OutRef) → Apart (xs ++ zs) → In zs m → IsSome (output_made m r) → Unmade xs r
 unmade-before [] zs m r a h made = tt
 unmade-before (x ∷ xs) zs m r a h made =
     (by-another x m r made (all-at (λ y. id_of x ≢ id_of y) zs m (back (λ y. id_of x ≢ id_of y) xs zs a.0) h), unmade-before xs zs m r a.1 h made)
 
--- what its maker makes there is all that is made there
+-- only its maker makes an output there
 pub one_maker : (xs : List Transaction) (m : Transaction) (r : OutRef) (o : Output) → Apart xs → In xs m → output_made m r ≡ Some o → AllByRecursion (λ t. IsOr o (output_made t r)) xs
 one_maker [] m r o a h made = absurd h
 one_maker (x ∷ xs) m r o a h made = ⊎_elim
@@ -130,7 +130,7 @@ sole (t ∷ ts) a b ne h k e = ⊎_elim
     (λ (ta : t ≡ a). ⊎_elim (λ (tb : t ≡ b). sym ta ∙ tb) (λ (l : In ts b). absurd (all-at (λ y. id_of t ≢ id_of y) ts b ne.0 l (ap (λ (z : Transaction). id_of z) ta ∙ e))) k)
     (λ (l : In ts a). ⊎_elim (λ (tb : t ≡ b). absurd (all-at (λ y. id_of t ≢ id_of y) ts a ne.0 l (ap (λ (z : Transaction). id_of z) tb ∙ sym e))) (λ (j : In ts b). sole ts a b ne.1 l j e) k) h
 
--- ---- those with other ids
+-- ---- the transactions with other ids
 
 pub other_bytes : (a b : List ℕ) → (a ≢ b) → pointwise nat_eq a b ≡ false
 other_bytes a b ne = ne_true (pointwise nat_eq a b) (λ e. ne ((bytes_decides a b).0 e))

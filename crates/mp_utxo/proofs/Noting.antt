@@ -1,4 +1,4 @@
--- One more reference that is noted.
+-- One more reference that is recorded.
 use Rattle.std.proofs.Common.{◌≡◌, ℕ, ◌+◌, ◌<◌, Bool, true, false, ◌||◌, List, length, get_or, take, if◌then◌else◌, refl, sym, ap, ◌∙◌}
 use Rattle.std.specs.Prelude.{Option, None, Some}
 use Rattle.std.specs.Cmp.{eq_by_cmp_equiv}
@@ -18,7 +18,7 @@ same-back a b = same-ties a b ∙ (eq_by_cmp_equiv ref_total).symm a b ∙ sym (
 pub same-exact : (a b : OutRef) → same_ref a b ≡ true → a ≡ b
 same-exact a b e = ref_exact a b (equal _ (sym (same-ties a b) ∙ e))
 
--- ---- one more of them
+-- ---- one more reference
 
 either : (a b : Bool) (o : Option Change) (next : Option Change → Option Change) → ((o : Option Change) → next (next o) ≡ next o)
     → (if b then next (if a then next o else o) else (if a then next o else o)) ≡ (if a || b then next o else o)
@@ -27,7 +27,7 @@ either true false o next again = refl
 either false true o next again = refl
 either false false o next again = refl
 
--- what became of the references that one more input spends, where it makes no difference that it becomes so again
+-- the changes after one more input, if the same change twice makes no difference
 pub becomes_more : (next : Option Change → Option Change) → ((o : Option Change) → next (next o) ≡ next o) → (old mid new : Noted) (inputs : List Input) (i : ℕ) (input : Input)
     → i < length inputs → input ≡ get_or inputs i input → Becomes old (spends (take i inputs)) next mid → Becomes mid (same_ref input.from) next new → Becomes old (spends (take (i + 1) inputs)) next new
 becomes_more next again old mid new inputs i input lt is before one = λ r.

@@ -1,4 +1,4 @@
--- Places, and what stands at them.
+-- Places, and the transactions at them.
 use Rattle.std.proofs.Common.{◌≡◌, ◌⊎◌, ℕ, zero, suc, ◌<◌, List, [], ◌∷◌, ◌++◌, length, set, get_or, refl, ap, subst, inl, inr, ⊎_elim, arith}
 use Rattle.std.specs.Prelude.{Option, None, Some, Contains, slice_get}
 use Rattle.std.specs.Option.{option_and_then}
@@ -11,7 +11,7 @@ use Rattle.mp_utxo.specs.Inside.Applied.{Places, those, standing}
 pub those-append : (ps qs : Places) → those (ps ++ qs) ≡ those ps ++ those qs
 those-append ps qs = filter_map-append (λ (p : Option Transaction). p) ps qs
 
--- ---- one place more
+-- ---- one more place
 
 pub standing-push : (ps : Places) (x : Option Transaction) (k : ℕ) (m : Transaction) → standing ps k ≡ Some m → standing (ps ++ x ∷ []) k ≡ Some m
 standing-push [] x k m e = absurd (none-some m e)
@@ -22,7 +22,7 @@ pub standing-last : (ps : Places) (t : Transaction) → standing (ps ++ Some t �
 standing-last [] t = refl
 standing-last (p ∷ ps) t = standing-last ps t
 
--- ---- those that stand somewhere
+-- ---- the transactions at the places
 
 -- it is one of them
 abbrev pub In : {X : Type 0} → List X → X → Type 0
@@ -50,7 +50,7 @@ all-at P (t ∷ ts) m all h = ⊎_elim (λ (e : t ≡ m). subst P e all.0) (λ (
 
 -- ---- one place less
 
--- the places around one at which it stands, and what is left where it goes
+-- the places around the one with the transaction, and what remains without it
 pub record Cut {X : Type 0} (ps : List (Option X)) (k : ℕ) (t : X) : Type 0 where
   pub front : List (Option X)
   pub back : List (Option X)
@@ -70,7 +70,7 @@ cut [] k t e = absurd (none-some t e)
 cut (p ∷ ps) zero t e = record { front = []; back = ps; is = ap (λ q. q ∷ ps) e; vacated = refl }
 cut (p ∷ ps) (suc k) t e = cut_more p ps k t (cut ps k t e)
 
--- the one that stands at a place is the one that goes, or it is one of the others and stays there
+-- the transaction at a place is the one that is taken out, or it is another and stays there
 pub record Stays (front back : Places) (k : ℕ) (m : Transaction) : Type 0 where
   pub side : In (those front) m ⊎ In (those back) m
   pub stands : standing (front ++ None ∷ back) k ≡ Some m

@@ -1,4 +1,5 @@
--- What an overlay keeps tells of another ledger state too, where all was there that its transactions spend.
+-- The changes of an overlay also hold on another ledger state, if everything that its transactions spend was there on
+-- the first.
 use Rattle.std.proofs.Common.{◌≡◌, ℕ, Bool, true, false, ◌||◌, List, [], ◌∷◌, if◌then◌else◌, refl, sym, ap, subst, ◌∙◌, ⊎_elim}
 use Rattle.std.specs.Prelude.{Option, Some, None, IsSome, is_some}
 use Rattle.std.specs.Option.{option_or}
@@ -21,9 +22,9 @@ use Rattle.mp_utxo.proofs.Places.{In, in-those}
 unmade : (ts : List Transaction) (r : OutRef) → NoneMakes ts r → Unmade ts r
 unmade ts r none = recursion_from_All (λ (t : Transaction). output_made t r ≡ None) ts none
 
--- ---- where none makes it
+-- ---- if none makes it
 
--- what one of them spends is gone, whatever stood there
+-- what one of them spends is gone, whatever was there
 spent_one : (v : Unspent) (x : Transaction) (ts : List Transaction) (r : OutRef) → Unmade (x ∷ ts) r → (s : Bool) → spends x.inputs r ≡ s → SomeSpends (x ∷ ts) r → (SomeSpends ts r → after (apply x v) ts r ≡ None) → after (apply x v) ts r ≡ None
 spent_one v x ts r none true s some later = never (apply x v) ts r none.1 (apply-spends x v r none.0 s)
 spent_one v x ts r none false s some later = later (sym (ap (λ b. b || list_any (λ t. spends t.inputs r) ts) s) ∙ some)
@@ -32,7 +33,7 @@ spent_gone : (v : Unspent) (ts : List Transaction) (r : OutRef) → Unmade ts r 
 spent_gone v [] r none some = absurd (false≢true some)
 spent_gone v (x ∷ ts) r none some = spent_one v x ts r none (spends x.inputs r) refl some (spent_gone (apply x v) ts r none.1)
 
--- what is left was spent by none, so another output is left too
+-- what remains was spent by none, so another output remains too
 left_one : (u v : Unspent) (x : Transaction) (r : OutRef) → output_made x r ≡ None → (s : Bool) → spends x.inputs r ≡ s → IsSome (apply x u r) → apply x v r ≡ v r
 left_one u v x r none true s there = absurd (none_some (apply x u r) (apply-spends x u r none s) there)
 left_one u v x r none false s there = apply-past x v r none s
@@ -47,7 +48,7 @@ passed : (u v : Unspent) (ts : List Transaction) (r : OutRef) (o : Option Output
 passed u v ts r None none fed e is = sym (untouched u v ts r none fed e)
 passed u v ts r (Some x) none fed e is = sym (still_left u v ts r none (subst (λ (o : Option Output). IsSome o) is (ap is_some e)))
 
--- ---- where one makes it
+-- ---- if one makes it
 
 made_over : (m a b : Option Output) → IsSome m → option_or m a ≡ option_or m b
 made_over None a b h = absurd (false≢true h)
@@ -71,7 +72,7 @@ tells ps u v r (Some Spent) fed is made = sym (spent_gone v (those ps) r (unmade
 tells ps u v r (Some (Made place)) fed is made = is ∙ made_at ps u v place r made
 tells ps u v r (Some (MadeThenSpent place)) fed is made = is ∙ made_at ps u v place r made
 
--- the changes tell what may be spent after the transactions upon the other ledger state
+-- the changes determine what can be spent after the transactions on the other ledger state
 pub rebased : (ps : Places) (u v : Unspent) (noted : Noted) → IsFed u (those ps) → AreKept ps u noted → AreKept ps v noted
 rebased ps u v noted fed kept = record {
   tell = λ r. tells ps u v r (last_change noted r) fed (kept.tell r) (kept.made r);

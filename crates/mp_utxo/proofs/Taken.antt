@@ -1,4 +1,4 @@
--- What an overlay keeps when a transaction goes on which no other hangs.
+-- What an overlay preserves when a transaction without dependents is taken out.
 use Rattle.std.proofs.Common.{◌≡◌, ◌≢◌, ◌⊎◌, ℕ, zero, suc, ◌-◌, ◌<◌, Bool, true, false, ◌&&◌, ◌||◌, nat_lt, List, [], ◌∷◌, ◌++◌, length, set, if◌then◌else◌, refl, sym, ap, subst, ◌∙◌, inl, inr, ⊎_elim, arith}
 use Rattle.std.specs.Prelude.{Option, Some, None, IsSome, is_some, All, AllPairs, Contains, map}
 use Rattle.std.specs.List.{remove, list_any}
@@ -31,9 +31,9 @@ use Rattle.mp_utxo.proofs.Places.{In, in-contains, those-append, in-those, all-a
 use Rattle.mp_utxo.proofs.Makers.{Apart, apart-ids, sole, makes-id, others-one, apart-front, apart-back, front, back, both, own-made, other-unmade, unmade-behind, unmade-before, one_maker}
 use Rattle.mp_utxo.proofs.Leaves.{made-is}
 
--- ---- a transaction that goes, and what is around it
+-- ---- the transaction that is taken out, and those around it
 
--- the places around the one that goes, and what is known of it
+-- the places around the transaction that is taken out, and what is known of it
 record Going (u : Unspent) (fore : Places) (t : Transaction) (aft : Places) : Type 0 where
   apart : Apart (those fore ++ t ∷ those aft)
   fed : All (λ i. IsSome (after u (those fore) i.from)) t.inputs
@@ -41,7 +41,7 @@ record Going (u : Unspent) (fore : Places) (t : Transaction) (aft : Places) : Ty
   new : (r : OutRef) → IsSome (output_made t r) → u r ≡ None
   inputs : (r : OutRef) → spends t.inputs r ≡ true → IsOfOne u (those fore ++ t ∷ those aft) r
 
--- as it was and as it will be
+-- with the transaction and without it
 abbrev with : Places → Transaction → Places → Places
 with fore t aft = fore ++ Some t ∷ aft
 
@@ -66,23 +66,23 @@ another fore t aft place r at none = ⊎_elim
     (λ (s : Stays fore aft place at.maker). record { at = record { maker = at.maker; stands = s.stands; makes = at.makes }; same = refl; side = s.side })
     (elsewhere fore aft t place at.maker at.stands)
 
--- ---- what may be spent without it
+-- ---- what can be spent without it
 
--- what it neither spends nor makes is as before
+-- what it neither spends nor makes doesn't change
 past : (u : Unspent) (xs : List Transaction) (t : Transaction) (ys : List Transaction) (r : OutRef) → output_made t r ≡ None → spends t.inputs r ≡ false → after u (xs ++ t ∷ ys) r ≡ after u (xs ++ ys) r
 past u xs t ys r none s =
     ap (λ (v : Unspent). v r) (after-join u xs (t ∷ ys))
     ∙ after-at (apply t (after u xs)) (after u xs) ys r (apply-past t (after u xs) r none s)
     ∙ ap (λ (v : Unspent). v r) (sym (after-join u xs ys))
 
--- what it spends is what stood before it, where none behind makes it
+-- what it spends is what was there before it, if none after it makes it
 freed : (u : Unspent) (fore : Places) (t : Transaction) (aft : Places) → Going u fore t aft → (r : OutRef) → output_made t r ≡ None → spends t.inputs r ≡ true → Unmade (those aft) r
     → after u (those fore ++ those aft) r ≡ after u (those fore) r
 freed u fore t aft g r none s unmade =
     ap (λ (v : Unspent). v r) (after-join u (those fore) (those aft))
     ∙ untouched (apply t (after u (those fore))) (after u (those fore)) (those aft) r unmade g.behind (apply-spends t (after u (those fore)) r none s)
 
--- the ledger's, where none makes it
+-- the ledger's output, if none makes it
 freed-below : (u : Unspent) (fore : Places) (t : Transaction) (aft : Places) → Going u fore t aft → (r : OutRef) → output_made t r ≡ None → spends t.inputs r ≡ true → Unmade (those fore ++ t ∷ those aft) r
     → u r ≡ after u (those fore ++ those aft) r
 freed-below u fore t aft g r none s unmade =
@@ -97,7 +97,7 @@ the_output : (m : Option Output) → IsSome m → (o : Output) × (m ≡ Some o)
 the_output None h = absurd (false≢true h)
 the_output (Some x) h = (x, refl)
 
--- the maker's, where one of the others makes it, and then one before it does
+-- its maker's output, if one of the others makes it; then this one comes before it
 freed-made : (u : Unspent) (fore : Places) (t : Transaction) (aft : Places) → Going u fore t aft → (r : OutRef) → output_made t r ≡ None → spends t.inputs r ≡ true → u r ≡ None
     → (m : Transaction) → In (those fore) m ⊎ In (those aft) m → IsSome (output_made m r) → output_made m r ≡ after u (those fore ++ those aft) r
 freed-made u fore t aft g r none s free m side makes =
@@ -112,9 +112,9 @@ freed-made u fore t aft g r none s free m side makes =
     absurd (none_some (after u (those fore) r) (never u (those fore) r (unmade-before (those fore) (t ∷ those aft) m r g.apart (inr h) makes) free) there))
     side
 
--- ---- what is noted without it
+-- ---- the changes without it
 
--- what is noted of a reference tells what may be spent, and who made it
+-- the change of a reference determines what can be spent, and who made it
 record IsTold (ps : Places) (u : Unspent) (r : OutRef) (o : Option Change) : Type 0 where
   tell : changed ps u r o ≡ after u (those ps) r
   made : IsMadeSo ps r o
@@ -133,7 +133,7 @@ less fore t aft r unmade =
 at-without : (u : Unspent) (fore aft : Places) (r : OutRef) (o : Option Output) → o ≡ after u (those fore ++ those aft) r → o ≡ after u (those (without fore aft)) r
 at-without u fore aft r o e = e ∙ ap (λ (ts : List Transaction). after u ts r) (sym (those-without fore aft))
 
--- of its own outputs: nothing
+-- its own outputs have no change
 told-own : (u : Unspent) (fore : Places) (t : Transaction) (aft : Places) → Going u fore t aft → (r : OutRef) → IsSome (output_made t r) → IsTold (without fore aft) u r None
 told-own u fore t aft g r makes =
     let ones = λ (x : Transaction). output_made x r ≡ None in
@@ -145,7 +145,7 @@ told-own u fore t aft g r makes =
       made = none-without fore aft r unmade;
     }
 
--- of what none made, and the one that goes spent: nothing
+-- what it spent and none made has no change
 told-below : (u : Unspent) (fore : Places) (t : Transaction) (aft : Places) → Going u fore t aft → (r : OutRef) → output_made t r ≡ None → spends t.inputs r ≡ true → NoneMakes (those (with fore t aft)) r → IsTold (without fore aft) u r None
 told-below u fore t aft g r none s nobody =
     let unmade = unmade-with fore t aft r nobody in
@@ -154,7 +154,7 @@ told-below u fore t aft g r none s nobody =
       made = none-without fore aft r (less fore t aft r unmade);
     }
 
--- of what one of the others made, and the one that goes spent: that it was made
+-- what it spent and one of the others made is recorded as made
 told-made : (u : Unspent) (fore : Places) (t : Transaction) (aft : Places) → Going u fore t aft → (r : OutRef) → output_made t r ≡ None → spends t.inputs r ≡ true → (place : ℕ) → MakesAt (with fore t aft) place r → IsTold (without fore aft) u r (Some (Made place))
 told-made u fore t aft g r none s place at =
     let e = another fore t aft place r at none in
@@ -176,7 +176,7 @@ told-spent u fore t aft g r (Some Spent) none s made = told-below u fore t aft g
 told-spent u fore t aft g r (Some (Made place)) none s made = told-made u fore t aft g r none s place made
 told-spent u fore t aft g r (Some (MadeThenSpent place)) none s made = told-made u fore t aft g r none s place made
 
--- of what it neither spent nor made: what was
+-- the change of what it neither spent nor made stays the same
 tell-past : (u : Unspent) (fore : Places) (t : Transaction) (aft : Places) (r : OutRef) (o p : Option Output) → output_made t r ≡ None → spends t.inputs r ≡ false → p ≡ o → o ≡ after u (those (with fore t aft)) r → p ≡ after u (those (without fore aft)) r
 tell-past u fore t aft r o p none s e is =
     e ∙ is ∙ ap (λ (ts : List Transaction). after u ts r) (those-with fore t aft) ∙ past u (those fore) t (those aft) r none s ∙ ap (λ (ts : List Transaction). after u ts r) (sym (those-without fore aft))
@@ -210,7 +210,7 @@ told u fore t aft g r true sp o own s is made = told-own u fore t aft g r (own-m
 told u fore t aft g r false true o own s is made = told-spent u fore t aft g r o (other-unmade t r own) s made
 told u fore t aft g r false false o own s is made = told-past u fore t aft r o (other-unmade t r own) s is made
 
--- the changes tell what may be spent without it
+-- the changes determine what can be spent without it
 keeps : (u : Unspent) (fore : Places) (t : Transaction) (aft : Places) (old mid new : Noted) → Going u fore t aft → Restores old t.inputs mid → Forgets mid t new → AreKept (with fore t aft) u old → AreKept (without fore aft) u new
 keeps u fore t aft old mid new g restored forgot kept =
     let is = λ (r : OutRef). forgot r ∙ ap (λ o. if is_own (id_of t) (length t.outputs) r then None else o) (restored r) in
@@ -218,7 +218,7 @@ keeps u fore t aft old mid new g restored forgot kept =
     (told u fore t aft g r (is_own (id_of t) (length t.outputs) r) (spends t.inputs r) (last_change old r) refl refl (kept.tell r) (kept.made r)) in
     record { tell = λ r. (each r).tell; made = λ r. (each r).made }
 
--- ---- which one goes
+-- ---- which transaction is taken out
 
 none_over : (n : ℕ) → n - n ≡ 0
 none_over n = omega arith
@@ -231,14 +231,14 @@ looks-past fore t aft apart =
     subst (λ ts. AllPairs LooksPast ts) (remove-at (those fore) t (those aft) ∙ sym (those-without fore aft))
     (all_pairs_remove LooksPast (those fore ++ t ∷ those aft) (length (those fore)) (simp length-append (omega arith)) (subst (λ ts. AllPairs LooksPast ts) (those-with fore t aft) apart))
 
--- a transaction that may go
+-- a transaction that may be taken out
 pub record IsGoing (u : Unspent) (ts : List Transaction) (t : Transaction) : Type 0 where
   pub leaf : IsLeaf u ts t
   pub fed : IsFed u ts
   pub distinct : AllPairs (λ a b. a ≢ b) (map id_of ts)
   pub there : Contains ts t
 
--- what is required of an overlay is so of what it is seen as
+-- what is required of an overlay also holds of its view
 pub goes : (old now : Overlay) (t : Transaction) → now ≡ old → IsLeaf (get old.ledger.utxo) old.applied t → IsFed (get old.ledger.utxo) old.applied → AllPairs (λ a b. a ≢ b) (map id_of old.applied) → Contains old.applied t → IsGoing (get now.ledger.utxo) now.applied t
 goes old now t is leaf fed distinct there =
     let going : IsGoing (get old.ledger.utxo) old.applied t = record { leaf = leaf; fed = fed; distinct = distinct; there = there } in
@@ -256,7 +256,7 @@ made-somewhere ps u t (Some Spent) h there makes made e = false≢true h
 made-somewhere ps u t (Some (Made place)) h there makes made e = false≢true (sym (ap is_some e))
 made-somewhere ps u t (Some (MadeThenSpent place)) h there makes made e = false≢true h
 
--- what was found of its first output
+-- what was found for its first output
 pub first-at : (noted : Noted) (t : Transaction) (id : List ℕ) (o : Option ℕ) → id ≡ id_of t → o ≡ unspent_of (last_change noted (record { id = id; index = 0 })) → unspent_of (last_change noted (own_ref t 0)) ≡ o
 first-at noted t id o is found = ap (λ (d : List ℕ). unspent_of (last_change noted (record { id = d; index = 0 }))) (sym is) ∙ sym found
 
@@ -273,7 +273,7 @@ place-of ps r (Some Spent) place e made = absurd (none-some place e)
 place-of ps r (Some (Made p)) place e made = subst (λ (k : ℕ). MakesAt ps k r) (same_Some p place e) made
 place-of ps r (Some (MadeThenSpent p)) place e made = absurd (none-some place e)
 
--- it stands where its first output was made
+-- it is at the place that made its first output
 pub stands-there : (ps : Places) (u : Unspent) (noted : Noted) (t : Transaction) (place : ℕ) → AreKept ps u noted → IsGoing u (those ps) t → unspent_of (last_change noted (own_ref t 0)) ≡ Some place → standing ps place ≡ Some t
 stands-there ps u noted t place kept g e =
     let at = place-of ps (own_ref t 0) (last_change noted (own_ref t 0)) place e (kept.made (own_ref t 0)) in

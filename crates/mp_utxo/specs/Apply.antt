@@ -1,4 +1,4 @@
--- What transactions do to the outputs that may be spent (the EUTXO model of Chakravarty et al.).
+-- The effect of transactions on the outputs that can be spent (the EUTXO model of Chakravarty et al.).
 use Rattle.std.specs.Prelude.{ℕ, nat_eq, List, [], ◌∷◌, Option, None, slice_get, if◌then◌else◌}
 use Rattle.std.specs.Option.{option_or}
 use Rattle.std.specs.Cmp.Lexicographic.{pointwise}
@@ -7,7 +7,7 @@ use Rattle.mp_tx.specs.declared.output.Output.{Output}
 use Rattle.mp_tx.specs.Transaction.{Transaction, spends}
 use Rattle.mp_tx.specs.Spelling.{id_of}
 
--- the outputs that may be spent, by their references
+-- the outputs that can be spent, by their references
 abbrev pub Unspent : Type 0
 Unspent = OutRef → Option Output
 
@@ -15,11 +15,11 @@ Unspent = OutRef → Option Output
 abbrev pub own_ref : Transaction → ℕ → OutRef
 own_ref t k = record { id = id_of t; index = k }
 
--- what the transaction makes under a reference: output k stands under its id and k
+-- the output that the transaction makes at a reference: output k is at its id and k
 abbrev pub output_made : Transaction → OutRef → Option Output
 output_made t r = if pointwise nat_eq r.id (id_of t) then slice_get t.outputs r.index else None
 
--- without what the transaction spends, and with what it makes
+-- without the outputs that the transaction spends, and with those that it makes
 abbrev pub apply : Transaction → Unspent → Unspent
 apply t u r = option_or (output_made t r) (if spends t.inputs r then None else u r)
 

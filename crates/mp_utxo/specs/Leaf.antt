@@ -1,4 +1,4 @@
--- Transactions on which no other hangs: they can be taken out of the middle, and nothing else has to be looked at.
+-- Transactions without dependents: they can be taken out of the middle, without a check of anything else.
 use Rattle.std.specs.Prelude.{◌≡◌, ◌⊎◌, ℕ, ◌<◌, nat_eq, not, List, [], ◌∷◌, length, filter, All, AllPairs, None, IsSome}
 use Rattle.std.specs.Cmp.Lexicographic.{pointwise}
 use Rattle.mp_tx.specs.declared.reference.OutRef.{OutRef}
@@ -7,42 +7,42 @@ use Rattle.mp_tx.specs.Spelling.{id_of}
 use Rattle.mp_utxo.specs.Apply.{Unspent, apply, after, output_made}
 use Rattle.mp_utxo.specs.Overlay.{Overlay}
 
--- what each transaction spends is there when it is applied
+-- everything that a transaction spends is there when it is applied
 abbrev pub IsFed : Unspent → List Transaction → Type 0
 IsFed u [] = Unit {0}
 IsFed u (t ∷ ts) = All (λ i. IsSome (u i.from)) t.inputs × IsFed (apply t u) ts
 
--- none of the transactions makes an output under the reference
+-- none of the transactions makes an output at the reference
 abbrev pub NoneMakes : List Transaction → OutRef → Type 0
 NoneMakes ts r = All (λ t. output_made t r ≡ None) ts
 
--- b looks at nothing that a makes
+-- b reads nothing that a makes
 abbrev pub LooksPast : Transaction → Transaction → Type 0
 LooksPast a b = All (λ r. output_made a r ≡ None) b.references
 
--- where the reference of an input leads to is told by the ledger alone or by the transactions alone
+-- the output of the reference comes from the ledger alone or from the transactions alone
 abbrev pub IsOfOne : Unspent → List Transaction → OutRef → Type 0
 IsOfOne u ts r = NoneMakes ts r ⊎ (u r ≡ None)
 
--- nothing of what is applied upon the ledger hangs on the transaction
+-- no transaction on the ledger depends on this one
 pub record IsLeaf (u : Unspent) (ts : List Transaction) (t : Transaction) : Type 0 where
   pub has_output : 0 < length t.outputs
-  -- the ledger has nothing where its outputs stand
+  -- the ledger has nothing at the references of its outputs
   pub new : (r : OutRef) → IsSome (output_made t r) → u r ≡ None
   -- none of its outputs was spent
   pub unspent : (r : OutRef) → IsSome (output_made t r) → IsSome (after u ts r)
-  -- no transaction looks at what one before it makes
+  -- no transaction reads what one before it makes
   pub apart : AllPairs LooksPast ts
   pub inputs : All (λ i. IsOfOne u ts i.from) t.inputs
 
--- those with other ids
+-- the transactions with other ids
 abbrev pub others : List ℕ → List Transaction → List Transaction
 others id ts = filter (λ t. not (pointwise nat_eq (id_of t) id)) ts
 
 abbrev pub other_items : List ℕ → List (ℕ × Transaction) → List (ℕ × Transaction)
 other_items id items = filter (λ e. not (pointwise nat_eq (id_of e.1) id)) items
 
--- new has all but those with the id
+-- new has all but the transactions with the id
 pub record LacksOne (old : Overlay) (id : List ℕ) (new : Overlay) : Type 0 where
   pub base : new.ledger ≡ old.ledger
   pub applied : new.applied ≡ others id old.applied

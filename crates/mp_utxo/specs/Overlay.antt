@@ -1,4 +1,4 @@
--- Overlays: a ledger state, and the transactions that were applied upon it.
+-- Overlays: a ledger state and the transactions that were applied to it.
 use Rattle.std.specs.Prelude.{◌≡◌, ◌≢◌, ℕ, ◌+◌, ◌<◌, ◌≤◌, List, [], ◌∷◌, ◌++◌, length, All, Contains}
 use Rattle.std.specs.FinMap.{get}
 use Rattle.mp_tx.specs.Transaction.{Transaction}
@@ -6,9 +6,9 @@ use Rattle.mp_tx.specs.Spelling.{id_of}
 use Rattle.mp_tx.specs.Ledger.{LedgerState}
 use Rattle.mp_utxo.specs.Apply.{Unspent, after}
 
--- what may be put in without memory
+-- what can be added without memory
 pub record Room : Type 0 where
-  -- references that are spent or made
+  -- references to record as spent or made
   pub references : ℕ
   -- transactions
   pub transactions : ℕ
@@ -17,19 +17,19 @@ pub record Room : Type 0 where
 
 pub record Overlay : Type 0 where
   pub ledger : LedgerState
-  -- the transactions that were applied, oldest first
+  -- the applied transactions, oldest first
   pub applied : List Transaction
-  -- the same, with the ticket that each was applied under
+  -- the same, each with its ticket
   pub items : List (ℕ × Transaction)
   pub room : Room
-  -- the number that the places of references in its tables depend on, which the host keeps secret
+  -- the secret number that the hash tables depend on
   pub salt : ℕ
 
--- the outputs that may be spent after all that was applied
+-- the outputs that can be spent after all applied transactions
 abbrev pub unspent : Overlay → Unspent
 unspent o = after (get o.ledger.utxo) o.applied
 
--- nothing was applied upon the ledger, whose salt its tables have
+-- nothing was applied to the ledger, and the tables have its salt
 pub record IsOver (ledger : LedgerState) (o : Overlay) : Type 0 where
   pub base : o.ledger ≡ ledger
   pub nothing : o.applied ≡ []
@@ -42,21 +42,21 @@ pub record HasRoomFor (room : Room) (t : Transaction) : Type 0 where
   pub transaction : 0 < room.transactions
   pub bare : length t.outputs ≡ 0 → 0 < room.bare
 
--- they differ in room alone
+-- they differ only in room
 pub record IsSame (old new : Overlay) : Type 0 where
   pub base : new.ledger ≡ old.ledger
   pub applied : new.applied ≡ old.applied
   pub items : new.items ≡ old.items
   pub salt : new.salt ≡ old.salt
 
--- new has one transaction more, last, under the ticket
+-- new has one more transaction, the last, with the ticket
 pub record Applies (old : Overlay) (ticket : ℕ) (t : Transaction) (new : Overlay) : Type 0 where
   pub base : new.ledger ≡ old.ledger
   pub applied : new.applied ≡ old.applied ++ t ∷ []
   pub items : new.items ≡ old.items ++ (ticket, t) ∷ []
   pub salt : new.salt ≡ old.salt
 
--- a transaction with the id stands under the ticket
+-- a transaction with the id has the ticket
 pub record IsUnder (items : List (ℕ × Transaction)) (id : List ℕ) (ticket : ℕ) : Type 0 where
   pub tx : Transaction
   pub there : Contains items (ticket, tx)

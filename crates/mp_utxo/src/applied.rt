@@ -1,4 +1,4 @@
-//! The transactions that were applied, at their places.
+//! The applied transactions. Each keeps its place, which is its index in the list.
 
 ghost use Rattle.std.specs.Prelude.{◌≡◌, ◌<◌, None, set, slice_get, option_map, option_copied, vec_len};
 ghost use Rattle.mp_utxo.specs.Inside.Applied.{output_at, places, slots};
@@ -7,14 +7,14 @@ use mp_memory::Memory;
 use mp_tx::{Output, Tx};
 use std::sync::Arc;
 
-/// A transaction that was applied, or the place of one that was taken out, so that the others keep theirs.
+/// An applied transaction, or the vacant place of one that was taken out, so that the others keep theirs.
 #[derive(Drop)]
 pub struct Applied {
     pub ticket: u64,
     pub tx: Option<Arc<Tx, Memory>>,
 }
 
-/// The output of this index that the transaction at the place makes.
+/// The output with this index of the transaction at the place.
 pub fn output_at(applied: &[Applied], place: usize, index: u16) -> Option<&Output>
     ensures { option_copied result ≡ output_at applied.now place index }
 {
@@ -41,7 +41,7 @@ pub fn vacate(applied: &mut Vec<Applied, Memory>, place: usize)
     applied[place] = Applied { ticket, tx: None };
 }
 
-/// Whether so many places are vacant that a new overlay of those that are left is worth its cost.
+/// Whether so many places are vacant that it pays to build a new overlay of the remaining transactions.
 pub fn is_sparse(vacant: usize, places: usize) -> bool {
     vacant > 64 && vacant > places / 2
 }

@@ -1,4 +1,4 @@
-//! Transactions without outputs, to which no reference leads.
+//! Transactions without outputs, which no reference leads to.
 
 ghost use Rattle.std.specs.Prelude.{◌≡◌, ◌<◌, length};
 ghost use Rattle.indexmap.specs.IndexMap.{spare, hasher_of};
@@ -11,7 +11,7 @@ use mp_tx::{Tx, TxId};
 /// The tickets of transactions without outputs.
 pub type Bare = ById<u64>;
 
-/// Notes the ticket of the transaction, where it has no outputs.
+/// Records the ticket of the transaction, if it has no outputs.
 pub fn note_bare(bare: &mut Bare, ticket: u64, tx: &Tx)
     requires { length tx.now.outputs ≡ 0 → 0 < spare bare.old }
     ensures notes { NotesBare bare.old.entries ticket tx.now bare.new.entries }
@@ -22,7 +22,7 @@ pub fn note_bare(bare: &mut Bare, ticket: u64, tx: &Tx)
     }
 }
 
-/// The ticket that is noted for the id.
+/// The ticket that is recorded for the id.
 pub fn ticket_of_bare(bare: &Bare, id: &TxId) -> Option<u64>
     ensures { result ≡ noted_at bare.now.entries (key_of id.now) }
 {

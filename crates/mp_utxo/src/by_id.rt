@@ -1,4 +1,4 @@
-//! Tables by ids.
+//! Tables whose keys are transaction ids.
 
 ghost use Rattle.std.specs.Prelude.{◌≡◌};
 ghost use Rattle.mp_utxo.specs.ById.{key_of};
@@ -7,11 +7,11 @@ use indexmap::IndexMap;
 use mp_memory::Memory;
 use mp_tx::{OutRef, Salt, TxId};
 
-/// A table by the ids of transactions. References stand for the ids, by the first output of each: their hash takes the salt
-/// in, so that nobody without it can make ids that fall together.
+/// A table whose keys are transaction ids. The key of an id is the reference to its first output: the hash of a
+/// reference depends on the salt, so nobody without it can make ids that collide.
 pub type ById<T> = IndexMap<OutRef, T, Salt, Memory>;
 
-/// What stands for the id in a table.
+/// The key of the id in a table.
 pub fn key_of(id: &TxId) -> OutRef
     ensures { result ≡ key_of id.now }
 {

@@ -1,4 +1,4 @@
-//! What became of references last.
+//! The last changes of references.
 
 ghost use Rattle.std.specs.Prelude.{◌≡◌, ◌+◌, ◌<◌, ◌≤◌, length, IsSome};
 ghost use Rattle.std.specs.List.{list_any};
@@ -9,21 +9,21 @@ use indexmap::IndexMap;
 use mp_memory::Memory;
 use mp_tx::{Input, OutRef, Salt, Tx};
 
-/// What became of a reference.
+/// The last change of a reference.
 #[derive(Clone, Copy)]
 pub enum Change {
-    /// It was spent, and none of those that were applied made it.
+    /// It was spent, and none of the applied transactions made it.
     Spent,
-    /// It was made by the transaction at this place among those that were applied, and not spent since.
+    /// The transaction at this place made it, and it hasn't been spent since.
     Made(usize),
-    /// It was made by the one at this place, and spent since.
+    /// The transaction at this place made it, and it has been spent since.
     MadeThenSpent(usize),
 }
 
-/// What became last of each reference that was spent or made.
+/// The last change of each reference that was spent or made.
 pub type Changes = IndexMap<OutRef, Change, Salt, Memory>;
 
-// Notes what became of the reference, in the place of what became of it before, which is told.
+// Records the change of the reference, and returns the change that it replaces.
 fn note(changes: &mut Changes, reference: OutRef, change: Change) -> Option<Change>
     requires { 0 < spare changes.old }
     ensures before { result ≡ last_change changes.old.entries reference }
@@ -37,7 +37,7 @@ fn note(changes: &mut Changes, reference: OutRef, change: Change) -> Option<Chan
     }
 }
 
-/// Notes what became of a reference of which something had become, which takes no room.
+/// Records a change of a reference that has one already. It needs no room.
 pub fn note_again(changes: &mut Changes, reference: &OutRef, change: Change)
     requires { IsSome (last_change changes.old.entries reference.now) }
     ensures notes { Notes changes.old.entries reference.now change changes.new.entries }
@@ -50,7 +50,7 @@ pub fn note_again(changes: &mut Changes, reference: &OutRef, change: Change)
     }
 }
 
-// Notes that the reference is spent.
+// Records that the reference is spent.
 fn spend_one(changes: &mut Changes, reference: OutRef)
     requires { 0 < spare changes.old }
     ensures spends { SpendsOne changes.old.entries reference changes.new.entries }
@@ -65,7 +65,7 @@ fn spend_one(changes: &mut Changes, reference: OutRef)
     }
 }
 
-/// Notes what the inputs spend.
+/// Records what the inputs spend.
 pub fn spend(changes: &mut Changes, inputs: &[Input])
     requires { length inputs.now ≤ spare changes.old }
     ensures spends { Spends changes.old.entries inputs.now changes.new.entries }
@@ -77,7 +77,7 @@ pub fn spend(changes: &mut Changes, inputs: &[Input])
     }
 }
 
-/// Notes what the transaction makes, where it is the one at this place among those that were applied.
+/// Records what the transaction at this place makes.
 pub fn make(changes: &mut Changes, tx: &Tx, place: usize)
     requires { length tx.now.outputs ≤ spare changes.old }
     ensures makes { Makes changes.old.entries tx.now place changes.new.entries }
@@ -93,7 +93,7 @@ pub fn make(changes: &mut Changes, tx: &Tx, place: usize)
     }
 }
 
-/// The place of the transaction that made it, where it wasn't spent since.
+/// The place of the transaction that made it, if it hasn't been spent since.
 pub fn unspent_of(changes: &Changes, reference: &OutRef) -> Option<usize>
     ensures { result ≡ unspent_of (last_change changes.now.entries reference.now) }
 {
@@ -113,7 +113,7 @@ pub fn place_of(changes: &Changes, reference: &OutRef) -> Option<usize>
     }
 }
 
-// Whether one of those that were applied made it.
+// Whether one of the applied transactions made it.
 fn is_made(changes: &Changes, reference: &OutRef) -> bool
     ensures { result ≡ is_made (last_change changes.now.entries reference.now) }
 {
@@ -123,7 +123,7 @@ fn is_made(changes: &Changes, reference: &OutRef) -> bool
     }
 }
 
-/// Whether one of those that were applied made one of these.
+/// Whether the applied transactions made one of these.
 pub fn are_any_made(changes: &Changes, references: &[OutRef]) -> bool
     ensures { result ≡ list_any (λ r. is_made (last_change changes.now.entries r)) references.now }
 {

@@ -1,4 +1,4 @@
-//! What is asked of a transaction on which no other may hang.
+//! Checks for transactions without dependents.
 
 ghost use Rattle.std.specs.Prelude.{◌≡◌, IsTrue};
 ghost use Rattle.std.specs.List.{list_all};
@@ -15,7 +15,7 @@ fn is_new_unspent(changes: &Changes, ledger: &Ledger, reference: &OutRef) -> boo
     unspent_of(changes, reference).is_some() && ledger.get(reference).is_none()
 }
 
-/// Whether the transaction has outputs, and each was made and not spent since, of which the ledger has nothing.
+/// Whether the transaction has outputs, and each was made and not spent since, and the ledger has none of them.
 pub fn has_new_unspent(changes: &Changes, ledger: &Ledger, tx: &Tx) -> bool
     ensures { IsTrue result → HasNewUnspent changes.now.entries (get ledger.now.utxo) tx.now }
 {
@@ -32,7 +32,7 @@ pub fn has_new_unspent(changes: &Changes, ledger: &Ledger, tx: &Tx) -> bool
     count > 0
 }
 
-// Whether where a spent reference leads to is told by the ledger alone, or by the transactions alone.
+// Whether the output of a spent reference comes from the ledger alone, or from the transactions alone.
 fn is_of_one(changes: &Changes, ledger: &Ledger, reference: &OutRef) -> bool
     ensures { result ≡ is_of_one changes.now.entries (get ledger.now.utxo) reference.now }
 {
@@ -43,7 +43,7 @@ fn is_of_one(changes: &Changes, ledger: &Ledger, reference: &OutRef) -> bool
     }
 }
 
-/// Whether that is so of what each input spends.
+/// Whether this holds of the reference of each input.
 pub fn are_of_one(changes: &Changes, ledger: &Ledger, inputs: &[Input]) -> bool
     ensures { result ≡ list_all
         (λ i. is_of_one changes.now.entries (get ledger.now.utxo) i.from) inputs.now }

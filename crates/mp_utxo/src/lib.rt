@@ -1,4 +1,4 @@
-//! The outputs that may be spent: those of a ledger state, and what applied transactions make of them (the EUTXO model of
+//! The outputs that can be spent: those of a ledger state, and the changes by applied transactions (the EUTXO model of
 //! Chakravarty et al.).
 #![tactic(auto)]
 

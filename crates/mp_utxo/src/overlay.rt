@@ -12,20 +12,20 @@ use mp_tx::{Ledger, OutRef, Output, Tx, TxId};
 use std::marker::Model;
 use std::sync::Arc;
 
-/// A ledger state with transactions applied upon it, seen as one map of the outputs that may be spent.
+/// A ledger state with applied transactions, seen as one map of the outputs that can be spent.
 ///
-/// The ledger is shared, and not copied. For each reference that was spent or made the overlay keeps what became of it last,
-/// in a table with the salt of the ledger that it was made over. So what a transaction spends and a later one makes again is there
-/// again, and an output that was made is found through its transaction. So is a ticket, by the first output, and in a table of its
-/// own where the transaction has no outputs.
+/// The ledger is shared and not copied. For each reference that was spent or made, the overlay stores its last change,
+/// in a table with the salt of the first ledger. So a reference that is spent and made again leads to an output again.
+/// An output that was made is found through its transaction. A ticket is found through the first output, or in a table
+/// of its own if the transaction has no outputs.
 pub struct Overlay {
     ledger: Ledger,
     applied: Vec<Applied, Memory>,
     changes: Changes,
     bare: Bare,
-    // While it is false, no transaction looks at what one before it made.
+    // If it is false, no transaction reads an output that one before it made.
     looks_inside: bool,
-    // How many of the places are vacant.
+    // The number of vacant places.
     vacant: usize,
 }
 
@@ -66,7 +66,7 @@ impl Overlay {
     ghost use Rattle.mp_utxo.specs.Leaf.{IsLeaf, IsFed, LacksOne};
     ghost use Rattle.mp_utxo.specs.Overlay.{unspent, IsOver, HasRoomFor, IsSame, Applies, IsUnder, HasNone};
 
-    /// The ledger state with nothing applied upon it. It shares the ledger's outputs.
+    /// The ledger state without applied transactions. It shares the ledger's outputs.
     pub fn over(memory: Memory, ledger: &Ledger) -> Result<Overlay, NoMemory>
         ensures { IfOk result (IsOver ledger.now) }
     {
@@ -90,7 +90,7 @@ impl Overlay {
         &self.ledger
     }
 
-    /// The output that may be spent under the reference.
+    /// The output that can be spent at the reference, if there is one.
     pub(crate) fn find(&self, reference: &OutRef) -> Option<&Output>
         ensures { option_copied result ≡ unspent self.now reference.now }
     {
@@ -102,10 +102,10 @@ impl Overlay {
         }
     }
 
-    /// Takes all the room that applying the transaction needs. The map stays as it is.
+    /// Reserves all memory that applying the transaction needs. The map doesn't change.
     ///
     /// # Errors
-    /// `NoMemory`, and then less room was taken, or none.
+    /// `NoMemory`. Some of the room may then be reserved.
     pub fn reserve_for(&mut self, tx: &Tx) -> Result<(), NoMemory>
         ensures same { IsSame self.old self.new }
         ensures room { OnOk result (HasRoomFor self.new.room tx.now) }
@@ -119,8 +119,9 @@ impl Overlay {
         Ok(())
     }
 
-    /// Takes out what the transaction spends, and puts in what it makes: its output k under its id and k. What it only looks
-    /// at stays. The ticket is kept beside it. It takes no memory and can't fail, as room for it was reserved.
+    /// Removes the outputs that the transaction spends, and adds those that it makes: output k at its id and k. Outputs
+    /// that it only reads stay. The ticket is stored with the transaction. The call takes no memory and can't fail, as
+    /// room was reserved.
     pub fn apply(&mut self, ticket: u64, tx: Arc<Tx, Memory>)
         requires { HasRoomFor self.old.room (arc_value tx) }
         ensures { Applies self.old ticket (arc_value tx) self.new }
@@ -137,8 +138,8 @@ impl Overlay {
         self.looks_inside = looks_inside;
     }
 
-    /// Puts another ledger state below the same transactions, each of which spends what was there before it upon the former one. It
-    /// takes no memory.
+    /// Puts another ledger state below the same transactions. On the old one, everything that a transaction spends has
+    /// to be there when it is applied. It takes no memory.
     pub fn rebase(&mut self, ledger: Ledger)
         requires fed { IsFed (finite.get self.old.ledger.utxo) self.old.applied }
         ensures base { self.new.ledger ≡ ledger }
@@ -149,8 +150,8 @@ impl Overlay {
         self.ledger = ledger;
     }
 
-    /// The ticket under which a transaction with this id was applied, if one was and it wasn't taken out. It takes no memory and no
-    /// walk.
+    /// The ticket of the applied transaction with this id, if there is one that wasn't taken out. It takes no memory,
+    /// and doesn't search the transactions.
     pub fn ticket_of(&self, id: &TxId) -> Option<u64>
         ensures some { IfSome result (IsUnder self.now.items id.now) }
         ensures none { IfNone result (HasNone self.now.items id.now) }
@@ -161,8 +162,8 @@ impl Overlay {
         }
     }
 
-    /// Whether the transaction, which was applied, can be taken out with nothing else: `true` only where that is so; `false`
-    /// says nothing. It takes no memory.
+    /// Whether the applied transaction can be taken out alone. `false` may be returned although it can. It takes no
+    /// memory.
     pub fn is_leaf(&self, tx: &Tx) -> bool
         ensures { IsTrue result → IsLeaf (finite.get self.now.ledger.utxo) self.now.applied tx.now }
     {
@@ -173,8 +174,8 @@ impl Overlay {
             && are_of_one(&self.changes, &self.ledger, tx.inputs())
     }
 
-    /// Takes the transaction out. What it spent may be spent again, and what it made is gone. It takes no memory and can't
-    /// fail.
+    /// Takes the transaction out. What it spent can be spent again, and what it made is gone. The call takes no memory
+    /// and can't fail.
     pub fn take_out(&mut self, tx: &Tx)
         requires leaf { IsLeaf (finite.get self.old.ledger.utxo) self.old.applied tx.now }
         requires fed { IsFed (finite.get self.old.ledger.utxo) self.old.applied }

@@ -1,4 +1,4 @@
-//! Taking back what a transaction spent and made.
+//! Undoing what a transaction spends and makes.
 
 ghost use Rattle.std.specs.Prelude.{◌≡◌};
 ghost use Rattle.indexmap.specs.IndexMap.{hasher_of};
@@ -7,7 +7,7 @@ ghost use Rattle.mp_utxo.specs.Inside.Changes.{RestoresOne, Restores, ForgetsOne
 use crate::changes::{Change, Changes, note_again};
 use mp_tx::{Input, OutRef, Tx};
 
-// Notes that nothing became of the reference.
+// Removes the change of the reference.
 fn forget(changes: &mut Changes, reference: &OutRef)
     ensures notes { ForgetsOne changes.old.entries reference.now changes.new.entries }
     ensures salt { hasher_of changes.new ≡ hasher_of changes.old }
@@ -15,7 +15,7 @@ fn forget(changes: &mut Changes, reference: &OutRef)
     let _ = changes.swap_remove(reference);
 }
 
-// Notes that the reference wasn't spent.
+// Records that the reference isn't spent.
 fn restore_one(changes: &mut Changes, reference: &OutRef)
     ensures notes { RestoresOne changes.old.entries reference.now changes.new.entries }
     ensures salt { hasher_of changes.new ≡ hasher_of changes.old }
@@ -27,7 +27,7 @@ fn restore_one(changes: &mut Changes, reference: &OutRef)
     }
 }
 
-/// Notes that the inputs spend nothing.
+/// Records that the inputs spend nothing.
 pub fn restore(changes: &mut Changes, inputs: &[Input])
     ensures notes { Restores changes.old.entries inputs.now changes.new.entries }
     ensures salt { hasher_of changes.new ≡ hasher_of changes.old }
@@ -37,7 +37,7 @@ pub fn restore(changes: &mut Changes, inputs: &[Input])
     }
 }
 
-/// Notes that the transaction makes nothing.
+/// Removes the changes of what the transaction makes.
 pub fn forget_made(changes: &mut Changes, tx: &Tx)
     ensures notes { Forgets changes.old.entries tx.now changes.new.entries }
     ensures salt { hasher_of changes.new ≡ hasher_of changes.old }

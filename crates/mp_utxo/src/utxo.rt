@@ -1,4 +1,4 @@
-//! What can be asked for the outputs that may be spent.
+//! Look-ups in the outputs that can be spent.
 
 ghost use Rattle.std.specs.Prelude.{◌≡◌, option_copied};
 ghost use Rattle.mp_utxo.specs.Apply.{Unspent};
@@ -6,11 +6,11 @@ ghost use Rattle.mp_utxo.specs.Apply.{Unspent};
 use crate::overlay::Overlay;
 use mp_tx::{Ledger, OutRef, Output};
 
-/// A finite map from references to the outputs that may be spent.
+/// A finite map from references to the outputs that can be spent.
 pub trait Utxo {
     ghost map: { Self → Unspent };
 
-    /// The output that may be spent under the reference, if there is one. It takes no memory.
+    /// The output that can be spent at the reference, if there is one. It takes no memory.
     fn get(&self, reference: &OutRef) -> Option<&Output>
         ensures { option_copied result ≡ map self.now reference.now };
 }

@@ -1,4 +1,4 @@
--- The applied transactions at their places, without the shares that they are held by.
+-- The applied transactions at their places, without their shares.
 use Rattle.std.specs.Prelude.{ℕ, List, map, filter_map, Option, slice_get}
 use Rattle.std.specs.Option.{option_map, option_and_then}
 use Rattle.std.specs.Arc.{arc_value}
@@ -6,21 +6,21 @@ use Rattle.mp_tx.specs.declared.output.Output.{Output}
 use Rattle.mp_tx.specs.Transaction.{Transaction}
 use Rattle.mp_utxo.specs.declared.applied.Applied.{Applied}
 
--- what stands at each place, which is vacant where a transaction was taken out
+-- the transaction at each place, which is vacant if it was taken out
 abbrev pub Places : Type 0
 Places = List (Option Transaction)
 
 abbrev pub places : List Applied → Places
 places applied = map (λ a. option_map arc_value a.tx) applied
 
--- those that are there, in order
+-- the transactions that are there, in order
 abbrev pub those : Places → List Transaction
 those ps = filter_map (λ p. p) ps
 
 abbrev pub transactions : List Applied → List Transaction
 transactions applied = those (places applied)
 
--- the transaction with the ticket that it was applied under
+-- the transaction with its ticket
 abbrev pub item : Applied → Option (ℕ × Transaction)
 item a = option_map (λ t. (a.ticket, arc_value t)) a.tx
 
@@ -34,7 +34,7 @@ items applied = filter_map (λ s. s) (slots applied)
 abbrev pub standing : Places → ℕ → Option Transaction
 standing ps place = option_and_then (λ p. p) (slice_get ps place)
 
--- the output of this index that the transaction at the place makes
+-- the output with this index of the transaction at the place
 abbrev pub made_at : Places → ℕ → ℕ → Option Output
 made_at ps place index = option_and_then (λ t. slice_get t.outputs index) (standing ps place)
 

@@ -13,19 +13,19 @@ Noted = List (OutRef × ℕ)
 abbrev pub noted_at : Noted → OutRef → Option ℕ
 noted_at noted r = lookup (same_ref r) noted
 
--- this ticket is noted for the transaction, where it has no outputs, and what was stays at other references
+-- this ticket is recorded for the transaction if it has no outputs, and the other references don't change
 abbrev pub NotesBare : Noted → ℕ → Transaction → Noted → Type 0
 NotesBare old ticket t new = (r : OutRef) → noted_at new r
     ≡ (if (length t.outputs == 0) && same_ref (key_of (id_of t)) r then Some ticket else noted_at old r)
 
--- a transaction without outputs has the id, and stands under the ticket
+-- a transaction without outputs has the id and the ticket
 pub record IsBareUnder (items : List (ℕ × Transaction)) (id : List ℕ) (ticket : ℕ) : Type 0 where
   pub tx : Transaction
   pub there : Contains items (ticket, tx)
   pub has : id_of tx ≡ id
   pub bare : length tx.outputs ≡ 0
 
--- none of those with the id is without outputs
+-- all transactions with the id have outputs
 abbrev pub HaveOutputs : List (ℕ × Transaction) → List ℕ → Type 0
 HaveOutputs items id = All (λ e. id_of e.1 ≡ id → 0 < length e.1.outputs) items
 
@@ -33,6 +33,6 @@ abbrev pub IsNotedSo : List (ℕ × Transaction) → List ℕ → Option ℕ →
 IsNotedSo items id None = HaveOutputs items id
 IsNotedSo items id (Some ticket) = IsBareUnder items id ticket
 
--- for each id a ticket is noted where a transaction without outputs has it
+-- a ticket is recorded for each id of a transaction without outputs
 abbrev pub AreNoted : List (ℕ × Transaction) → Noted → Type 0
 AreNoted items noted = (id : List ℕ) → IsNotedSo items id (noted_at noted (key_of id))

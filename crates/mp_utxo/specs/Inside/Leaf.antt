@@ -1,4 +1,4 @@
--- What is asked of the references of a transaction on which no other hangs.
+-- Conditions on the references of a transaction without dependents.
 use Rattle.std.specs.Prelude.{◌≡◌, ◌<◌, length, EachIndex, Bool, true, false, ◌&&◌, Option, None, Some, is_some, is_none}
 use Rattle.mp_tx.specs.declared.reference.OutRef.{OutRef}
 use Rattle.mp_tx.specs.declared.output.Output.{Output}
@@ -12,12 +12,12 @@ use Rattle.mp_utxo.specs.Inside.Changes.{Noted, last_change, unspent_of}
 abbrev pub is_new_unspent : Noted → Unspent → OutRef → Bool
 is_new_unspent noted u r = is_some (unspent_of (last_change noted r)) && is_none (u r)
 
--- the transaction has outputs, of which all this is so
+-- the transaction has outputs, and this holds of all of them
 pub record HasNewUnspent (noted : Noted) (u : Unspent) (t : Transaction) : Type 0 where
   pub some : 0 < length t.outputs
   pub each : EachIndex t.outputs (λ k. is_new_unspent noted u (own_ref t k) ≡ true)
 
--- where a spent reference leads to is told by the ledger alone, or by the transactions alone
+-- the output of a spent reference comes from the ledger alone, or from the transactions alone
 abbrev pub is_told_by_one : Option Change → Option Output → Bool
 is_told_by_one None below = false
 is_told_by_one (Some Spent) below = true

@@ -1,4 +1,4 @@
--- What an overlay keeps: for each reference that was spent or made, what became of it last.
+-- What an overlay stores: the last change of each reference that was spent or made.
 use Rattle.std.specs.Prelude.{◌≡◌, ◌-◌, ℕ, false, List, Option, Some, None, IsSome, IsTrue, AllPairs}
 use Rattle.std.specs.List.{list_any}
 use Rattle.std.specs.FinMap.{get}
@@ -30,14 +30,14 @@ overlay o = record {
   salt = hasher_of o.changes;
 }
 
--- what stands under a reference after its last change, which is the ledger's where there was none
+-- the output of a reference after its last change; if there is none, the ledger's
 abbrev pub changed : Places → Unspent → OutRef → Option Change → Option Output
 changed ps u r None = u r
 changed ps u r (Some Spent) = None
 changed ps u r (Some (Made place)) = made_at ps place r.index
 changed ps u r (Some (MadeThenSpent place)) = None
 
--- the transaction at the place makes an output under the reference
+-- the transaction at the place makes an output at the reference
 pub record MakesAt (ps : Places) (place : ℕ) (r : OutRef) : Type 0 where
   pub maker : Transaction
   pub stands : standing ps place ≡ Some maker
@@ -47,22 +47,23 @@ pub record MakesAt (ps : Places) (place : ℕ) (r : OutRef) : Type 0 where
 abbrev pub SomeSpends : List Transaction → OutRef → Type 0
 SomeSpends ts r = IsTrue (list_any (λ t. spends t.inputs r) ts)
 
--- what was made was made by the one at the place, and nothing else was; what was only spent was spent by one of them
+-- the transaction at the place made what is recorded as made, and no other did; one of them spent what is recorded as
+-- spent
 abbrev pub IsMadeSo : Places → OutRef → Option Change → Type 0
 IsMadeSo ps r None = NoneMakes (those ps) r
 IsMadeSo ps r (Some Spent) = NoneMakes (those ps) r × SomeSpends (those ps) r
 IsMadeSo ps r (Some (Made place)) = MakesAt ps place r
 IsMadeSo ps r (Some (MadeThenSpent place)) = MakesAt ps place r
 
--- the changes tell what may be spent after the transactions, and who made it
+-- the changes determine what can be spent after the transactions, and who made it
 pub record AreKept (ps : Places) (u : Unspent) (noted : Noted) : Type 0 where
   pub tell : (r : OutRef) → changed ps u r (last_change noted r) ≡ after u (those ps) r
   pub made : (r : OutRef) → IsMadeSo ps r (last_change noted r)
 
 pub record IsKept (o : Inside) : Type 0 where
   pub changes : AreKept (places o.applied.items) (get o.ledger.utxo) o.changes.entries
-  -- unless it says so, no transaction looks at what one before it made
+  -- if it is false, no transaction reads what one before it made
   pub apart : o.looks_inside ≡ false → AllPairs LooksPast (transactions o.applied.items)
   pub bare : AreNoted (items o.applied.items) o.bare.entries
-  -- both tables have one salt
+  -- both tables have the same salt
   pub salt : hasher_of o.bare ≡ hasher_of o.changes

@@ -4,7 +4,7 @@ use Rattle.mp_tx.specs.Spelling.{id_of}
 use Rattle.mp_utxo.specs.Inside.Changes.{MakesUpTo}
 use Rattle.mp_utxo.proofs.changes.make.Given as goal
 
--- the outputs before the index are noted, and there is room for the others
+-- the outputs before the index are recorded, and there is room for the others
 abbrev pub invariant-loop-index : goal.invariant-loop-index
 invariant-loop-index l = record {
   makes : MakesUpTo l.fn.changes.entries (id_of l.tx) l.index l.place l.changes.entries;

@@ -3,7 +3,7 @@ use Rattle.indexmap.specs.IndexMap.{spare, hasher_of}
 use Rattle.mp_utxo.specs.Inside.Changes.{Spends}
 use Rattle.mp_utxo.proofs.changes.spend.Given as goal
 
--- what the inputs before the index spend is noted, each in one place of the room
+-- what the inputs before the index spend is recorded, each in one unit of the room
 abbrev pub invariant-loop-input : goal.invariant-loop-input
 invariant-loop-input l = record {
   spends : Spends l.fn.changes.entries (take l.input-index l.inputs) l.changes.entries;

@@ -4,7 +4,7 @@ use Rattle.mp_tx.specs.Spelling.{id_of}
 use Rattle.mp_utxo.specs.Inside.Changes.{ForgetsUpTo}
 use Rattle.mp_utxo.proofs.undo.forget_made.Given as goal
 
--- the outputs before the index are forgotten
+-- the changes of the outputs before the index are removed
 abbrev pub invariant-loop-index : goal.invariant-loop-index
 invariant-loop-index l = record {
   notes : ForgetsUpTo l.fn.changes.entries (id_of l.tx) l.index l.changes.entries;

@@ -32,7 +32,7 @@ vacate-requires c =
     let same = length-map c.self.inside.applied.items (λ (a : Applied). option_map arc_value a.tx) in
     omega (arith, c.self.inside.applied.ok.0)
 
--- what is left where it goes
+-- what remains without it
 gone : (c : goal.After-self-1) → Leaves (places c.self.inside.applied.items) (places c.vacate.new.applied.items) (get c.self.inside.ledger.utxo) c.args.tx.now c.forget_made.new.changes.entries
 gone c =
     let going = goes c.args.self.now _ c.args.tx.now c.self.view_is c.requires.leaf c.requires.fed c.requires.distinct c.requires.there in
@@ -43,7 +43,7 @@ gone c =
     (subst (λ (inputs : List Input). Restores c.self.inside.changes.entries inputs c.restore.new.changes.entries) c.inputs.ensures.inputs c.restore.ensures.notes)
     c.forget_made.ensures.notes c.self.invariant.changes
 
--- where it stands, and that it has outputs
+-- its place, and that it has outputs
 stands : (c : goal.After-self-1) → standing (places c.self.inside.applied.items) c.in-Some.place ≡ Some c.args.tx.now
 stands c =
     stands-there (places c.self.inside.applied.items) (get c.self.inside.ledger.utxo) c.self.inside.changes.entries c.args.tx.now c.in-Some.place c.self.invariant.changes

@@ -30,7 +30,7 @@ returns-in-Some-clause-some c =
 pub returns-in-Some-clause-none : goal.returns-in-Some-clause-none
 returns-in-Some-clause-none c = subst (λ (o : Option ℕ). IfNone o (HasNone c.args.self.now.items c.args.id.now)) (sym (is c)) tt
 
--- where no ticket is noted
+-- if no ticket is recorded
 absent : (items : List (ℕ × Transaction)) (id : List ℕ) (o : Option ℕ) → (HaveOutputs items id → HasNone items id) → IsNotedSo items id o → IfNone o (HasNone items id)
 absent items id None none noted = none noted
 absent items id (Some n) none noted = tt
