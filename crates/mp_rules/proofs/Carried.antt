@@ -19,7 +19,7 @@ use Rattle.mp_rules.specs.FirstFault.{same_bytes, is_carried}
 use Rattle.mp_rules.specs.Laws.{IsLeastUncarried}
 use Rattle.mp_rules.proofs.Searching.{Refutes, refutes, first_found}
 
--- ---- whether a script with a hash is among them
+-- ---- whether a script with a hash is carried
 
 is_there : (scripts : List (List ℕ)) (policy : List ℕ) → is_carried scripts policy ≡ true → Contains (map sha256 scripts) policy
 is_there [] policy e = absurd (let f = e in Prim.cc)

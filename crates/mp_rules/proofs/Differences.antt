@@ -1,4 +1,4 @@
--- The first token that two sums differ in is the first that isn't balanced.
+-- The first token whose totals differ is the first that isn't balanced.
 use Rattle.std.proofs.Common.{◌≡◌, List, sym, ap, ◌∙◌}
 use Rattle.std.specs.Prelude.{None, Some, option_map}
 use Rattle.mp_bundle.specs.declared.token.Token.{Token}

@@ -22,7 +22,7 @@ pub accepted : (view : View) (script : List ℕ) (v : Value) → IsScript script
 accepted view script v is values =
     ap is_true (values is.0 is.1) ∙ ap (tree_accepts view) (sym (script_is_one.read script is.0 is.1))
 
--- what is gathered shows a policy script what it is to see
+-- a policy script sees in the context what it has to see
 pub policy-seen : (s : ScriptContext) (t : Transaction) (r : Resolved) → IsContextOf s t r → (script : List ℕ) → policy_context s script ≡ policy_view t r script
 policy-seen s t r is script i = record (policy_view t r script) {
   from = is.from i;
@@ -34,7 +34,7 @@ policy-seen s t r is script i = record (policy_view t r script) {
   references = is.references i;
 }
 
--- and a validator
+-- a validator sees in the context what it has to see
 pub validator-seen : (s : ScriptContext) (t : Transaction) (r : Resolved) → IsContextOf s t r → (i : Input) (o : Output) → validator_context s i o ≡ validator_view t r i o
 validator-seen s t r is input o i = record (validator_view t r input o) {
   from = is.from i;
@@ -53,7 +53,7 @@ refusing_input s inputs spent = position (λ p. not (script_accepts (validator_c
 abbrev pub refusing_policy : ScriptContext → List (List ℕ) → Option ℕ
 refusing_policy s scripts = position (λ x. not (script_accepts (policy_context s x) x)) scripts
 
--- what was found is told
+-- what was found is returned
 pub told : (s : ScriptContext) (t : Transaction) (r : Resolved) (a b : Option ℕ) → IsContextOf s t r → a ≡ refusing_input s t.inputs r.spent → b ≡ refusing_policy s t.scripts
     → first_of (option_map ValidatorRefused a ∷ option_map PolicyRefused b ∷ []) ≡ script_refused t r
 unfolding script_refused validator_refused policy_refused

@@ -1,4 +1,4 @@
--- Each rule's fault, and what it says of the rule.
+-- The fault of each rule, and what it says of the rule.
 use Rattle.std.proofs.Common.{◌≡◌, ◌≢◌, ◌⊎◌, inl, inr, ℕ, ◌<◌, ◌≤◌, pos, ◌≤ℤ◌, ℤ, Bool, true, false, cond, not, ◌||◌, List, [], ◌∷◌, length, refl, ap, subst, arith}
 use Rattle.std.specs.Prelude.{◌==◌, Option, None, Some, All, IsSome, IsTrue, Decides, is_some, nat_lt, int_lt, option_map}
 use Rattle.std.specs.List.{find, position, range_with_len, AllByRecursion}
@@ -92,7 +92,7 @@ there (Some x) h = refl
 
 -- ---- what a fault says
 
--- where there is none, something holds, and conversely; else it says what is broken
+-- if there is no fault, something holds, and conversely; else the fault says what is broken
 pub record Tells (o : Option Invalid) (Held : Type 0) (Broken : Invalid → Type 0) : Type 0 where
   pub holds : o ≡ None → Held
   pub none : Held → o ≡ None
@@ -106,7 +106,7 @@ by_test b fault Held Broken held none broken = record {
 }
 
 module _ {X : Type 0} (p : X → Bool) (Good : X → Type 0) (tells : Refutes p Good) (xs : List X) (Broken : Invalid → Type 0) where
-  -- the first place that isn't good
+  -- the first index that isn't good
   by_place : (name : ℕ → Invalid) → ((k : ℕ) → IsFirstBad Good xs k → Broken (name k)) → Tells (option_map name (position p xs)) (All Good xs) Broken
   by_place name broken = record {
     holds = λ e. all_good p Good tells xs (unmapped name (position p xs) e);
@@ -129,7 +129,7 @@ module _ {X : Type 0} (p : X → Bool) (Good : X → Type 0) (tells : Refutes p 
 -- ---- the rules
 
 module _ (accepts : Accepts) (u : Unspent) (tick : ℕ) (t : Transaction) where
-  -- the fault is of the rule, which is broken as it says
+  -- the fault belongs to the rule, which fails as the fault says
   pub record IsBrokenAt (r : Rule) (fault : Invalid) : Type 0 where
     pub broken : IsBroken accepts u tick t fault
     pub is_of : rule_of fault ≡ Some r
@@ -251,7 +251,7 @@ module _ (accepts : Accepts) (u : Unspent) (tick : ℕ) (t : Transaction) where
   each_rule ValidatorsAccept = validators_accept
   each_rule PoliciesAccept = policies_accept
 
--- what is so of all that are listed is so of each rule
+-- what holds of all listed rules holds of each rule
 pub of_each : (P : Rule → Type 0) → AllByRecursion P rules → (r : Rule) → P r
 of_each P all HasInput = all.0
 of_each P all InInterval = all.1.0

@@ -19,7 +19,7 @@ pub accepts : (view : View) (script : List ℕ) → script ≡ 1 ∷ [] → scri
 unfolding operator_read plain_of
 accepts view script e = ap (script_accepts view) e
 
--- where all accept, none is found
+-- if all accept, none is found
 none_found : {X : Type 0} (test : X → Bool) (xs : List X) → All (λ x. test x ≡ true) xs → position (λ x. not (test x)) xs ≡ None
 none_found test xs all = none_bad (λ x. not (test x)) (λ x. test x ≡ true) (refutes test (λ x. test x ≡ true) (λ x. (λ h. h, λ h. h))) xs all
 

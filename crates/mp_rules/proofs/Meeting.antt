@@ -1,4 +1,4 @@
--- A transaction that meets what it met when it was valid is valid.
+-- A transaction that finds what it found when it was valid is valid.
 use Rattle.std.proofs.Common.{◌≡◌, ℕ, List, [], ◌∷◌, map, refl, sym, ap, subst, ◌∙◌}
 use Rattle.std.specs.Prelude.{Option, None, Some, IsSome, IfSome, All, IsTrue}
 use Rattle.std.specs.Borrow.{Bor}
@@ -20,7 +20,7 @@ use Rattle.mp_rules.proofs.Faults.{each_rule}
 use Rattle.mp_rules.proofs.Valid.{valid, faultless}
 
 module _ {X : Type 0} (found : X → Option Output) where
-  -- where each leads to an output, each is there
+  -- if each leads to an output, each is there
   all_there : (xs : List X) (ys : List Output) → LeadTo found xs ys → All (λ x. IsSome (found x)) xs
   all_there [] ys e = All-nil (λ x. IsSome (found x))
   all_there (x ∷ xs) [] e = absurd (let f = e in Prim.cc)
@@ -37,12 +37,12 @@ module _ {X : Type 0} (found : X → Option Output) where
       let head : found x ≡ Some y = Prim.cc in
       ap (λ o. cons_option o (filter_map found xs)) head ∙ ap (λ l. y ∷ l) (all_found xs ys (Prim.cc))
 
--- what is found of what comes from things is what is found from the things
+-- looking up mapped items is the same as mapping the look-up
 through : {X Y Z : Type 0} (found : Y → Option Z) (from : X → Y) (xs : List X) → filter_map found (map from xs) ≡ filter_map (λ x. found (from x)) xs
 through found from [] = refl
 through found from (x ∷ xs) = ap (cons_option (found (from x))) (through found from xs)
 
--- where the same is found the same is named
+-- if the look-ups agree, the names do
 found_alike : {X : Type 0} (f g : X → Option Output) (xs : List X) → All (λ x. f x ≡ g x) xs → filter_map f xs ≡ filter_map g xs
 found_alike f g [] a = refl
 found_alike f g (x ∷ xs) a =
@@ -55,7 +55,8 @@ there_alike f g (x ∷ xs) a h =
     All-cons (λ x. IsSome (g x)) x xs (subst IsSome (All-head (λ x. f x ≡ g x) x xs a) (All-head (λ x. IsSome (f x)) x xs h))
     (there_alike f g xs (All-tail (λ x. f x ≡ g x) x xs a) (All-tail (λ x. IsSome (f x)) x xs h))
 
--- A transaction that is valid, and upon another map and at another tick keeps the rules that name neither its outputs nor its parts alone.
+-- A valid transaction, on another map and at another tick, still satisfies the rules about neither its outputs nor its
+-- own parts.
 module _ (accepts other : Accepts) (u v : Unspent) (tick later : ℕ) (t : Transaction) (valid : IsValid accepts u tick t) (same : resolve u t ≡ resolve v t) where
   pub still : Holds other v later t InInterval → Holds other v later t InputsThere → Holds other v later t ReferencesThere → Holds other v later t OutputsFresh → Holds other v later t SignaturesAccepted → IsValid other v later t
   still interval inputs references fresh signed HasInput = valid HasInput
@@ -109,7 +110,7 @@ module _ (t : Transaction) (r : Resolved) (was : WasValid t r) where
         (all_there (λ i. u i.from) t.inputs r.spent meets.inputs) (all_there u t.references r.referenced meets.references)
         ((each_rule accepts u tick t OutputsFresh).holds meets.fresh) ((each_rule accepts u tick t SignaturesAccepted).holds signed))
 
--- where it was valid before, its scripts accepted
+-- if it was valid before, its scripts accepted
 pub once_accepted : (t : Transaction) (before : Option (Bor Resolved)) → IfSome before (λ b. WasValid t b.now) → IfSome before (λ b. ScriptsAccept t b.now)
 once_accepted t None was = tt
 once_accepted t (Some b) was = scripts_accept t b.now was

@@ -1,4 +1,4 @@
--- The rules one after the other are the groups one after the other.
+-- The sequence of the rules is the sequence of the groups.
 use Rattle.std.proofs.Common.{◌≡◌, ◌≢◌, ℕ, List, [], ◌∷◌, ◌++◌, refl, sym, ap, subst, ◌∙◌}
 use Rattle.std.specs.Prelude.{Option, None, Some, Result, Ok, Err, IfErr, IsErrAnd}
 use Rattle.mp_tx.specs.Transaction.{Transaction}
@@ -11,7 +11,7 @@ use Rattle.mp_rules.specs.FirstFault.{bad_signature, validator_refused, policy_r
 use Rattle.mp_rules.specs.Checked.{script_refused}
 use Rattle.mp_rules.specs.Inside.Groups.{own_faults, missing_faults, mismatch_faults, payment_faults, own_fault, missing, mismatch, payment_fault, fault_on_map}
 
--- a group stands for what is in it
+-- a group may be replaced by its members
 opened : (xs ys : List (Option Invalid)) → first_of (first_of xs ∷ ys) ≡ first_of (xs ++ ys)
 opened [] ys = refl
 opened (None ∷ xs) ys = opened xs ys
@@ -43,19 +43,19 @@ grouped accepts u tick t =
     let r = resolve u t in
     regrouped (own_faults tick t) (missing_faults u t) (mismatch_faults t r) (payment_faults u t r) (bad_signature accepts t) (validator_refused t r ∷ policy_refused t r ∷ [])
 
--- a fault other than want of memory is told where it is the first
+-- a fault other than an allocation failure is returned if it is the first
 is_fault : (accepts : Accepts) (u : Unspent) (tick : ℕ) (t : Transaction) (fault : Invalid) → (fault ≢ rule.NoMemory → first_fault accepts u tick t ≡ Some fault) → IsFaultOf accepts u tick t fault
 is_fault accepts u tick t rule.NoMemory first = tt
 is_fault accepts u tick t _ first = first (λ e. Prim.cc)
 
--- what is so of the fault that is passed on
+-- what holds of the fault that is passed on
 passed_on : {A : Type 0} (P : Invalid → Type 0) (r : Result A Invalid) (fault : Invalid) → IsErrAnd r (λ e. e ≡ fault) → P fault → IfErr r P
 passed_on P (Ok a) fault is one = tt
 passed_on P (Err e) fault is one = subst P (sym is) one
 
--- What is told of a transaction upon a map, where its signatures are found to have such a fault, and its scripts such a one.
+-- What is returned for a transaction on a map, given the faults of its signatures and scripts.
 module _ (accepts : Accepts) (u : Unspent) (tick : ℕ) (t : Transaction) where
-  -- of the map
+  -- by the rules on the map
   pub told_by_map : {A : Type 0} (r : Result A Invalid) (fault : Invalid) → IsErrAnd r (λ e. e ≡ fault) → (fault ≢ rule.NoMemory → fault_on_map u tick t ≡ Some fault) → IfErr r (IsFaultOf accepts u tick t)
   told_by_map r fault is first =
       passed_on (IsFaultOf accepts u tick t) r fault is

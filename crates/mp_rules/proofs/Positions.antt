@@ -1,4 +1,4 @@
--- The first number that passes a test, one number further.
+-- The first number that passes a test, one step further.
 use Rattle.std.proofs.Common.{◌≡◌, ℕ, suc, ◌+◌, ◌-◌, ◌<◌, Bool, false, cond, ap, ◌∙◌, arith}
 use Rattle.std.specs.Prelude.{Some}
 use Rattle.std.specs.List.{position_from, range_with_len}

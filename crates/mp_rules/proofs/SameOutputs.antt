@@ -1,4 +1,4 @@
--- Outputs that are found equal are one.
+-- Outputs that compare equal are equal.
 use Rattle.std.proofs.Common.{◌≡◌, ℕ, ◌+◌, ◌<◌, true, false, List, [], ◌∷◌, ◌++◌, length, get_or, take, refl, sym, ap, subst, ◌∙◌}
 use Rattle.std.proofs.lemmas.List.{take_more}
 use Rattle.std.specs.Prelude.{◌&&◌, Bool, not, nat_eq, Decides}

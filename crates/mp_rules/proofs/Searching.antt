@@ -14,7 +14,7 @@ pub unmapped : {A B : Type 0} (f : A → B) (o : Option A) → option_map f o �
 unmapped f None e = refl
 unmapped f (Some x) e = Prim.cc
 
--- what was mapped
+-- the item before the map
 pub record IsMapped {A B : Type 0} (f : A → B) (o : Option A) (y : B) : Type 0 where
   pub from : A
   pub found : o ≡ Some from
@@ -24,7 +24,7 @@ pub mapped : {A B : Type 0} (f : A → B) (o : Option A) (y : B) → option_map 
 mapped f None y e = Prim.cc
 mapped f (Some x) y e = record { from = x; found = refl; same = Prim.cc }
 
--- ---- a test that tells what isn't good
+-- ---- a test that detects what isn't good
 
 pub record Refutes {X : Type 0} (p : X → Bool) (Good : X → Type 0) : Type 0 where
   pub bad : (x : X) → p x ≡ true → Good x → ⊥
@@ -67,7 +67,7 @@ module _ {X : Type 0} (p : X → Bool) where
       by false = further (position_or_len p xs) (length xs)
 
 module _ {X : Type 0} (p : X → Bool) (Good : X → Type 0) (tells : Refutes p Good) where
-  -- ---- by place
+  -- ---- by index
 
   pub all_good : (xs : List X) → position p xs ≡ None → All Good xs
   all_good [] e = All-nil Good

@@ -1,4 +1,4 @@
--- What sums say of the first token that isn't balanced.
+-- The sums and the first token that isn't balanced.
 use Rattle.std.proofs.Common.{◌≡◌, ◌≢◌, pos, ◌+ℤ◌, Bool, true, false, cond, not, ◌||◌, List, [], ◌∷◌, ◌++◌, map, refl, sym, ap, subst, ◌∙◌, append_assoc}
 use Rattle.std.specs.Prelude.{Option, Some, None, IfSome, filter}
 use Rattle.std.specs.Option.{unwrap_or}
@@ -19,7 +19,7 @@ use Rattle.mp_rules.specs.FirstFault.{lesser, least, tokens, first_unbalanced}
 use Rattle.mp_rules.specs.Laws.{IsLeastUnbalanced}
 use Rattle.mp_rules.proofs.Searching.{so}
 
--- ---- a token that stands nowhere has no total
+-- ---- a token that occurs nowhere has no total
 
 either : (a b : Bool) → (a || b) ≡ false → (a ≡ false) × (b ≡ false)
 either false b e = (refl, e)
@@ -56,7 +56,7 @@ tokens-append [] ys = refl
 tokens-append (x ∷ xs) ys =
     ap (λ ts. map (λ e. e.0) x ++ ts) (tokens-append xs ys) ∙ sym (append_assoc (map (λ e. e.0) x) (tokens xs) (tokens ys))
 
--- a token whose totals differ stands in a bundle
+-- a token whose totals differ occurs in a bundle
 differs_among : (taken paid : List (List Entry)) (q : Token) → (total_over taken q ≢ total_over paid q) → (b : Bool) → is_among (tokens (taken ++ paid)) q ≡ b → b ≡ true
 differs_among taken paid q differs true e = refl
 differs_among taken paid q differs false e =
@@ -95,7 +95,7 @@ module _ (p : Token → Bool) where
     | false ↦ λ h. passes ts
   ] refl
 
-  -- where no token is the least, none passes
+  -- if no token is the least, none passes
   none_passes : (ts : List Token) → least (filter p ts) ≡ None → AllByRecursion (λ t. p t ≡ false) ts
   none_passes [] e = tt
   none_passes (t ∷ ts) e = elim (p t) as (λ v. p t ≡ v → least (cond v (t ∷ filter p ts) (filter p ts)) ≡ None → (p t ≡ false) × AllByRecursion (λ t. p t ≡ false) ts) [
@@ -103,7 +103,7 @@ module _ (p : Token → Bool) where
     | false ↦ λ h e. (h, none_passes ts e)
   ] refl e
 
-  -- none that is less passes
+  -- no lesser token passes
   abbrev AreBefore : Token → List Token → Type 0
   AreBefore d ts = AllByRecursion (λ t. token_cmp t d ≡ Less → p t ≡ false) ts
 
@@ -195,7 +195,7 @@ least_unbalanced taken paid d differs before =
 same_totals : (taken paid : List (List Entry)) (q : Token) → unlike taken paid q ≡ false → total_over taken q ≡ total_over paid q
 same_totals taken paid q h = (signed_Decides (total_over taken q) (total_over paid q)).0 (so _ h)
 
--- a token whose totals differ stands in a bundle, so what holds of those holds of it
+-- a token whose totals differ occurs in a bundle, so what holds of those holds of it
 everywhere : (taken paid : List (List Entry)) (P : Token → Type 0) (q : Token) → AllByRecursion P (tokens (taken ++ paid)) → (P q → unlike taken paid q ≡ false) → total_over taken q ≡ total_over paid q
 everywhere taken paid P q all then =
     elim (unlike taken paid q) as (λ v. unlike taken paid q ≡ v → total_over taken q ≡ total_over paid q) [
@@ -205,7 +205,7 @@ everywhere taken paid P q all then =
       | false ↦ λ h. same_totals taken paid q h
     ] refl
 
--- where none is named, all totals are equal
+-- if none is named, all totals are equal
 pub none_unbalanced : (taken paid : List (List Entry)) → first_unbalanced taken paid ≡ None → (q : Token) → total_over taken q ≡ total_over paid q
 none_unbalanced taken paid e q =
     everywhere taken paid (λ t. unlike taken paid t ≡ false) q (none_passes (unlike taken paid) (tokens (taken ++ paid)) e) (λ h. h)

@@ -1,4 +1,4 @@
--- A transaction without a first fault is valid, and the first fault is what it says.
+-- A transaction without a first fault is valid, and what the first fault says is true.
 use Rattle.std.proofs.Common.{◌≡◌, ℕ, List, [], ◌∷◌, ◌++◌, map, get_or, refl, ap, ◌∙◌}
 use Rattle.std.specs.Prelude.{Option, None, Some, All}
 use Rattle.std.specs.List.{AllByRecursion}

@@ -1,4 +1,4 @@
--- The first fault of each rule, at its least place, and of all rules.
+-- The first fault of each rule, at its least index, and of all rules.
 use Rattle.std.specs.Prelude.{◌≡◌, ℕ, nat_eq, nat_lt, ◌==◌, pos, int_lt, Bool, not, ◌||◌, List, [], ◌∷◌, ◌++◌, length, map, filter, Option, None, Some, is_none, is_some, option_map, if◌then◌else◌}
 use Rattle.std.specs.List.{find, list_any, position, range_with_len, flat_map}
 use Rattle.std.specs.Ordering.{int_eq, is_lt}
@@ -56,7 +56,7 @@ output_taken u t =
 abbrev pub is_carried : List (List ℕ) → List ℕ → Bool
 is_carried scripts policy = list_any (λ s. same_bytes (sha256 s) policy) scripts
 
--- the tokens of a bundle rise, so the first whose policy isn't carried has the least such policy
+-- the tokens of a bundle are strictly increasing, so the first whose policy isn't carried has the least such policy
 unfoldable pub forge_without_policy : Transaction → Option Invalid
 forge_without_policy t =
     option_map (λ e. rule.ForgeWithoutPolicy e.0.policy) (find (λ e. not (is_carried t.scripts e.0.policy)) t.forge)
@@ -65,7 +65,7 @@ abbrev pub lesser : Token → Option Token → Token
 lesser a None = a
 lesser a (Some b) = if is_lt (token_cmp b a) then b else a
 
--- the least of tokens, if there is one
+-- the least token, if there is one
 abbrev pub least : List Token → Option Token
 least [] = None
 least (token ∷ tokens) = Some (lesser token (least tokens))
@@ -74,17 +74,17 @@ least (token ∷ tokens) = Some (lesser token (least tokens))
 abbrev pub tokens : List (List Entry) → List Token
 tokens bundles = flat_map (map (λ e. e.0)) bundles
 
--- the least token of which what is forged and spent isn't what is paid
+-- the least token for which the quantity forged and spent differs from the quantity paid
 abbrev pub first_unbalanced : List (List Entry) → List (List Entry) → Option Token
 first_unbalanced taken paid =
     least (filter (λ token. not (int_eq (total_over taken token) (total_over paid token))) (tokens (taken ++ paid)))
 
--- a token as a fault, with its totals
+-- the fault of a token, with its totals
 abbrev pub token_unbalanced : List (List Entry) → List (List Entry) → Token → Invalid
 token_unbalanced taken paid token =
     rule.Unbalanced token.policy token.name (total_over taken token) (total_over paid token)
 
--- what is forged and spent is taken
+-- what is forged and spent counts as taken
 unfoldable pub unbalanced : Transaction → Resolved → Option Invalid
 unbalanced t r =
     let taken = t.forge ∷ values r.spent in
@@ -102,13 +102,13 @@ validator_refused t r =
 unfoldable pub policy_refused : Transaction → Resolved → Option Invalid
 policy_refused t r = option_map rule.PolicyRefused (position (λ s. not (policy_accepts t r s)) t.scripts)
 
--- the first that there is
+-- the first fault, if there is one
 abbrev pub first_of : List (Option Invalid) → Option Invalid
 first_of [] = None
 first_of (None ∷ others) = first_of others
 first_of (Some fault ∷ others) = Some fault
 
--- the first fault of a rule by itself
+-- the first fault of one rule
 abbrev pub fault_of : Accepts → Unspent → ℕ → Transaction → Rule → Option Invalid
 fault_of accepts u tick t HasInput = no_inputs t
 fault_of accepts u tick t InInterval = outside_interval tick t
@@ -124,7 +124,7 @@ fault_of accepts u tick t SignaturesAccepted = bad_signature accepts t
 fault_of accepts u tick t ValidatorsAccept = validator_refused t (resolve u t)
 fault_of accepts u tick t PoliciesAccept = policy_refused t (resolve u t)
 
--- the rule that a fault is of; want of memory is of none
+-- the rule of a fault; an allocation failure has none
 abbrev pub rule_of : Invalid → Option Rule
 rule_of rule.NoMemory = None
 rule_of rule.NoInputs = Some HasInput
@@ -145,7 +145,7 @@ rule_of (rule.PolicyRefused place) = Some PoliciesAccept
 unfoldable pub first_fault : Accepts → Unspent → ℕ → Transaction → Option Invalid
 first_fault accepts u tick t = first_of (map (fault_of accepts u tick t) rules)
 
--- a fault that a check tells; memory may be wanting for any transaction
+-- a fault that a check returns; an allocation failure is always possible
 abbrev pub IsFaultOf : Accepts → Unspent → ℕ → Transaction → Invalid → Type 0
 IsFaultOf accepts u tick t rule.NoMemory = Unit {0}
 IsFaultOf accepts u tick t fault = first_fault accepts u tick t ≡ Some fault

@@ -8,6 +8,6 @@ abbrev number_of : Option Rule → ℕ
 number_of None = 1
 number_of (Some rule) = rule_number rule
 
--- that of its rule, and 1 where memory is wanting
+-- the number of its rule, or 1 for an allocation failure
 abbrev pub number : Invalid → ℕ
 number fault = number_of (rule_of fault)

@@ -1,4 +1,4 @@
--- What ties validity to the first fault.
+-- The relation between validity and the first fault.
 use Rattle.std.specs.Prelude.{◌≡◌, ◌≢◌, ◌↔◌, ◌⊎◌, ℕ, ◌<◌, ◌≤◌, List, [], ◌∷◌, ◌++◌, length, map, take, All, Contains, HoldsAt, None, Some, IsSome, IsTrue}
 use Rattle.std.specs.Cmp.Lexicographic.{slice_cmp}
 use Rattle.std.specs.Ordering.{nat_cmp}
@@ -19,9 +19,9 @@ use Rattle.mp_rules.specs.Scripts.{validator_accepts, policy_accepts}
 use Rattle.mp_rules.specs.Validity.{Rule, rules, IsNonnegative, Holds, IsValid}
 use Rattle.mp_rules.specs.FirstFault.{rule_of, first_fault}
 
--- the first item that isn't good stands at the place
+-- the first item that isn't good is at the index
 pub record IsFirstBad {X : Type 0} (Good : X → Type 0) (xs : List X) (place : ℕ) : Type 0 where
-  -- an item stands there
+  -- the index is in range
   pub within : place < length xs
   pub bad : HoldsAt (λ x. Good x → ⊥) xs place
   -- all before it are good
@@ -38,7 +38,7 @@ pub record IsLeastUnbalanced (taken paid : List (List Entry)) (token : Token) : 
   pub differs : total_over taken token ≢ total_over paid token
   pub least : (other : Token) → token_cmp other token ≡ Less → total_over taken other ≡ total_over paid other
 
--- The rule that a fault is of is broken as the fault says, and nowhere before.
+-- The rule of a fault fails as the fault says, and not at a lesser index.
 abbrev pub IsBroken : Accepts → Unspent → ℕ → Transaction → Invalid → Type 0
 IsBroken accepts u tick t rule.NoMemory = ⊥
 IsBroken accepts u tick t rule.NoInputs = t.inputs ≡ []
@@ -67,7 +67,7 @@ IsBroken accepts u tick t (rule.PolicyRefused j) =
 -- what a first fault says
 pub record IsFirstFault (accepts : Accepts) (u : Unspent) (tick : ℕ) (t : Transaction) (fault : Invalid) : Type 0 where
   pub broken : IsBroken accepts u tick t fault
-  -- the rule that it is of, and the rules before it and after it
+  -- its rule, and the rules before it and after it
   pub own : Rule
   pub is_own : rule_of fault ≡ Some own
   pub earlier : List Rule
@@ -76,25 +76,25 @@ pub record IsFirstFault (accepts : Accepts) (u : Unspent) (tick : ℕ) (t : Tran
   -- every rule before it holds
   pub hold : All (Holds accepts u tick t) earlier
 
--- a transaction is valid exactly where it has no first fault
+-- a transaction is valid exactly when it has no first fault
 abbrev pub ValidIsFaultless : Type 0
 ValidIsFaultless =
     (accepts : Accepts) (u : Unspent) (tick : ℕ) (t : Transaction)
     → IsValid accepts u tick t ↔ (first_fault accepts u tick t ≡ None)
 
--- the first fault is what it says
+-- what the first fault says is true
 abbrev pub FirstFaultIsBroken : Type 0
 FirstFaultIsBroken =
     (accepts : Accepts) (u : Unspent) (tick : ℕ) (t : Transaction) (fault : Invalid) → IsBundle t.forge
     → first_fault accepts u tick t ≡ Some fault → IsFirstFault accepts u tick t fault
 
--- upon both maps the transaction finds the same, under what it names and under the references of its own outputs
+-- in both maps, the transaction finds the same at the references that it names and at those of its own outputs
 pub record FindsTheSame (t : Transaction) (u v : Unspent) : Type 0 where
   pub inputs : All (λ i. u i.from ≡ v i.from) t.inputs
   pub references : All (λ r. u r ≡ v r) t.references
   pub own : (k : ℕ) → k < length t.outputs → u (own_ref t k) ≡ v (own_ref t k)
 
--- Of the outputs that may be spent nothing else matters, and of ticks only whether they are within its interval.
+-- No other outputs matter, and of the tick only whether it is in the interval.
 abbrev pub ValidityIsLocal : Type 0
 ValidityIsLocal =
     (accepts : Accepts) (u v : Unspent) (tick later : ℕ) (t : Transaction)

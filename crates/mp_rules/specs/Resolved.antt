@@ -8,12 +8,12 @@ use Rattle.mp_tx.specs.Transaction.{Transaction, spent_refs}
 use Rattle.mp_utxo.specs.Apply.{Unspent}
 
 pub record Resolved : Type 0 where
-  -- what the inputs spend, in their order
+  -- what the inputs spend, in order
   pub spent : List Output
-  -- what the references lead to, in their order
+  -- what the references lead to, in order
   pub referenced : List Output
 
--- what a transaction names of the outputs that may be spent; what isn't there is left out
+-- the outputs that a transaction names; a missing one is left out
 abbrev pub resolve : Unspent → Transaction → Resolved
 resolve u t = record { spent = filter_map u (spent_refs t.inputs); referenced = filter_map u t.references }
 

@@ -20,8 +20,8 @@ paid_to o = record { address = o.address; bundle = o.value }
 abbrev pub referred : Output → Referred
 referred o = record { address = o.address; datum_hash = o.datum_hash; bundle = o.value }
 
--- What every script of a transaction sees: the transaction, the total of all that it spends, what its references lead to, and
--- the hash of the script that runs.
+-- What every script of a transaction sees: the transaction, the total of all that it spends, what its references lead
+-- to, and the hash of the script that runs.
 abbrev pub shared_view : Transaction → Resolved → List ℕ → View
 shared_view t r script = record {
   own_hash = sha256 script;
@@ -37,11 +37,11 @@ shared_view t r script = record {
   references = map referred r.referenced;
 }
 
--- a policy script sees no more
+-- a policy script sees only this
 abbrev pub policy_view : Transaction → Resolved → List ℕ → View
 policy_view t r script = shared_view t r script
 
--- a validator also sees its input's datum and redeemer, and what the output holds that the input spends
+-- a validator also sees its input's datum and redeemer, and the bundle of the output that the input spends
 abbrev pub validator_view : Transaction → Resolved → Input → Output → View
 validator_view t r i o = record (shared_view t r i.validator) {
   datum = Some (tree_of i.datum);

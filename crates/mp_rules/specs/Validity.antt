@@ -1,5 +1,5 @@
--- When a transaction may follow upon the outputs that may be spent (the EUTXO and native-token papers of Chakravarty et al.,
--- and CIP-31).
+-- When a transaction is valid on the outputs that can be spent (the EUTXO and native-token papers of Chakravarty et
+-- al., and CIP-31).
 use Rattle.std.specs.Prelude.{◌≡◌, ◌≢◌, ℕ, ◌<◌, ◌≤◌, pos, ◌≤ℤ◌, List, [], ◌∷◌, length, map, All, Contains, None, IsSome, IsTrue}
 use Rattle.sha2.specs.Sha256.{sha256}
 use Rattle.mp_bundle.specs.declared.token.Token.{Token}
@@ -16,7 +16,7 @@ use Rattle.mp_rules.specs.Scripts.{validator_accepts, policy_accepts}
 abbrev pub IsNonnegative : Output → Type 0
 IsNonnegative o = All (λ e. pos 0 ≤ℤ e.1) o.value
 
--- for each token, what is forged and what is spent make what is paid
+-- for each token, the quantities forged and spent add up to the quantity paid
 abbrev pub IsBalanced : Transaction → Resolved → Type 0
 IsBalanced t r =
     (token : Token) → total_over (t.forge ∷ values r.spent) token ≡ total_over (values t.outputs) token
@@ -36,7 +36,7 @@ pub data Rule : Type 0 where
   ValidatorsAccept : Rule
   PoliciesAccept : Rule
 
--- All rules, in the order in which they are looked at, each over all its places before the next.
+-- All rules, in the order of the checks. Each is checked at all indices before the next.
 abbrev pub rules : List Rule
 rules =
     HasInput
@@ -54,7 +54,7 @@ rules =
     ∷ PoliciesAccept
     ∷ []
 
--- The numbers of the rules. They don't give the order: 14 is told sixth, right after 5.
+-- The numbers of the rules. They don't give the order: 14 is checked sixth, right after 5.
 abbrev pub rule_number : Rule → ℕ
 rule_number HasInput = 2
 rule_number InInterval = 3
@@ -70,33 +70,33 @@ rule_number SignaturesAccepted = 11
 rule_number ValidatorsAccept = 12
 rule_number PoliciesAccept = 13
 
--- A rule holds of a transaction, for a verifier, at a tick, upon the outputs that may be spent.
+-- A rule holds of a transaction, for a verifier, at a tick, on the outputs that can be spent.
 abbrev pub Holds : Accepts → Unspent → ℕ → Transaction → Rule → Type 0
 -- there is an input
 Holds accepts u tick t HasInput = t.inputs ≢ []
--- the tick is none before the first and none after the last at which it may be applied
+-- the tick is neither before the first nor after the last tick at which it is valid
 Holds accepts u tick t InInterval = (t.from ≤ tick) × (tick ≤ t.to)
--- no output holds less than nothing of a token
+-- no output has a negative quantity of a token
 Holds accepts u tick t PaysNoDebt = All IsNonnegative t.outputs
--- each input leads to an output that may be spent
+-- each input leads to an output that can be spent
 Holds accepts u tick t InputsThere = All (λ i. IsSome (u i.from)) t.inputs
--- and each reference does
+-- each reference leads to an output that can be spent
 Holds accepts u tick t ReferencesThere = All (λ r. IsSome (u r)) t.references
--- each input has the script that its output's address is the hash of
+-- the address of each input's output is the hash of the input's validator
 Holds accepts u tick t AddressesMatch = All (λ p. sha256 p.0.validator ≡ p.1.address) (spendings t (resolve u t))
--- and the datum that its output's datum hash is the hash of
+-- the datum hash of each input's output is the hash of the input's datum
 Holds accepts u tick t DataMatch = All (λ p. sha256 p.0.datum ≡ p.1.datum_hash) (spendings t (resolve u t))
 -- none of its own outputs is there yet
 Holds accepts u tick t OutputsFresh = (k : ℕ) → k < length t.outputs → u (own_ref t k) ≡ None
--- of each token that is forged the policy script is carried
+-- the policy script of each forged token is carried
 Holds accepts u tick t PoliciesCarried = All (λ e. Contains (map sha256 t.scripts) e.0.policy) t.forge
--- it pays what it spends and forges
+-- it pays exactly what it spends and forges
 Holds accepts u tick t Balanced = IsBalanced t (resolve u t)
 -- the verifier accepts each signature
 Holds accepts u tick t SignaturesAccepted = All (λ s. IsTrue (accepts s.key (id_of t) s.sig)) t.signatures
 -- each validator accepts
 Holds accepts u tick t ValidatorsAccept = All (λ p. IsTrue (validator_accepts t (resolve u t) p)) (spendings t (resolve u t))
--- and each carried policy script does, also where nothing of its policy is forged
+-- each carried policy script accepts, even if its policy forges nothing
 Holds accepts u tick t PoliciesAccept = All (λ s. IsTrue (policy_accepts t (resolve u t) s)) t.scripts
 
 -- all rules hold

@@ -1,6 +1,6 @@
--- What a verifier answers.
+-- What a verifier decides.
 use Rattle.std.specs.Prelude.{ℕ, List, Bool}
 
--- whether it accepts a signature of a transaction's id by a key: of a key, an id and a signature, in this order
+-- whether it accepts the signature by a key for a transaction's id; the arguments are the key, the id and the signature
 abbrev pub Accepts : Type 0
 Accepts = List ℕ → List ℕ → List ℕ → Bool

@@ -12,7 +12,7 @@ use mp_bundle::{Bundle, Sum, Token};
 use mp_memory::{Memory, NoMemory};
 use mp_tx::{Output, TokenName, Tx};
 
-// Adds what outputs hold.
+// Adds the bundles of outputs.
 fn add_all(sum: &mut Sum, outputs: &[Output]) -> Result<(), NoMemory>
     requires { sum.old.added + length outputs.now ≤ 2 ^ 32 }
     ensures { OnOk result (AddsAll sum.old (values outputs.now) sum.new) }
@@ -23,7 +23,7 @@ fn add_all(sum: &mut Sum, outputs: &[Output]) -> Result<(), NoMemory>
     Ok(())
 }
 
-/// What outputs hold together.
+/// The sum of the bundles of outputs.
 pub fn sum_of(memory: Memory, outputs: &[Output]) -> Result<Sum, NoMemory>
     requires { length outputs.now ≤ 256 }
     ensures { IfOk result (IsSumOf (values outputs.now)) }
@@ -33,7 +33,7 @@ pub fn sum_of(memory: Memory, outputs: &[Output]) -> Result<Sum, NoMemory>
     Ok(sum)
 }
 
-// What a bundle and outputs hold together.
+// The sum of a bundle and the bundles of outputs.
 fn sum_with(memory: Memory, bundle: &Bundle, outputs: &[Output]) -> Result<Sum, NoMemory>
     requires { length outputs.now ≤ 256 }
     ensures { IfOk result (IsSumOf (bundle.now ∷ values outputs.now)) }
@@ -44,7 +44,7 @@ fn sum_with(memory: Memory, bundle: &Bundle, outputs: &[Output]) -> Result<Sum, 
     Ok(sum)
 }
 
-// The least token of which the totals differ.
+// The least token whose totals differ.
 fn difference<'a>(taken: &'a Sum, paid: &'a Sum) -> Option<Token>
     ensures none { IfNone result (AreAlike taken.now paid.now) }
     ensures first { IfSome result (IsFirstDifference taken.now paid.now) }
@@ -59,7 +59,7 @@ fn difference<'a>(taken: &'a Sum, paid: &'a Sum) -> Option<Token>
     }
 }
 
-// The token as a fault, with its totals.
+// The fault of the token, with its totals.
 fn token_fault(taken: &Sum, paid: &Sum, token: &Token) -> Invalid
     ensures { result ≡ rules.Unbalanced token.now.policy token.now.name
         (total_of taken.now token.now) (total_of paid.now token.now) }
@@ -73,7 +73,7 @@ fn token_fault(taken: &Sum, paid: &Sum, token: &Token) -> Invalid
     }
 }
 
-/// The least token of which what is forged and spent isn't what is paid, as a fault.
+/// The fault of the least token for which the quantity forged and spent differs from the quantity paid.
 #[tactic(auto, unfolding(crate::specs::FirstFault::unbalanced))]
 pub fn unbalanced(memory: Memory, tx: &Tx, resolved: &Resolved) -> Result<Option<Invalid>, NoMemory>
     ensures { IfOk result (λ fault. fault ≡ unbalanced tx.now resolved.now) }

@@ -1,4 +1,4 @@
-//! What is found of a transaction's signatures and scripts before the other rules.
+//! The results of checking a transaction's signatures and scripts before the other rules.
 
 ghost use Rattle.std.specs.Prelude.{◌≡◌, ◌+◌, ◌++◌, ◌≤◌, length, IfOk};
 ghost use Rattle.mp_rules.specs.Checked.{IsChecked, IsUpon};
@@ -12,8 +12,8 @@ use mp_memory::{Memory, NoMemory};
 use mp_tx::{Output, Tx};
 use std::marker::Model;
 
-/// What was found of a transaction's signatures and scripts upon outputs that it is thought to name. It serves as long as
-/// the transaction names these outputs; where it names others, scripts are run again.
+/// The results of checking a transaction's signatures and scripts, on the outputs that it is expected to name. They
+/// hold while the transaction names these outputs. If it names others, its scripts run again.
 #[derive(Debug)]
 pub struct Checked {
     resolved: Resolved,
@@ -45,14 +45,15 @@ impl Checked {
     ghost use Rattle.std.specs.Prelude.{◌≡◌};
     ghost use Rattle.mp_rules.specs.Checked.{first_found};
 
-    /// The outputs that the scripts were run upon.
+    /// The outputs on which the scripts ran.
     pub fn resolved(&self) -> &Resolved
         ensures { result.now ≡ self.now.resolved }
     {
         &self.resolved
     }
 
-    /// What was found first: a signature that isn't accepted, else a validator that refuses, else a policy script.
+    /// The first fault: of a signature that the verifier doesn't accept, else of a validator that refuses, else of a
+    /// policy script that refuses.
     pub fn fault(&self) -> Option<Invalid>
         ensures { result ≡ first_found self.now }
     {
@@ -62,14 +63,14 @@ impl Checked {
         }
     }
 
-    /// The first signature that isn't accepted, as a fault.
+    /// The fault of the first signature that the verifier doesn't accept.
     pub(crate) fn signature(&self) -> Option<Invalid>
         ensures { result ≡ self.now.signature }
     {
         self.signature
     }
 
-    /// The first script that refuses, as a fault.
+    /// The fault of the first script that refuses.
     pub(crate) fn script(&self) -> Option<Invalid>
         ensures { result ≡ self.now.script }
     {
@@ -77,7 +78,7 @@ impl Checked {
     }
 }
 
-// Looks at the signatures, and runs the scripts upon these outputs.
+// Checks the signatures, and runs the scripts on these outputs.
 fn look_upon<V: Verifier>(
     memory: Memory,
     tx: &Tx,
@@ -101,8 +102,8 @@ fn look_upon<V: Verifier>(
     })
 }
 
-/// Looks at a transaction's signatures, and runs its scripts upon these outputs: one for each input, in their order, then one
-/// for each reference. So this can be done before the outputs are known to be there to be spent.
+/// Checks a transaction's signatures, and runs its scripts on these outputs: one for each input, in order, then one for
+/// each reference. So this can happen before anybody knows whether the outputs can be spent.
 pub fn precheck<V: Verifier>(
     memory: Memory,
     tx: &Tx,

@@ -1,4 +1,4 @@
-//! Whether a transaction may follow.
+//! Whether a transaction is valid.
 
 ghost use Rattle.std.specs.Prelude.{◌≡◌, None, IfSome, IfOk, OnOk, IfErr, IsTrue, is_none};
 ghost use Rattle.mp_rules.specs.Resolved.{resolve};
@@ -59,12 +59,12 @@ fn check_on_map<U: Utxo>(memory: Memory, tx: &Tx, utxo: &U, tick: u64) -> Result
     Ok(resolved)
 }
 
-/// Whether the transaction is valid upon the outputs that may be spent, at a tick. Where it is, it gives the outputs that the
-/// transaction names.
+/// Checks whether the transaction is valid on the outputs that can be spent, at a tick. If it is, returns the outputs
+/// that it names.
 ///
 /// # Errors
-/// The first rule that fails, in the order of `rules` in `specs/Validity.antt`, at its least place. `NoMemory` may stand in place
-/// of any answer.
+/// The first rule that fails, in the order of `rules` in `specs/Validity.antt`, at its least index. `NoMemory` may be
+/// returned instead of any answer.
 pub fn check<U: Utxo, V: Verifier>(
     memory: Memory,
     tx: &Tx,
@@ -112,7 +112,7 @@ fn is_same(resolved: &Resolved, before: &Resolved) -> bool
         && same_outputs(resolved.referenced(), before.referenced())
 }
 
-// The first script that refuses: the one that was found before, where the outputs are the same.
+// The first script that refuses, without running scripts again if the outputs are the same.
 fn refused_again(
     memory: Memory,
     tx: &Tx,
@@ -129,12 +129,9 @@ fn refused_again(
     }
 }
 
-/// Whether the transaction is valid, as `check` says it, with what was found of its signatures and scripts before. All other
-/// rules are looked at anew. Scripts are run again only where the transaction names other outputs than those that they were
-/// run upon. The verifier isn't asked: it is named for whose signatures these are.
-///
-/// # Errors
-/// As `check`.
+/// Whether the transaction is valid, as `check` decides, given earlier results for its signatures and scripts. All
+/// other rules are checked again. Scripts run again only if the transaction names other outputs than before. The
+/// verifier isn't called: the parameter names the verifier of these results.
 pub fn check_with<U: Utxo, V: Verifier>(
     memory: Memory,
     tx: &Tx,
@@ -169,8 +166,8 @@ pub fn check_with<U: Utxo, V: Verifier>(
     Ok(resolved)
 }
 
-// Whether a transaction with good signatures is valid, as `check` says it. Scripts are run again only where it names other outputs
-// than those of `before`, upon which they accepted.
+// Whether a transaction with good signatures is valid, as `check` decides. Scripts run again only if it names other
+// outputs than `before`, on which they accepted.
 fn recheck<U: Utxo, V: Verifier>(
     memory: Memory,
     tx: &Tx,
@@ -193,13 +190,10 @@ fn recheck<U: Utxo, V: Verifier>(
     Ok(())
 }
 
-/// Whether a transaction with good signatures is valid, as `check` says it. Where it was valid `before`, when it named these
-/// outputs, and names them still, only the tick and its own outputs are looked at: no other rule can have failed since. Else all
-/// rules but that of signatures are looked at anew, and scripts are run again only where it names other outputs. The verifier
-/// isn't asked: it is named for whose signatures these are.
-///
-/// # Errors
-/// `NoMemory`.
+/// Whether a transaction with good signatures is valid, as `check` decides. If it was valid when it named the outputs
+/// `before`, and still names them, only the tick and its own outputs are checked: no other rule can fail. Else all
+/// rules except that of signatures are checked again, and scripts run again only if it names other outputs. The
+/// verifier isn't called: the parameter names the verifier of these signatures.
 pub fn stays_valid<U: Utxo, V: Verifier>(
     memory: Memory,
     tx: &Tx,

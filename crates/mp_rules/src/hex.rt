@@ -1,8 +1,8 @@
-//! Bytes as texts have them.
+//! Bytes in texts.
 
 use std::fmt;
 
-/// Bytes, of which each is written as two hexadecimal digits.
+/// Bytes, each of which is written as two hexadecimal digits.
 #[derive(Drop)]
 pub struct Hex<'a>(pub &'a [u8]);
 

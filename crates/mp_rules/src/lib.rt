@@ -1,4 +1,4 @@
-//! The rules of validity: whether a transaction may follow upon the outputs that may be spent, and which rule fails first
+//! The rules of validity: whether a transaction is valid on the outputs that can be spent, and which rule fails first
 //! (the EUTXO and native-token papers of Chakravarty et al., and CIP-31).
 #![tactic(auto)]
 

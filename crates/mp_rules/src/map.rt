@@ -1,4 +1,4 @@
-//! Rules on the outputs that may be spent.
+//! Rules on the outputs that can be spent.
 
 ghost use Rattle.std.specs.Prelude.{◌≡◌, not, is_none, is_some, option_map, length};
 ghost use Rattle.std.specs.List.{position, filter_map, range_with_len, zip};
@@ -55,7 +55,7 @@ fn referenced_outputs<U: Utxo>(
     Ok(outputs)
 }
 
-/// The outputs that the transaction names, shared. Else the first input that names none, or the first reference.
+/// The outputs that the transaction names, shared, or the fault of the first input or reference that names none.
 #[tactic(auto, unfolding(crate::specs::Inside::Groups::missing, crate::specs::FirstFault::input_missing, crate::specs::FirstFault::reference_missing))]
 pub fn resolve<U: Utxo>(memory: Memory, tx: &Tx, utxo: &U) -> Result<Resolved, Invalid>
     ensures { Passes (λ r. r ≡ resolve (U.map utxo.now) tx.now) (missing (U.map utxo.now) tx.now)
@@ -83,7 +83,7 @@ fn place_of_datum(inputs: &[Input], spent: &[Output]) -> Option<usize>
         .position(|(input, output)| *input.datum.hash() != output.datum_hash)
 }
 
-/// The first input whose validator isn't its output's, else the first whose datum isn't.
+/// The fault of the first input whose validator isn't its output's, else of the first whose datum isn't.
 #[tactic(auto, unfolding(crate::specs::Inside::Groups::mismatch, crate::specs::FirstFault::address_mismatch, crate::specs::FirstFault::datum_mismatch))]
 pub fn mismatch(tx: &Tx, resolved: &Resolved) -> Option<Invalid>
     ensures { result ≡ mismatch tx.now resolved.now }
@@ -103,7 +103,7 @@ fn is_there<U: Utxo>(utxo: &U, reference: &OutRef) -> bool
     utxo.get(reference).is_some()
 }
 
-// The first output whose reference is taken.
+// The first output whose reference already leads to an output.
 fn taken_place<U: Utxo>(tx: &Tx, utxo: &U) -> Option<usize>
     ensures { result ≡ position (λ k. is_some (U.map utxo.now (own_ref tx.now k)))
         (range_with_len 0 (length tx.now.outputs)) }
@@ -121,7 +121,7 @@ fn taken_place<U: Utxo>(tx: &Tx, utxo: &U) -> Option<usize>
     None
 }
 
-/// The first output of the transaction whose reference is taken.
+/// The fault of the first output of the transaction whose reference already leads to an output.
 #[tactic(auto, unfolding(crate::specs::FirstFault::output_taken))]
 pub fn output_taken<U: Utxo>(tx: &Tx, utxo: &U) -> Option<Invalid>
     ensures { result ≡ output_taken (U.map utxo.now) tx.now }

@@ -1,4 +1,4 @@
-//! Rules that a transaction keeps or breaks by itself, at a tick.
+//! Rules on the transaction alone, at a tick.
 
 ghost use Rattle.std.specs.Prelude.{◌≡◌, not, option_copied};
 ghost use Rattle.std.specs.List.{position, find};
@@ -28,7 +28,7 @@ fn place_of_debt(outputs: &[Output]) -> Option<usize>
     outputs.iter().position(|output| has_debt(&output.value))
 }
 
-/// The first fault of those that no map is needed for: no input, a tick outside of the interval, a negative quantity.
+/// The first fault of the rules that need no map: no input, a tick outside of the interval, a negative quantity.
 #[tactic(auto, unfolding(crate::specs::Inside::Groups::own_fault, crate::specs::FirstFault::no_inputs, crate::specs::FirstFault::outside_interval, crate::specs::FirstFault::negative_output))]
 pub fn own_fault(tx: &Tx, tick: u64) -> Option<Invalid>
     ensures { result ≡ own_fault tick tx.now }
@@ -60,7 +60,7 @@ fn uncarried<'a>(scripts: &[Script], forged: &'a [Entry]) -> Option<&'a Entry>
         .find(|entry| !is_carried(scripts, &entry.0.policy))
 }
 
-/// The least policy of which tokens are forged and whose script isn't carried.
+/// The fault of the least policy whose tokens are forged and whose script isn't carried.
 #[tactic(auto, unfolding(crate::specs::FirstFault::forge_without_policy))]
 pub fn forge_without_policy(tx: &Tx) -> Option<Invalid>
     ensures { result ≡ forge_without_policy tx.now }

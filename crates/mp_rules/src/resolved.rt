@@ -4,7 +4,7 @@ use mp_memory::Memory;
 use mp_tx::{Few, Output};
 use std::marker::Model;
 
-/// The outputs that a transaction names: those that its inputs spend, in their order, and those that its references lead to.
+/// The outputs that a transaction names: those that its inputs spend, in order, and those that its references lead to.
 /// Their bundles are shared with the map that they come from.
 #[derive(Debug)]
 pub struct Resolved {
@@ -36,7 +36,7 @@ impl Model for Resolved {
 impl Resolved {
     ghost use Rattle.std.specs.Prelude.{◌≡◌, ◌≤◌, length};
 
-    /// These outputs, at most 256 of each.
+    /// These outputs. There are at most 256 of each.
     pub(crate) fn of(spent: Vec<Output, Memory>, referenced: Vec<Output, Memory>) -> Resolved
         requires spent { length spent.items ≤ 256 }
         requires referenced { length referenced.items ≤ 256 }
@@ -48,7 +48,7 @@ impl Resolved {
         }
     }
 
-    /// What the inputs spend, in their order.
+    /// What the inputs spend, in order.
     pub fn spent(&self) -> &[Output]
         ensures same { result.now ≡ self.now.spent }
         ensures few { length result.now ≤ 256 }
@@ -56,7 +56,7 @@ impl Resolved {
         self.spent.as_slice()
     }
 
-    /// What the references lead to, in their order.
+    /// What the references lead to, in order.
     pub fn referenced(&self) -> &[Output]
         ensures same { result.now ≡ self.now.referenced }
         ensures few { length result.now ≤ 256 }

@@ -7,7 +7,7 @@ use mp_memory::Memory;
 use mp_script::{PaidTo, Referred};
 use mp_tx::Key;
 
-/// What all scripts of a transaction see, gathered once.
+/// What all scripts of a transaction see, computed once.
 #[derive(Drop)]
 pub struct ScriptContext<'a> {
     pub from: u64,

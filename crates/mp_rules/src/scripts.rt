@@ -16,7 +16,7 @@ use mp_memory::{Memory, NoMemory};
 use mp_script::{PaidTo, Referred, Value, View, eval};
 use mp_tx::{Input, Key, Output, Script, Signature, Tx};
 
-// The script of one operator, which gives true whatever it sees.
+// The script of one operator, which always gives true.
 const TRUE: [u8; 1] = [0x01];
 
 fn keys_of(memory: Memory, signatures: &[Signature]) -> Result<Vec<Key, Memory>, NoMemory>
@@ -179,8 +179,8 @@ fn policies_give_true(scripts: &[Script]) -> bool
     scripts.iter().all(|script| gives_true(script))
 }
 
-/// Whether the transaction has no signature to look at and no script to run: each that it has is `01`, which gives true whatever
-/// it sees.
+/// Whether the transaction has no signature to check and no script to run: each of its scripts is `01`, which always
+/// gives true.
 pub fn has_nothing_to_run(tx: &Tx) -> bool
     ensures { IsTrue result ↔ HasNothingToRun tx.now }
 {
@@ -189,7 +189,7 @@ pub fn has_nothing_to_run(tx: &Tx) -> bool
         && policies_give_true(tx.scripts())
 }
 
-// The first that refuses, as each is run.
+// The first script that refuses, after running each.
 #[tactic(auto, unfolding(crate::specs::Checked::script_refused, crate::specs::FirstFault::validator_refused, crate::specs::FirstFault::policy_refused))]
 fn refused_in_view(
     memory: Memory,
@@ -208,7 +208,7 @@ fn refused_in_view(
     }
 }
 
-/// The first validator that refuses, else the first policy script that does.
+/// The fault of the first validator that refuses, else of the first policy script that does.
 pub fn script_refused(
     memory: Memory,
     tx: &Tx,

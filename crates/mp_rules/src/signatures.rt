@@ -21,7 +21,7 @@ fn unaccepted<'a, V: Verifier>(
         .find(|s| !verifier.verify(&s.key, id, &s.sig))
 }
 
-/// The first signature that the verifier doesn't accept.
+/// The fault of the first signature that the verifier doesn't accept.
 #[tactic(auto, unfolding(crate::specs::FirstFault::bad_signature))]
 pub fn bad_signature<V: Verifier>(tx: &Tx, verifier: &V) -> Option<Invalid>
     ensures { result ≡ bad_signature (V.accepts verifier.now) tx.now }

@@ -1,4 +1,4 @@
-//! Whether a transaction meets just the outputs that it met before.
+//! Whether a transaction finds exactly the outputs that it found before.
 
 ghost use Rattle.std.specs.Prelude.{◌≡◌, Some, IsTrue, is_none};
 ghost use Rattle.mp_rules.specs.FirstFault.{outside_interval};
@@ -53,7 +53,8 @@ fn refers_just<U: Utxo>(references: &[OutRef], outputs: &[Output], utxo: &U) -> 
     true
 }
 
-/// Whether the transaction may be applied at the tick, names just these outputs, and finds none of its own there.
+/// Whether the tick is in the transaction's interval, it names exactly these outputs, and none of its own outputs is
+/// there.
 pub fn is_unmoved<U: Utxo>(tx: &Tx, before: &Resolved, utxo: &U, tick: u64) -> bool
     ensures { IsTrue result → IsUnmoved (U.map utxo.now) tick tx.now before.now }
 {

@@ -1,4 +1,4 @@
--- How what was found before is seen.
+-- How contracts see earlier results.
 use Rattle.mp_rules.specs.declared.checked.Checked.TheInside.{Inside}
 use Rattle.mp_rules.specs.Checked.{Checked}
 

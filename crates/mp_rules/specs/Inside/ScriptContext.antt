@@ -1,4 +1,4 @@
--- What all scripts of a transaction see, as it is gathered once.
+-- What all scripts of a transaction see, computed once.
 use Rattle.std.specs.Prelude.{◌≡◌, List, ℕ, map, Some, None}
 use Rattle.sha2.specs.Sha256.{sha256}
 use Rattle.mp_bundle.specs.Sum.{total_of, IsSumOf}
@@ -20,7 +20,7 @@ pub record IsContextOf (context : ScriptContext) (t : Transaction) (r : Resolved
   pub outputs : map paid_to_of context.outputs.items ≡ map paid_to t.outputs
   pub references : map referred_of context.references.items ≡ map referred r.referenced
 
--- what a policy script sees of it
+-- what a policy script sees
 abbrev pub policy_context : ScriptContext → List ℕ → View
 policy_context s script = record {
   own_hash = sha256 script;
@@ -36,7 +36,7 @@ policy_context s script = record {
   references = map referred_of s.references.items;
 }
 
--- and what a validator does
+-- what a validator sees
 abbrev pub validator_context : ScriptContext → Input → Output → View
 validator_context s i o = record (policy_context s i.validator) {
   datum = Some (tree_of i.datum);
