@@ -14,7 +14,7 @@ use Rattle.mp_block.specs.Block.{fault_or, apply_tx, apply_from, at_tick, apply_
 use Rattle.mp_block.specs.Laws.{IsAfter, BlockIsAChain}
 use Rattle.mp_block.proofs.Effect.{get-apply_tx}
 
--- ---- where a block begins
+-- ---- the start of a block
 
 pub begins : (accepts : Accepts) (l now : LedgerState) (tick block_bytes : ℕ) (ts : List Transaction) → now ≡ at_tick l tick block_bytes → apply_from accepts 0 now ts ≡ apply_block accepts l tick block_bytes ts
 unfolding apply_block

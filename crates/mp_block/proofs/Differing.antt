@@ -1,4 +1,4 @@
--- A block changes nothing but what it touches.
+-- A block changes only what it touches.
 use Rattle.std.proofs.Common.{◌≡◌, ℕ, ◌+◌, Bool, true, false, ◌||◌, List, [], ◌∷◌, ◌++◌, map, cond, refl, sym, ap, ◌∙◌}
 use Rattle.std.specs.Prelude.{Some, None, Ok}
 use Rattle.std.specs.Result.{result_unwrap_or}
@@ -29,7 +29,7 @@ neither : (a b : Bool) → (a || b) ≡ false → (a ≡ false) × (b ≡ false)
 neither true b e = Prim.cc
 neither false b e = (refl, e)
 
--- nothing is under any of both
+-- neither list has the reference
 among : (r : OutRef) (xs ys : List OutRef) → list_any (same_ref r) (xs ++ ys) ≡ false → (list_any (same_ref r) xs ≡ false) × (list_any (same_ref r) ys ≡ false)
 among r xs ys e = neither _ _ (sym (list_any-append (same_ref r) xs ys) ∙ e)
 

@@ -1,4 +1,4 @@
--- What a transaction does to a ledger state is what it does to the outputs that may be spent.
+-- The effect of a transaction on a ledger state is its effect on the outputs that can be spent.
 use Rattle.std.proofs.Common.{◌≡◌, ℕ, ◌<◌, length, ap, ◌∙◌}
 use Rattle.std.specs.Prelude.{None}
 use Rattle.std.specs.Option.{option_or}

@@ -1,4 +1,4 @@
--- What a valid transaction makes is new, and its outputs stand under references that differ.
+-- The outputs of a valid transaction are new, and their references are distinct.
 use Rattle.std.proofs.Common.{◌≡◌, ◌≢◌, ℕ, zero, suc, ◌+◌, ◌<◌, ◌≤◌, Bool, true, false, ◌&&◌, nat_eq, ◌==◌, List, [], ◌∷◌, length, get_or, take, cond, refl, sym, ap, ◌∙◌, arith}
 use Rattle.std.specs.Prelude.{Option, Some, None, is_some, slice_get}
 use Rattle.std.specs.Option.{option_or}
@@ -16,7 +16,7 @@ use Rattle.mp_tx.proofs.References.{ref_total, same-ties, tied-Decides}
 use Rattle.mp_utxo.specs.Apply.{own_ref, output_made}
 use Rattle.mp_block.specs.Block.{made_from, made_by}
 
--- ---- where all are free, none is taken
+-- ---- if all are free, none is taken
 
 free_at : (u : Utxo) (es : List (OutRef × Output)) (place : ℕ) (d : OutRef × Output) → AreFree u es → place < length es → is_some (get (with_outputs u (take place es)) (get_or es place d).0) ≡ false
 free_at u [] place d free lt = absurd (omega arith)
@@ -31,7 +31,7 @@ none_taken u es place free taken =
     let yes = taken.taken (r, o) in
     Prim.cc
 
--- ---- own references differ, so all are free where each is
+-- ---- own references are distinct, so all are free if each is
 
 apart : (t : Transaction) (j k : ℕ) → j ≢ k → eq_by_cmp ref_cmp (own_ref t j) (own_ref t k) ≡ false
 apart t j k differ =
@@ -57,9 +57,9 @@ made_free u t k (o ∷ os) new = (
 pub outputs_free : (u : Utxo) (t : Transaction) → ((k : ℕ) → k < length t.outputs → get u (own_ref t k) ≡ None) → AreFree u (made_by t)
 outputs_free u t new = made_free u t 0 t.outputs (λ j le lt. new j (omega arith))
 
--- ---- what stands under a reference then
+-- ---- the output of a reference afterwards
 
--- the output of this index, where those from k on are these
+-- the output with this index, if these are the outputs from k on
 found : ℕ → List Output → ℕ → Option Output
 found k [] i = None
 found k (o ∷ os) i = cond (i == k) (Some o) (found (k + 1) os i)

@@ -17,7 +17,7 @@ use Rattle.mp_tx.specs.Transaction.{spent_refs, spends}
 use Rattle.mp_tx.specs.Ledger.{Utxo, without, AreThere, IsFirstMissing}
 use Rattle.mp_tx.proofs.References.{ref_total, same-ties}
 
--- ---- where all are there, none is missing
+-- ---- if all are there, none is missing
 
 there_at : (u : Utxo) (rs : List OutRef) (place : ℕ) (d : OutRef) → AreThere u rs → place < length rs → is_some (get (without u (take place rs)) (get_or rs place d)) ≡ true
 there_at u [] place d there lt = absurd (omega arith)
@@ -31,14 +31,14 @@ none_missing u rs place there missing =
     let no = missing.missing d in
     Prim.cc
 
--- ---- what rises is there, also when those before are spent
+-- ---- strictly increasing references are there, also after those before them are spent
 
 is_less : (o : Ordering) → is_lt o ≡ true → o ≡ Less
 is_less Less e = refl
 is_less Equal e = Prim.cc
 is_less Greater e = Prim.cc
 
--- what rises behind a reference rises behind a lesser one
+-- references that are strictly increasing after a reference are so after a lesser one
 lower : (p r : OutRef) (rs : List OutRef) → ref_cmp p r ≡ Less → rises_after ref_cmp (Some r) rs ≡ true → rises_after ref_cmp (Some p) rs ≡ true
 lower p r [] less rise = refl
 lower p r (q ∷ qs) less rise =
@@ -48,7 +48,7 @@ from_first : (r : OutRef) (rs : List OutRef) → rises_after ref_cmp (Some r) rs
 from_first r [] rise = refl
 from_first r (q ∷ qs) rise = (and_parts _ _ rise).1
 
--- a greater reference is there when this one is spent
+-- a greater reference is still there after this one is spent
 stays : (u : Utxo) (r q : OutRef) → ref_cmp r q ≡ Less → IsSome (get u q) → IsSome (get (remove u r) q)
 stays u r q less there =
     ap is_some (get-remove ref_total u r q ∙ ap (λ o. cond (is_eq o) None (get u q)) (ref_total.antisymm q r ∙ ap ordering_reverse less)) ∙ there
@@ -67,13 +67,13 @@ pub inputs_there : (u : Utxo) (inputs : List Input) → rises ref_cmp (spent_ref
 inputs_there u inputs rise there =
     all_there u (spent_refs inputs) rise (recursion_from_All (λ r. IsSome (get u r)) (spent_refs inputs) (All-map (λ r. IsSome (get u r)) (λ (i : Input). i.from) inputs there))
 
--- ---- what is left
+-- ---- what remains
 
 neither : (b : Bool) → cond {A = Option Output} b None None ≡ None
 neither true = refl
 neither false = refl
 
--- what wasn't there isn't there when others are spent
+-- what wasn't there isn't there after others are spent
 pub not_back : (u : Utxo) (rs : List OutRef) (q : OutRef) → get u q ≡ None → get (without u rs) q ≡ None
 not_back u [] q none = none
 not_back u (r ∷ rs) q none =

@@ -7,7 +7,7 @@ use Rattle.mp_block.specs.declared.block_refusal.BlockRefusal.{BlockRefusal}
 use Rattle.mp_block.specs.declared.block_refusal.BlockRefusal.TheVariants.{NoMemory, BadBlockBytes, Invalid}
 use Rattle.mp_block.specs.Block.{apply_block}
 
--- Memory may be wanting for any block.
+-- an allocation failure is always possible
 abbrev pub IsBlockRefusal : Accepts → LedgerState → ℕ → ℕ → List Transaction → BlockRefusal → Type 0
 IsBlockRefusal accepts l tick block_bytes ts NoMemory = Unit {0}
 IsBlockRefusal accepts l tick block_bytes ts BadBlockBytes = ¬ HasBlockBytes block_bytes

@@ -6,7 +6,7 @@ use Rattle.mp_tx.specs.declared.output.Output.{Output}
 use Rattle.mp_tx.specs.Transaction.{Transaction, spent_refs}
 use Rattle.mp_utxo.specs.Apply.{own_ref}
 
--- the references of these outputs of the transaction, the first of which is its output k
+-- the references of these outputs of the transaction, from its output k on
 abbrev pub own_refs_from : Transaction → ℕ → List Output → List OutRef
 own_refs_from t k outputs = map (λ p. own_ref t p.0) (enumerate_from k outputs)
 

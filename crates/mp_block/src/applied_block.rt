@@ -1,8 +1,8 @@
-//! What a block comes to.
+//! The result of a block.
 
 use mp_tx::{Ledger, Undo};
 
-/// The ledger state after a block, with what leads from it back to the one before the block.
+/// The ledger state after a block, and the undo that leads back to the one before.
 #[derive(Drop)]
 pub struct AppliedBlock {
     pub ledger: Ledger,

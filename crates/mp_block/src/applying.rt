@@ -1,4 +1,4 @@
-//! One transaction upon a ledger state.
+//! One transaction on a ledger state.
 
 ghost use Rattle.std.specs.Prelude.{◌≡◌, ◌<◌, ℕ, All, None, IsSome, IfOk, IfErr, OnOk, length};
 ghost use Rattle.std.specs.FinMap.{get};
@@ -14,7 +14,7 @@ use mp_memory::{Memory, NoMemory};
 use mp_rules::{Verifier, check};
 use mp_tx::{BlockFault, Input, Ledger, OutRef, Output, Tx};
 
-/// The ledger state after this is spent and that is made, where it can be.
+/// The ledger state after `spent` is removed and `made` is added. Only bad block bytes or an allocation failure refuse it.
 pub fn follow(
     memory: Memory,
     ledger: &Ledger,
@@ -50,7 +50,7 @@ fn spent_refs(memory: Memory, inputs: &[Input]) -> Result<Vec<OutRef, Memory>, N
     Ok(spent)
 }
 
-// The outputs of the transaction under their references.
+// The outputs of the transaction, with their references.
 fn made_by(memory: Memory, tx: &Tx) -> Result<Vec<(OutRef, Output), Memory>, NoMemory>
     ensures { IfOk result (λ v. v.items ≡ made_by tx.now) }
 {
@@ -65,7 +65,7 @@ fn made_by(memory: Memory, tx: &Tx) -> Result<Vec<(OutRef, Output), Memory>, NoM
     Ok(made)
 }
 
-// The ledger state after the transaction, which finds what it spends, and of which nothing is there yet.
+// The ledger state after the transaction. Everything that it spends has to be there, and nothing that it makes.
 fn apply_tx(memory: Memory, ledger: &Ledger, tx: &Tx) -> Result<Ledger, NoMemory>
     requires there { All (λ i. IsSome (get ledger.now.utxo i.from)) tx.now.inputs }
     requires fresh { (k : ℕ) → k < length tx.now.outputs
@@ -88,7 +88,7 @@ fn apply_tx(memory: Memory, ledger: &Ledger, tx: &Tx) -> Result<Ledger, NoMemory
     }
 }
 
-/// The ledger state after the transaction, where it is valid upon this one.
+/// The ledger state after the transaction, if it is valid on this one.
 pub fn after_tx<V: Verifier>(
     memory: Memory,
     ledger: &Ledger,

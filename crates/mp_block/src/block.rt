@@ -18,7 +18,7 @@ use mp_rules::Verifier;
 use mp_tx::{Ledger, Tx, Undo};
 use std::sync::Arc;
 
-// The same outputs at the tick, with these block bytes. They are shared, and not copied.
+// The same outputs at the tick, with these block bytes. They are shared and not copied.
 fn at_tick(
     memory: Memory,
     ledger: &Ledger,
@@ -32,14 +32,15 @@ fn at_tick(
     follow(memory, ledger, tick, block_bytes, &[], Vec::new(memory))
 }
 
-/// The ledger state after a block of these transactions, which stands at the tick: each is checked by all rules upon the ledger
-/// state after those before it, and takes out what it spends and puts in what it makes. The block bytes are those that the block
-/// after it may have. The ledger state that it is applied to stays as it is, and what both have is shared. What leads back to it
-/// takes memory in proportion to the block.
+/// The ledger state after a block of these transactions, at the tick. All rules check each transaction on the ledger
+/// state after those before it. Then what it spends is removed, and what it makes is added. `block_bytes` is the
+/// greatest size of the next block, in bytes.
+/// The ledger state before the block doesn't change, and shares with the new one what both have. The undo takes memory
+/// in proportion to the block.
 ///
 /// # Errors
-/// `BadBlockBytes` where a block may have no bytes or more than 2^39. Else `Invalid` with the place of the first transaction that
-/// isn't valid, and the rule that it breaks. `NoMemory` may stand in place of each.
+/// `BadBlockBytes` if the block bytes are 0 or greater than 2^39. Else `Invalid` with the index of the first
+/// transaction that isn't valid, and the first rule that fails. `NoMemory` may be returned instead of any answer.
 pub fn apply_block<V: Verifier>(
     memory: Memory,
     ledger: &Ledger,

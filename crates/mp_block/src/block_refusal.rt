@@ -9,22 +9,22 @@ use mp_rules::Invalid;
 use std::alloc::AllocError;
 use thiserror::Error;
 
-/// Why a block is refused. `NoMemory` may stand in place of the others, of which `BadBlockBytes` is looked at first.
+/// Why a block is refused. `BadBlockBytes` is checked first. `NoMemory` may be returned instead of any answer.
 #[derive(Clone, Copy, Debug, PartialEq, Eq, Error)]
 pub enum BlockRefusal {
     #[error("no memory")]
     NoMemory,
-    /// A block may not have 0 bytes, nor more than 2^39.
+    /// The block bytes are 0, or greater than 2^39.
     #[error("the block bytes are not 1 to 549755813888")]
     BadBlockBytes,
-    /// The place of the first transaction, from 0, that isn't valid after those before it, and the rule that it breaks. It never
-    /// holds `Invalid::NoMemory`: want of memory is `NoMemory` above.
+    /// The index, from 0, of the first transaction that isn't valid after those before it, and the rule that fails. The
+    /// rule is never `Invalid::NoMemory`: an allocation failure is `NoMemory` above.
     #[error("transaction {0} is invalid: {1}")]
     Invalid(usize, Invalid),
 }
 
 impl BlockRefusal {
-    /// The refusal where this is the fault of the transaction at the place.
+    /// The refusal for this fault of the transaction at the index.
     pub(crate) fn at(place: usize, fault: Invalid) -> BlockRefusal
         ensures { result ≡ refusal_at place fault }
     {

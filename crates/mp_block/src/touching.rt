@@ -9,7 +9,7 @@ use mp_memory::{Memory, NoMemory};
 use mp_tx::{Input, OutRef, Tx};
 use std::sync::Arc;
 
-// Puts the references that the inputs spend last.
+// Appends the references that the inputs spend.
 fn push_spent(touched: &mut Vec<OutRef, Memory>, inputs: &[Input]) -> Result<(), NoMemory>
     ensures { OnOk result (touched.new.items ≡ touched.old.items ++ spent_refs inputs.now) }
 {
@@ -19,7 +19,7 @@ fn push_spent(touched: &mut Vec<OutRef, Memory>, inputs: &[Input]) -> Result<(),
     Ok(())
 }
 
-// Puts the references of the transaction's outputs last.
+// Appends the references of the transaction's outputs.
 fn push_own(touched: &mut Vec<OutRef, Memory>, tx: &Tx) -> Result<(), NoMemory>
     ensures { OnOk result (touched.new.items ≡ touched.old.items ++ own_refs tx.now) }
 {
@@ -33,7 +33,7 @@ fn push_own(touched: &mut Vec<OutRef, Memory>, tx: &Tx) -> Result<(), NoMemory>
     Ok(())
 }
 
-/// The references that the transactions spend and those of their outputs.
+/// The references that the transactions spend, and those of their outputs.
 pub fn touched_by_all(
     memory: Memory,
     txs: &[Arc<Tx, Memory>],

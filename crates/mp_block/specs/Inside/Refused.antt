@@ -10,18 +10,19 @@ use Rattle.mp_rules.specs.FirstFault.{first_fault}
 use Rattle.mp_block.specs.declared.block_refusal.BlockRefusal.{BlockRefusal}
 use Rattle.mp_block.specs.declared.block_refusal.BlockRefusal.TheVariants.{NoMemory, BadBlockBytes, Invalid}
 
--- a broken rule as a refusal; want of memory isn't one
+-- a rule that fails, as a refusal; an allocation failure isn't one
 abbrev pub refusal_at : ℕ → rule.Invalid → BlockRefusal
 refusal_at place rules.NoMemory = NoMemory
 refusal_at place fault = Invalid place fault
 
--- the refusal tells the place and the rule that the transaction breaks first; memory may be wanting for any
+-- the refusal has the index and the first rule that fails; an allocation failure is always possible
 abbrev pub IsInvalidAt : Accepts → LedgerState → Transaction → ℕ → BlockRefusal → Type 0
 IsInvalidAt accepts l t place NoMemory = Unit {0}
 IsInvalidAt accepts l t place BadBlockBytes = ⊥
 IsInvalidAt accepts l t place (Invalid at fault) = (at ≡ place) × (first_fault accepts (get l.utxo) l.tick t ≡ Some fault)
 
--- where all that is spent is there and all that is made is new, only the block bytes may be bad; memory may be wanting for any
+-- if everything that is spent is there and everything that is made is new, only the block bytes can be bad; an
+-- allocation failure is always possible
 abbrev pub HasBadBytes : ℕ → BlockRefusal → Type 0
 HasBadBytes block_bytes NoMemory = Unit {0}
 HasBadBytes block_bytes BadBlockBytes = ¬ HasBlockBytes block_bytes

@@ -3,7 +3,7 @@ use Rattle.std.specs.Arc.{arc_value}
 use Rattle.mp_block.specs.Block.{apply_from, apply_block}
 use Rattle.mp_block.proofs.block.apply_block.Given as goal
 
--- what comes of the transactions from the place on, upon the ledger state so far, is what comes of all
+-- the result of the transactions from the index on, on the ledger state so far, is the result of all
 abbrev pub invariant-loop-place : goal.invariant-loop-place
 invariant-loop-place g l =
     apply_from (g.V.Verifier.accepts l.verifier) l.place l.now (map arc_value (drop l.place l.txs))
