@@ -1,4 +1,4 @@
--- What is kept and dropped of a list with one item more.
+-- What is kept and dropped of a list with one more item.
 use Rattle.std.proofs.Common.{◌≡◌, ℕ, Bool, true, false, cond, List, [], ◌∷◌, ◌++◌, if◌then◌else◌, refl, ap, ◌∙◌}
 use Rattle.std.specs.List.{AllByRecursion}
 use Rattle.mp_tx.specs.Transaction.{Transaction}
@@ -11,7 +11,7 @@ cons_cond true x xs ys = refl
 cons_cond false x xs ys = refl
 
 module _ (accepts : Accepts) (tick : ℕ) where
-  -- whether the last one is valid after what was kept before it
+  -- whether the last item is valid after those that were kept before it
   abbrev is_last_valid : Unspent → List (ℕ × Transaction) → ℕ × Transaction → Bool
   is_last_valid u xs e = is_valid accepts (after u (transactions (keep_upon accepts u tick xs))) tick e.1
 
@@ -60,7 +60,7 @@ module _ (accepts : Accepts) (tick : ℕ) where
   all_dropped_step P true t xs ys p a b = a
   all_dropped_step P false t xs ys p a b = (p, b)
 
-  -- and what holds of all tickets, of those that are dropped
+  -- what holds of all tickets holds of those that are dropped
   pub all_dropped : (P : ℕ → Type 0) (u : Unspent) (xs : List (ℕ × Transaction)) → AllByRecursion (λ i. P i.0) xs → AllByRecursion P (dropped_upon accepts u tick xs)
   all_dropped P u [] a = tt
   all_dropped P u (i ∷ is) a = all_dropped_step P (is_valid accepts u tick i.1) i.0 (dropped_upon accepts (apply i.1 u) tick is) (dropped_upon accepts u tick is) a.0 (all_dropped P (apply i.1 u) is a.1) (all_dropped P u is a.1)

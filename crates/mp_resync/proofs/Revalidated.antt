@@ -1,4 +1,4 @@
--- What is kept of a list with one item more.
+-- What is kept of a list with one more item.
 use Rattle.std.proofs.Common.{◌≡◌, ℕ, ◌<◌, Bool, true, false, not, cond, List, [], ◌∷◌, ◌++◌, All, refl, sym, ap, subst, ◌∙◌}
 use Rattle.std.specs.FinMap.{get}
 use Rattle.std.proofs.lemmas.List.Elements.{All-from_recursion, recursion_from_All, All-map, All-filter, filter-append}
@@ -27,7 +27,7 @@ append-none : {X : Type 0} (xs : List X) → xs ++ [] ≡ xs
 append-none [] = refl
 append-none (x ∷ xs) = ap (λ l. x ∷ l) (append-none xs)
 
--- one item more among those that are named, or among the others
+-- one more item among those that are named, or among the others
 named-last : (ids : List (List ℕ)) (xs : Items) (i : ℕ × Transaction) (b : Bool) → is_named ids i.1 ≡ b → named ids (xs ++ i ∷ []) ≡ named ids xs ++ cond b (i ∷ []) []
 named-last ids xs i b h = filter-append (λ e. is_named ids e.1) xs (i ∷ []) ∙ ap (λ v. named ids xs ++ cond v (i ∷ []) []) h
 
@@ -99,7 +99,7 @@ module _ (accepts : Accepts) (ledger : LedgerState) (ids : List (List ℕ)) wher
   pub one_more : (b : Bool) (xs : Items) (i : ℕ × Transaction) (old new : Kept) → b ≡ is_named ids i.1 → IsKeptOf accepts ledger xs ids old → Handles accepts b old i new → IsKeptOf accepts ledger (xs ++ i ∷ []) ids new
   one_more b xs i old new is k h = handled b xs i old new (sym is) k h
 
-  -- where all items are below a ticket, all tickets that came of them are
+  -- if all items are below a ticket, so are all tickets that come from them
   pub below : (xs : Items) (ticket : ℕ) (k : Kept) → All (λ i. i.0 < ticket) xs → IsKeptOf accepts ledger xs ids k → AreBelow ticket k
   below xs ticket k a kept =
       let others : All (λ i. i.0 < ticket) (unnamed ids xs) = All-filter (λ i. not (is_named ids i.1)) (λ i. i.0 < ticket) xs a in

@@ -1,4 +1,4 @@
--- One item more is told apart.
+-- One more item is divided.
 use Rattle.std.proofs.Common.{◌≡◌, ℕ, ◌<◌, ⊎_elim, Bool, true, false, cond, List, [], ◌∷◌, ◌++◌, get_or, refl, sym, ap, subst, ◌∙◌}
 use Rattle.std.specs.Prelude.{Option, None, Some, is_some, is_none, not, ◌&&◌, ◌||◌, All}
 use Rattle.std.specs.List.{filter, list_any}
@@ -24,7 +24,7 @@ there_once : (o : Option Output) → (is_some o && is_none o) ≡ false
 there_once None = refl
 there_once (Some x) = refl
 
--- the same isn't there upon the one and gone upon the other
+-- the same output isn't there on one and gone on the other
 same_there : (a b : Option Output) → a ≡ b → (is_some a && is_none b) ≡ false
 same_there a b e = ap (λ o. is_some o && is_none b) e ∙ there_once b
 
@@ -46,7 +46,7 @@ module _ (old : LedgerState) (ts : List Transaction) (new : LedgerState) where
   tickets-joined [] ys = refl
   tickets-joined (x ∷ xs) ys = ap (λ l. x.0 ∷ l) (tickets-joined xs ys)
 
-  -- the tickets of those that pass a test, with one item more
+  -- the tickets of those that pass a test, with one more item
   passed : (test : ℕ × Transaction → Bool) (xs : Items) (i : ℕ × Transaction) (b : Bool) → test i ≡ b → tickets (filter test (xs ++ i ∷ [])) ≡ tickets (filter test xs) ++ cond b (i.0 ∷ []) []
   passed test xs i b h = ap tickets (filter-append test xs (i ∷ [])) ∙ tickets-joined (filter test xs) (filter test (i ∷ [])) ∙ ap (λ l. tickets (filter test xs) ++ l) (one test i b h)
     where
@@ -75,7 +75,7 @@ module _ (old : LedgerState) (ts : List Transaction) (new : LedgerState) where
   pub one_more : (xs : Items) (i : ℕ × Transaction) (was now : Parted) → IsParted old ts new xs was → Parts old ts new was i now → IsParted old ts new (xs ++ i ∷ []) now
   one_more xs i was now is parts = ⊎_elim (one_stays xs i was now is) (one_goes xs i was now is) parts
 
-  -- where all items are below a ticket, all tickets that came of them are
+  -- if all items are below a ticket, so are all tickets that come from them
   pub below : (xs : Items) (ticket : ℕ) (p : Parted) → All (λ i. i.0 < ticket) xs → IsParted old ts new xs p → AreBelow ticket p
   below xs ticket p a is = record {
     kept = subst (All (λ t. t < ticket)) (sym is.kept) (All-map (λ t. t < ticket) (λ i. i.0) (filter stays xs) (All-filter stays (λ i. i.0 < ticket) xs a));

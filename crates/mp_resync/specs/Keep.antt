@@ -1,4 +1,4 @@
--- Keeping what is still valid.
+-- Keeping the transactions that are still valid.
 use Rattle.std.specs.Prelude.{ℕ, nat_eq, Bool, not, List, [], ◌∷◌, map, sum_by, is_none, if◌then◌else◌}
 use Rattle.std.specs.List.{filter, list_any}
 use Rattle.std.specs.Cmp.Lexicographic.{pointwise}
@@ -16,7 +16,7 @@ transactions items = map (λ i. i.1) items
 abbrev pub tickets : List (ℕ × Transaction) → List ℕ
 tickets items = map (λ i. i.0) items
 
--- the bytes of all of them together
+-- the total number of their bytes
 abbrev pub bytes_of : List (ℕ × Transaction) → ℕ
 bytes_of items = sum_by size_of (transactions items)
 
@@ -28,13 +28,13 @@ is_named ids t = list_any (λ id. pointwise nat_eq (id_of t) id) ids
 abbrev pub named : List (List ℕ) → List (ℕ × Transaction) → List (ℕ × Transaction)
 named ids items = filter (λ i. is_named ids i.1) items
 
--- and those with others
+-- the items with other ids
 abbrev pub unnamed : List (List ℕ) → List (ℕ × Transaction) → List (ℕ × Transaction)
 unnamed ids items = filter (λ i. not (is_named ids i.1)) items
 
 -- The verifier decides which signatures are good.
 module _ (accepts : Accepts) where
-  -- whether it breaks no rule
+  -- whether all rules hold
   abbrev pub is_valid : Unspent → ℕ → Transaction → Bool
   is_valid u tick t = is_none (first_fault accepts u tick t)
 
@@ -50,7 +50,7 @@ module _ (accepts : Accepts) where
   dropped_upon u tick (i ∷ is) =
       if is_valid u tick i.1 then dropped_upon (apply i.1 u) tick is else i.0 ∷ dropped_upon u tick is
 
-  -- upon a ledger state
+  -- on a ledger state
   abbrev pub keep : LedgerState → List (ℕ × Transaction) → List (ℕ × Transaction)
   keep ledger items = keep_upon (get ledger.utxo) ledger.tick items
 

@@ -1,4 +1,4 @@
--- What stays of items upon a ledger state.
+-- Which items stay on a ledger state.
 use Rattle.std.specs.Prelude.{◌≡◌, ℕ, List}
 use Rattle.mp_tx.specs.Transaction.{Transaction}
 use Rattle.mp_tx.specs.Ledger.{LedgerState}
@@ -6,7 +6,7 @@ use Rattle.mp_rules.specs.Verifier.{Accepts}
 use Rattle.mp_resync.specs.declared.kept.Kept.{Kept}
 use Rattle.mp_resync.specs.Keep.{transactions, tickets, named, unnamed, keep, dropped}
 
--- those with these ids are taken out, and of the others what is valid is kept
+-- those with these ids are taken out; of the others, the valid ones are kept
 pub record IsKeptOf (accepts : Accepts) (ledger : LedgerState) (items : List (ℕ × Transaction)) (ids : List (List ℕ)) (k : Kept)
     : Type 0 where
   pub base : k.overlay.ledger ≡ ledger

@@ -1,4 +1,4 @@
--- What becomes of items upon another ledger state, as far as what they name tells it by itself.
+-- Which items stay on another ledger state, as far as the outputs that they name decide it.
 use Rattle.std.specs.Prelude.{◌≡◌, ℕ, nat_le, Bool, true, false, ◌&&◌, ◌||◌, not, List, All, None, is_some, is_none, IsTrue}
 use Rattle.std.specs.List.{filter, list_any}
 use Rattle.std.specs.FinMap.{get}
@@ -15,23 +15,24 @@ use Rattle.mp_resync.specs.Keep.{tickets}
 abbrev pub is_timely : ℕ → Transaction → Bool
 is_timely tick t = nat_le t.from tick && nat_le tick t.to
 
--- whether the reference leads to an output upon the old map, and to none upon the new one
+-- whether the reference leads to an output in the old map and to none in the new one
 abbrev pub is_spent_since : Unspent → Unspent → OutRef → Bool
 is_spent_since old new r = is_some (old r) && is_none (new r)
 
--- whether its interval hasn't the new tick, or an output that it spends was spent since
+-- whether its interval doesn't have the new tick, or an output that it spends has been spent since
 abbrev pub is_lost : LedgerState → LedgerState → Transaction → Bool
 is_lost old new t =
     not (is_timely new.tick t) || list_any (λ i. is_spent_since (get old.utxo) (get new.utxo) i.from) t.inputs
 
--- its interval has the new tick, what it names leads to the same upon both, and none of its own outputs is in the new one
+-- its interval has the new tick, what it names leads to the same outputs in both, and none of its own outputs is in the
+-- new one
 pub record IsUntouched (old new : LedgerState) (t : Transaction) : Type 0 where
   pub timely : IsTrue (is_timely new.tick t)
   pub inputs : All (λ i. get old.utxo i.from ≡ get new.utxo i.from) t.inputs
   pub references : All (λ r. get old.utxo r ≡ get new.utxo r) t.references
   pub fresh : output_taken (get new.utxo) t ≡ None
 
--- Those that are lost, on which none of the transactions upon the old one hangs, are told apart from the others, which are untouched.
+-- The lost items have no dependents among the transactions on the old ledger state, and the others are untouched.
 pub record IsParted (old : LedgerState) (ts : List Transaction) (new : LedgerState) (items : List (ℕ × Transaction)) (p : Parted)
     : Type 0 where
   pub kept : p.kept ≡ tickets (filter (λ i. not (is_lost old new i.1)) items)

@@ -1,4 +1,4 @@
--- What stands in a pool under a ticket.
+-- What a pool stores for a ticket.
 use Rattle.std.specs.Prelude.{ℕ, List, map}
 use Rattle.mp_tx.specs.Transaction.{Transaction}
 use Rattle.mp_rules.specs.Resolved.{Resolved}
@@ -7,10 +7,10 @@ use Rattle.mp_rules.specs.Checked.{IsSigned, WasValid}
 
 pub record ValidatedTx : Type 0 where
   pub tx : Transaction
-  -- outputs that it named when it was found valid
+  -- the outputs that it named when it was found valid
   pub resolved : Resolved
 
--- what needn't be looked at again: its signatures, and nearly all rules as long as it names these outputs
+-- what needn't be checked again: its signatures, and nearly all rules while it names these outputs
 pub record IsVouched (accepts : Accepts) (v : ValidatedTx) : Type 0 where
   pub signed : IsSigned accepts v.tx
   pub valid : WasValid v.tx v.resolved

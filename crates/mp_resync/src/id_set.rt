@@ -1,4 +1,4 @@
-//! The ids of what is to be taken out.
+//! The ids of the transactions to take out.
 
 ghost use Rattle.std.specs.Prelude.{◌≡◌, IfOk, OnOk, is_some};
 ghost use Rattle.std.specs.Map.{lookup};
@@ -12,10 +12,10 @@ use mp_memory::{Memory, NoMemory};
 use mp_tx::{Salt, TxId};
 use mp_utxo::{ById, key_of};
 
-/// Ids in a table, so that none is looked for by a walk over them.
+/// Ids in a table, so that a look-up doesn't search the list.
 pub type IdSet = ById<()>;
 
-// Puts the id in.
+// Adds the id.
 fn note(names: &mut IdSet, id: &TxId) -> Result<(), NoMemory>
     ensures notes { OnOk result (Notes names.old.entries id.now names.new.entries) }
     ensures salt { hasher_of names.new ≡ hasher_of names.old }

@@ -1,17 +1,17 @@
-//! What stays of items.
+//! Which items stay.
 
 use mp_tickets::Tickets;
 use mp_utxo::Overlay;
 
-/// What stays of items, and what doesn't.
+/// Which items stay, and which don't.
 #[derive(Drop)]
 pub struct Kept {
-    /// The ledger state with all that was kept applied upon it, in order.
+    /// The ledger state with all items applied that were kept, in order.
     pub overlay: Overlay,
-    /// The tickets of what was kept.
+    /// The tickets of the items that were kept.
     pub kept: Tickets,
-    /// The tickets of what was taken out by its id.
+    /// The tickets of the items that were taken out by id.
     pub named: Tickets,
-    /// The tickets of the others: they aren't valid any more.
+    /// The tickets of the other items, which are no longer valid.
     pub dropped: Tickets,
 }

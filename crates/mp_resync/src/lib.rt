@@ -1,4 +1,4 @@
-//! What of a pool stays valid: when transactions are taken out by their ids, or upon another ledger state.
+//! Which transactions of a pool stay valid after some are taken out by id, or on another ledger state.
 #![tactic(auto)]
 
 mod id_set;

@@ -1,4 +1,4 @@
-//! What becomes of items upon another ledger state, where what they name tells it by itself.
+//! Which items stay on another ledger state, as far as the outputs that they name decide it.
 
 ghost use Rattle.std.specs.Prelude.{◌≡◌, ◌<◌, [], All, IfSome, IfOk, IsTrue};
 ghost use Rattle.std.specs.List.{list_any};
@@ -14,12 +14,12 @@ use mp_tickets::{TicketList, Tickets};
 use mp_tx::{Input, Ledger, OutRef, Tx};
 use mp_utxo::Overlay;
 
-/// Items that were told apart.
+/// Items, divided into those that stay and those that don't.
 #[derive(Drop)]
 pub struct Parted {
-    /// The tickets of those that stay as they are.
+    /// The tickets of the items that stay as they are.
     pub kept: Tickets,
-    /// The tickets of those that can't.
+    /// The tickets of the items that can't stay.
     pub dropped: Tickets,
 }
 
@@ -29,7 +29,7 @@ fn is_timely(tx: &Tx, tick: u64) -> bool
     tx.from() <= tick && tick <= tx.to()
 }
 
-// Whether the reference leads to the same upon both.
+// Whether the reference leads to the same output on both.
 fn leads_alike(old: &Ledger, new: &Ledger, reference: &OutRef) -> bool
     ensures { IsTrue result → get old.now.utxo reference.now ≡ get new.now.utxo reference.now }
 {
@@ -65,7 +65,7 @@ fn is_untouched(old: &Ledger, new: &Ledger, tx: &Tx) -> bool
         && output_taken(tx, new).is_none()
 }
 
-// Whether the reference leads to an output upon the old one alone.
+// Whether the reference leads to an output on the old ledger state only.
 fn is_spent_since(old: &Ledger, new: &Ledger, reference: &OutRef) -> bool
     ensures { result ≡ is_spent_since (get old.now.utxo) (get new.now.utxo) reference.now }
 {
@@ -95,7 +95,8 @@ fn nothing_parted(memory: Memory) -> Parted
     }
 }
 
-// Tells one item more apart, unless what it names doesn't tell what becomes of it, another hangs on it, or so many are lost already.
+// Adds one more item to the right list, and returns true. Returns false, and adds nothing, if the outputs that the item names
+// don't decide it, if it can't stay but has dependents, or if `most` items are lost already.
 fn part_one(
     overlay: &Overlay,
     new: &Ledger,
@@ -121,13 +122,12 @@ fn part_one(
     Ok(false)
 }
 
-/// Tells the overlay's items apart: those that stay as they are upon the new ledger state, and those that can't stay and on which
-/// no other hangs. Of an item that stays, what it names leads to the same upon both ledger states; of one that can't, the interval
-/// hasn't the new tick, or an output that it spends was spent since. No overlay is made, and no rule is looked at but the tick and
-/// its own outputs. Where an item isn't told so, or more than `most` can't stay, it gives `None`.
-///
-/// # Errors
-/// `NoMemory`.
+/// Divides the overlay's items into those that stay as they are on the new ledger state, and those that can't stay and
+/// have no dependents.
+/// An item stays if what it names leads to the same outputs on both ledger states. It can't stay if its interval
+/// doesn't have the new tick, or if an output that it spends has been spent since. No overlay is built, and the only
+/// rules that are checked are the tick and the item's own outputs.
+/// Returns `None` if this doesn't decide an item, or if more than `most` items can't stay.
 pub fn part(
     memory: Memory,
     overlay: &Overlay,

@@ -1,4 +1,4 @@
-//! Looking at all items anew.
+//! Checking all items again.
 
 ghost use Rattle.std.specs.Prelude.{◌≡◌, ◌<◌, ℕ, List, [], All, IfOk, OnOk, is_some};
 ghost use Rattle.std.specs.Map.{lookup};
@@ -21,7 +21,7 @@ use mp_tx::{Ledger, TxId};
 use mp_utxo::Overlay;
 use std::sync::Arc;
 
-// Nothing yet, upon the ledger state.
+// The ledger state without items.
 fn nothing_kept(memory: Memory, ledger: &Ledger) -> Result<Kept, NoMemory>
     ensures { (accepts : Accepts) (ids : List (List ℕ)) → IfOk result
         (IsKeptOf accepts ledger.now [] ids) }
@@ -45,7 +45,7 @@ fn keep(kept: &mut Kept, ticket: u64, item: &ValidatedTx) -> Result<(), NoMemory
     kept.kept.push(ticket)
 }
 
-// Keeps the item where it is valid after those that were kept, and drops it where it isn't.
+// Keeps the item if it is valid after those that were kept, and else drops it.
 fn judge<V: Verifier>(
     memory: Memory,
     kept: &mut Kept,
@@ -67,7 +67,7 @@ fn judge<V: Verifier>(
     }
 }
 
-// Passes over the item where its id is one of the names, and else judges it.
+// Takes the item out if its id is one of the names, and else judges it.
 fn handle<V: Verifier>(
     memory: Memory,
     names: &IdSet,
@@ -90,14 +90,11 @@ fn handle<V: Verifier>(
     }
 }
 
-/// Passes over the items whose id is one of `without`, and keeps of the others, in order, exactly each that is valid on the
-/// ledger state after those kept before it. The items stay as they are.
+/// Takes out the items whose ids are in `without`. Of the others, it keeps in order exactly those that are valid on the
+/// ledger state after the items kept before them. The items themselves don't change.
 ///
-/// No signature is looked at again. Of an item that names the outputs that it named when it was last found valid only the tick
-/// and its own outputs are looked at.
-///
-/// # Errors
-/// `NoMemory`.
+/// No signature is checked again. If an item names the same outputs as when it was last found valid, only the tick and
+/// its own outputs are checked.
 pub fn revalidate<V: Verifier>(
     memory: Memory,
     ledger: &Ledger,

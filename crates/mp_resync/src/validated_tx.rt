@@ -1,4 +1,4 @@
-//! What stands in a pool under a ticket.
+//! What a pool stores for a ticket.
 
 use mp_memory::Memory;
 use mp_rules::Resolved;

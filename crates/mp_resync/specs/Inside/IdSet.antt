@@ -1,4 +1,4 @@
--- The table of the ids that are to be taken out.
+-- The table of the ids to take out.
 use Rattle.std.specs.Prelude.{◌≡◌, ℕ, nat_eq, List, Some, is_some, if◌then◌else◌}
 use Rattle.std.specs.List.{list_any}
 use Rattle.std.specs.Cmp.Lexicographic.{pointwise}
@@ -10,12 +10,12 @@ use Rattle.mp_utxo.specs.ById.{key_of}
 abbrev pub Table : Type 0
 Table = List (OutRef × Unit {0})
 
--- an id stands in the table where it is one of these
+-- the table has an id exactly when it is one of these
 abbrev pub AreNamed : List (List ℕ) → Table → Type 0
 AreNamed ids named =
     (id : List ℕ) → is_some (lookup (same_ref (key_of id)) named) ≡ list_any (λ n. pointwise nat_eq id n) ids
 
--- one id more stands in it
+-- the table has one more id
 abbrev pub Notes : Table → List ℕ → Table → Type 0
 Notes old id new =
     (r : OutRef) → lookup (same_ref r) new ≡ (if same_ref (key_of id) r then Some tt else lookup (same_ref r) old)

@@ -12,7 +12,7 @@ pub record AreBelow (ticket : ℕ) (k : Kept) : Type 0 where
   pub named : All (λ t. t < ticket) k.named
   pub dropped : All (λ t. t < ticket) k.dropped
 
--- the item is applied, and its ticket stands last among those that are kept
+-- the item is applied, and its ticket is the last of the kept ones
 pub record Keeps (old : Kept) (i : ℕ × Transaction) (new : Kept) : Type 0 where
   pub base : new.overlay.ledger ≡ old.overlay.ledger
   pub applied : new.overlay.applied ≡ old.overlay.applied ++ i.1 ∷ []
@@ -22,21 +22,21 @@ pub record Keeps (old : Kept) (i : ℕ × Transaction) (new : Kept) : Type 0 whe
   pub named : new.named ≡ old.named
   pub dropped : new.dropped ≡ old.dropped
 
--- its ticket stands last among those that are dropped
+-- its ticket is the last of the dropped ones
 pub record Drops (old : Kept) (i : ℕ × Transaction) (new : Kept) : Type 0 where
   pub overlay : new.overlay ≡ old.overlay
   pub kept : new.kept ≡ old.kept
   pub named : new.named ≡ old.named
   pub dropped : new.dropped ≡ old.dropped ++ i.0 ∷ []
 
--- its ticket stands last among those that were taken out
+-- its ticket is the last of those that were taken out
 pub record Passes (old : Kept) (i : ℕ × Transaction) (new : Kept) : Type 0 where
   pub overlay : new.overlay ≡ old.overlay
   pub kept : new.kept ≡ old.kept
   pub named : new.named ≡ old.named ++ i.0 ∷ []
   pub dropped : new.dropped ≡ old.dropped
 
--- it is kept where it is valid, and else dropped
+-- it is kept if it is valid, and else dropped
 abbrev pub KeepsOrDrops : Bool → Kept → ℕ × Transaction → Kept → Type 0
 KeepsOrDrops true old i new = Keeps old i new
 KeepsOrDrops false old i new = Drops old i new
@@ -48,7 +48,7 @@ is_valid_upon accepts k t = is_valid accepts (unspent k.overlay) k.overlay.ledge
 abbrev pub Judges : Accepts → Kept → ℕ × Transaction → Kept → Type 0
 Judges accepts old i new = KeepsOrDrops (is_valid_upon accepts old i.1) old i new
 
--- it is passed over where it is named, and else judged
+-- it is taken out if it is named, and else judged
 abbrev pub Handles : Accepts → Bool → Kept → ℕ × Transaction → Kept → Type 0
 Handles accepts true old i new = Passes old i new
 Handles accepts false old i new = Judges accepts old i new

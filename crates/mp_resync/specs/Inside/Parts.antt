@@ -1,4 +1,4 @@
--- How one item more is told apart.
+-- How one more item is added to the right list.
 use Rattle.std.specs.Prelude.{◌≡◌, ◌⊎◌, ℕ, ◌<◌, true, List, [], ◌∷◌, ◌++◌, All}
 use Rattle.std.specs.FinMap.{get}
 use Rattle.mp_tx.specs.Transaction.{Transaction}
@@ -12,13 +12,13 @@ pub record AreBelow (ticket : ℕ) (p : Parted) : Type 0 where
   pub kept : All (λ t. t < ticket) p.kept
   pub dropped : All (λ t. t < ticket) p.dropped
 
--- its ticket stands last among those of the untouched
+-- its ticket is the last of those that stay
 pub record Stays (old new : LedgerState) (was : Parted) (i : ℕ × Transaction) (now : Parted) : Type 0 where
   pub untouched : IsUntouched old new i.1
   pub kept : now.kept ≡ was.kept ++ i.0 ∷ []
   pub dropped : now.dropped ≡ was.dropped
 
--- its ticket stands last among those of the lost, and none of the transactions hangs on it
+-- its ticket is the last of the lost ones, and none of the transactions depends on it
 pub record Goes (old : LedgerState) (ts : List Transaction) (new : LedgerState) (was : Parted) (i : ℕ × Transaction) (now : Parted)
     : Type 0 where
   pub lost : is_lost old new i.1 ≡ true

@@ -1,4 +1,4 @@
--- A validated transaction without the share that its transaction is held by.
+-- A validated transaction without the share of its transaction.
 use Rattle.std.specs.Arc.{arc_value}
 use Rattle.mp_resync.specs.declared.validated_tx.ValidatedTx.TheInside.{Inside}
 use Rattle.mp_resync.specs.ValidatedTx.{ValidatedTx}

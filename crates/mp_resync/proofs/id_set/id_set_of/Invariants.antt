@@ -3,7 +3,7 @@ use Rattle.indexmap.specs.IndexMap.{hasher_of}
 use Rattle.mp_resync.specs.Inside.IdSet.{AreNamed}
 use Rattle.mp_resync.proofs.id_set.id_set_of.Given as goal
 
--- the ids before the index stand in the table, which has the salt
+-- the table has the ids before the index, and the salt
 abbrev pub invariant-loop-id : goal.invariant-loop-id
 invariant-loop-id l = record {
   named : AreNamed (take l.id-index l.ids) l.names.entries;

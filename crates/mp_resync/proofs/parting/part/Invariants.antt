@@ -4,7 +4,7 @@ use Rattle.mp_resync.specs.ValidatedTx.{ticketed}
 use Rattle.mp_resync.specs.Parted.{IsParted}
 use Rattle.mp_resync.proofs.parting.part.Given as goal
 
--- the items so far are told apart
+-- the items so far are divided
 abbrev pub invariant-loop-ticket : goal.invariant-loop-ticket
 invariant-loop-ticket l =
     goal.iterator-loop-ticket.can_next l.ticket-iterator
