@@ -1,4 +1,4 @@
--- The values of a store lie apart, so a pointer leads to one value.
+-- The values of a store have distinct addresses, so a pointer leads to one value.
 use Rattle.std.proofs.Common.{◌≡◌, true, false, cond, List, [], ◌∷◌, ◌++◌, refl, sym, ◌∙◌, subst, append-nil}
 use Rattle.std.specs.List.{AllByRecursion}
 use Rattle.std.proofs.lemmas.List.{map-append}
@@ -38,7 +38,7 @@ module _ {N : Type 0} where
       map-append (λ (k : Cell N). cell k.at (cond (same_ptr k.at c.at) w k.value)) xs (c ∷ ys)
       ∙ (λ i. elsewhere c.at w xs (all_left P xs ys others) i ++ cell c.at (cond (same_ptr_refl c.at i) w c.value) ∷ elsewhere c.at w ys (all_right P xs ys others) i)
 
-  -- a change of the value at p is a change of the one cell there
+  -- changing the value at p changes the one cell there
   pub changed : (cs : List (Cell N)) (p : Ptr) (change : N → N) (v : N) → IsApart (ptrs cs) → AtCell cs p (λ _ c _. v ≡ c.value)
       → AtCell cs p (λ xs c ys. set_value p (change v) cs ≡ xs ++ cell c.at (change c.value) ∷ ys)
   changed cs p change v d told xs c ys cut at =

@@ -1,4 +1,4 @@
--- A store may cross threads as its values may.
+-- A store may be sent between threads if its values may.
 use Rattle.std.specs.Prelude.{List, [], ◌∷◌}
 use mir.Raw.{raw}
 use base.Shift.{Keyless}

@@ -19,11 +19,11 @@ all_higher : {T : Type 0} (low m : ℕ) (ys : List (ℕ × T)) → low < m → A
 all_higher low m [] h all = tt
 all_higher low m (y ∷ ys) h all = let k = all.0 in (omega arith, all_higher low m ys h all.1)
 
--- the nodes from after on have greater tickets, and at is the last of the others
+-- the nodes from `after` on have greater tickets, and `at` is the last of the others
 abbrev pub Follows : {T : Type 0} → ℕ → List (StoredNode T) → Option NodePtr → Option NodePtr → Type 0
 Follows {T} ticket cs next at = (us : List (StoredNode T)) × (vs : List (StoredNode T)) × (cs ≡ us ++ vs) × (at ≡ last_of None (prevs us)) × (next ≡ first_of (nexts vs) None) × AllByRecursion (λ (e : ℕ × T). ticket < e.0) (pairs vs)
 
--- no node has a ticket above near and up to the ticket
+-- no node has a ticket greater than near and at most the given one
 pub record IsNear {T : Type 0} (near ticket : ℕ) (cs : List (StoredNode T)) : Type 0 where
   pub below : near ≤ ticket
   pub none : AllByRecursion (λ (c : StoredNode T). near < c.value.ticket → ticket < c.value.ticket) cs
@@ -47,11 +47,11 @@ module _ {T : Type 0} (ticket : ℕ) where
     one_less near less cs one none.1 all.1,
   )
 
-  -- the ticket that is near isn't there
+  -- no node has the ticket near
   pub near_less : (near less : ℕ) (cs : List (StoredNode T)) → less ≤ near → near ≤ less + 1 → HasNone near cs → IsNear near ticket cs → IsNear less ticket cs
   near_less near less cs low one none n = let h = n.below in record { below = omega arith; none = one_less near less cs one none n.none }
 
-  -- nodes with greater tickets than near have greater ones than the ticket
+  -- nodes with tickets greater than near have tickets greater than the given one
   greater : (near : ℕ) (cs : List (StoredNode T)) → AllByRecursion (λ (c : StoredNode T). near < c.value.ticket → ticket < c.value.ticket) cs
       → AllByRecursion (λ (e : ℕ × T). near < e.0) (pairs cs) → AllByRecursion (λ (e : ℕ × T). ticket < e.0) (pairs cs)
   greater near [] all high = tt
@@ -62,7 +62,7 @@ module _ {T : Type 0} (ticket : ℕ) where
   right near [] ys all = all
   right near (x ∷ xs) ys all = right near xs ys all.1
 
-  -- what comes behind a node that is near
+  -- the node after the one with the ticket near
   pub after_near : (near m : ℕ) (cs : List (StoredNode T)) (f : Found) (next : Option NodePtr) → Forward (nexts cs) None → IsRising (pairs cs) → IsNear near ticket cs → (found : IsFound m near cs f)
       → next ≡ found.1.value.next → IsFirstAfter ticket cs next
   after_near near m cs f next forward rising n found is =
@@ -83,7 +83,7 @@ module _ {T : Type 0} (ticket : ℕ) where
             ∙ (λ i. after-none ticket (pairs xs ++ e ∷ []) upto i ++ after-all ticket (pairs ys) above i)),
       )
 
-  -- all come after it where the first one does
+  -- all come after it if the first one does
   pub after_front : (cs : List (StoredNode T)) (p : NodePtr) (v : Link T) → Some p ≡ first_of (nexts cs) None → AtCell cs p.at (λ _ c _. v ≡ c.value) → IsRising (pairs cs) → ticket < v.ticket → IsFirstAfter ticket cs (Some p)
   after_front cs p v leads told rising low =
       let h = head_at cs p (sym leads) in
@@ -94,7 +94,7 @@ module _ {T : Type 0} (ticket : ℕ) where
       let rest = rising_after 0 [] e (pairs h.1) rises in
       ([], cs, refl, leads, sym (ap (λ l. after l ticket) (ap pairs h.2) ∙ after-all ticket (e ∷ pairs h.1) (under, all_higher ticket e.0 (pairs h.1) under rest) ∙ sym (ap pairs h.2)))
 
-  -- nothing comes after it in a list of nothing
+  -- in an empty list, nothing comes after it
   pub after_nothing : (cs : List (StoredNode T)) → None ≡ first_of (nexts cs) None → IsFirstAfter ticket cs None
   after_nothing cs leads = let none = no_head cs (sym leads) in ([], cs, refl, leads, subst (λ l. pairs l ≡ after (pairs l) ticket) (sym none) refl)
 

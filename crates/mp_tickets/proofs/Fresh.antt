@@ -1,4 +1,4 @@
--- A value that comes into a store lies apart from those that are there. Assumes `Logic`.
+-- A value that is inserted into a store has a new address. Assumes `Logic`.
 use mathlib.Core.Path.{◌≡◌, refl, subst}
 use mathlib.Core.Bool.{true, false}
 use Prim.Native.Nat.{◌<◌}

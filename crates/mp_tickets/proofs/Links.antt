@@ -1,4 +1,4 @@
--- A list of nodes cut in two, whose chains are joined again with other links.
+-- A list of nodes that is split in two, and whose links are joined again.
 use Rattle.std.proofs.Common.{◌≡◌, ℕ, ◌%◌, ◌==◌, Bool, true, false, cond, List, [], ◌∷◌, ◌++◌, Option, Some, None, ◌⊎◌, inl, inr, refl, sym, ap, ◌∙◌, subst, append_assoc}
 use Rattle.std.proofs.lemmas.Bool.{eqb-true, eqb-false, ne_eqb}
 use Rattle.std.proofs.lemmas.List.{map-append}
@@ -101,7 +101,7 @@ module _ {T : Type 0} where
     pub set_some : (p : NodePtr) → at ≡ Some p → (new_end ≡ end) × Relinks (change to) cs p new_cs
     set_some p e = subst (λ (a : Option NodePtr). SetsOne change a to end new_end cs new_cs) e sets
 
-  -- what `set_next` leaves of a list cut where the new link leads to
+  -- what `set_next` leaves of a list that is split at the target of the new link
   pub record NextSet (xs ys new : List (StoredNode T)) (front next : Option NodePtr) : Type 0 where
     pub xs1 : List (StoredNode T)
     pub cut : new ≡ xs1 ++ ys

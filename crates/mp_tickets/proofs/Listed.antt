@@ -1,4 +1,4 @@
--- What the calls of a list do to its tickets and items.
+-- The effect of a list's calls on its tickets and items.
 use Rattle.std.proofs.Common.{◌≡◌, ℕ, zero, suc, ◌+◌, ◌-◌, ◌<◌, ◌≤◌, Bool, false, cond, List, [], ◌∷◌, ◌++◌, length, slice_get, Option, Some, None, inl, inr, refl, sym, ap, ◌∙◌, subst, append_assoc, length-append, arith}
 use Rattle.std.specs.List.{All, AllByRecursion}
 use Rattle.std.proofs.lemmas.List.{length-map}
@@ -134,7 +134,7 @@ module _ {T : Type 0} where
   from_fresh [] c ys f = ap (λ (b : Bool). cond b (c ∷ ys) (nodes_from (Some (ptr_of c)) ys)) (same_ptr_refl c.at)
   from_fresh (x ∷ xs) c ys f = ap (λ (b : Bool). cond b (x ∷ (xs ++ c ∷ ys)) (nodes_from (Some (ptr_of c)) (xs ++ c ∷ ys))) f.0 ∙ from_fresh xs c ys f.1
 
-  -- what a chain leads to is what is left
+  -- the nodes to which a list leads are the remaining ones
   pub from_there : (cs xs ys : List (StoredNode T)) (at : Option NodePtr) → IsApart (ptrs cs) → cs ≡ xs ++ ys → at ≡ first_of (nexts ys) None → nodes_from at cs ≡ ys
   from_there cs xs [] at d parts leads = ap (λ a. nodes_from a cs) leads
   from_there cs xs (c ∷ ys) at d parts leads =

@@ -5,7 +5,7 @@ use Rattle.mp_tickets.specs.declared.chain.Chain.{Chain}
 use Rattle.mp_tickets.specs.Inside.Links.{first_of, Forward, StoredNode, pairs, nexts}
 use Rattle.mp_tickets.specs.Inside.Chain.{IsChained}
 
--- cs are left of from, at leads to their first, and the others went to the back of the chain, which had old
+-- cs remain in `from`, `at` leads to their first, and the others are at the end of the chain, which had old
 pub record Moves {T : Type 0} (old from cs : List (StoredNode T)) (at : Option NodePtr) (to : Chain T) : Type 0 where
   pub forward : Forward (nexts cs) None
   pub leads : at ≡ first_of (nexts cs) None
@@ -13,7 +13,7 @@ pub record Moves {T : Type 0} (old from cs : List (StoredNode T)) (at : Option N
   pub all : pairs to.nodes.cells ++ pairs cs ≡ pairs old ++ pairs from
 
 module _ {T : Type 0} (old from cs : List (StoredNode T)) (to : Chain T) where
-  -- one more
+  -- one more node
   pub moves_on : (at : Option NodePtr) (to1 : Chain T) (c : StoredNode T) (rest left : List (StoredNode T)) → Moves old from cs at to → cs ≡ c ∷ rest → left ≡ rest → IsChained to1
       → pairs to1.nodes.cells ≡ pairs to.nodes.cells ++ (c.value.ticket, c.value.item) ∷ [] → Moves old from left c.value.next to1
   moves_on at to1 c rest left m cut same chained pushed =

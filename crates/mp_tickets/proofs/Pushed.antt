@@ -1,4 +1,4 @@
--- A chain with one more node at its back.
+-- A chain with one more node at its end.
 use Rattle.std.proofs.Common.{◌≡◌, ℕ, ◌<◌, ◌%◌, ◌==◌, Bool, true, false, List, [], ◌∷◌, ◌++◌, Option, Some, None, refl, sym, ap, ◌∙◌, subst, append-nil, length, slice_index_or}
 use Rattle.std.proofs.lemmas.List.{get_or_read_under}
 use Rattle.std.proofs.lemmas.Bool.{eqb-true, eqb-false, ne_eqb}
@@ -17,7 +17,7 @@ use Rattle.mp_tickets.proofs.Links.{first_of-append, last_of-append, Forward-bot
 flips : (j t : ℕ) → (t == j) ≡ false → (j == t) ≡ false
 flips j t e = ne_eqb j t (λ same. eqb-false t j e (sym same))
 
--- a new node at the back of the chain, before any link leads to it
+-- a new node at the end of the chain, before any link leads to it
 pub record IsNew {T : Type 0} (o : Chain T) (k : ℕ) (nodes : NodeStore (Link T)) (c : StoredNode T) : Type 0 where
   pub cut : nodes.cells ≡ o.nodes.cells ++ c ∷ []
   pub bucket : c.value.ticket % bucket_count o ≡ k
@@ -25,7 +25,7 @@ pub record IsNew {T : Type 0} (o : Chain T) (k : ℕ) (nodes : NodeStore (Link T
   pub next : c.value.next ≡ None
   pub bucket_prev : c.value.bucket_prev ≡ bucket_back_at o.bucket_backs.items k
 
--- so it is once its four fields were written
+-- this holds once its four fields are written
 pub is_new : {T : Type 0} (o : Chain T) (ticket k : ℕ) (nodes : NodeStore (Link T)) (lies at : Ptr) (l l1 l2 l3 l4 v : Link T) (bucket_back : Option NodePtr) → IsChained o → k ≡ ticket % bucket_count o
     → l1 ≡ l → l2 ≡ record l1 { ticket = ticket } → l3 ≡ record l2 { prev = o.back } → l4 ≡ record l3 { next = None } → v ≡ record l4 { bucket_prev = bucket_back }
     → bucket_back ≡ slice_index_or o.bucket_backs.items k bucket_back → nodes.cells ≡ o.nodes.cells ++ cell lies v ∷ [] → at ≡ lies → IsNew o k nodes (cell at v) × (v.ticket ≡ ticket) × (v.item ≡ l.item)

@@ -1,4 +1,4 @@
--- Lists under rising tickets.
+-- Lists with strictly increasing tickets.
 use Rattle.std.proofs.Common.{◌≡◌, ℕ, suc, ◌+◌, ◌<◌, ◌≤◌, Bool, false, cond, List, [], ◌∷◌, ◌++◌, length, Some, None, refl, ap, ◌∙◌, arith}
 use Rattle.std.specs.Prelude.{not, ◌==◌, nat_lt}
 use Rattle.std.specs.List.{AllByRecursion}
@@ -39,12 +39,12 @@ module _ {T : Type 0} where
   rising_push low [] e r a h = (h, tt)
   rising_push low (x ∷ xs) e r a h = (r.0, rising_push x.0 xs e r.1 a.1 a.0)
 
-  -- rising tickets below t are fewer than t
+  -- strictly increasing tickets below t are fewer than t
   pub few : (low : ℕ) (xs : List (ℕ × T)) (t : ℕ) → IsRisingFrom low xs → AllByRecursion (λ x. x.0 < t) xs → low < t → length xs + low < t
   few low [] t r a h = let none : length {A = ℕ × T} [] ≡ 0 = refl in omega arith
   few low (x ∷ xs) t r a h = let k = r.0 in let rest = few x.0 xs t r.1 a.1 a.0 in let more : length (x ∷ xs) ≡ suc (length xs) = refl in omega arith
 
-  -- no item is under the ticket
+  -- no item has the ticket
   abbrev pub HasNot : ℕ → List (ℕ × T) → Type 0
   HasNot t = AllByRecursion (λ e. (e.0 == t) ≡ false)
 
@@ -83,7 +83,7 @@ module _ {T : Type 0} where
   after-all t [] h = refl
   after-all t (x ∷ xs) h = ap (λ (b : Bool). cond b (x ∷ after xs t) (after xs t)) (lt-ltb t x.0 h.0) ∙ ap (λ l. x ∷ l) (after-all t xs h.1)
 
-  -- all up to an element at most t are at most t
+  -- all elements up to one that is at most t are at most t
   pub all_up_to : (low t : ℕ) (xs : List (ℕ × T)) (e : ℕ × T) (ys : List (ℕ × T)) → IsRisingFrom low (xs ++ e ∷ ys) → e.0 ≤ t → AllByRecursion (λ x. x.0 ≤ t) (xs ++ e ∷ [])
   all_up_to low t [] e ys r h = (h, tt)
   all_up_to low t (x ∷ xs) e ys r h = let k = rising_above x.0 xs e ys r.1 in (omega arith, all_up_to x.0 t xs e ys r.1 h)

@@ -1,4 +1,4 @@
--- What a binary search of rising tickets says.
+-- The result of a binary search in strictly increasing tickets.
 use Rattle.std.proofs.Common.{◌≡◌, ℕ, zero, suc, ◌+◌, ◌<◌, ◌≤◌, List, length, Result, Ok, Err, slice_index_or, inl, inr, sym, subst, arith}
 use Rattle.std.specs.Prelude.{◌==◌, is_ok}
 use Rattle.std.specs.Ordering.{nat_cmp}

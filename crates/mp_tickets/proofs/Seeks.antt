@@ -1,4 +1,4 @@
--- The loops that go back through a chain: what was passed, and what is left.
+-- The loops that go back through a list: the nodes that were visited, and the remaining ones.
 use Rattle.std.proofs.Common.{◌≡◌, ℕ, ◌+◌, ◌<◌, ◌%◌, ◌==◌, Bool, true, false, cond, List, [], ◌∷◌, ◌++◌, length, Option, Some, None, ◌⊎◌, inl, inr, refl, sym, ap, ◌∙◌, subst, append_assoc, append-nil, length-append, arith}
 use Rattle.std.proofs.lemmas.Bool.{eqb-false}
 use Rattle.std.proofs.lemmas.Nat.{mod_below}
@@ -58,7 +58,7 @@ module _ {T : Type 0} where
   last_there m k us c vs none t =
       ap (last_of None) (bucket_prevs-append m k us (c ∷ vs)) ∙ last_of-append None (bucket_prevs m k us) (bucket_prevs m k (c ∷ vs)) ∙ ap (last_of (last_of None (bucket_prevs m k us))) (bucket_prevs-in m k c vs t) ∙ ap (last_of (Some (ptr_of c))) none
 
-  -- a node outside its bucket has not the ticket
+  -- a node outside its bucket doesn't have the ticket
   other_bucket : (m ticket : ℕ) (c : StoredNode T) → (c.value.ticket % m == ticket % m) ≡ false → c.value.ticket ≡ ticket → ⊥
   other_bucket m ticket c e same = eqb-false (c.value.ticket % m) (ticket % m) e (ap (λ n. n % m) same)
 
@@ -73,7 +73,7 @@ module _ {T : Type 0} where
   none_both ticket [] ys h k = k
   none_both ticket (x ∷ xs) ys h k = (h.0, none_both ticket xs ys h.1 k)
 
--- the bucket was gone through from its end back to the node at `at`, and the ticket was not there
+-- the bucket was searched from its end back to the node at `at`, and the ticket wasn't found
 abbrev pub Looks : {T : Type 0} → ℕ → ℕ → List (StoredNode T) → Option NodePtr → Option NodePtr → Type 0
 Looks {T} m ticket cs bucket_next at = (us : List (StoredNode T)) × (vs : List (StoredNode T)) × (cs ≡ us ++ vs) × (at ≡ last_of None (bucket_prevs m (ticket % m) us)) × (bucket_next ≡ first_of (bucket_prevs m (ticket % m) vs) None) × HasNone ticket vs
 

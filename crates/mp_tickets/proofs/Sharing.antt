@@ -1,4 +1,4 @@
--- A `&` to a store is made where one to a value is. Assumes `Logic`.
+-- A `&` to a store is one to each of its values. Assumes `Logic`.
 use mathlib.Core.List.{List, [], ◌∷◌}
 use seplogic.Ra.Ura.{Ura}
 use base.Fraction.{full_share}

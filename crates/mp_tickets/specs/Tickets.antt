@@ -1,4 +1,4 @@
--- A ticket list: items under tickets that rise.
+-- A ticket list: items with strictly increasing tickets.
 use Rattle.std.specs.Prelude.{ℕ, ◌<◌, nat_lt, Bool, not, ◌==◌, List, [], ◌∷◌, Option}
 use Rattle.std.specs.List.{filter, list_any}
 use Rattle.std.specs.Map.{lookup}
@@ -9,16 +9,16 @@ abbrev pub has_ticket : List ℕ → ℕ → Bool
 has_ticket tickets ticket = list_any (λ t. t == ticket) tickets
 
 module _ {T : Type 0} where
-  -- each ticket is greater than the one before, and the first than low
+  -- each ticket is greater than the one before it, and the first is greater than low
   abbrev pub IsRisingFrom : ℕ → List (ℕ × T) → Type 0
   IsRisingFrom low [] = Unit {0}
   IsRisingFrom low (e ∷ es) = (low < e.0) × IsRisingFrom e.0 es
 
-  -- the tickets rise, and are all above 0
+  -- the tickets are strictly increasing, and greater than 0
   abbrev pub IsRising : List (ℕ × T) → Type 0
   IsRising = IsRisingFrom 0
 
-  -- the item under the ticket
+  -- the item of the ticket
   abbrev pub item_at : List (ℕ × T) → ℕ → Option T
   item_at list ticket = lookup (λ t. t == ticket) list
 

@@ -1,4 +1,4 @@
-//! The chains through the nodes: one forward and one back over all of them, and one back through each bucket.
+//! The linked lists of the nodes: one forward and one back through all of them, and one back through each bucket.
 ghost use Rattle.std.specs.Prelude.{◌≡◌, ℕ, ◌<◌, ◌%◌, ◌++◌, ◌∷◌, [], IfOk, MatchOption};
 ghost use Rattle.mp_tickets.specs.Inside.Cell.{AtCell};
 ghost use Rattle.mp_tickets.specs.Tickets.{IsRising};
@@ -12,7 +12,7 @@ use crate::node_store::{NodePtr, NodeStore};
 use crate::raw_box::RawBox;
 use mp_memory::{Memory, NoMemory};
 
-/// The nodes in the order of their tickets, and the ends of each chain.
+/// The nodes in the order of their tickets, and the ends of each linked list.
 pub(crate) struct Chain<T> {
     pub(crate) nodes: NodeStore<Link<T>>,
     pub(crate) front: Option<NodePtr>,
@@ -25,12 +25,12 @@ pub(crate) struct Chain<T> {
 #[derive(Clone, Copy)]
 pub(crate) struct Found {
     pub(crate) ptr: NodePtr,
-    // The next node after it in its bucket.
+    // The next node in its bucket.
     pub(crate) bucket_next: Option<NodePtr>,
 }
 
 impl<T> Chain<T> {
-    /// A chain of no node, with so many buckets.
+    /// A chain without nodes, with this many buckets.
     pub(crate) fn new(memory: Memory, buckets: usize) -> Result<Chain<T>, NoMemory>
         requires { 0 < buckets }
         ensures chained { IfOk result (λ c. IsChained c) }
@@ -52,7 +52,7 @@ impl<T> Chain<T> {
         (ticket % self.bucket_backs.len() as u64) as usize
     }
 
-    // Makes `next` the one after the node at `at`, and where there is none, the first one.
+    // Makes `next` the node after the one at `at`, or the first node if `at` is `None`.
     fn set_next(&mut self, at: Option<NodePtr>, next: Option<NodePtr>)
         requires { MayBeAt self.old.nodes.cells at }
         ensures { SetsNext self.old self.new at next }
@@ -63,7 +63,7 @@ impl<T> Chain<T> {
         }
     }
 
-    // Makes `prev` the one before the node at `at`, and where there is none, the last one.
+    // Makes `prev` the node before the one at `at`, or the last node if `at` is `None`.
     fn set_prev(&mut self, at: Option<NodePtr>, prev: Option<NodePtr>)
         requires { MayBeAt self.old.nodes.cells at }
         ensures { SetsPrev self.old self.new at prev }
@@ -74,7 +74,7 @@ impl<T> Chain<T> {
         }
     }
 
-    // The same within a bucket: where there is no node, `bucket_prev` becomes the last one of the bucket.
+    // The same within a bucket: if `at` is `None`, `bucket_prev` becomes the last node of the bucket.
     fn set_bucket_prev(&mut self, bucket: usize, at: Option<NodePtr>, bucket_prev: Option<NodePtr>)
         requires at { MayBeAt self.old.nodes.cells at }
         requires within { bucket < bucket_count self.old }
@@ -107,7 +107,7 @@ impl<T> Chain<T> {
         self.set_bucket_prev(bucket, None, Some(ptr));
     }
 
-    /// The node of the ticket. It looks in one bucket alone.
+    /// The node of the ticket. It searches one bucket only.
     pub(crate) fn find(&self, ticket: u64) -> Option<Found>
         requires { IsChained self.now }
         ensures { MatchOption result
@@ -127,7 +127,7 @@ impl<T> Chain<T> {
         None
     }
 
-    /// Takes the node out of each chain, and out of the store.
+    /// Takes the node out of each linked list, and out of the store.
     pub(crate) fn take(&mut self, found: Found, memory: Memory) -> RawBox<Link<T>, Memory>
         requires chained { IsChained self.old }
         requires found { (ticket : ℕ)
@@ -150,8 +150,8 @@ impl<T> Chain<T> {
         self.nodes.remove(found.ptr, memory)
     }
 
-    /// The first node with a greater ticket. It is the first of all, or behind that of the ticket itself, or `seek_after`
-    /// looks for it.
+    /// The first node with a greater ticket. It is the first of all, or the one after the ticket's own node, or
+    /// `seek_after` finds it.
     pub(crate) fn first_after(&self, ticket: u64) -> Option<NodePtr>
         requires chained { IsChained self.now }
         requires rising { IsRising (pairs self.now.nodes.cells) }
@@ -164,8 +164,8 @@ impl<T> Chain<T> {
         self.seek_after(ticket)
     }
 
-    // The same. It goes back from the last node, and down from the ticket to the next one that has a node, a step of each in turn,
-    // and stops where either does.
+    // The same. It goes back from the last node, and down from the ticket to the next one that has a node, one step of
+    // each in turn. It stops when either does.
     fn seek_after(&self, ticket: u64) -> Option<NodePtr>
         requires chained { IsChained self.now }
         requires rising { IsRising (pairs self.now.nodes.cells) }

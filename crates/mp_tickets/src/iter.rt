@@ -8,7 +8,7 @@ use crate::node::Link;
 use crate::node_store::{NodePtr, NodeStore};
 use std::marker::Model;
 
-/// Goes over tickets with their items, in order. A contract sees those that are left.
+/// Visits the tickets with their items, in order. A contract sees the remaining ones.
 #[derive(Drop)]
 pub struct Iter<'a, T> {
     pub(crate) nodes: &'a NodeStore<Link<T>>,

@@ -1,6 +1,6 @@
-//! A list of items in the rising order of their tickets, which finds an item by its ticket without a walk through the list.
-//! Each item lies in a node of its own, which is made before the list changes, so that a change itself takes no memory.
-//! `Tickets` is a rising list of tickets alone, as of those that a list keeps.
+//! A list of items in strictly increasing order of their tickets, which finds an item by its ticket without a pass over
+//! the list. Each item has a node of its own, which is allocated before the list changes, so that a change itself takes
+//! no memory. `Tickets` is a strictly increasing list of tickets without items.
 #![tactic(auto)]
 
 mod chain;

@@ -6,15 +6,17 @@ use mp_memory::{Memory, NoMemory};
 use std::marker::Model;
 use std::mem;
 
-// How many buckets a list has at first.
+// The number of buckets of a new list.
 const BUCKETS: usize = 1024;
 
-/// Items in the rising order of their tickets, which are above 0. A contract sees the list of tickets with their items.
+/// Items in strictly increasing order of their tickets, which are greater than 0. A contract sees the list of tickets
+/// with their items.
 ///
-/// Each item lies in a node of its own, which links to the one before it, to the one after it, and to the last one before
-/// it in its bucket. A ticket is in the bucket of its number modulo how many buckets there are, and is looked for there alone.
-/// There are as many buckets as items, or more, where `reserve` went before each push, and never fewer than 1,024.
-/// A new list, a new node and `reserve` take memory, and nothing else does. A node may come from another handle than the list.
+/// Each item has a node of its own, which links to the one before it, to the one after it, and to the last one before
+/// it in its bucket. A ticket is in the bucket with index ticket modulo the number of buckets, and a look-up searches
+/// only there. If `reserve` is called before each push, there are at least as many buckets as items. There are never
+/// fewer than 1,024.
+/// Only a new list, a new node and `reserve` take memory. A node may have another handle than the list.
 pub struct TicketList<T> {
     chain: Chain<T>,
     memory: Memory,
@@ -40,7 +42,7 @@ impl<T> TicketList<T> {
     ghost use Rattle.std.specs.Map.Iter.{ShowsInOrder};
     ghost use Rattle.mp_tickets.specs.Tickets.{IsRising, item_at, without, after, shown};
 
-    /// A list of no item. It takes the memory of its first buckets. An `Err` says that there was none.
+    /// A list without items. It takes the memory of its first buckets. Returns `Err` if that allocation fails.
     pub fn new(memory: Memory) -> Result<TicketList<T>, NoMemory>
         ensures { IfOk result (λ list. list ≡ []) }
     {
@@ -51,11 +53,11 @@ impl<T> TicketList<T> {
         })
     }
 
-    /// Doubles the buckets where there are no more of them than items, so that a ticket is still found at once after one
+    /// Doubles the number of buckets if there are no more buckets than items, so that a look-up stays fast after one
     /// more push. The items keep their nodes, and nothing that a contract sees changes.
     ///
     /// # Errors
-    /// `NoMemory`. A push finds room without it.
+    /// `NoMemory`. A push succeeds without this call.
     pub fn reserve(&mut self) -> Result<(), NoMemory>
     where
         T: Drop,
@@ -71,8 +73,8 @@ impl<T> TicketList<T> {
         Ok(())
     }
 
-    /// Puts the node's item in at the back, under a ticket that is greater than 0 and than each that is there.
-    /// It takes no memory and can't fail.
+    /// Appends the node's item. The ticket has to be greater than 0 and than each ticket in the list. It takes no
+    /// memory and can't fail.
     pub fn push_node(&mut self, ticket: u64, node: Node<T>)
     where
         T: Drop,
@@ -84,7 +86,7 @@ impl<T> TicketList<T> {
         self.len += 1;
     }
 
-    /// The item under the ticket, if there is one. It looks at the nodes of one bucket alone.
+    /// The item of the ticket, if there is one. It searches one bucket only.
     pub fn get(&self, ticket: u64) -> Option<&T>
         ensures { option_copied result ≡ item_at self.now ticket }
     {
@@ -92,8 +94,8 @@ impl<T> TicketList<T> {
         Some(&self.chain.nodes.get(found.ptr).item)
     }
 
-    /// Takes the item under the ticket out, and frees its node. Where there is none, the list stays as it was.
-    /// It looks at the nodes of one bucket alone.
+    /// Takes the item of the ticket out, and frees its node. If there is none, the list doesn't change. It searches one
+    /// bucket only.
     pub fn unlink(&mut self, ticket: u64) -> Option<T>
     where
         T: Drop,
@@ -137,9 +139,9 @@ impl<T> TicketList<T> {
         }
     }
 
-    /// Those with a ticket greater than this one, in order. Where the ticket is in the list, or below the first, or not below
-    /// the last, it looks at one bucket at most. Else it takes at most as many steps as there are tickets between it and the
-    /// next smaller one in the list, and no more than there are items with a greater ticket.
+    /// The items with a ticket greater than this one, in order. If the ticket is in the list, or less than the first,
+    /// or not less than the last, it searches at most one bucket. Else it takes at most as many steps as the difference
+    /// to the next smaller ticket in the list, and at most as many as there are items with a greater ticket.
     pub fn iter_after(&self, ticket: u64) -> Iter<'_, T>
         ensures all { result ≡ after self.now ticket }
         ensures runs { ShowsInOrder (shown {T = T}) }
@@ -150,14 +152,14 @@ impl<T> TicketList<T> {
         }
     }
 
-    /// How many items there are.
+    /// The number of items.
     pub fn len(&self) -> usize
         ensures { result ≡ length self.now }
     {
         self.len
     }
 
-    /// Whether there is none.
+    /// Whether there are no items.
     pub fn is_empty(&self) -> bool
         ensures { result ≡ (length self.now == 0) }
     {

@@ -6,7 +6,7 @@ use mp_memory::Memory;
 use std::alloc::AllocFailed;
 use std::marker::Model;
 
-/// What lies in a node's block. A node that is in no list has no neighbours, and its ticket means nothing.
+/// The content of a node's block. A node that is in no list has no neighbours, and its ticket has no meaning.
 #[derive(Drop)]
 pub(crate) struct Link<T> {
     pub(crate) ticket: u64,
@@ -17,7 +17,7 @@ pub(crate) struct Link<T> {
     pub(crate) item: T,
 }
 
-/// A node with its item that is in no list. A contract sees its item.
+/// A node with its item that is in no list. A contract sees the item.
 #[derive(Drop)]
 pub struct Node<T> {
     pub(crate) link: Box<Link<T>, Memory>,
@@ -29,7 +29,7 @@ impl<T> Model for Node<T> {
     ghost view = { λ n. n.link.value.item };
 }
 
-/// A node for the item, which is one block of memory. An `Err` says that there was none, and hands the item back.
+/// A node for the item, in one block of memory. If the allocation fails, returns the item as `Err`.
 pub fn make_node<T>(memory: Memory, item: T) -> Result<Node<T>, T>
     ensures ok { IfOk result (λ node. node ≡ item) }
     ensures refused { IfErr result (λ back. back ≡ item) }
@@ -64,7 +64,7 @@ impl<T> Link<T> {
 }
 
 impl<T> Node<T> {
-    /// Its item. Its block is freed.
+    /// Its item. Frees the block.
     pub fn into_inner(self) -> T
         ensures { result ≡ self }
     {

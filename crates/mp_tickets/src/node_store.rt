@@ -1,4 +1,4 @@
-//! The owner of the nodes' memory. Raw memory is touched here and in `raw_box`, and nowhere else.
+//! The owner of the nodes' memory. Only this module and `raw_box` use raw memory.
 ghost use Rattle.std.specs.Prelude.{◌≡◌, ◌<◌, List, [], ◌∷◌, ◌++◌};
 ghost use Rattle.std.specs.Borrow.{sem};
 ghost use Rattle.std.specs.Coded.{prop_coded};
@@ -11,7 +11,7 @@ use crate::raw_box::RawBox;
 use mp_memory::Memory;
 use std::marker::{Model, PhantomData, Send, Sync};
 
-/// Where a node lies. It owns nothing.
+/// The address of a node. It owns nothing.
 #[derive(Clone, Copy)]
 pub(crate) struct NodePtr {
     pub(crate) at: *mut u8,
@@ -21,13 +21,13 @@ unsafe impl Send for NodePtr {}
 
 unsafe impl Sync for NodePtr {}
 
-/// Owns the values that were inserted and not yet removed, each in the block that it came in. It takes no space itself,
-/// and knows its values by their pointers alone.
+/// Owns the values that were inserted and not yet removed, each in its own block. It takes no space itself, and finds
+/// its values only by their pointers.
 pub(crate) struct NodeStore<N> {
     mark: PhantomData<*mut N>,
-    // The values in the order in which they came, and where each lies.
+    // The values in the order in which they were inserted, with their addresses.
     ghost cells: { List (Cell N) },
-    // No two lie at one place.
+    // No two have the same address.
     ghost apart: { IsApart (ptrs cells) } by { prop_coded (IsApart-prop (ptrs cells)) },
 }
 
@@ -44,14 +44,14 @@ unsafe impl<N: Sync> Sync for NodeStore<N> {}
 impl<N> NodeStore<N> {
     ghost use Rattle.mp_tickets.specs.Inside.Lends.{lends_cell};
 
-    /// A store with nothing in it.
+    /// An empty store.
     pub(crate) fn new() -> NodeStore<N>
         ensures { result.cells ≡ [] }
     {
         NodeStore { mark: PhantomData }
     }
 
-    /// Takes the value in as the last cell, and says where it lies. Any handle may free it later.
+    /// Takes the value in as the last cell, and returns its address. Any handle may free it later.
     pub(crate) fn insert(&mut self, value: RawBox<N, Memory>) -> NodePtr
         requires { 0 < type_size N.row }
         ensures ptr { result.at ≡ value.at }
@@ -61,7 +61,7 @@ impl<N> NodeStore<N> {
         NodePtr { at: at as *mut u8 }
     }
 
-    /// Gives the value that lies there back, with a handle to free it by.
+    /// Returns the value at this address, with a handle that can free it.
     pub(crate) fn remove(&mut self, ptr: NodePtr, memory: Memory) -> RawBox<N, Memory>
         requires { IsAt self.old.cells ptr.at }
         ensures { AtCell self.old.cells ptr.at (λ xs c ys.
@@ -73,7 +73,7 @@ impl<N> NodeStore<N> {
         }
     }
 
-    /// The value that lies there.
+    /// The value at this address.
     pub(crate) fn get(&self, ptr: NodePtr) -> &N
         requires { IsAt self.now.cells ptr.at }
         ensures { AtCell self.now.cells ptr.at (λ _ c _. result.now ≡ c.value) }
@@ -81,7 +81,7 @@ impl<N> NodeStore<N> {
         unsafe { &*(ptr.at as *mut N) }
     }
 
-    /// The value that lies there, to write to.
+    /// The value at this address, to write to.
     pub(crate) fn get_mut(&mut self, ptr: NodePtr) -> &mut N
         requires { IsAt self.old.cells ptr.at }
         ensures* writes_back { sem 𝓛 (lends_cell N.row self.entry ptr.at result) }
@@ -90,7 +90,7 @@ impl<N> NodeStore<N> {
         unsafe { &mut *(ptr.at as *mut N) }
     }
 
-    /// Ends a store that has nothing in it.
+    /// Ends an empty store.
     pub(crate) fn end(self)
         requires { self.cells ≡ [] }
     {

@@ -5,7 +5,7 @@ ghost use Rattle.std_alloc.specs.Box.Ownership.{box_owns};
 use std::alloc::Allocator;
 use std::marker::Model;
 
-/// A value in a block of its own, and a handle that may free the block.
+/// A value in a block of its own, and a handle that can free the block.
 pub(crate) struct RawBox<N, A: Allocator> {
     pub(crate) at: *mut N,
     pub(crate) alloc: A,

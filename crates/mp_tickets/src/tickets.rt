@@ -2,7 +2,7 @@
 use mp_memory::{Memory, NoMemory};
 use std::marker::Model;
 
-/// Tickets that rise, so none stands twice. A contract sees the list of them.
+/// Strictly increasing tickets, so none occurs twice. A contract sees the list of them.
 #[derive(Debug)]
 pub struct Tickets {
     tickets: Vec<u64, Memory>,
@@ -39,10 +39,10 @@ impl Tickets {
         }
     }
 
-    /// Puts the ticket last, where it is greater than each that is there.
+    /// Appends the ticket, which has to be greater than each in the list.
     ///
     /// # Errors
-    /// `NoMemory`, and then they stay as they were.
+    /// `NoMemory`, and then the list doesn't change.
     pub fn push(&mut self, ticket: u64) -> Result<(), NoMemory>
         requires { All (λ t. t < ticket) self.old }
         ensures ok { OnOk result (self.new ≡ self.old ++ ticket ∷ []) }
@@ -69,7 +69,7 @@ impl Tickets {
         &self.tickets
     }
 
-    /// Whether the ticket is one of them. It takes no walk over them.
+    /// Whether the list has the ticket, by a binary search.
     pub fn contains(&self, ticket: u64) -> bool
         ensures { result ≡ has_ticket self.now ticket }
     {

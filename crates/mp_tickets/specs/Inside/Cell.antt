@@ -1,10 +1,10 @@
--- What a store has in it.
+-- What a store contains.
 use Rattle.std.specs.Prelude.{◌≡◌, List, [], ◌∷◌, ◌++◌, map, cond}
 use denote.RawPtr.{Ptr}
 use Rattle.lru.specs.Linked.{same_ptr}
 
 pub record Cell (N : Type 0) : Type 0 where
-  -- where the value lies
+  -- the address of the value
   pub at : Ptr
   pub value : N
 
@@ -15,7 +15,7 @@ module _ {N : Type 0} where
   abbrev pub ptrs : List (Cell N) → List Ptr
   ptrs = map (λ c. c.at)
 
-  -- a value lies at p
+  -- there is a value at p
   abbrev pub IsAt : List (Cell N) → Ptr → Type 0
   IsAt cs p =
       (xs : List (Cell N)) × (c : Cell N) × (ys : List (Cell N)) × (cs ≡ xs ++ c ∷ ys)

@@ -4,22 +4,22 @@ use Rattle.mp_tickets.specs.Inside.Links.{first_of, last_of, Forward, Back, next
 use Rattle.mp_tickets.specs.declared.node_store.NodePtr.{NodePtr}
 use Rattle.mp_tickets.specs.declared.chain.Chain.{Chain}
 
--- the last node of the bucket k
+-- the last node of bucket k
 abbrev pub bucket_back_at : List (Option NodePtr) → ℕ → Option NodePtr
 bucket_back_at backs k = slice_index_or backs k None
 
--- how many buckets there are
+-- the number of buckets
 abbrev pub bucket_count : {T : Type 0} → Chain T → ℕ
 bucket_count c = length c.bucket_backs.items
 
 pub record IsChained {T : Type 0} (c : Chain T) : Type 0 where
-  -- the chain from the first node on
+  -- the list from the first node on
   pub forward : Forward (nexts c.nodes.cells) None
   pub front : c.front ≡ first_of (nexts c.nodes.cells) None
-  -- the chain from the last node back
+  -- the list from the last node back
   pub backward : Back None (prevs c.nodes.cells)
   pub back : c.back ≡ last_of None (prevs c.nodes.cells)
-  -- the chain of each bucket, from its last node back
+  -- the list of each bucket, from its last node back
   pub bucketed : (k : ℕ) → k < bucket_count c
       → Back None (bucket_prevs (bucket_count c) k c.nodes.cells)
   pub bucket_backs : (k : ℕ) → k < bucket_count c

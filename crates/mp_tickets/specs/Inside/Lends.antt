@@ -1,4 +1,4 @@
--- What a store ends as, once a `&mut` to a value has ended.
+-- The store after a `&mut` to a value has ended.
 use Rattle.std.specs.Borrow.{Fml, RattleType, MutBor, Lends}
 use mathlib.Core.Path.{sym, subst}
 use denote.RawPtr.{Ptr}

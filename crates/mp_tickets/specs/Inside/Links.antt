@@ -4,16 +4,16 @@ use Rattle.mp_tickets.specs.Inside.Cell.{Cell}
 use Rattle.mp_tickets.specs.declared.node_store.NodePtr.{NodePtr}
 use Rattle.mp_tickets.specs.declared.node.Link.{Link}
 
--- a pointer to a node, and where a link of that node leads
+-- a pointer to a node, and the target of one of its links
 abbrev pub Step : Type 0
 Step = NodePtr × Option NodePtr
 
--- the first pointer, or n where there is none
+-- the first pointer, or n if there is none
 abbrev pub first_of : List Step → Option NodePtr → Option NodePtr
 first_of [] n = n
 first_of (s ∷ ss) n = Some s.0
 
--- the last pointer, or p where there is none
+-- the last pointer, or p if there is none
 abbrev pub last_of : Option NodePtr → List Step → Option NodePtr
 last_of p [] = p
 last_of p (s ∷ ss) = last_of (Some s.0) ss
@@ -46,7 +46,7 @@ module _ {T : Type 0} where
   abbrev pub prevs : List (StoredNode T) → List Step
   prevs = map (λ c. (ptr_of c, c.value.prev))
 
-  -- the links of the bucket k of m
+  -- the links of bucket k of m
   abbrev pub bucket_prevs : ℕ → ℕ → List (StoredNode T) → List Step
   bucket_prevs m k [] = []
   bucket_prevs m k (c ∷ cs) =

@@ -1,4 +1,4 @@
--- What one link, or one end of a chain, is set to.
+-- The change of one link, or of one end of a list.
 use Rattle.std.specs.Prelude.{◌≡◌, ℕ, ◌==◌, false, List, ◌∷◌, ◌++◌, length, Option, MatchOption, IfSome}
 use Rattle.mp_tickets.specs.Inside.Cell.{cell, IsAt, AtCell}
 use Rattle.mp_tickets.specs.Inside.Links.{StoredNode}
@@ -8,17 +8,17 @@ use Rattle.mp_tickets.specs.declared.node.Link.{Link}
 use Rattle.mp_tickets.specs.declared.chain.Chain.{Chain}
 
 module _ {T : Type 0} where
-  -- the node at p with another link
+  -- the node at p with its link changed
   abbrev pub Relinks : (Link T → Link T) → List (StoredNode T) → NodePtr → List (StoredNode T)
       → Type 0
   Relinks change old p new =
       AtCell old p.at (λ xs c ys. new ≡ xs ++ cell c.at (change c.value) ∷ ys)
 
-  -- a node lies there, or `at` leads nowhere
+  -- there is a node at `at`, or `at` is `None`
   abbrev pub MayBeAt : List (StoredNode T) → Option NodePtr → Type 0
   MayBeAt cs at = IfSome at (λ p. IsAt cs p.at)
 
-  -- the link of the node at `at` leads to `to`; where there is no node, the end of the chain does
+  -- the link of the node at `at` leads to `to`; if there is no node, the end of the list does
   abbrev pub SetsOne : (Option NodePtr → Link T → Link T) → (at to end new_end : Option NodePtr)
       → (cs new_cs : List (StoredNode T)) → Type 0
   SetsOne change at to end new_end cs new_cs =
@@ -49,7 +49,7 @@ module _ {T : Type 0} where
         SetsOne with_bucket_prev at prev
         (bucket_back_at old.bucket_backs.items k) (bucket_back_at new.bucket_backs.items k)
         old.nodes.cells new.nodes.cells
-    -- the other buckets stay as they were
+    -- the other buckets don't change
     pub others : (j : ℕ) → (j == k) ≡ false
         → bucket_back_at new.bucket_backs.items j ≡ bucket_back_at old.bucket_backs.items j
     pub whole : length new.bucket_backs.items ≡ length old.bucket_backs.items

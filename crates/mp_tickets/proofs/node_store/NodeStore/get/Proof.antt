@@ -1,4 +1,4 @@
--- `get` shows the value that the store lends. Assumes `Logic`.
+-- `get` returns the value that the store lends. Assumes `Logic`.
 use mathlib.Core.Path.{◌≡◌, refl, sym, ap, subst, ◌∙◌}
 use Prim.Native.Nat.{ℕ}
 use mathlib.Core.List.{List, [], ◌∷◌, ◌++◌}

@@ -1,4 +1,4 @@
--- `get_mut` lends one value, and the store follows it. Assumes `Logic`.
+-- `get_mut` lends one value, and the store changes with it. Assumes `Logic`.
 use mathlib.Core.Path.{◌≡◌, refl, sym, ap, subst, ◌∙◌}
 use Prim.Native.Nat.{ℕ}
 use mathlib.Core.List.{List, [], ◌∷◌, ◌++◌}

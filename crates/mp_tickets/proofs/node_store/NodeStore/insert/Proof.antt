@@ -1,4 +1,4 @@
--- `insert` takes a value in, which lies apart from the others. Assumes `Logic`.
+-- `insert` takes in a value, whose address is new. Assumes `Logic`.
 use mathlib.Core.Path.{◌≡◌, refl, sym, subst}
 use Prim.Native.Nat.{ℕ, ◌<◌}
 use mathlib.Core.List.{List, [], ◌∷◌, ◌++◌, append-nil}

@@ -1,4 +1,4 @@
--- `remove` gives up one cell. Assumes `Logic`.
+-- `remove` returns one cell. Assumes `Logic`.
 use mathlib.Core.Path.{◌≡◌, refl, sym, ap, subst, ◌∙◌}
 use Prim.Native.Nat.{ℕ}
 use mathlib.Core.List.{List, [], ◌∷◌, ◌++◌}
