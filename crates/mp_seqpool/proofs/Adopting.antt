@@ -1,4 +1,4 @@
--- What stays and goes where what was changed below tells it.
+-- What stays and what goes, if the changes of the ledger decide it.
 use Rattle.std.proofs.Common.{◌≡◌, ◌≢◌, ℕ, ◌<◌, ◌≤◌, ⊎_elim, Bool, true, false, cond, List, [], ◌∷◌, get_or, refl, sym, ap, subst, ◌∙◌, arith}
 use Rattle.std.specs.Prelude.{Option, None, Some, IsSome, IfSome, is_some, is_none, not, nat_le, ◌&&◌, ◌||◌, map, All, AllPairs, Ok}
 use Rattle.std.specs.Option.{option_or}
@@ -48,15 +48,15 @@ use Rattle.mp_seqpool.proofs.TicketsNamed.{tickets_rise}
 abbrev Items : Type 0
 Items = List (ℕ × Transaction)
 
--- ---- a reference upon two maps
+-- ---- a reference in two maps
 
--- what may be spent after the same transactions upon the old map and the new one
+-- the outputs that can be spent after the same transactions, on the old map and the new one
 record Stands (ts : List Transaction) (old new u v : Unspent) : Type 0 where
-  -- where both had the same, both have the same
+  -- if both maps had the same, both have the same
   same : (r : OutRef) → old r ≡ new r → u r ≡ v r
-  -- what is gone upon the old one, and wasn't in the new one, is gone there too
+  -- what is gone on the old map, and isn't in the new one, is gone there too
   none : (r : OutRef) → u r ≡ None → new r ≡ None → v r ≡ None
-  -- what none of these makes isn't there, where the new one hasn't it
+  -- what none of these makes isn't there, if the new map doesn't have it
   unmade : (r : OutRef) → NoneMakes ts r → new r ≡ None → v r ≡ None
 
 none_by : (t : Transaction) (u v : Unspent) (r : OutRef) (m : Option Output) (s : Bool) → output_made t r ≡ m → spends t.inputs r ≡ s → apply t u r ≡ None → (u r ≡ None → v r ≡ None) → apply t v r ≡ None
@@ -173,13 +173,13 @@ module _ (accepts : Accepts) (ts : List Transaction) (old new : LedgerState) whe
             }
       ] refl chain
 
--- ---- what is known at the beginning
+-- ---- what is known at the start
 
 each_made : (ts : List Transaction) (items : Items) → ((r : OutRef) → NoneMakes ts r → AllByRecursion (λ t. output_made t r ≡ None) (transactions items)) → AllByRecursion (λ i. (r : OutRef) → NoneMakes ts r → output_made i.1 r ≡ None) items
 each_made ts [] f = tt
 each_made ts (i ∷ is) f = (λ r nobody. (f r nobody).0, each_made ts is (λ r nobody. (f r nobody).1))
 
--- a leaf of those that pass a test stands under each of their tickets
+-- each of the tickets that pass a test is that of a leaf
 module _ (u : Unspent) (ts : List Transaction) (test : ℕ × Transaction → Bool) where
   abbrev At : Items → ℕ → Type 0
   At all n = IfSome (item_at all n) (IsLeaf u ts)
@@ -210,7 +210,7 @@ weaker f (i ∷ is) a = (f i a.0, weaker f is a.1)
 -- ---- the step
 
 module _ (accepts : Accepts) where
-  -- the step of a sync that nothing refuses, where what is lost is told apart from what is untouched
+  -- the step of a sync that isn't refused, if the lost transactions and the untouched ones are all
   pub ready_adopted : (h : Holding) (ledger : LedgerState) (q : Prepared) → h.pool.changes < h.pool.limit → IsRising h.pool.items → AllPairs (λ a b. a ≢ b) (map id_of (transactions h.pool.items)) → IsChained h.pool → AreSigned accepts h.pool
       → AdoptsParted h.pool ledger q → Prepares accepts h (Sync ledger) q
   ready_adopted h ledger q change rising distinct chained signed adopts =
@@ -252,7 +252,7 @@ module _ (accepts : Accepts) where
         };
       }
 
--- what is left of the overlay's transactions is fed
+-- the remaining transactions of the overlay have their inputs
 pub lacking_fed : (was : Inside) (overlay : Overlay) (gone : List ℕ) → Lacks was.overlay (ticketed was.items) gone overlay → IsFed (get overlay.ledger.utxo) overlay.applied
 lacking_fed was overlay gone lacks =
     subst (λ l. IsFed (get l.utxo) overlay.applied) (sym lacks.base)

@@ -49,7 +49,7 @@ module _ (test : ℕ × Transaction → Bool) where
   tested_step true i ns us is above less e = goes i (tickets ns) is above ∙ e
   tested_step false i ns us is above less e = stays i (tickets ns) is less ∙ ap (λ l. i ∷ l) e
 
-  -- without the tickets of those that pass it, the others are left
+  -- without the tickets of those that pass it, the others remain
   pub apart_tested : (low : ℕ) (items : List (ℕ × Transaction)) → IsRisingFrom low items → apart (tickets (filter test items)) items ≡ filter (λ i. not (test i)) items
   apart_tested low [] r = refl
   apart_tested low (i ∷ is) r =
@@ -82,7 +82,7 @@ apart_dropped accepts u tick low (i ∷ is) r =
     valid_step (is_valid accepts u tick i.1) i (dropped_upon accepts (apply i.1 u) tick is) (dropped_upon accepts u tick is) (keep_upon accepts (apply i.1 u) tick is) (keep_upon accepts u tick is) is above
     (above_dropped accepts (apply i.1 u) tick i.0 is above) (apart_dropped accepts (apply i.1 u) tick i.0 is r.1) (apart_dropped accepts u tick i.0 is r.1)
 
--- ---- what is left stays rising
+-- ---- what remains is strictly increasing
 
 lower : (m low : ℕ) (items : List (ℕ × Transaction)) → m ≤ low → IsRisingFrom low items → IsRisingFrom m items
 lower m low [] h r = tt

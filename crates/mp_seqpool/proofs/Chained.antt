@@ -35,7 +35,7 @@ module _ (accepts : Accepts) where
     chain_signed (apply t u) tick ts chain.1 (All-tail (IsSigned accepts) t ts signed),
   )
 
-  -- what is spent is there
+  -- everything that is spent is there
   pub chain_fed : (u : Unspent) (tick : ℕ) (ts : List Transaction) → Chain accepts u tick ts → IsFed u ts
   chain_fed u tick [] chain = tt
   chain_fed u tick (t ∷ ts) chain = (chain.0 InputsThere, chain_fed (apply t u) tick ts chain.1)
@@ -43,7 +43,7 @@ module _ (accepts : Accepts) where
   pub clear : (u : Unspent) (tick : ℕ) (t : Transaction) → IsValid accepts u tick t → is_valid accepts u tick t ≡ true
   clear u tick t valid = ap is_none (faultless accepts u tick t valid)
 
-  -- of a chain all is kept
+  -- of a chain, everything is kept
   pub all_kept : (u : Unspent) (tick : ℕ) (items : List (ℕ × Transaction)) → Chain accepts u tick (transactions items) → keep_upon accepts u tick items ≡ items
   all_kept u tick [] chain = refl
   all_kept u tick (i ∷ is) chain =

@@ -1,4 +1,4 @@
--- What may be spent after a transaction, told by ids alone.
+-- What can be spent after a transaction, by ids alone.
 use Rattle.std.proofs.Common.{◌≡◌, ℕ, inl, inr, Bool, true, false, cond, List, [], ◌∷◌, refl, sym, ap, subst, ◌∙◌}
 use Rattle.std.specs.Prelude.{Option, None, Some, IsSome, All, nat_eq, slice_get}
 use Rattle.std.specs.Option.{option_or}
@@ -38,7 +38,7 @@ nothing_by true spent m o e none = absurd (true≢false e)
 nothing_by false true m o e none = refl
 nothing_by false false m o e none = none
 
--- where there is nothing under an id, a transaction with another one makes nothing there
+-- if there is nothing at an id, a transaction with another one makes nothing there
 pub nothing : (t : Transaction) (u : Unspent) (r : OutRef) → pointwise nat_eq r.id (id_of t) ≡ false → u r ≡ None → apply t u r ≡ None
 nothing t u r e none = nothing_by (pointwise nat_eq r.id (id_of t)) (spends t.inputs r) (slice_get t.outputs r.index) (u r) e none
 
@@ -47,7 +47,7 @@ before_by true spent m x o e is = absurd (true≢false e)
 before_by false true m x o e is = Prim.cc
 before_by false false m x o e is = is
 
--- what is there under another id than the transaction's was there before
+-- what is at another id than the transaction's was there before
 pub before : (t : Transaction) (u : Unspent) (r : OutRef) (o : Output) → pointwise nat_eq r.id (id_of t) ≡ false → apply t u r ≡ Some o → u r ≡ Some o
 before t u r o e is = before_by (pointwise nat_eq r.id (id_of t)) (spends t.inputs r) (slice_get t.outputs r.index) (u r) o e is
 
@@ -56,7 +56,7 @@ both_by spent (Some z) x y o h is = is
 both_by true None x y o h is = Prim.cc
 both_by false None x y o h is = h is
 
--- what is still there after some went is there after one more
+-- what is still there after some were taken out is there after one more transaction
 pub both : (t : Transaction) (u v : Unspent) (r : OutRef) (o : Output) → (u r ≡ Some o → v r ≡ Some o) → apply t u r ≡ Some o → apply t v r ≡ Some o
 both t u v r o h is = both_by (spends t.inputs r) (output_made t r) (u r) (v r) o h is
 
@@ -67,7 +67,7 @@ found_by None y h there = absurd (true≢false (sym there))
 found_by (Some o) y h there = sym (h o refl)
 
 module _ (gone : List (List ℕ)) {X : Type 0} (ref : X → OutRef) where
-  -- what names nothing that went finds the same
+  -- a transaction that names nothing that went finds the same
   pub finds : (u v : Unspent) → ((r : OutRef) (o : Output) → is_among gone r.id ≡ false → u r ≡ Some o → v r ≡ Some o) → (xs : List X) → list_any (λ x. is_among gone (ref x).id) xs ≡ false → All (λ x. IsSome (u (ref x))) xs → All (λ x. u (ref x) ≡ v (ref x)) xs
   finds u v still [] e there = All-nil (λ x. u (ref x) ≡ v (ref x))
   finds u v still (x ∷ xs) e there =
@@ -79,7 +79,7 @@ module _ (gone : List (List ℕ)) {X : Type 0} (ref : X → OutRef) where
   none_there : (o : Option Output) → o ≡ None → IsSome o → ⊥
   none_there o none there = true≢false (sym (subst IsSome none there))
 
-  -- and what names something that went doesn't find it
+  -- a transaction that names something that went doesn't find it
   pub misses : (v : Unspent) → ((r : OutRef) → is_among gone r.id ≡ true → v r ≡ None) → (xs : List X) → list_any (λ x. is_among gone (ref x).id) xs ≡ true → All (λ x. IsSome (v (ref x))) xs → ⊥
   misses v absent [] e there = true≢false (sym e)
   misses v absent (x ∷ xs) e there = elim (or_cases (is_among gone (ref x).id) (list_any (λ x. is_among gone (ref x).id) xs) e) [

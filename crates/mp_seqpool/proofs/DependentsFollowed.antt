@@ -1,4 +1,4 @@
--- A remove drops what is named, and what hangs on something that goes.
+-- A remove drops what is named, and what depends on something that goes.
 use Rattle.std.proofs.Common.{◌≡◌, ◌≢◌, ℕ, inl, inr, Bool, true, false, cond, ◌||◌, List, [], ◌∷◌, refl, sym, ap, subst, ◌∙◌}
 use Rattle.std.specs.Prelude.{None, Some, is_none, not, map, nat_eq, AllPairs}
 use Rattle.std.specs.List.{AllByRecursion, list_any}
@@ -41,7 +41,7 @@ of_items P (i ∷ is) a = (a.0, of_items P is a.1)
 abbrev HasNone : List ℕ → Items → Type 0
 HasNone id items = AllByRecursion (λ i. id_of i.1 ≢ id) items
 
--- ids differ
+-- ids are distinct
 abbrev AreApart : Items → Type 0
 AreApart [] = Unit {0}
 AreApart (i ∷ is) = HasNone (id_of i.1) is × AreApart is
@@ -92,7 +92,7 @@ module _ (ids : List (List ℕ)) where
     | false ↦ named_out items (id_of t)
   ] refl
 
-  -- an item's id is among those exactly where the item is named
+  -- an item's id is among those exactly when the item is named
   pub named_told : (items : Items) → AllByRecursion (λ i. is_among (ids_named ids items) (id_of i.1) ≡ is_named ids i.1) items
   named_told items =
       weaker (λ i. is_named ids i.1 ≡ true → is_among (ids_named ids items) (id_of i.1) ≡ true) (λ i. is_among (ids_named ids items) (id_of i.1) ≡ is_named ids i.1)
@@ -115,17 +115,17 @@ with_id : (r : OutRef) (t : Transaction) → r.id ≡ id_of t → r ≡ own_ref 
 with_id r t e = λ k. record { id = e k; index = r.index }
 
 module _ (accepts : Accepts) (tick : ℕ) (ids : List (List ℕ)) where
-  -- What may be spent after all so far is u, and after those that stay v; these ids are gone, and these items are left.
+  -- u is what can be spent after all so far, and v after those that stay; these ids are gone, and these items remain.
   record Stands (u v : Unspent) (gone : List (List ℕ)) (items : Items) : Type 0 where
     chain : Chain accepts u tick (transactions items)
     apart : AreApart items
-    -- of the items that are left just the ids of the named are gone
+    -- of the remaining items, exactly the ids of the named ones are gone
     told : AllByRecursion (λ i. is_among gone (id_of i.1) ≡ is_named ids i.1) items
     -- none has made an output yet
     fresh : AllByRecursion (λ i. (r : OutRef) → r.id ≡ id_of i.1 → v r ≡ None) items
-    -- under an id that is gone nothing is there
+    -- at an id that is gone there is nothing
     absent : (r : OutRef) → is_among gone r.id ≡ true → v r ≡ None
-    -- what else was there still is
+    -- everything else that was there is still there
     still : (r : OutRef) (o : Output) → is_among gone r.id ≡ false → u r ≡ Some o → v r ≡ Some o
 
   module _ (u v : Unspent) (gone : List (List ℕ)) (i : ℕ × Transaction) (is : Items) (s : Stands u v gone (i ∷ is)) where
@@ -167,7 +167,7 @@ module _ (accepts : Accepts) (tick : ℕ) (ids : List (List ℕ)) where
       still = λ r o out there. both i.1 u v r o (s.still r o out) there;
     }
 
-    -- what hangs on none that is gone is valid
+    -- an item that depends on none that is gone is valid
     stays_valid : hangs_on gone i.1 ≡ false → is_valid accepts v tick i.1 ≡ true
     stays_valid e =
         let apart = or_parts (list_any (λ x. is_among gone x.from.id) i.1.inputs) (list_any (λ r. is_among gone r.id) i.1.references) e in
@@ -178,7 +178,7 @@ module _ (accepts : Accepts) (tick : ℕ) (ids : List (List ℕ)) where
           own = λ k lt. was OutputsFresh k lt ∙ sym (s.fresh.0 (own_ref i.1 k) refl);
         }) was (was InInterval).0 (was InInterval).1))
 
-    -- what hangs on one that is gone isn't
+    -- an item that depends on one that is gone isn't
     falls : hangs_on gone i.1 ≡ true → is_valid accepts v tick i.1 ≡ false
     falls e = false_from_ne_true (is_valid accepts v tick i.1) (λ h.
         let is = valid accepts v tick i.1 (no_fault (first_fault accepts v tick i.1) h) in
@@ -187,7 +187,7 @@ module _ (accepts : Accepts) (tick : ℕ) (ids : List (List ℕ)) where
           | inr a ↦ misses gone (λ r. r) v s.absent i.1.references a (is ReferencesThere)
         ])
 
-  -- upon what may be spent, dependents tell what stays and what goes
+  -- the dependents decide what stays and what goes
   abbrev AreDependents : Unspent → List (List ℕ) → Items → Type 0
   AreDependents v gone items = (keep_upon accepts v tick items ≡ left_of gone items) × (dropped_upon accepts v tick items ≡ dependents_of gone items)
 

@@ -17,13 +17,13 @@ missed : {A : Type 0} (b : Bool) (x : A) (o : Option A) → cond b (Some x) o �
 missed true x o e = Prim.cc
 missed false x o e = (refl, e)
 
--- an id that no item has stands nowhere among the ids
+-- an id that no item has isn't among the ids
 pub absent : (id : List ℕ) (items : List (ℕ × Transaction)) → ticket_of id items ≡ None → (k : ℕ) (d : List ℕ) → k < length (map id_of (transactions items)) → get_or (map id_of (transactions items)) k d ≢ id
 absent id [] e k d lt = absurd (omega arith)
 absent id (i ∷ is) e zero d lt = λ same. let h = missed (pointwise nat_eq id (id_of i.1)) i.0 _ e in let k = (bytes_decides id (id_of i.1)).1 (sym same) in let f = h.0 in Prim.cc
 absent id (i ∷ is) e (suc k) d lt = absent id is (missed (pointwise nat_eq id (id_of i.1)) i.0 _ e).1 k d (omega arith)
 
--- ---- what is found under an id
+-- ---- what is found for an id
 
 under_at : (id : List ℕ) (items : List (ℕ × Transaction)) (n : ℕ) (t : Transaction) → Apart (transactions items) → In items (n, t) → id_of t ≡ id → ticket_of id items ≡ Some n
 under_at id [] n t apart there has = absurd there
@@ -38,7 +38,7 @@ none_at : (id : List ℕ) (items : List (ℕ × Transaction)) → AllByRecursion
 none_at id [] a = refl
 none_at id (i ∷ is) a = let other = a.0 in ap (λ (b : Bool). cond b (Some i.0) (ticket_of id is)) (other_bytes id (id_of i.1) (λ e. other (sym e))) ∙ none_at id is a.1
 
--- it is the ticket of the id, where no id stands twice
+-- it is the ticket of the id, if no id occurs twice
 pub found_is : (id : List ℕ) (items : List (ℕ × Transaction)) (found : Option ℕ) → AllPairs (λ a b. a ≢ b) (map id_of (transactions items)) → IfSome found (IsUnder items id) → IfNone found (HasNone items id) → found ≡ ticket_of id items
 found_is id items None distinct some none = sym (none_at id items (recursion_from_All (λ (i : ℕ × Transaction). id_of i.1 ≢ id) items none))
 found_is id items (Some n) distinct some none = sym (under_at id items n some.tx (apart-ids (transactions items) distinct) (in-contains items (n, some.tx) some.there) some.has)

@@ -1,4 +1,4 @@
--- What a step that was prepared says of the transactions after it.
+-- What a prepared step says of the transactions after it.
 use Rattle.std.proofs.Common.{◌≡◌, ℕ, ◌+◌, Bool, cond, List, sym, ap, subst, ◌∙◌, arith}
 use Rattle.std.specs.Prelude.{Ok, Err, nat_le}
 use Rattle.std.specs.FinMap.{get}
@@ -25,7 +25,7 @@ use Rattle.mp_seqpool.proofs.Histories.{not_refused, taken}
 not_itself : (n : ℕ) → n + 1 ≡ n → ⊥
 not_itself n e = omega arith
 
--- what comes last is valid after all of the pool
+-- the last transaction is valid after all of the pool
 pub next_valid : (accepts : Accepts) (p : Pool) (c : Command) (r : Reply) (t : Transaction) → pool_with p t ≡ told p c r → answer accepts p c ≡ Ok r → IsValid all_accepted (unspent p) p.ledger.tick t
 next_valid accepts p (Submit s) r t tells says =
     let pushed = same_from_push p.items p.items (p.last + 1, t) (p.last + 1, s) (ap (λ (q : Pool). q.items) tells) in
@@ -35,7 +35,7 @@ next_valid accepts p (Submit s) r t tells says =
 next_valid accepts p (Remove ids) r t tells says = absurd (not_itself p.last (ap (λ (q : Pool). q.last) tells))
 next_valid accepts p (Sync ledger) r t tells says = absurd (not_itself p.last (ap (λ (q : Pool). q.last) tells))
 
--- ---- what is left upon a ledger state
+-- ---- what remains on a ledger state
 
 module _ (accepts : Accepts) (p : Pool) (rising : IsRising p.items) where
   reply_is : (b : Bool) (r s : Reply) → cond b (Err refusals.HistoryFull) (Ok r) ≡ Ok s → r ≡ s
@@ -63,7 +63,7 @@ module _ (accepts : Accepts) (p : Pool) (rising : IsRising p.items) where
       (subst (λ items. IsChained (pool_upon p ledger items)) (sym (ap (λ q. left_by q p.items) (sym same) ∙ left))
       (chain_unsigned accepts (get ledger.utxo) ledger.tick (transactions (keep accepts ledger all)) (chain-kept accepts (get ledger.utxo) ledger.tick all)))
 
-  -- what the reply leaves is valid in order upon the ledger state that the step leads to
+  -- what the reply leaves is valid in order on the ledger state of the step
   pub left_chained : (c : Command) (r : Reply) (ledger : LedgerState) (items : List (ℕ × Transaction)) → pool_upon p ledger items ≡ told p c r → answer accepts p c ≡ Ok r → IsChained (pool_upon p ledger (left_by r p.items))
   left_chained (Submit t) r ledger items tells says = absurd (not_itself p.last (sym (ap (λ (q : Pool). q.last) tells)))
   left_chained (Remove ids) r ledger items tells says =
@@ -71,7 +71,7 @@ module _ (accepts : Accepts) (p : Pool) (rising : IsRising p.items) where
   left_chained (Sync other) r ledger items tells says =
       chained_upon ledger other p.items r (reply_synced accepts other p) (ap (λ (q : Pool). q.ledger) tells) (synced_is other r says) (left_synced other)
 
--- where items stay upon a ledger state, they are those that the reply leaves
+-- items that stay on a ledger state are those that the reply leaves
 pub told_left : (p : Pool) (c : Command) (r : Reply) (ledger : LedgerState) (items : List (ℕ × Transaction)) → pool_upon p ledger items ≡ told p c r → items ≡ left_by r p.items
 told_left p (Submit t) r ledger items tells = absurd (not_itself p.last (sym (ap (λ (q : Pool). q.last) tells)))
 told_left p (Remove ids) r ledger items tells = ap (λ (q : Pool). q.items) tells

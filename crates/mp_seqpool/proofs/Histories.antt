@@ -1,4 +1,4 @@
--- The pool laws hold of every history.
+-- The pool laws hold for every history.
 use Rattle.std.proofs.Common.{◌≡◌, ◌≢◌, ℕ, zero, suc, ◌+◌, ◌-◌, ◌^◌, ◌<◌, ◌≤◌, Bool, true, false, cond, List, [], ◌∷◌, ◌++◌, take, drop, refl, sym, ap, subst, ◌∙◌, arith}
 use Rattle.std.specs.Prelude.{Option, None, Some, Result, Ok, Err, is_ok, map, All, AllPairs, Contains, nat_le}
 use Rattle.std.specs.List.Sorted.{IsStrictlyIncreasing}
@@ -118,12 +118,12 @@ module _ (accepts : Accepts) where
             (all_pairs_push (λ a b. a ≢ b) (map id_of (transactions p.items)) (id_of t) law.distinct (absent (id_of t) p.items is.0));
       }
 
-  -- ---- the law upon another ledger state
+  -- ---- the law on another ledger state
 
   orderly : (p : Pool) → IsLawful accepts p → IsOrderly p.last p.items
   orderly p law = orderly-of p.last p.items law.rising law.above_zero law.given law.distinct
 
-  -- what is kept of orderly items upon a ledger state
+  -- what is kept of orderly items on a ledger state
   lawful-upon : (p : Pool) (ledger : LedgerState) (items : List (ℕ × Transaction)) → IsOrderly p.last items → IsLawful accepts (pool_upon p ledger (keep accepts ledger items))
   lawful-upon p ledger items is =
       let kept = orderly-kept accepts p.last (get ledger.utxo) ledger.tick items is in
@@ -149,7 +149,7 @@ module _ (accepts : Accepts) where
   next_is : (p : Pool) (c : Command) (a : Result Reply Refusal) → answer accepts p c ≡ a → next accepts p c ≡ cond (is_ok a) (done accepts p c) p
   next_is p c a e = unfold_next p c ∙ ap (λ b. cond (is_ok b) (done accepts p c) p) e
 
-  -- a fact of a state that refusals keep and commands that are done keep
+  -- a fact of a state that refusals and executed commands preserve
   kept : (P : Pool → Type 0) (p : Pool) (c : Command) (a : Result Reply Refusal) → answer accepts p c ≡ a → P p → ((r : Reply) → answer accepts p c ≡ Ok r → P (done accepts p c)) → P (next accepts p c)
   kept P p c (Ok r) e old new = subst P (sym (next_is p c (Ok r) e)) (new r e)
   kept P p c (Err f) e old new = subst P (sym (next_is p c (Err f) e)) old
@@ -204,7 +204,7 @@ module _ (accepts : Accepts) where
   pub lawful-empty : (limit last : ℕ) (ledger : LedgerState) → IsLawful accepts (empty_pool limit last ledger)
   lawful-empty limit last ledger = record { chained = tt; rising = λ k lt. absurd (omega arith); above_zero = λ k d lt. absurd (omega arith); given = λ k d lt. absurd (omega arith); distinct = λ i j d ij lt. absurd (omega arith) }
 
-  -- a refusal that doesn't want memory is the slow pool's
+  -- a refusal other than an allocation failure is the reference pool's
   pub told : (p : Pool) (c : Command) (f : Refusal) → IsRefused accepts p c f → f ≢ refusals.NoMemory → answer accepts p c ≡ Err f
   told p c refusals.NoMemory h is = absurd (is refl)
   told p c _ h is = h
@@ -213,7 +213,7 @@ module _ (accepts : Accepts) where
   pub next-refused : (p : Pool) (c : Command) (f : Refusal) → answer accepts p c ≡ Err f → next accepts p c ≡ p
   next-refused p c f e = next_is p c (Err f) e
 
-  -- every history from an opening with no transaction
+  -- every history from an opening without transactions
   pub obeys-empty : (limit last : ℕ) (ledger : LedgerState) (cs : List Command) → ObeysLaws accepts (empty_pool limit last ledger) cs
   obeys-empty limit last ledger cs = obeys (empty_pool limit last ledger) cs (lawful-empty limit last ledger)
 
@@ -224,6 +224,6 @@ module _ (accepts : Accepts) where
   pub signed-after : (limit last : ℕ) (ledger : LedgerState) (cs : List Command) → AreSigned accepts (pool_after accepts (empty_pool limit last ledger) cs)
   signed-after limit last ledger cs = signed (pool_after accepts (empty_pool limit last ledger) cs) (lawful-after (empty_pool limit last ledger) cs (lawful-empty limit last ledger))
 
-  -- a lawful pool may open anew with what it holds
+  -- a lawful pool may open again with its content
   pub lawful-renewed : (limit : ℕ) (p : Pool) → IsLawful accepts p → IsLawful accepts (renewed limit p)
   lawful-renewed limit p law = record { chained = law.chained; rising = law.rising; above_zero = law.above_zero; given = law.given; distinct = law.distinct }

@@ -54,7 +54,7 @@ no_fault (Some x) e = Prim.cc
 
 -- ---- tickets and ids
 
--- tickets rise from 1 to no more than the last one, and ids differ
+-- tickets are strictly increasing, from 1 to at most the last one, and ids are distinct
 pub record IsOrderly (last : ℕ) (items : List (ℕ × Transaction)) : Type 0 where
   pub rising : AllPairs (λ a b. a.0 < b.0) items
   pub above_zero : All (λ i. 0 < i.0) items

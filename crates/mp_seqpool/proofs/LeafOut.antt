@@ -1,4 +1,4 @@
--- Where a leaf is taken out, all others stay valid.
+-- If a leaf is taken out, all others stay valid.
 use Rattle.std.proofs.Common.{◌≡◌, ◌≢◌, ℕ, zero, suc, ◌<◌, inl, inr, Bool, true, false, cond, List, [], ◌∷◌, ◌++◌, length, get_or, refl, sym, ap, subst, ◌∙◌, arith}
 use Rattle.std.specs.Prelude.{Option, None, Some, IsSome, not, map, nat_eq, slice_get, All, AllPairs, Contains}
 use Rattle.std.specs.Option.{option_or}
@@ -38,14 +38,14 @@ own_by : (b : Bool) (m : Option Output) → IsSome (cond b m None) → b ≡ tru
 own_by true m there = refl
 own_by false m there = absurd (true≢false (sym there))
 
--- it stands under the transaction's id
+-- it is at the transaction's id
 made_id : (t : Transaction) (r : OutRef) → IsSome (output_made t r) → r.id ≡ id_of t
 made_id t r there = (bytes_decides r.id (id_of t)).0 (own_by (pointwise nat_eq r.id (id_of t)) (slice_get t.outputs r.index) there)
 
 not_made : (t : Transaction) (r : OutRef) → (r.id ≡ id_of t → ⊥) → output_made t r ≡ None
 not_made t r other = ap (λ b. cond b (slice_get t.outputs r.index) None) (unlike r.id (id_of t) other)
 
--- one with another id doesn't make it too
+-- a transaction with another id doesn't make it too
 made_once : (t y : Transaction) (r : OutRef) → id_of y ≢ id_of t → IsSome (output_made t r) → output_made y r ≡ None
 made_once t y r other there = not_made y r (λ e. other (sym e ∙ made_id t r there))
 
@@ -58,13 +58,13 @@ own_made : (t : Transaction) (k : ℕ) → k < length t.outputs → IsSome (outp
 own_made t k lt =
     subst IsSome (sym (ap (λ b. cond b (slice_get t.outputs k) None) ((bytes_decides (id_of t) (id_of t)).1 refl))) (there_within t.outputs k lt)
 
--- ---- what may be spent after a transaction
+-- ---- what can be spent after a transaction
 
 -- what it spends and doesn't make is gone
 pub spent_gone : (t : Transaction) (u : Unspent) (r : OutRef) → output_made t r ≡ None → spends t.inputs r ≡ true → apply t u r ≡ None
 spent_gone t u r unmade spent = ap (λ m. option_or m (cond (spends t.inputs r) None (u r))) unmade ∙ ap (λ b. cond b None (u r)) spent
 
--- what it neither spends nor makes is as it was
+-- what it neither spends nor makes doesn't change
 pub passed_by : (t : Transaction) (u : Unspent) (r : OutRef) → output_made t r ≡ None → spends t.inputs r ≡ false → apply t u r ≡ u r
 passed_by t u r unmade unspent = ap (λ m. option_or m (cond (spends t.inputs r) None (u r))) unmade ∙ ap (λ b. cond b None (u r)) unspent
 
@@ -80,7 +80,7 @@ gone_after : (ts : List Transaction) (u : Unspent) (r : OutRef) → AllByRecursi
 gone_after [] u r unmade none = none
 gone_after (t ∷ ts) u r unmade none = gone_after ts (apply t u) r unmade.1 (still_gone t u r unmade.0 none)
 
--- what is there after the same transactions is told by what was there before
+-- what is there after the same transactions depends only on what was there before
 after_same : (ts : List Transaction) (u v : Unspent) (r : OutRef) → u r ≡ v r → after u ts r ≡ after v ts r
 after_same [] u v r e = e
 after_same (t ∷ ts) u v r e = after_same ts (apply t u) (apply t v) r (ap (λ o. option_or (output_made t r) (cond (spends t.inputs r) None o)) e)
@@ -119,7 +119,7 @@ AllPairs-across R [] ys pairs = tt
 AllPairs-across R (x ∷ xs) ys pairs =
     (All-behind (R x) xs ys (AllPairs-head R x (xs ++ ys) pairs), AllPairs-across R xs ys (AllPairs-tail R x (xs ++ ys) pairs))
 
--- the list is cut at one of its elements
+-- the list, split at one of its elements
 record IsCutAt {A : Type 0} (x : A) (all : List A) : Type 0 where
   front : List A
   back : List A
@@ -135,18 +135,18 @@ cut_at x (y ∷ ys) (suc k) lt e =
 abbrev pub Differ : Transaction → Transaction → Type 0
 Differ a b = id_of a ≢ id_of b
 
--- ---- behind the leaf
+-- ---- after the leaf
 
 module _ (accepts : Accepts) (tick : ℕ) (t : Transaction) where
-  -- What may be spent so far is u, and v where the leaf was taken out; these are left.
+  -- u is what can be spent so far, and v without the leaf; these remain.
   record Stands (u v : Unspent) (ys : List Transaction) : Type 0 where
     chain : Chain accepts u tick ys
-    -- they differ at what the leaf spends and makes alone
+    -- they differ only in what the leaf spends and makes
     same : (r : OutRef) → output_made t r ≡ None → spends t.inputs r ≡ false → u r ≡ v r
     -- what it spends is gone, and none makes it again
     gone : (r : OutRef) → spends t.inputs r ≡ true → u r ≡ None
     unmade : (r : OutRef) → spends t.inputs r ≡ true → AllByRecursion (λ y. output_made y r ≡ None) ys
-    -- none has its id, looks at what it makes or spends that
+    -- none has its id, reads what it makes, or spends what it spends
     alone : AllByRecursion (Differ t) ys
     apart : AllByRecursion (LooksPast t) ys
     unspent : (r : OutRef) → IsSome (output_made t r) → IsSome (after u ys r)
@@ -159,7 +159,7 @@ module _ (accepts : Accepts) (tick : ℕ) (t : Transaction) where
     found_alike r there unmade =
         s.same r unmade (false_from_ne_true (spends t.inputs r) (λ e. none_there (u r) (s.gone r e) there))
 
-    -- what it spends wasn't made by the leaf
+    -- the leaf didn't make what it spends
     spends_past : (r : OutRef) → spends y.inputs r ≡ true → output_made t r ≡ None
     spends_past r e = none_from (output_made t r) (λ there.
         none_there (after (apply y u) ys r)
@@ -168,7 +168,7 @@ module _ (accepts : Accepts) (tick : ℕ) (t : Transaction) where
         (spent_gone y u r (made_once t y r (other y s.alone.0) there) e))
         (s.unspent r there))
 
-    -- what it makes was neither spent nor made by the leaf
+    -- the leaf neither spent nor made what it makes
     makes_past : (k : ℕ) → k < length y.outputs → u (own_ref y k) ≡ v (own_ref y k)
     makes_past k lt =
         let r : OutRef = own_ref y k in
@@ -204,7 +204,7 @@ module _ (accepts : Accepts) (tick : ℕ) (t : Transaction) where
 
   -- ---- from the ledger on
 
-  -- a chain without one of its transactions, where those behind it stay valid
+  -- a chain without one of its transactions, if those after it stay valid
   without_one : (xs ys : List Transaction) (u : Unspent) → Chain accepts u tick (xs ++ t ∷ ys)
       → (IsValid accepts (after u xs) tick t → Chain accepts (apply t (after u xs)) tick ys → Chain accepts (after u xs) tick ys)
       → Chain accepts u tick (xs ++ ys)
@@ -220,19 +220,19 @@ module _ (accepts : Accepts) (tick : ℕ) (t : Transaction) (u : Unspent) (xs ys
     across : AllByRecursion (λ x. All (Differ x) (t ∷ ys)) xs
     across = AllPairs-across Differ xs (t ∷ ys) distinct
 
-    -- what one with an id of its own makes isn't there before it, where the ledger doesn't have it
+    -- what a transaction with an id of its own makes isn't there before it, if the ledger doesn't have it
     not_yet : (y : Transaction) (r : OutRef) → AllByRecursion (λ x. Differ x y) xs → IsSome (output_made y r) → u r ≡ None → after u xs r ≡ None
     not_yet y r differ there none =
         gone_after xs u r (weaker (λ x. Differ x y) (λ x. output_made x r ≡ None) (λ x d. made_once y x r d there) xs differ) none
 
-    -- so the leaf spends nothing that it makes
+    -- so the leaf spends nothing of what it makes
     own_unmade : (r : OutRef) → spends t.inputs r ≡ true → output_made t r ≡ None
     own_unmade r e = none_from (output_made t r) (λ there.
         none_there (after u xs r)
         (not_yet t r (weaker (λ x. All (Differ x) (t ∷ ys)) (λ x. Differ x t) (λ x a. All-head (Differ x) t ys a) xs across) there (leaf.new r there))
         (fed r e))
 
-    -- and none behind it makes what it spends
+    -- and none after it makes what it spends
     unmade_by : (r : OutRef) → IsOfOne u (xs ++ t ∷ ys) r → spends t.inputs r ≡ true → All (λ y. output_made y r ≡ None) ys
     unmade_by r (inl none) e = All-tail (λ y. output_made y r ≡ None) t ys (All-behind (λ y. output_made y r ≡ None) xs (t ∷ ys) none)
     unmade_by r (inr none) e = λ k d lt.

@@ -25,7 +25,7 @@ Items = List (ℕ × ValidatedTx)
 
 -- ---- one item
 
--- the list is cut at the item under the ticket
+-- the list, split at the item of the ticket
 pub record IsCut {T : Type 0} (t : ℕ) (item : T) (items : List (ℕ × T)) : Type 0 where
   pub front : List (ℕ × T)
   pub back : List (ℕ × T)
@@ -61,7 +61,7 @@ none_there (x ∷ xs) t e = elim (x.0 == t) as (λ (b : Bool). (x.0 == t) ≡ b 
   | false ↦ λ h e. (h, none_there xs t e)
 ] refl e
 
--- where there is none, nothing is taken out
+-- if there is none, nothing is taken out
 pub nothing : {T : Type 0} (items : List (ℕ × T)) (t : ℕ) → item_at items t ≡ None → without items t ≡ items
 nothing items t e = without-none t items (none_there items t e)
 
@@ -85,7 +85,7 @@ bytes_cut front e back =
     ∙ sums (transactions fs) (transactions bs) e.1.tx
     ∙ sym (ap (sum_by size_of) (ap transactions (ticketed-cut front e back) ∙ transactions-joined fs ((e.0, e.1.tx) ∷ bs)))
 
--- which items are left by a test of tickets makes no difference to what is seen of them
+-- a test of tickets commutes with the view of the items
 filtered : (p : ℕ → Bool) (items : Items) → ticketed (filter (λ e. p e.0) items) ≡ filter (λ i. p i.0) (ticketed items)
 filtered p [] = refl
 filtered p (x ∷ xs) = elim (p x.0) as (λ (b : Bool). ticketed (cond b (x ∷ filter (λ e. p e.0) xs) (filter (λ e. p e.0) xs)) ≡ cond b ((x.0, x.1.tx) ∷ filter (λ i. p i.0) (ticketed xs)) (filter (λ i. p i.0) (ticketed xs))) [
@@ -125,7 +125,7 @@ swapped a b = elim (a == b) as (λ (v : Bool). (a == b) ≡ v → v ≡ (b == a)
   | false ↦ λ h. sym (ne_eqb b a (λ e. absurd (let f = sym h ∙ eq-eqb a b (sym e) in Prim.cc)))
 ] refl
 
--- the items without those under these tickets
+-- the items without those with these tickets
 abbrev pub less : {T : Type 0} → List ℕ → List (ℕ × T) → List (ℕ × T)
 less gone items = filter (λ e. not (has_ticket gone e.0)) items
 
@@ -165,7 +165,7 @@ goes_on gone i d old now new bytes more lt is known counted so_far = record {
   bytes = chained (bytes_in new) (bytes_in now) (bytes_in old) more bytes counted so_far.bytes;
 }
 
--- ---- what a reply tells
+-- ---- what a reply names
 
 valid_left : (p : ℕ → Bool) (items : Items) → All (λ e. WasValid e.1.tx e.1.resolved) items → All (λ e. WasValid e.1.tx e.1.resolved) (filter (λ e. p e.0) items)
 valid_left p items a = All-filter (λ e. p e.0) (λ (e : ℕ × ValidatedTx). WasValid e.1.tx e.1.resolved) items a

@@ -1,4 +1,4 @@
--- Where leaves are taken out one after another, all others stay valid, and what was a leaf stays one.
+-- If leaves are taken out one after another, all others stay valid, and what was a leaf stays one.
 use Rattle.std.proofs.Common.{◌≡◌, ◌≢◌, ℕ, zero, suc, ◌+◌, ◌<◌, ◌≤◌, Bool, true, false, cond, List, [], ◌∷◌, ◌++◌, length, get_or, take, refl, sym, ap, subst, ◌∙◌, add-one, arith}
 use Rattle.std.specs.Prelude.{Option, None, Some, IfSome, not, map, option_map, nat_eq, All, AllPairs, Contains}
 use Rattle.std.specs.List.Sorted.{IsStrictlyIncreasing}
@@ -37,7 +37,7 @@ Items = List (ℕ × Transaction)
 
 -- ---- one ticket
 
--- what stands under another ticket is still there
+-- the transaction with another ticket is still there
 still_at : (gone : List ℕ) (items : Items) (n : ℕ) → has_ticket gone n ≡ false → item_at (apart gone items) n ≡ item_at items n
 still_at gone [] n out = refl
 still_at gone (i ∷ is) n out =
@@ -51,7 +51,7 @@ pub all_apart : (items : Items) → apart [] items ≡ items
 all_apart [] = refl
 all_apart (i ∷ is) = ap (λ l. i ∷ l) (all_apart is)
 
--- a transaction that stands under the ticket, and all the others
+-- the transaction of the ticket, and all the others
 record StandsAt (n : ℕ) (t : Transaction) (items : Items) : Type 0 where
   there : Contains (transactions items) t
   without_it : transactions (without items n) ≡ others (id_of t) (transactions items)
@@ -87,12 +87,12 @@ other_id id ts s there = λ same.
 -- ---- one ticket after another
 
 module _ (accepts : Accepts) (u : Unspent) (tick : ℕ) (all : Items) where
-  -- of all, these are left
+  -- of all, these remain
   pub record AreLeft (left : Items) : Type 0 where
     pub rising : IsRising left
     pub distinct : AllPairs (λ a b. a ≢ b) (map id_of (transactions left))
     pub chained : Chain accepts u tick (transactions left)
-    -- what was a leaf of all is one of those that are left
+    -- what was a leaf of all is one of the remaining ones
     pub leaves : (s : Transaction) → Contains (transactions left) s → IsLeaf u (transactions all) s → IsLeaf u (transactions left) s
 
   one_less : (left : Items) (n : ℕ) (t : Transaction) → item_at left n ≡ Some t → IsLeaf u (transactions all) t → AreLeft left → AreLeft (without left n)
@@ -177,7 +177,7 @@ module _ (old : Overlay) (items : Items) (gone : List ℕ) (rise : AllPairs (λ 
     at_left : (o : Option Transaction) → item_at items (get_or gone k 0) ≡ o → item_at (apart (take k gone) items) (get_or gone k 0) ≡ o
     at_left o at = still_at (take k gone) items (get_or gone k 0) (not_before all_accepted (get old.ledger.utxo) old.ledger.tick items gone rise k lt) ∙ at
 
-    -- what stands under the next ticket can be taken out
+    -- the transaction of the next ticket can be taken out
     pub next_can_go : (t : Transaction) → item_at items (get_or gone k 0) ≡ Some t → CanGo now t
     next_can_go t at =
         let l = left_after k (omega arith) in
@@ -200,7 +200,7 @@ module _ (old : Overlay) (items : Items) (gone : List ℕ) (rise : AllPairs (λ 
           chained = (left_after (k + 1) (omega arith)).chained;
         }
 
-    -- where nothing stands under it, nothing changes
+    -- if the ticket has none, nothing changes
     pub next_none : item_at items (get_or gone k 0) ≡ None → Lacks old items (take (k + 1) gone) now
     next_none at = record {
       base = lacks.base;
@@ -218,7 +218,7 @@ none_out old items gone has = record {
   chained = subst (λ l. Chain all_accepted (get old.ledger.utxo) old.ledger.tick (transactions l)) (sym (all_apart items)) has.chained;
 }
 
--- ---- what the code finds under the next ticket
+-- ---- what the code finds for the next ticket
 
 module _ (old now : Overlay) (items : List (ℕ × ValidatedTx)) (gone told : List ℕ) (k : ℕ) (has : HasLeaves old (ticketed items) gone) (same : told ≡ gone) (rising : IsStrictlyIncreasing told)
     (lt : k < length told) (lacks : Lacks old (ticketed items) (take k gone) now) where

@@ -1,4 +1,4 @@
--- What is left of a pool where some of its transactions go.
+-- What remains of a pool after some of its transactions go.
 use Rattle.std.proofs.Common.{◌≡◌, ℕ, ◌<◌, ◌≤◌, ◌⊎◌, inl, inr, Bool, true, false, cond, List, [], ◌∷◌, refl, sym, ap, subst, ◌∙◌, arith}
 use Rattle.std.specs.Prelude.{not, ◌||◌, nat_le, Result, Ok, Err, is_ok, All, if◌then◌else◌}
 use Rattle.std.specs.List.{filter, AllByRecursion}
@@ -92,7 +92,7 @@ pub rising_ticketed : (low : ℕ) (items : List (ℕ × ValidatedTx)) → IsRisi
 rising_ticketed low [] r = tt
 rising_ticketed low (e ∷ es) r = (r.0, rising_ticketed e.0 es r.1)
 
--- where nothing is named, nothing goes
+-- if nothing is named, nothing goes
 pub none_named : (items : List (ℕ × Transaction)) → unnamed [] items ≡ items
 none_named [] = refl
 none_named (i ∷ is) = ap (λ l. i ∷ l) (none_named is)
@@ -111,7 +111,7 @@ unfolding yes
 open_limit b reply e = ap (λ b. cond b (Err refusals.HistoryFull) (Ok reply)) e
 
 module _ (accepts : Accepts) where
-  -- nothing in the pool needs to be looked at again
+  -- nothing in the pool needs to be checked again
   pub vouched : (items : List (ℕ × ValidatedTx)) → All (IsSigned accepts) (transactions (ticketed items)) → All (λ e. WasValid e.1.tx e.1.resolved) items → All (λ e. IsVouched accepts e.1) items
   vouched [] s a = All-nil (λ (e : ℕ × ValidatedTx). IsVouched accepts e.1)
   vouched (e ∷ es) s a =
@@ -144,7 +144,7 @@ module _ (accepts : Accepts) where
       ∙ ap (λ ts. apart ts (unnamed [] items)) is.dropped
       ∙ apart_dropped accepts (get ledger.utxo) ledger.tick 0 (unnamed [] items) (rising_unnamed 0 [] items rising)
 
-  -- what a step of keeping leads to
+  -- the state to which a step of keeping leads
   leads_left : (p : Pool) (ledger : LedgerState) (ids : List (List ℕ)) (k : Kept) (q : Prepared) → IsRising p.items → IsKeptOf accepts ledger p.items ids k → q.effect ≡ Keep k.overlay k.kept
       → leads_to p q ≡ pool_upon p ledger (keep accepts ledger (unnamed ids p.items))
   leads_left p ledger ids k q rising is keeps =
@@ -172,7 +172,7 @@ module _ (accepts : Accepts) where
   synced p ledger k below is =
       synced_as p ledger k.kept k.dropped below (is.kept ∙ ap (λ items. tickets (keep accepts ledger items)) (none_named p.items)) (is.dropped ∙ ap (dropped accepts ledger) (none_named p.items))
 
-  -- the step of a remove that nothing refuses
+  -- the step of a remove that isn't refused
   pub ready_removed : (h : Holding) (ids : List (List ℕ)) (k : Kept) (q : Prepared) → h.pool.changes < h.pool.limit → IsRising h.pool.items → IsKeptOf accepts h.pool.ledger h.pool.items ids k
       → q.command ≡ Remove ids → q.reply ≡ Removed k.named k.dropped → q.effect ≡ Keep k.overlay k.kept → Prepares accepts h (Remove ids) q
   ready_removed h ids k q change rising is command reply keeps =
@@ -192,7 +192,7 @@ module _ (accepts : Accepts) where
         };
       }
 
-  -- the step of a sync that nothing refuses
+  -- the step of a sync that isn't refused
   pub ready_synced : (h : Holding) (ledger : LedgerState) (k : Kept) (q : Prepared) → h.pool.changes < h.pool.limit → IsRising h.pool.items → IsKeptOf accepts ledger h.pool.items [] k
       → q.command ≡ Sync ledger → q.reply ≡ Synced k.kept k.dropped → q.effect ≡ Keep k.overlay k.kept → Prepares accepts h (Sync ledger) q
   ready_synced h ledger k q change rising is command reply keeps =

@@ -1,4 +1,4 @@
--- Items one after the other, and where a cursor stands behind them.
+-- Items one after the other, and the cursor after them.
 use Rattle.std.proofs.Common.{◌≡◌, ℕ, List, [], ◌∷◌, ◌++◌, refl}
 use Rattle.std.proofs.lemmas.List.{map-append}
 use Rattle.mp_tx.specs.Transaction.{Transaction}

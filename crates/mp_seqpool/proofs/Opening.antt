@@ -1,4 +1,4 @@
--- A pool with no item.
+-- A pool without items.
 use Rattle.std.proofs.Common.{◌≡◌, ℕ, List, [], ap, ◌∙◌}
 use Rattle.mp_tx.specs.Ledger.{LedgerState}
 use Rattle.mp_resync.specs.ValidatedTx.{ValidatedTx, ticketed}

@@ -1,4 +1,4 @@
--- What a pool keeps beside where some of its items went.
+-- What a pool stores in addition to its state, after some of its items are gone.
 use Rattle.std.proofs.Common.{◌≡◌, ℕ, ◌+◌, ◌-◌, ◌^◌, ◌<◌, ◌≤◌, sym, ap, subst, ◌∙◌, arith}
 use Rattle.std.specs.Prelude.{All}
 use Rattle.std.specs.FinMap.{get}
@@ -22,7 +22,7 @@ less old new gone most h e = omega arith
 one_more : (n new limit : ℕ) → n < limit → new ≡ n + 1 → new ≤ limit
 one_more n new limit lt e = omega arith
 
--- it is right where they left as the reply tells, and the overlay has what stayed
+-- it is right if they left as the reply says, and the overlay has what stayed
 pub recounted : (was new : Inside) (reply : Reply) (gone : ℕ) → new.config ≡ was.config → new.last ≡ was.last → HasApplied new.overlay (left_by reply (ticketed was.items))
     → Leaves reply was.items new.items gone → new.bytes ≡ was.bytes - gone → new.changes ≡ was.changes + 1 → was.changes < was.config.limit
     → IsChained (pool_upon (state was) new.overlay.ledger (left_by reply (ticketed was.items))) → IsCounted was → IsCounted new

@@ -67,14 +67,14 @@ itself n = omega arith
 below_next : (k n : ℕ) → k ≤ n → k < n + 1
 below_next k n le = omega arith
 
--- no ticket is above the last one, so each is below the next
+-- no ticket is greater than the last one, so each is below the next
 pub all_below : (n : ℕ) (items : List (ℕ × ValidatedTx)) → All (λ k. k ≤ n) (tickets (ticketed items)) → All (λ e. e.0 < n + 1) items
 all_below n [] h = All-nil (λ (e : ℕ × ValidatedTx). e.0 < n + 1)
 all_below n (e ∷ es) h =
     All-cons (λ (e : ℕ × ValidatedTx). e.0 < n + 1) e es (below_next e.0 n (All-head (λ k. k ≤ n) e.0 (tickets (ticketed es)) h))
     (all_below n es (All-tail (λ k. k ≤ n) e.0 (tickets (ticketed es)) h))
 
--- what the pool keeps beside is right with one more transaction too
+-- the other stored values are also right with one more transaction
 pub counted : (was new : Inside) (item : ValidatedTx) → new.config ≡ was.config → new.overlay.ledger ≡ was.overlay.ledger → new.overlay.applied ≡ was.overlay.applied ++ item.tx ∷ [] → new.overlay.items ≡ was.overlay.items ++ (was.last + 1, item.tx) ∷ []
     → new.items ≡ was.items ++ (was.last + 1, item) ∷ [] → new.last ≡ was.last + 1 → new.bytes ≡ was.bytes + size_of item.tx → new.changes ≡ was.changes + 1
     → ticket_of (id_of item.tx) (ticketed was.items) ≡ None → HasPlace (state was) item.tx → WasValid item.tx item.resolved → IsValid all_accepted (unspent (state was)) was.overlay.ledger.tick item.tx → IsCounted was → IsCounted new
@@ -105,7 +105,7 @@ counted was new item config base applied under is last bytes changes absent_ther
           (tickets-last (λ k. k ≤ was.last + 1) (ticketed was.items) (was.last + 1) t (λ k d lt. one_higher was.last _ (law.given k d lt)) (itself (was.last + 1))));
     }
 
--- ---- where there is a place
+-- ---- if there is a place
 
 open_test : (b : Bool) (f : Refusal) (o : Option Refusal) → cond b (Some f) o ≡ None → o ≡ None
 open_test true f o e = Prim.cc
@@ -115,22 +115,22 @@ unknown : (p : Pool) (t : Transaction) (o : Option ℕ) → new_misplaced p t o 
 unknown p t None e = refl
 unknown p t (Some ticket) e = Prim.cc
 
--- where there is a place, no transaction of the pool has its id
+-- if there is a place, no transaction of the pool has the id
 pub absent : (p : Pool) (t : Transaction) → misplaced p t ≡ None → ticket_of (id_of t) p.items ≡ None
 unfolding misplaced
 absent p t e = unknown p t (ticket_of (id_of t) p.items) (open_test (nat_le (2 ^ 64 - 1) p.last) refusals.TicketsSpent _ (open_test (nat_le p.limit p.changes) refusals.HistoryFull _ e))
 
 module _ (accepts : Accepts) where
-  -- where a submit is accepted, the state after it has the transaction last
+  -- if a submit is accepted, the transaction is the last one of the state after it
   pub next-accepted : (p : Pool) (t : Transaction) (r : Reply) → answer accepts p (Submit t) ≡ Ok r → next accepts p (Submit t) ≡ pool_with p t
   unfolding next
   next-accepted p t r e = ap (λ a. cond (is_ok a) (pool_with p t) p) e
 
-  -- what the rules say where there is a place for the transaction
+  -- what the rules say if there is a place for the transaction
   abbrev by_rules : Pool → Transaction → Result Reply Refusal
   by_rules p t = answer_rules p t (first_fault accepts (unspent p) p.ledger.tick t)
 
-  -- the answer where this is why there is no place
+  -- the answer, given the reason why there is no place
   abbrev with_place : Pool → Transaction → Option Refusal → Result Reply Refusal
   with_place p t None = by_rules p t
   with_place p t (Some refusal) = Err refusal
@@ -149,22 +149,22 @@ module _ (accepts : Accepts) where
       pushed_in p t (nat_le p.limit p.changes) refusals.HistoryFull _ _
       (pushed_in p t (nat_le (2 ^ 64 - 1) p.last) refusals.TicketsSpent _ _ (new_placed p t (ticket_of (id_of t) p.items)))
 
-  -- where there is no place, that is the refusal
+  -- if there is no place, that is the refusal
   pub refused-misplaced : (p : Pool) (t : Transaction) (f : Refusal) → misplaced p t ≡ Some f → IsRefused accepts p (Submit t) f
   refused-misplaced p t refusals.NoMemory e = tt
   refused-misplaced p t _ e = placed p t ∙ ap (with_place p t) e
 
-  -- where there is a place, a broken rule is the refusal
+  -- if there is a place, a broken rule is the refusal
   pub refused-broken : (p : Pool) (t : Transaction) (f : Refusal) → misplaced p t ≡ None → IsBrokenRule accepts p t f → IsRefused accepts p (Submit t) f
   refused-broken p t refusals.NoMemory e is = tt
   refused-broken p t (refusals.Invalid fault) e is = placed p t ∙ ap (with_place p t) e ∙ ap (answer_rules p t) is
   refused-broken p t _ e is = absurd is
 
-  -- where there is a place and no rule is broken, it is accepted
+  -- if there is a place and no rule is broken, it is accepted
   pub accepted : (p : Pool) (t : Transaction) → misplaced p t ≡ None → first_fault accepts (unspent p) p.ledger.tick t ≡ None → answer accepts p (Submit t) ≡ Ok (Accepted (p.last + 1))
   accepted p t e clear = placed p t ∙ ap (with_place p t) e ∙ ap (answer_rules p t) clear
 
-  -- the step of a submit that nothing refuses
+  -- the step of a submit that isn't refused
   pub ready : (was : Pool) (h : Holding) (t : Transaction) (resolved : Resolved) (q : Prepared) → h.pool ≡ was → misplaced was t ≡ None → first_fault accepts (unspent was) was.ledger.tick t ≡ None
       → q.command ≡ Submit t → q.reply ≡ Accepted (was.last + 1) → q.effect ≡ Append (record { tx = t; resolved = resolved }) → HasRoom h q → Prepares accepts h (Submit t) q
   ready was h t resolved q same place clear command reply effect room =

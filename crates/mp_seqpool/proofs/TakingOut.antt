@@ -26,7 +26,7 @@ use Rattle.mp_seqpool.proofs.Left.{rising_ticketed, within, removed_as, yes_next
 use Rattle.mp_seqpool.proofs.LeavesOut.{all_apart, all_out}
 use Rattle.mp_seqpool.proofs.TicketsNamed.{named_rise}
 
--- the step of a remove of leaves that nothing refuses
+-- the step of a remove of leaves that isn't refused
 pub ready_taken_out : (accepts : Accepts) (h : Holding) (ids : List (List ℕ)) (q : Prepared) → h.pool.changes < h.pool.limit → IsRising h.pool.items
     → AllPairs (λ a b. a ≢ b) (map id_of (transactions h.pool.items)) → IsChained h.pool → AreSigned accepts h.pool → TakesNamed h.pool ids q → Prepares accepts h (Remove ids) q
 ready_taken_out accepts h ids q change rising distinct chained signed takes =
@@ -56,7 +56,7 @@ ready_taken_out accepts h ids q change rising distinct chained signed takes =
       };
     }
 
--- the overlay has the pool's transactions, and what is named is its leaves
+-- the overlay has the pool's transactions, and the named ones are leaves
 pub has_leaves : (was : Inside) (gone : List ℕ) → All (IsLeafAt (state was)) gone → IsCounted was → HasLeaves was.overlay (ticketed was.items) gone
 has_leaves was gone leaves law = record {
   applied = law.applied;
@@ -67,7 +67,7 @@ has_leaves was gone leaves law = record {
   leaves = leaves;
 }
 
--- what the overlay has without them is what the reply leaves, and that is chained
+-- what the overlay has without them is what the reply leaves, and it is chained
 pub lacking_leaves : (was : Inside) (overlay : Overlay) (gone : List ℕ) (reply : Reply) → Lacks was.overlay (ticketed was.items) gone overlay → apart gone (ticketed was.items) ≡ left_by reply (ticketed was.items)
     → HasApplied overlay (left_by reply (ticketed was.items)) × IsChained (pool_upon (state was) overlay.ledger (left_by reply (ticketed was.items)))
 lacking_leaves was overlay gone reply lacks left = (

@@ -1,4 +1,4 @@
--- The tickets of ids, in order and each once, are those of the items with these ids.
+-- The tickets of ids, in order and without repetitions, are those of the items with these ids.
 use Rattle.std.proofs.Common.{◌≡◌, ◌≢◌, ℕ, ◌<◌, ◌≤◌, Bool, true, false, cond, ◌||◌, ◌+◌, List, [], ◌∷◌, ◌++◌, length, get_or, take, inl, inr, refl, sym, ap, subst, ◌∙◌, eqb, arith}
 use Rattle.std.specs.Prelude.{Option, None, Some, map, nat_eq, All, AllPairs, Contains}
 use Rattle.std.specs.List.{AllByRecursion, filter_map, cons_option, dedup}
@@ -38,7 +38,7 @@ same_test : (a b : Bool) → (a ≡ true → b ≡ true) → (b ≡ true → a �
 same_test true b f g = sym (f refl)
 same_test false b f g = sym (false_from_ne_true b (λ e. true≢false (sym (g e))))
 
--- ---- rising lists that have the same tickets
+-- ---- strictly increasing lists with the same tickets
 
 least : (n m : ℕ) (ns : List ℕ) → Rise (n ∷ ns) → has_ticket (n ∷ ns) m ≡ true → n ≤ m
 least n m ns rise has = elim (or_cases (nat_eq n m) (has_ticket ns m) has) [
@@ -53,7 +53,7 @@ least n m ns rise has = elim (or_cases (nat_eq n m) (has_ticket ns m) has) [
 has_first : (n : ℕ) (ns : List ℕ) → has_ticket (n ∷ ns) n ≡ true
 has_first n ns = ap (λ b. b || has_ticket ns n) (eq-eqb n n refl)
 
--- among greater ones it isn't
+-- it isn't among greater ones
 has_none : (n m : ℕ) (ns : List ℕ) → Rise (n ∷ ns) → m ≤ n → has_ticket ns m ≡ false
 has_none n m ns rise le =
     not_among m ns (weaker (λ k. n < k) (λ k. m < k) (λ k lt. omega arith) ns (recursion_from_All (λ k. n < k) ns (AllPairs-head (λ a b. a < b) n ns rise)))
@@ -78,7 +78,7 @@ same_rising (x ∷ xs) (y ∷ ys) up too same =
     let rest = same_rising xs ys (AllPairs-tail (λ a b. a < b) x xs up) (AllPairs-tail (λ a b. a < b) y ys too) (same_rest x y xs ys up too first same) in
     ap (λ n. n ∷ xs) first ∙ ap (λ l. y ∷ l) rest
 
--- those before a place are lower than what stands there
+-- those before an index are less than the one there
 pub below_next : (xs : List ℕ) (k : ℕ) (so_far : List ℕ) → IsStrictlyIncreasing xs → k < length xs → so_far ≡ take k xs → All (λ n. n < get_or xs k 0) so_far
 below_next xs k so_far rise lt is =
     subst (All (λ n. n < get_or xs k 0)) (sym is) (λ j d within.
@@ -124,7 +124,7 @@ none_named (i ∷ is) = none_named is
 
 -- ---- one id
 
--- one id names a transaction where that has it
+-- one id names exactly the transactions that have it
 named_by : (id : List ℕ) (t : Transaction) → is_named (id ∷ []) t ≡ pointwise nat_eq (id_of t) id
 named_by id t = or_nothing (pointwise nat_eq (id_of t) id)
 
@@ -135,13 +135,13 @@ others_named id (i ∷ is) differ =
     ap (λ b. cond b (i ∷ named (id ∷ []) is) (named (id ∷ []) is)) (named_by id i.1 ∙ unlike (id_of i.1) id (λ e. other (sym e)))
     ∙ others_named id is differ.1
 
--- where no item has it, it names none
+-- if no item has it, it names none
 unknown_named : (id : List ℕ) (items : Items) → ticket_of id items ≡ None → named (id ∷ []) items ≡ []
 unknown_named id items none =
     let ids = map id_of (transactions items) in
     others_named id items (recursion_from_All (λ other. id ≢ other) ids (λ k d lt. λ e. absent id items none k d lt (sym e)))
 
--- the ticket under the id is that of the first with it, and the only one
+-- the ticket of the id is that of the first item with it, and the only one
 known_named : (id : List ℕ) (items : Items) (ticket : ℕ) → AllPairs (λ a b. a ≢ b) (map id_of (transactions items)) → ticket_of id items ≡ Some ticket → tickets (named (id ∷ []) items) ≡ ticket ∷ []
 known_named id [] ticket distinct under = absurd (let f = under in Prim.cc)
 known_named id (i ∷ is) ticket distinct under = elim (pointwise nat_eq id (id_of i.1)) as (λ b. pointwise nat_eq id (id_of i.1) ≡ b → cond b (Some i.0) (ticket_of id is) ≡ Some ticket → tickets (named (id ∷ []) (i ∷ is)) ≡ ticket ∷ []) [
@@ -174,7 +174,7 @@ module _ (items : Items) (distinct : AllPairs (λ a b. a ≢ b) (map id_of (tran
       ∙ ap (λ b. has_ticket (tickets (named (id ∷ []) items)) n || b) (found_named ids n)
       ∙ sym (has_either id ids items n)
 
--- ---- in order, each once
+-- ---- in order, without repetitions
 
 contained : (xs : List ℕ) (n : ℕ) → has_ticket xs n ≡ true → Contains xs n
 contained xs n has =

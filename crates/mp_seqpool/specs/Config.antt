@@ -1,4 +1,4 @@
--- The pool that a configuration sets up.
+-- The pool that a configuration opens.
 use Rattle.std.specs.Prelude.{ℕ}
 use Rattle.mp_tx.specs.Ledger.{LedgerState}
 use Rattle.mp_seqpool.specs.declared.config.Config.{Config}
@@ -9,6 +9,6 @@ use Rattle.mp_seqpool.specs.SlowPool.{empty_pool}
 abbrev pub fresh_pool : Config → LedgerState → Pool
 fresh_pool config ledger = empty_pool config.limit config.last ledger
 
--- the pool as one that opens with what it holds: no change was made, and so many there may be
+-- the pool as a new one with the same content: no change has been made, and this is the limit
 abbrev pub renewed : ℕ → Pool → Pool
 renewed limit p = record p { changes = 0; limit = limit; opening_ticket = p.last }

@@ -1,4 +1,4 @@
--- An item without the share that its transaction is held by.
+-- An item without the share of its transaction.
 use Rattle.std.specs.Prelude.{ℕ, List, map}
 use Rattle.std.specs.Arc.{arc_value}
 use Rattle.std.specs.Borrow.{Bor}
@@ -11,6 +11,6 @@ item_of i = (i.ticket, arc_value i.tx)
 abbrev pub items_of : List Item → List (ℕ × Transaction)
 items_of items = map item_of items
 
--- what a `&` to an item shows
+-- what contracts see of a `&` to an item
 abbrev pub shown : Bor Item → ℕ × Transaction
 shown i = item_of i.now

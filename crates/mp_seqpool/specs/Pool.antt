@@ -9,16 +9,16 @@ pub record Pool : Type 0 where
   pub ledger : LedgerState
   -- the transactions with their tickets, oldest first
   pub items : List (ℕ × Transaction)
-  -- the last ticket that was given
+  -- the last ticket that the pool gave
   pub last : ℕ
-  -- how many changes were made
+  -- the number of changes that were made
   pub changes : ℕ
-  -- how many changes there may be
+  -- the greatest number of changes
   pub limit : ℕ
-  -- the last ticket at the opening
+  -- the last ticket when the pool opened
   pub opening_ticket : ℕ
 
--- A pool with the room that it has: a step that was prepared needs it.
+-- A pool with the room in its tables, which a prepared step needs.
 pub record Holding : Type 0 where
   pub pool : Pool
   pub room : Room

@@ -1,4 +1,4 @@
--- What holds of every state of a pool, and of the states of one history.
+-- The laws of every state of a pool, and of the states of one history.
 use Rattle.std.specs.Prelude.{◌≡◌, ◌≢◌, ℕ, ◌+◌, ◌<◌, ◌≤◌, List, map, take, All, AllPairs, Contains, Ok}
 use Rattle.std.specs.List.Sorted.{IsStrictlyIncreasing}
 use Rattle.std.specs.FinMap.{get}
@@ -11,11 +11,11 @@ use Rattle.mp_resync.specs.Keep.{transactions, tickets}
 use Rattle.mp_seqpool.specs.Pool.{Pool}
 use Rattle.mp_seqpool.specs.SlowPool.{answer, next, pool_after}
 
--- Two states, p and a later one.
+-- Two states, p and a later one, q.
 pub record Lasts (p q : Pool) : Type 0 where
-  -- the last ticket doesn't fall
+  -- the last ticket doesn't decrease
   pub last : p.last ≤ q.last
-  -- what q has under a ticket that p had given stood in p under that ticket
+  -- every item of q with a ticket that p had already given is an item of p
   pub kept : All (λ i. i.0 ≤ p.last → Contains p.items i) q.items
 
 -- The verifier decides which signatures are good.
@@ -24,16 +24,16 @@ module _ (accepts : Accepts) where
   pub record IsLawful (p : Pool) : Type 0 where
     -- each transaction is valid on the ledger after all before it
     pub chained : Chain accepts (get p.ledger.utxo) p.ledger.tick (transactions p.items)
-    -- tickets rise
+    -- tickets are strictly increasing
     pub rising : IsStrictlyIncreasing (tickets p.items)
     -- no ticket is 0
     pub above_zero : All (λ k. 0 < k) (tickets p.items)
-    -- no ticket is above the last one
+    -- no ticket is greater than the last one
     pub given : All (λ k. k ≤ p.last) (tickets p.items)
-    -- ids differ
+    -- ids are distinct
     pub distinct : AllPairs (λ a b. a ≢ b) (map id_of (transactions p.items))
 
-  -- One command: a ticket that is given is one more than the last one, and is the last one then.
+  -- One command: a ticket that it gives is the last ticket plus one, and becomes the last ticket.
   abbrev pub GivesNext : Pool → Command → Type 0
   GivesNext p c = (k : ℕ) → answer accepts p c ≡ Ok (Accepted k) → (k ≡ p.last + 1) × ((next accepts p c).last ≡ k)
 
@@ -41,8 +41,8 @@ module _ (accepts : Accepts) where
   pub record ObeysLaws (p : Pool) (cs : List Command) : Type 0 where
     -- each of them is lawful
     pub lawful : (n : ℕ) → IsLawful (pool_after accepts p (take n cs))
-    -- of each two of them, the later one keeps the earlier one's last ticket, or a greater one, and has under its tickets only what
-    -- stood there
+    -- for any two of them, the last ticket of the later one isn't less, and with tickets that the earlier one had given
+    -- it has only items of the earlier one
     pub lasting : (m n : ℕ) → m ≤ n → Lasts (pool_after accepts p (take m cs)) (pool_after accepts p (take n cs))
-    -- whatever is asked there, a ticket that is given is the next one
+    -- whatever command comes there, a ticket that it gives is the next one
     pub next_ticket : (n : ℕ) (c : Command) → GivesNext (pool_after accepts p (take n cs)) c

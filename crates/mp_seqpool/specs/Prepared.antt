@@ -1,4 +1,4 @@
--- Steps that are ready to be taken.
+-- Prepared steps.
 use Rattle.std.specs.Prelude.{◌≡◌, ℕ, ◌<◌, not, List, All, None, IfSome, Ok}
 use Rattle.std.specs.List.{filter}
 use Rattle.std.specs.FinMap.{get}
@@ -18,15 +18,15 @@ use Rattle.mp_seqpool.specs.Command.{Command, Submit, Remove, Sync}
 use Rattle.mp_seqpool.specs.Pool.{Pool, Holding}
 use Rattle.mp_seqpool.specs.SlowPool.{ticket_of, pool_with, pool_upon, HasPlace, answer, next}
 
--- what a step does to the pool
+-- the effect of a step on the pool
 pub data Effect : Type 0 where
-  -- the transaction comes last, under the next ticket
+  -- the transaction becomes the last one, with the next ticket
   Append : ValidatedTx → Effect
-  -- the transactions under these tickets stay, and are all that is applied upon the ledger state
+  -- the transactions with these tickets stay, and are exactly what is applied to the ledger state
   Keep : Overlay → List ℕ → Effect
-  -- the transactions under these tickets go, and nothing else
+  -- the transactions with these tickets go, and nothing else
   TakeOut : List ℕ → Effect
-  -- so too, and the others stand upon this ledger state
+  -- the same, and the others stay on this ledger state
   Adopt : LedgerState → List ℕ → Effect
 
 pub record Prepared : Type 0 where
@@ -54,24 +54,24 @@ left_by (Accepted ticket) items = items
 left_by (Removed named dropped) items = apart dropped (apart named items)
 left_by (Synced kept dropped) items = apart dropped items
 
--- the state that a command leads to, told by the reply to it
+-- the state to which a command leads, by its reply
 abbrev pub told : Pool → Command → Reply → Pool
 told p (Submit t) reply = pool_with p t
 told p (Remove ids) reply = pool_upon p p.ledger (left_by reply p.items)
 told p (Sync ledger) reply = pool_upon p ledger (left_by reply p.items)
 
--- the pool can take the item in without memory, and without a look at its rules
+-- the pool can add the item without memory, and without a check of its rules
 pub record CanAppend (h : Holding) (item : ValidatedTx) : Type 0 where
   pub place : HasPlace h.pool item.tx
   pub new : ticket_of (id_of item.tx) h.pool.items ≡ None
   pub room : HasRoomFor h.room item.tx
   pub valid : WasValid item.tx item.resolved
 
--- no other transaction of the pool hangs on what stands under the ticket
+-- no other transaction of the pool depends on the one with the ticket
 abbrev pub IsLeafAt : Pool → ℕ → Type 0
 IsLeafAt p ticket = IfSome (item_at p.items ticket) (IsLeaf (get p.ledger.utxo) (transactions p.items))
 
--- these were applied upon the overlay, under their tickets
+-- these were applied to the overlay, with their tickets
 pub record HasApplied (overlay : Overlay) (items : List (ℕ × Transaction)) : Type 0 where
   pub applied : overlay.applied ≡ transactions items
   pub under : overlay.items ≡ items
@@ -82,16 +82,16 @@ CanChange h (Keep overlay kept) = HasApplied overlay (among kept h.pool.items)
 CanChange h (TakeOut gone) = All (IsLeafAt h.pool) gone
 CanChange h (Adopt ledger gone) = All (IsLeafAt h.pool) gone
 
--- The pool has room for the step, whatever the slow pool says of it.
+-- The pool has room for the step, whatever the reference pool says of it.
 pub record HasRoom (h : Holding) (q : Prepared) : Type 0 where
   -- one more change may be made
   pub change : h.pool.changes < h.pool.limit
   pub fits : CanChange h q.effect
-  -- it does what its command and its reply tell
+  -- its effect is that of its command and its reply
   pub tells : leads_to h.pool q ≡ told h.pool q.command q.reply
 
--- The pool can take the step: there is room, and its reply is the slow pool's upon this state. So it is from the call that prepared it
--- until the next one on this pool, and no more where the slow pool would answer otherwise since.
+-- The pool can execute the step: it has room, and the reply is the reference pool's for this state. This holds from the
+-- call that prepared it until the next one on this pool, and no longer if the reference pool's answer changes.
 pub record IsPrepared (h : Holding) (q : Prepared) : Type 0 where
   pub change : h.pool.changes < h.pool.limit
   pub fits : CanChange h q.effect
@@ -100,7 +100,7 @@ pub record IsPrepared (h : Holding) (q : Prepared) : Type 0 where
   pub accepts : Accepts
   pub reply : answer accepts h.pool q.command ≡ Ok q.reply
 
--- The step is the slow pool's: it has the command and the reply to it, and leads to the state after it.
+-- The step is the reference pool's: it has the command and the reply to it, and leads to the state after it.
 pub record Prepares (accepts : Accepts) (h : Holding) (c : Command) (q : Prepared) : Type 0 where
   pub command : q.command ≡ c
   pub reply : answer accepts h.pool c ≡ Ok q.reply

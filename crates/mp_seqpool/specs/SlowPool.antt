@@ -1,5 +1,5 @@
--- The slow pool: a list and a map. It computes everything anew from the ledger at each question.
--- It follows the Mempool API of ouroboros-consensus.
+-- The reference pool: a list and a map. It computes everything from the ledger, at each question. It follows the
+-- Mempool API of ouroboros-consensus.
 use Rattle.std.specs.Prelude.{◌≡◌, ℕ, ◌+◌, ◌*◌, ◌-◌, ◌^◌, ◌<◌, ◌≤◌, nat_eq, nat_le, nat_lt, Bool, List, [], ◌∷◌, ◌++◌, All, Option, None, Some, Result, Ok, Err, is_ok, if◌then◌else◌}
 use Rattle.std.specs.Cmp.Lexicographic.{pointwise}
 use Rattle.std.specs.FinMap.{get}
@@ -19,14 +19,14 @@ use Rattle.mp_seqpool.specs.declared.command.Reply.TheVariants.{Accepted, Remove
 use Rattle.mp_seqpool.specs.Command.{Command, Submit, Remove, Sync}
 use Rattle.mp_seqpool.specs.Pool.{Pool}
 
--- what may be spent after all transactions of the pool
+-- the outputs that can be spent after all transactions of the pool
 abbrev pub unspent : Pool → Unspent
 unspent p = after (get p.ledger.utxo) (transactions p.items)
 
 abbrev pub bytes_held : Pool → ℕ
 bytes_held p = bytes_of p.items
 
--- twice the ledger's block bytes, less the bytes held
+-- twice the ledger's block bytes, less the bytes of the pool
 abbrev pub free_bytes : Pool → ℕ
 free_bytes p = 2 * p.ledger.block_bytes - bytes_held p
 
@@ -35,7 +35,7 @@ abbrev pub ticket_of : List ℕ → List (ℕ × Transaction) → Option ℕ
 ticket_of id [] = None
 ticket_of id (i ∷ is) = if pointwise nat_eq id (id_of i.1) then Some i.0 else ticket_of id is
 
--- as many changes were made as there may be
+-- the number of changes has reached its limit
 abbrev pub is_at_limit : Pool → Bool
 is_at_limit p = nat_le p.limit p.changes
 
@@ -43,11 +43,11 @@ abbrev pub answer_rules : Pool → Transaction → Option Invalid → Result Rep
 answer_rules p t None = Ok (Accepted (p.last + 1))
 answer_rules p t (Some fault) = Err (refusals.Invalid fault)
 
--- the transaction last, under the next ticket
+-- with the transaction as the last one, and the next ticket
 abbrev pub pool_with : Pool → Transaction → Pool
 pool_with p t = record p { items = p.items ++ (p.last + 1, t) ∷ []; last = p.last + 1; changes = p.changes + 1 }
 
--- these items upon this ledger state; the last ticket stays
+-- with these items on this ledger state; the last ticket stays
 abbrev pub pool_upon : Pool → LedgerState → List (ℕ × Transaction) → Pool
 pool_upon p ledger items = record p { ledger = ledger; items = items; changes = p.changes + 1 }
 
@@ -57,7 +57,7 @@ pub record HasPlace (p : Pool) (t : Transaction) : Type 0 where
   pub ticket : p.last < 2 ^ 64 - 1
   -- one more change may be made
   pub change : p.changes < p.limit
-  -- the bytes with it are no more than a pool can hold
+  -- the number of bytes with it is at most the greatest of any pool
   pub bytes : bytes_held p + size_of t ≤ 2 ^ 40
 
 -- the refusal of an answer
@@ -65,7 +65,7 @@ abbrev pub refusal_in : Result Reply Refusal → Option Refusal
 refusal_in (Ok reply) = None
 refusal_in (Err refusal) = Some refusal
 
--- a pool with no transaction
+-- a pool without transactions
 abbrev pub empty_pool : ℕ → ℕ → LedgerState → Pool
 empty_pool limit last ledger = record { ledger = ledger; items = []; last = last; changes = 0; limit = limit; opening_ticket = last }
 
@@ -81,18 +81,18 @@ module _ (accepts : Accepts) where
       else answer_rules p t (first_fault accepts (unspent p) p.ledger.tick t)
   answer_new p t (Some ticket) = Err (refusals.AlreadyInPool ticket)
 
-  -- what stays where those with these ids are taken out, and what goes with them
+  -- what stays after those with these ids and what isn't valid without them are taken out
   abbrev pub left_without : List (List ℕ) → Pool → List (ℕ × Transaction)
   left_without ids p = keep accepts p.ledger (unnamed ids p.items)
 
   abbrev pub reply_removed : List (List ℕ) → Pool → Reply
   reply_removed ids p = Removed (tickets (named ids p.items)) (dropped accepts p.ledger (unnamed ids p.items))
 
-  -- what stays upon another ledger state
+  -- what stays on another ledger state
   abbrev pub reply_synced : LedgerState → Pool → Reply
   reply_synced ledger p = Synced (tickets (keep accepts ledger p.items)) (dropped accepts ledger p.items)
 
-  -- the reply to a command, or the first refusal that holds
+  -- the reply to a command, or its first refusal
   unfoldable pub answer : Pool → Command → Result Reply Refusal
   answer p (Submit t) =
       if is_at_limit p then Err refusals.HistoryFull
@@ -101,7 +101,7 @@ module _ (accepts : Accepts) where
   answer p (Remove ids) = if is_at_limit p then Err refusals.HistoryFull else Ok (reply_removed ids p)
   answer p (Sync ledger) = if is_at_limit p then Err refusals.HistoryFull else Ok (reply_synced ledger p)
 
-  -- what a command that isn't refused does
+  -- the state after a command that isn't refused
   abbrev pub done : Pool → Command → Pool
   done p (Submit t) = pool_with p t
   done p (Remove ids) = pool_upon p p.ledger (left_without ids p)
@@ -111,7 +111,7 @@ module _ (accepts : Accepts) where
   unfoldable pub next : Pool → Command → Pool
   next p c = if is_ok (answer p c) then done p c else p
 
-  -- A refusal that a call gives is the slow pool's. Memory may be wanting at any command.
+  -- A call returns the reference pool's refusal, or an allocation failure, which is always possible.
   abbrev pub IsRefused : Pool → Command → Refusal → Type 0
   IsRefused p c refusals.NoMemory = Unit {0}
   IsRefused p c refusal = answer p c ≡ Err refusal

@@ -1,4 +1,4 @@
-//! What is asked of the pool, and what it replies.
+//! Commands to the pool, and its replies.
 
 use crate::ids::Ids;
 use crate::refusal::Refusal;
@@ -7,14 +7,14 @@ use mp_tickets::Tickets;
 use mp_tx::{Ledger, Tx};
 use std::sync::Arc;
 
-/// What a caller asks of the pool.
+/// A command to the pool.
 #[derive(Drop)]
 pub enum Command {
-    /// To take the transaction in.
+    /// Add the transaction.
     Submit(Arc<Tx, Memory>),
-    /// To take out the transactions with these ids, whether they are valid or not.
+    /// Take out the transactions with these ids, whether they are valid or not.
     Remove(Arc<Ids, Memory>),
-    /// To adopt the ledger state.
+    /// Adopt the ledger state.
     Sync(Ledger),
 }
 
@@ -22,7 +22,7 @@ impl Command {
     ghost use Rattle.std.specs.Prelude.{◌≡◌, IfOk};
     ghost use Rattle.mp_seqpool.specs.Inside.Command.{command_of};
 
-    /// The same command. What it holds is shared, and not copied.
+    /// The same command. Its parts are shared and not copied.
     pub fn share(&self) -> Result<Command, NoMemory>
         ensures { IfOk result (λ c. command_of c ≡ command_of self.now) }
     {
@@ -34,18 +34,18 @@ impl Command {
     }
 }
 
-/// What the pool replies where it doesn't refuse.
+/// The result of a command that isn't refused.
 #[derive(Debug, PartialEq, Drop)]
 pub enum Reply {
-    /// The transaction stands in the pool, last, under this ticket.
+    /// The transaction is now the last one in the pool, with this ticket.
     Accepted { ticket: u64 },
-    /// The tickets of those that were named, and of those that aren't valid without them.
+    /// The tickets of the transactions that were named, and of those that aren't valid without them.
     Removed { named: Tickets, dropped: Tickets },
-    /// The tickets of those that stay upon the adopted ledger state, and of those that aren't valid there.
+    /// The tickets of the transactions that stay on the adopted ledger state, and of those that aren't valid there.
     Synced { kept: Tickets, dropped: Tickets },
 }
 
-/// What the pool answers to a command: a reply or a refusal.
+/// The pool's answer to a command: a reply or a refusal.
 pub type Answer = Result<Reply, Refusal>;
 
 impl Reply {

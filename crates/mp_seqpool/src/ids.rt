@@ -4,7 +4,7 @@ use mp_memory::Memory;
 use mp_tx::TxId;
 use std::marker::Model;
 
-/// The ids of transactions, in any order. One may stand twice. A contract sees the list of them.
+/// The ids of transactions, in any order. An id may occur twice. A contract sees the list of them.
 #[derive(Debug)]
 pub struct Ids {
     ids: Vec<TxId, Memory>,

@@ -1,4 +1,4 @@
-//! A transaction under its ticket.
+//! A transaction with its ticket.
 
 use mp_memory::{Memory, NoMemory};
 use mp_tx::Tx;
@@ -24,7 +24,7 @@ impl Item {
     /// The same item, which shares its transaction.
     ///
     /// # Errors
-    /// `NoMemory` where the transaction is shared too often.
+    /// `NoMemory` if there are too many owners of the transaction.
     pub fn share(&self) -> Result<Item, NoMemory>
         ensures { IfOk result (λ i. item_of i ≡ item_of self.now) }
     {

@@ -1,4 +1,4 @@
-//! What holds of every pool.
+//! The laws of pools. Each is the contract of a function that does nothing.
 
 ghost use Rattle.std.specs.Prelude.{ℕ, List};
 ghost use Rattle.mp_tx.specs.Ledger.{LedgerState};
@@ -10,9 +10,9 @@ ghost use Rattle.mp_seqpool.specs.SlowPool.{empty_pool, AreSigned};
 ghost use Rattle.mp_seqpool.specs.PoolLaws.{IsLawful, ObeysLaws};
 ghost use Rattle.mp_seqpool.specs.Dependents.{IsApart, DropsDependents};
 
-/// Whatever the verifier accepts, the pool laws hold along every list of commands from each lawful state on. A pool that opens
-/// with no transaction is lawful, and so is one that opens with what a lawful one holds. All signatures in a lawful pool are
-/// accepted.
+/// For every verifier, the pool laws hold along every list of commands from each lawful state. A pool that opens
+/// without transactions is lawful, and so is one that opens with the content of a lawful pool. The verifier accepts all
+/// signatures in a lawful pool.
 pub fn pool_laws()
     ensures histories { (accepts : Accepts) (p : Pool) (cs : List Command)
         → IsLawful accepts p → ObeysLaws accepts p cs }
@@ -23,8 +23,8 @@ pub fn pool_laws()
     ensures signed { (accepts : Accepts) (p : Pool) → IsLawful accepts p → AreSigned accepts p }
 {}
 
-/// Where the ledger state has no output under the id of a transaction of the pool, a remove drops, beside what is named, exactly
-/// the transactions that spend or look at an output of one that goes.
+/// If the ledger state has no output at the id of any transaction of the pool, then a remove drops, in addition to the
+/// named transactions, exactly those that spend or read an output of one that goes.
 pub fn dependents()
     ensures { (accepts : Accepts) (p : Pool) (ids : List (List ℕ))
         → IsLawful accepts p → IsApart p → DropsDependents accepts p ids }

@@ -13,12 +13,12 @@ use mp_resync::ValidatedTx;
 use mp_tickets::{TicketList, Tickets};
 use mp_utxo::Overlay;
 
-/// How many of so many are few: to take out each of more costs more than to look at all anew.
+/// How many of `count` items are few: to take out more of them one by one costs more than to check all items again.
 pub fn few_of(count: usize) -> usize {
     (count / 16).max(16)
 }
 
-/// The tickets, which rise, as a list of them.
+/// The strictly increasing tickets, as a list.
 pub fn as_tickets(memory: Memory, rising: &[u64]) -> Result<Tickets, NoMemory>
     requires { IsStrictlyIncreasing rising.now }
     ensures { IfOk result (λ tickets. tickets ≡ rising.now) }
@@ -30,7 +30,7 @@ pub fn as_tickets(memory: Memory, rising: &[u64]) -> Result<Tickets, NoMemory>
     Ok(tickets)
 }
 
-// Takes out the item under the ticket. Gives how many bytes its transaction has, and 0 where there is none.
+// Takes out the item of the ticket. Returns the number of bytes of its transaction, or 0 if there is none.
 fn take_one(items: &mut TicketList<ValidatedTx>, ticket: u64) -> u64
     requires { AreKnown items.old }
     ensures items { items.new ≡ without items.old ticket }
@@ -43,7 +43,7 @@ fn take_one(items: &mut TicketList<ValidatedTx>, ticket: u64) -> u64
     }
 }
 
-// Takes out the items under these tickets.
+// Takes out the items with these tickets. Returns the number of bytes of their transactions.
 fn take_out(items: &mut TicketList<ValidatedTx>, gone: &Tickets) -> u64
     requires known { AreKnown items.old }
     requires most { bytes_in items.old ≤ 2 ^ 40 }
@@ -56,7 +56,7 @@ fn take_out(items: &mut TicketList<ValidatedTx>, gone: &Tickets) -> u64
     bytes
 }
 
-/// Takes out the items that the reply tells, each by its ticket. Gives how many bytes their transactions have.
+/// Takes out the items that the reply names, each by its ticket. Returns the number of bytes of their transactions.
 pub fn take_told(items: &mut TicketList<ValidatedTx>, reply: &Reply) -> u64
     requires known { AreKnown items.old }
     requires most { bytes_in items.old ≤ 2 ^ 40 }
@@ -72,7 +72,7 @@ pub fn take_told(items: &mut TicketList<ValidatedTx>, reply: &Reply) -> u64
     }
 }
 
-/// Takes the transactions under these tickets, on which no others hang, out of the overlay.
+/// Takes the transactions with these tickets out of the overlay. They have no other dependents.
 pub fn take_leaves(overlay: &mut Overlay, items: &TicketList<ValidatedTx>, gone: &Tickets)
     requires { HasLeaves overlay.old (ticketed items.now) gone.now }
     ensures { Lacks overlay.old (ticketed items.now) gone.now overlay.new }

@@ -1,4 +1,5 @@
-//! The sequential pool: one thread's mempool over a list. Every step is prepared first, and then finished without memory.
+//! The sequential pool: the mempool of one thread, over a list. Each step has two parts: preparing it takes all memory,
+//! and finishing it takes none.
 #![tactic(auto)]
 
 mod command;

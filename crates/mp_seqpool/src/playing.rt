@@ -1,4 +1,4 @@
-//! A pool over a whole list of commands.
+//! Running a whole list of commands on a pool.
 
 ghost use Rattle.std.specs.Prelude.{◌≡◌, ◌++◌, IfOk, OnOk};
 ghost use Rattle.mp_seqpool.specs.Config.{fresh_pool};
@@ -13,16 +13,16 @@ use mp_memory::{Memory, NoMemory};
 use mp_rules::Verifier;
 use mp_tx::Ledger;
 
-/// What came of a list of commands.
+/// The result of a list of commands.
 #[derive(Drop)]
 pub struct Played {
     /// The answer to each command, in order.
     pub answers: Vec<Answer, Memory>,
-    /// The pool after them all.
+    /// The pool after all commands.
     pub pool: SeqPool,
 }
 
-// Does what the commands ask, in order, and puts the answers last.
+// Runs the commands in order, and appends the answers.
 fn step_all<V: Verifier>(
     pool: &mut SeqPool,
     told: &mut Vec<Answer, Memory>,
@@ -41,8 +41,8 @@ fn step_all<V: Verifier>(
     Ok(())
 }
 
-/// Runs the commands in order on a pool that opens upon the ledger state. Answers and pool are the slow pool's, and every state
-/// on the way obeys the pool laws. It may return `NoMemory` instead.
+/// Runs the commands in order on a pool that opens on the ledger state. The answers and the pool are those of the
+/// reference pool, and every state on the way obeys the pool laws. `NoMemory` may be returned instead.
 pub fn play<V: Verifier>(
     memory: Memory,
     config: Config,

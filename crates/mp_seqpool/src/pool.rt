@@ -21,15 +21,15 @@ use mp_utxo::Overlay;
 use std::marker::Model;
 use std::sync::Arc;
 
-/// The mempool of one thread (the Mempool API of ouroboros-consensus): applied in order to the
-/// adopted ledger state, every transaction is valid; each has a ticket, and tickets increase and
-/// are never reused. Any of these calls may return `NoMemory` instead, and then nothing has changed.
+/// The mempool of one thread (the Mempool API of ouroboros-consensus). Applied in order to the adopted ledger state,
+/// every transaction is valid. Each has a ticket, and tickets increase and are never reused. Any of these calls may
+/// return `NoMemory` instead of an answer, and then nothing has changed.
 ///
-/// Every step has two parts. A `prepare_` call looks at everything, takes all memory, and leaves what the pool holds; `finish`
-/// takes the step that it gave. `submit`, `remove` and `sync` do both.
+/// Every step has two parts. A `prepare_` call makes all checks and takes all memory, and doesn't change the pool's
+/// content. `finish` executes the step that it returned. `submit`, `remove` and `sync` do both.
 ///
-/// What its transactions spend and make is kept in tables, and leads to their tickets, so that a submit takes no walk over the pool.
-/// A contract sees what the pool holds, and the room that was made in its tables.
+/// Tables lead from what its transactions spend and make to their tickets, so that a submit doesn't pass over the pool.
+/// A contract sees the pool's content and the room that was reserved in its tables.
 pub struct SeqPool {
     memory: Memory,
     config: Config,
@@ -70,7 +70,7 @@ impl Model for SeqPool {
     ghost invariant = { IsCounted };
 }
 
-// The step that takes the transaction in under this ticket.
+// The step that adds the transaction with this ticket.
 fn append_step(
     memory: Memory,
     tx: &Arc<Tx, Memory>,
@@ -98,7 +98,7 @@ fn append_step(
     })
 }
 
-// The step of a sync that leaves this. What is kept is both told and done.
+// The step of a sync after which these stay. The reply and the effect have the same tickets.
 fn sync_step(memory: Memory, adopted: Ledger, left: Kept) -> Result<Prepared, NoMemory>
     ensures command { IfOk result (λ q. q.command ≡ Sync adopted) }
     ensures reply { IfOk result (λ q. q.reply ≡ Synced left.kept left.dropped) }
@@ -116,7 +116,8 @@ fn sync_step(memory: Memory, adopted: Ledger, left: Kept) -> Result<Prepared, No
     })
 }
 
-// The step of a remove that takes out those under these tickets, and nothing else. What goes is both told and done.
+// The step of a remove that takes out only the items with these tickets. The reply and the effect have the same
+// tickets.
 fn take_out_step(
     memory: Memory,
     asked: Arc<Ids, Memory>,
@@ -137,7 +138,8 @@ fn take_out_step(
     })
 }
 
-// The step of a sync where some go, on which no others hang, and the others stay as they are. What goes is both told and done.
+// The step of a sync in which those that go have no other dependents, and the others stay as they are. The reply and
+// the effect have the same tickets.
 fn adopt_step(ledger: &Ledger, parted: Parted) -> Result<Prepared, NoMemory>
     ensures command { IfOk result (λ q. q.command ≡ Sync ledger.now) }
     ensures reply { IfOk result (λ q. q.reply ≡ Synced parted.kept parted.dropped) }
@@ -182,7 +184,7 @@ impl SeqPool {
     ghost use Rattle.mp_seqpool.specs.declared.command.Reply.TheVariants.{Accepted};
     ghost use Rattle.mp_seqpool.specs.Inside.Command.{command_of};
 
-    /// A pool with no transaction upon the ledger state.
+    /// A pool without transactions on the ledger state.
     pub fn start(memory: Memory, config: Config, ledger: &Ledger) -> Result<SeqPool, NoMemory>
         ensures { IfOk result (λ pool. pool.pool ≡ fresh_pool config ledger.now) }
     {
@@ -199,7 +201,7 @@ impl SeqPool {
         })
     }
 
-    // Why there is no place for the transaction, whatever its rules say.
+    // Why the pool has no place for the transaction, whatever the rules say.
     #[tactic(auto, unfolding(crate::specs::Inside::Place::misplaced))]
     fn misplaced(&self, tx: &Tx) -> Option<Refusal>
         ensures refusal { result ≡ misplaced self.now.pool tx.now }
@@ -223,7 +225,7 @@ impl SeqPool {
         None
     }
 
-    // Checks the rules after all transactions of the pool, with what was found of its signatures and scripts before.
+    // Checks the rules after all transactions of the pool, given earlier results for its signatures and scripts.
     fn check_rules<V: Verifier>(
         &self,
         tx: &Tx,
@@ -245,7 +247,7 @@ impl SeqPool {
         Ok(found?)
     }
 
-    // The step that takes the transaction in. All memory for it is taken.
+    // The step that adds the transaction. It has all memory that it needs.
     fn prepare_append(
         &mut self,
         tx: &Arc<Tx, Memory>,
@@ -266,13 +268,13 @@ impl SeqPool {
         append_step(self.memory, tx, resolved, self.last + 1)
     }
 
-    /// Prepares to take the transaction in under the next ticket, as one change, with what was found of its signatures and
-    /// scripts before, if anything was. With that no signature is looked at again, and scripts are run again only where the
-    /// transaction names other outputs than those that they were run upon.
+    /// Prepares to add the transaction with the next ticket, as one change. `before` has earlier results for its
+    /// signatures and scripts, if there are any. Then no signature is checked again, and scripts run again only if the
+    /// transaction names other outputs than before.
     ///
     /// # Errors
-    /// The first refusal that holds, in the order of `Refusal`. Of the rules it is the first that fails, and never
-    /// `Refusal::Invalid(Invalid::NoMemory)`: want of memory is `Refusal::NoMemory`.
+    /// The first refusal in the order of `Refusal`. For the rules, it has the first rule that fails. It is never
+    /// `Refusal::Invalid(Invalid::NoMemory)`: an allocation failure is `Refusal::NoMemory`.
     pub fn prepare_submit<V: Verifier>(
         &mut self,
         tx: &Arc<Tx, Memory>,
@@ -294,7 +296,7 @@ impl SeqPool {
         Ok(self.prepare_append(tx, resolved)?)
     }
 
-    // Looks at all transactions anew.
+    // Checks all transactions again.
     fn revalidate<V: Verifier>(
         &self,
         ledger: &Ledger,
@@ -308,7 +310,7 @@ impl SeqPool {
         revalidate(self.memory, ledger, &self.items, without, verifier)
     }
 
-    // The ticket of each of these ids that the pool has, in the order of the ids.
+    // The tickets of those of these ids that the pool has, in the order of the ids.
     fn tickets_of(&self, ids: &[TxId]) -> Result<Vec<u64, Memory>, NoMemory>
         ensures { IfOk result (λ found. found.items
             ≡ filter_map (λ id. ticket_of id self.now.pool.items) ids.now) }
@@ -322,7 +324,7 @@ impl SeqPool {
         Ok(found)
     }
 
-    // The tickets of those with these ids, in order.
+    // The tickets of the transactions with these ids, in order.
     fn named(&self, ids: &[TxId]) -> Result<Tickets, NoMemory>
         ensures { IfOk result (λ named. named ≡ tickets_named ids.now self.now.pool) }
     {
@@ -332,7 +334,7 @@ impl SeqPool {
         as_tickets(self.memory, &found)
     }
 
-    // Whether no other transaction hangs on what stands under the ticket: `false` says nothing.
+    // Whether the transaction with the ticket has no dependents. `false` may be returned although it has none.
     fn is_leaf_at(&self, ticket: u64) -> bool
         ensures { IsTrue result → IsLeafAt self.now.pool ticket }
     {
@@ -342,7 +344,7 @@ impl SeqPool {
         }
     }
 
-    // Whether it is so of each of these tickets.
+    // Whether this holds of each of these tickets.
     fn are_leaves(&self, tickets: &Tickets) -> bool
         ensures { IsTrue result → All (IsLeafAt self.now.pool) tickets.now }
     {
@@ -352,7 +354,7 @@ impl SeqPool {
             .all(|ticket| self.is_leaf_at(*ticket))
     }
 
-    // The step that takes out those with these ids, and nothing else, where no other transaction hangs on one of them.
+    // The step that takes out only the transactions with these ids, if they have no other dependents.
     fn prepare_leaves(&self, ids: &Arc<Ids, Memory>) -> Result<Option<Prepared>, NoMemory>
         ensures { IfOk result (λ step. IfSome step (TakesNamed self.now.pool (arc_value ids.now))) }
     {
@@ -364,12 +366,13 @@ impl SeqPool {
         Ok(Some(take_out_step(self.memory, asked, named)?))
     }
 
-    /// Prepares to take out the transactions with these ids, whether they are valid or not, and with them those that aren't
-    /// valid without them. Ids that no transaction of the pool has, and ids that stand twice, do nothing more. It is one change,
-    /// also where nothing goes.
+    /// Prepares to take out the transactions with these ids, whether they are valid or not, and those that aren't valid
+    /// without them. Ids that no transaction of the pool has, and repeated ids, have no effect. It is one change, even
+    /// if no transaction goes.
     ///
     /// # Errors
-    /// `Refusal::HistoryFull`, where as many changes were made as there may be.
+    /// `Refusal::HistoryFull` if the number of changes has reached its limit. `Refusal::NoMemory` may be returned
+    /// instead of any answer.
     pub fn prepare_remove<V: Verifier>(
         &self,
         ids: &Arc<Ids, Memory>,
@@ -402,7 +405,8 @@ impl SeqPool {
         })
     }
 
-    // The step that adopts the ledger state, where what it changed tells which transactions go, on which no others hang.
+    // The step that adopts the ledger state, if its changes decide which transactions go, and these have no other
+    // dependents.
     fn prepare_adoption(&self, ledger: &Ledger) -> Result<Option<Prepared>, NoMemory>
         ensures { IfOk result (λ step. IfSome step (AdoptsParted self.now.pool ledger.now)) }
     {
@@ -413,11 +417,12 @@ impl SeqPool {
         }
     }
 
-    /// Prepares to adopt the ledger state, and to drop those transactions that aren't valid upon it. The others keep their tickets.
-    /// Nothing is dropped for size. It is one change, also where nothing goes.
+    /// Prepares to adopt the ledger state, and to drop the transactions that aren't valid on it. The others keep their
+    /// tickets. None is dropped for its size. It is one change, even if no transaction goes.
     ///
     /// # Errors
-    /// `Refusal::HistoryFull`, where as many changes were made as there may be.
+    /// `Refusal::HistoryFull` if the number of changes has reached its limit. `Refusal::NoMemory` may be returned
+    /// instead of any answer.
     pub fn prepare_sync<V: Verifier>(
         &self,
         ledger: &Ledger,
@@ -440,11 +445,8 @@ impl SeqPool {
         Ok(sync_step(self.memory, adopted, left)?)
     }
 
-    /// The tickets of the transactions that a sync to the ledger state would drop. The pool stays as it is, and may have made as many
-    /// changes as there may be.
-    ///
-    /// # Errors
-    /// `NoMemory`.
+    /// The tickets of the transactions that a sync to the ledger state would drop. The pool doesn't change. The number
+    /// of changes may have reached its limit.
     pub fn dropped_upon<V: Verifier>(
         &self,
         ledger: &Ledger,
@@ -458,7 +460,7 @@ impl SeqPool {
         Ok(tried.dropped)
     }
 
-    // Puts the item last.
+    // Appends the item.
     fn append(&mut self, node: Node<ValidatedTx>, applied: Arc<Tx, Memory>)
         requires one { arc_value applied ≡ node.tx }
         requires can { CanAppend self.old node }
@@ -474,7 +476,7 @@ impl SeqPool {
         self.changes += 1;
     }
 
-    // Takes the transaction in, as the step of `prepare_append` would, of which nobody is told here.
+    // Adds the transaction, as the step of `prepare_append` would. The caller makes the reply known.
     fn take_in(&mut self, tx: &Arc<Tx, Memory>, resolved: Resolved) -> Result<Reply, NoMemory>
         requires place { HasPlace self.old.pool (arc_value tx.now) }
         requires new { ticket_of (id_of (arc_value tx.now)) self.old.pool.items ≡ None }
@@ -500,7 +502,7 @@ impl SeqPool {
         Ok(Reply::Accepted { ticket })
     }
 
-    // Takes out what the reply tells, each by its ticket.
+    // Takes out what the reply names, each by its ticket.
     fn leave(&mut self, overlay: Overlay, reply: &Reply)
         requires change { self.old.pool.changes < self.old.pool.limit }
         requires applied { HasApplied overlay (left_by reply.now self.old.pool.items) }
@@ -513,7 +515,7 @@ impl SeqPool {
         self.changes += 1;
     }
 
-    // Takes out those under these tickets, on which no others hang, as the reply tells.
+    // Takes out the transactions with these tickets, which have no other dependents, as the reply says.
     fn take_leaves_out(&mut self, gone: &Tickets, reply: &Reply)
         requires change { self.old.pool.changes < self.old.pool.limit }
         requires leaves { All (IsLeafAt self.old.pool) gone.now }
@@ -528,7 +530,8 @@ impl SeqPool {
         self.changes += 1;
     }
 
-    // Takes out those under these tickets, on which no others hang, as the reply tells, and puts the ledger state below the others.
+    // Takes out the transactions with these tickets, which have no other dependents, as the reply says, and puts the
+    // ledger state below the others.
     fn adopt(&mut self, ledger: Ledger, gone: &Tickets, reply: &Reply)
         requires change { self.old.pool.changes < self.old.pool.limit }
         requires leaves { All (IsLeafAt self.old.pool) gone.now }
@@ -545,7 +548,8 @@ impl SeqPool {
         self.changes += 1;
     }
 
-    /// Takes the step that the last `prepare_` call on this pool gave, and gives its reply. It takes no memory and can't fail.
+    /// Executes the step that the last `prepare_` call on this pool returned, and returns its reply. It takes no memory
+    /// and can't fail.
     pub fn finish(&mut self, prepared: Prepared) -> Reply
         requires { IsPrepared self.old prepared }
         ensures pool { self.new.pool ≡ leads_to self.old.pool prepared }
@@ -561,10 +565,7 @@ impl SeqPool {
         reply
     }
 
-    /// Takes the transaction in under the next ticket, as one change.
-    ///
-    /// # Errors
-    /// As `prepare_submit`.
+    /// Adds the transaction with the next ticket, as one change.
     pub fn submit<V: Verifier>(
         &mut self,
         tx: &Arc<Tx, Memory>,
@@ -585,10 +586,7 @@ impl SeqPool {
         Ok(self.take_in(tx, resolved)?)
     }
 
-    /// Takes out the transactions with these ids, and with them those that aren't valid without them.
-    ///
-    /// # Errors
-    /// As `prepare_remove`.
+    /// Takes out the transactions with these ids, and those that aren't valid without them.
     pub fn remove<V: Verifier>(
         &mut self,
         ids: &Arc<Ids, Memory>,
@@ -607,10 +605,7 @@ impl SeqPool {
         Ok(self.finish(prepared))
     }
 
-    /// Adopts the ledger state, and drops those transactions that aren't valid upon it.
-    ///
-    /// # Errors
-    /// As `prepare_sync`.
+    /// Adopts the ledger state, and drops the transactions that aren't valid on it.
     pub fn sync<V: Verifier>(&mut self, ledger: &Ledger, verifier: &V) -> Result<Reply, Refusal>
         requires { AreSigned (V.accepts verifier.now) self.old.pool }
         ensures ok { IfOk result (λ reply. answer (V.accepts verifier.now)
@@ -625,7 +620,7 @@ impl SeqPool {
         Ok(self.finish(prepared))
     }
 
-    /// Does what the command asks, as the call of its kind does.
+    /// Executes the command, by the call of its kind.
     pub fn execute<V: Verifier>(
         &mut self,
         command: &Command,
@@ -647,7 +642,7 @@ impl SeqPool {
         }
     }
 
-    /// Does what the command asks, and answers with the reply or the refusal.
+    /// Executes the command, and returns the reply or the refusal.
     pub fn step<V: Verifier>(&mut self, command: &Command, verifier: &V) -> Result<Answer, NoMemory>
         requires { AreSigned (V.accepts verifier.now) self.old.pool }
         ensures answer { IfOk result (λ a. a ≡ answer (V.accepts verifier.now)
@@ -665,8 +660,8 @@ impl SeqPool {
         }
     }
 
-    /// Makes the pool one that opens with what it holds: no change was made, there may be so many (1 to 2^32), and the last
-    /// ticket stays. It takes no memory.
+    /// Makes the pool a new one that opens with the same content: no change has been made, there may be at most `limit`
+    /// (1 to 2^32), and the last ticket stays. It takes no memory.
     pub fn renew(&mut self, limit: u64)
         requires least { 1 ≤ limit }
         requires greatest { limit ≤ 2 ^ 32 }
@@ -679,7 +674,7 @@ impl SeqPool {
         self.changes = 0;
     }
 
-    /// The transactions with their tickets, oldest first: tickets rise, and are all above 0.
+    /// The transactions with their tickets, oldest first. The tickets are strictly increasing and greater than 0.
     pub fn contents(&self) -> Iter<'_, ValidatedTx>
         ensures all { ticketed result ≡ self.now.pool.items }
         ensures rising { IsRising self.now.pool.items }
@@ -688,14 +683,14 @@ impl SeqPool {
         self.items.iter()
     }
 
-    /// How many transactions there are.
+    /// The number of transactions.
     pub fn len(&self) -> usize
         ensures { result ≡ length self.now.pool.items }
     {
         self.items.len()
     }
 
-    /// Whether there is none.
+    /// Whether there are no transactions.
     pub fn is_empty(&self) -> bool
         ensures { result ≡ (length self.now.pool.items == 0) }
     {
@@ -709,7 +704,7 @@ impl SeqPool {
         self.overlay.ledger()
     }
 
-    /// The last ticket that was given, or that of the configuration. No transaction has a greater one.
+    /// The last ticket that the pool gave, or that of the configuration. No transaction has a greater one.
     pub fn last_ticket(&self) -> u64
         ensures last { result ≡ self.now.pool.last }
         ensures given { All (λ k. k ≤ result) (tickets self.now.pool.items) }
@@ -717,7 +712,7 @@ impl SeqPool {
         self.last
     }
 
-    /// How many bytes the transactions have together, at most 2^40.
+    /// The number of bytes of all transactions, at most 2^40.
     pub fn bytes(&self) -> u64
         ensures bytes { result ≡ bytes_held self.now.pool }
         ensures most { result ≤ 2 ^ 40 }
@@ -725,7 +720,7 @@ impl SeqPool {
         self.bytes
     }
 
-    /// How many changes were made.
+    /// The number of changes that were made.
     pub fn changes(&self) -> u64
         ensures changes { result ≡ self.now.pool.changes }
         ensures most { result ≤ self.now.pool.limit }
@@ -733,7 +728,7 @@ impl SeqPool {
         self.changes
     }
 
-    /// How the pool was set up.
+    /// The configuration of the pool.
     pub fn config(&self) -> Config
         ensures limit { result.limit ≡ self.now.pool.limit }
         ensures last { result.last ≡ self.now.pool.opening_ticket }
@@ -751,7 +746,7 @@ impl SeqPool {
     ghost use Rattle.mp_resync.specs.ValidatedTx.{ticketed};
     ghost use Rattle.mp_seqpool.specs.SlowPool.{bytes_held, free_bytes, ticket_of};
 
-    /// How many bytes the transactions may have together: twice those of a block of the adopted ledger state.
+    /// The greatest number of bytes of all transactions: twice the block bytes of the adopted ledger state.
     pub fn capacity(&self) -> u64
         ensures twice { result ≡ 2 * self.now.pool.ledger.block_bytes }
         ensures most { result ≤ 2 ^ 40 }
@@ -759,14 +754,14 @@ impl SeqPool {
         2 * self.overlay.ledger().block_bytes()
     }
 
-    /// The ticket of the transaction with this id, if it stands in the pool. It takes no walk over the pool.
+    /// The ticket of the transaction with this id, if it is in the pool. It doesn't pass over the pool.
     pub fn ticket_of(&self, id: &TxId) -> Option<u64>
         ensures { result ≡ ticket_of id.now self.now.pool.items }
     {
         self.overlay.ticket_of(id)
     }
 
-    /// The transaction under the ticket, if there is one. It takes no walk over the pool.
+    /// The transaction with the ticket, if there is one. It doesn't pass over the pool.
     pub fn get(&self, ticket: u64) -> Option<&Arc<Tx, Memory>>
         ensures { option_map (λ tx. arc_value tx.now) result
             ≡ item_at self.now.pool.items ticket }
@@ -777,9 +772,10 @@ impl SeqPool {
         }
     }
 
-    /// The transactions with greater tickets than this one, oldest first. To begin, it looks the ticket up. Where it stands
-    /// between those of the pool and no transaction has it, it takes at most a step for each ticket down to the next smaller
-    /// one in the pool, and no more than there are transactions with greater tickets.
+    /// The transactions with greater tickets than this one, oldest first. It begins with a look-up of the ticket. If
+    /// the ticket is between those of the pool and no transaction has it, the look-up takes at most as many steps as
+    /// the difference to the next smaller ticket in the pool, and at most as many as there are transactions with
+    /// greater tickets.
     pub fn contents_after(&self, ticket: u64) -> Iter<'_, ValidatedTx>
         ensures all { ticketed result ≡ after self.now.pool.items ticket }
         ensures runs { ShowsInOrder (shown {T = resync.ValidatedTx}) }
@@ -787,7 +783,7 @@ impl SeqPool {
         self.items.iter_after(ticket)
     }
 
-    /// How many bytes are free, which is 0 where the transactions have more than they may.
+    /// The number of free bytes, or 0 if the transactions have more bytes than the capacity.
     pub fn free_bytes(&self) -> u64
         ensures free { result ≡ free_bytes self.now.pool }
         ensures most { bytes_held self.now.pool + result ≤ 2 ^ 40 }

@@ -1,4 +1,4 @@
-//! Steps that are ready to be taken.
+//! Prepared steps.
 
 ghost use Rattle.std.specs.Prelude.{◌≡◌, IfOk};
 ghost use Rattle.mp_seqpool.specs.Prepared.{Keep};
@@ -16,18 +16,18 @@ use std::sync::Arc;
 /// What a step does to the pool.
 #[derive(Drop)]
 pub enum Effect {
-    /// The item comes last, and its transaction is applied.
+    /// The item becomes the last one, and its transaction is applied.
     Append(Node<ValidatedTx>, Arc<Tx, Memory>),
-    /// Those under these tickets stay: all that the overlay has applied. In a block of its own, since a step that is moved would be
-    /// large with it.
+    /// Those with these tickets stay, and the overlay has applied exactly these. The overlay has a block of its own,
+    /// since a step that is moved would be large with it.
     Keep(Box<Overlay, Memory>, Tickets),
-    /// Those under these tickets go, and nothing else.
+    /// Those with these tickets go, and nothing else.
     TakeOut(Tickets),
-    /// Those under these tickets go, on which no others hang, and the others stand upon this ledger state.
+    /// Those with these tickets go, which have no other dependents. The others stay, on this ledger state.
     Adopt(Ledger, Tickets),
 }
 
-/// What a step does that keeps those under these tickets, all that the overlay has applied.
+/// The effect of a step after which those with these tickets stay, which are all that the overlay has applied.
 pub fn keep_effect(memory: Memory, overlay: Overlay, kept: Tickets) -> Result<Effect, NoMemory>
     ensures effect { IfOk result (λ e. effect_of e ≡ Keep overlay kept) }
     ensures one { IfOk result IsOfOne }
@@ -35,8 +35,8 @@ pub fn keep_effect(memory: Memory, overlay: Overlay, kept: Tickets) -> Result<Ef
     Ok(Effect::Keep(Box::new(memory, overlay)?, kept))
 }
 
-/// A step of the pool that is ready to be taken: all that can be refused is behind it, and it holds the memory that it needs.
-/// To take it is `SeqPool::finish`; where it is dropped instead, nothing has happened.
+/// A prepared step of the pool: nothing can refuse it any more, and it has the memory that it needs. `SeqPool::finish`
+/// executes it. If it is dropped instead, nothing has happened.
 pub struct Prepared {
     pub(crate) command: Command,
     pub(crate) reply: Reply,
@@ -74,7 +74,7 @@ impl Prepared {
     ghost use Rattle.mp_seqpool.specs.Inside.Command.{command_of};
     ghost use Rattle.mp_seqpool.specs.Inside.Effect.{effect_of, IsOfOne};
 
-    // What it replies, and what it does.
+    // Its reply and its effect.
     pub(crate) fn into_parts(self) -> (Reply, Effect)
         ensures reply { result.0 ≡ self.reply }
         ensures effect { effect_of result.1 ≡ self.effect }
@@ -88,14 +88,14 @@ impl Prepared {
         (reply, effect)
     }
 
-    /// What was asked.
+    /// Its command.
     pub fn command(&self) -> &Command
         ensures { command_of result.now ≡ self.now.command }
     {
         &self.command
     }
 
-    /// What `finish` will reply.
+    /// The reply that `finish` will return.
     pub fn reply(&self) -> &Reply
         ensures { result.now ≡ self.now.reply }
     {

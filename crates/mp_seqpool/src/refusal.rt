@@ -9,25 +9,27 @@ use mp_rules::Invalid;
 use std::alloc::{AllocError, AllocFailed};
 use thiserror::Error;
 
-/// Why the pool refuses a command. Where several hold, the one with the least number is told, but
-/// `NoMemory` may stand in place of any answer. A refusal changes nothing.
+/// Why the pool refuses a command. If there are several reasons, the one with the least number is returned. `NoMemory`
+/// may be returned instead of any answer. A refusal changes nothing.
 #[derive(Clone, Copy, Debug, PartialEq, Eq, Error)]
 pub enum Refusal {
     #[error("no memory")]
     NoMemory,
-    /// As many changes were made as the configuration allows.
+    /// The number of changes has reached the limit of the configuration.
     #[error("the history is full")]
     HistoryFull,
-    /// The last ticket is the greatest, 2^64 - 1.
+    /// The last ticket is the greatest one, 2^64 - 1.
     #[error("the tickets are spent")]
     TicketsSpent,
-    /// A transaction with this id is in the pool, under this ticket.
+    /// A transaction with this id is in the pool. Its ticket is given.
     #[error("already in the pool under ticket {0}")]
     AlreadyInPool(u64),
-    /// The transaction's size, and how many bytes are left of twice the ledger's block bytes.
+    /// The size of the transaction, and the number of free bytes: twice the ledger's block bytes, less the bytes of the
+    /// pool.
     #[error("the pool is full: {need} bytes are needed and {free} are free")]
     Full { need: u64, free: u64 },
-    /// The rule that the transaction breaks. It never holds `Invalid::NoMemory`: want of memory is `NoMemory` above.
+    /// The rule that the transaction breaks. It is never `Invalid::NoMemory`: an allocation failure is `NoMemory`
+    /// above.
     #[error("the transaction is invalid: {0}")]
     Invalid(Invalid),
 }

@@ -1,4 +1,4 @@
--- That a pool's transactions are valid in order, whoever signed them.
+-- A pool's transactions are valid in order, whoever signed them.
 use Rattle.std.specs.Prelude.{true}
 use Rattle.std.specs.FinMap.{get}
 use Rattle.mp_rules.specs.Verifier.{Accepts}
@@ -10,6 +10,6 @@ use Rattle.mp_seqpool.specs.Pool.{Pool}
 abbrev pub all_accepted : Accepts
 all_accepted key id signature = true
 
--- each transaction is valid upon the ledger after all before it, but for its signatures
+-- each transaction is valid on the ledger after all before it, except for its signatures
 abbrev pub IsChained : Pool → Type 0
 IsChained p = Chain all_accepted (get p.ledger.utxo) p.ledger.tick (transactions p.items)

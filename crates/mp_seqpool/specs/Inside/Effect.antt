@@ -1,4 +1,4 @@
--- An effect as the code holds it, without the shares.
+-- An effect as the code stores it, without the shares.
 use Rattle.std.specs.Prelude.{◌≡◌}
 use Rattle.std.specs.Arc.{arc_value}
 use Rattle.mp_seqpool.specs.declared.prepared.Effect.{Effect}

@@ -12,22 +12,22 @@ use Rattle.mp_seqpool.specs.Prepared.{left_by}
 abbrev pub bytes_in : List (ℕ × ValidatedTx) → ℕ
 bytes_in items = sum_by size_of (transactions (ticketed items))
 
--- tickets rise, and no id stands twice
+-- tickets are strictly increasing, and no id occurs twice
 pub record AreKnown (items : List (ℕ × ValidatedTx)) : Type 0 where
   pub rising : IsRising items
   pub distinct : AllPairs (λ a b. a ≢ b) (map id_of (transactions (ticketed items)))
 
--- the items without those under these tickets
+-- the items without those with these tickets
 abbrev pub lacking : List ℕ → List (ℕ × ValidatedTx) → List (ℕ × ValidatedTx)
 lacking gone items = filter (λ e. not (has_ticket gone e.0)) items
 
--- those under these tickets are taken out, which have so many bytes
+-- the items with these tickets are taken out, and this is the number of their bytes
 pub record TakesOut (gone : List ℕ) (old new : List (ℕ × ValidatedTx)) (count : ℕ) : Type 0 where
   pub items : new ≡ lacking gone old
   pub known : AreKnown new
   pub bytes : bytes_in new + count ≡ bytes_in old
 
--- what the reply tells is taken out
+-- what the reply names is taken out
 pub record Leaves (reply : Reply) (old new : List (ℕ × ValidatedTx)) (count : ℕ) : Type 0 where
   pub items : ticketed new ≡ left_by reply (ticketed old)
   pub known : AreKnown new

@@ -1,4 +1,4 @@
--- Taking out transactions on which no others hang.
+-- Taking out transactions without other dependents.
 use Rattle.std.specs.Prelude.{◌≡◌, ◌≢◌, ℕ, List, [], map, All, AllPairs, IfSome}
 use Rattle.std.specs.FinMap.{get}
 use Rattle.mp_tx.specs.Transaction.{Transaction}
@@ -14,18 +14,18 @@ use Rattle.mp_seqpool.specs.Pool.{Pool}
 use Rattle.mp_seqpool.specs.Prepared.{Prepared, TakeOut, IsLeafAt, apart}
 use Rattle.mp_seqpool.specs.Inside.Chained.{all_accepted}
 
--- the tickets of those with these ids
+-- the tickets of the transactions with these ids
 abbrev pub tickets_named : List (List ℕ) → Pool → List ℕ
 tickets_named ids p = tickets (named ids p.items)
 
--- the step of a remove that takes out those with these ids, and nothing else
+-- the step of a remove that takes out only the transactions with these ids
 pub record TakesNamed (p : Pool) (ids : List (List ℕ)) (q : Prepared) : Type 0 where
   pub command : q.command ≡ Remove ids
   pub reply : q.reply ≡ Removed (tickets_named ids p) []
   pub effect : q.effect ≡ TakeOut (tickets_named ids p)
   pub leaves : All (IsLeafAt p) (tickets_named ids p)
 
--- the overlay has the items' transactions, and on what stands under these tickets no others hang
+-- the overlay has the items' transactions, and those with these tickets have no dependents
 pub record HasLeaves (overlay : Overlay) (items : List (ℕ × Transaction)) (gone : List ℕ) : Type 0 where
   pub applied : overlay.applied ≡ transactions items
   pub under : overlay.items ≡ items
@@ -34,7 +34,7 @@ pub record HasLeaves (overlay : Overlay) (items : List (ℕ × Transaction)) (go
   pub rising : IsRising items
   pub leaves : All (λ n. IfSome (item_at items n) (IsLeaf (get overlay.ledger.utxo) (transactions items))) gone
 
--- new has the items' transactions but for those under these tickets, and they are valid in order
+-- new has the items' transactions except those with these tickets, and they are valid in order
 pub record Lacks (old : Overlay) (items : List (ℕ × Transaction)) (gone : List ℕ) (new : Overlay) : Type 0 where
   pub base : new.ledger ≡ old.ledger
   pub applied : new.applied ≡ transactions (apart gone items)

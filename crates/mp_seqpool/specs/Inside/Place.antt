@@ -1,4 +1,4 @@
--- What is refused before the rules are looked at.
+-- The refusals that come before the rules.
 use Rattle.std.specs.Prelude.{ℕ, ◌-◌, ◌^◌, nat_le, nat_lt, Option, None, Some, if◌then◌else◌}
 use Rattle.mp_tx.specs.Transaction.{Transaction}
 use Rattle.mp_tx.specs.Spelling.{id_of, size_of}
@@ -12,7 +12,7 @@ new_misplaced p t None =
     if nat_lt (free_bytes p) (size_of t) then Some (refusals.Full (size_of t) (free_bytes p)) else None
 new_misplaced p t (Some ticket) = Some (refusals.AlreadyInPool ticket)
 
--- why there is no place for the transaction, whatever its rules say
+-- why the pool has no place for the transaction, whatever the rules say
 unfoldable pub misplaced : Pool → Transaction → Option Refusal
 misplaced p t =
     if is_at_limit p then Some refusals.HistoryFull

@@ -1,4 +1,4 @@
--- What is refused for the rules' sake.
+-- The refusals for the rules.
 use Rattle.std.specs.Prelude.{◌≡◌, Some}
 use Rattle.mp_tx.specs.Transaction.{Transaction}
 use Rattle.mp_rules.specs.declared.invalid.Invalid.{Invalid}
@@ -10,12 +10,12 @@ use Rattle.mp_seqpool.specs.declared.refusal.Refusal.TheVariants as refusals
 use Rattle.mp_seqpool.specs.Pool.{Pool}
 use Rattle.mp_seqpool.specs.SlowPool.{unspent}
 
--- a broken rule as a refusal; want of memory isn't one
+-- a broken rule as a refusal; an allocation failure isn't one
 abbrev pub refusal_for : Invalid → Refusal
 refusal_for rule.NoMemory = refusals.NoMemory
 refusal_for fault = refusals.Invalid fault
 
--- the refusal tells the rule that the transaction breaks first; memory may be wanting for any
+-- the refusal has the first rule that fails; an allocation failure is always possible
 abbrev pub IsBrokenRule : Accepts → Pool → Transaction → Refusal → Type 0
 IsBrokenRule accepts p t refusals.NoMemory = Unit {0}
 IsBrokenRule accepts p t (refusals.Invalid fault) = first_fault accepts (unspent p) p.ledger.tick t ≡ Some fault

@@ -1,4 +1,4 @@
--- What a pool keeps beside the state that contracts see.
+-- What a pool stores in addition to the state that contracts see.
 use Rattle.std.specs.Prelude.{◌≡◌, ◌≢◌, ◌≤◌, ◌^◌, map, sum_by, All, AllPairs}
 use Rattle.mp_tx.specs.Spelling.{id_of, size_of}
 use Rattle.mp_rules.specs.Checked.{WasValid}
@@ -25,25 +25,25 @@ holding p = record {
   room = p.overlay.room;
 }
 
--- What is kept along the way is right, and tickets are what a ticket may be.
+-- The stored values are right, and the tickets are in range.
 pub record IsCounted (p : Inside) : Type 0 where
-  -- all its transactions were applied upon the ledger, in order
+  -- exactly its transactions were applied to the ledger, in order
   pub applied : p.overlay.applied ≡ transactions (ticketed p.items)
-  -- each is valid there after all before it, but for its signatures
+  -- each is valid there after all before it, except for its signatures
   pub chained : IsChained (state p)
-  -- under their tickets
+  -- with their tickets
   pub under : p.overlay.items ≡ ticketed p.items
-  -- no id stands twice
+  -- no id occurs twice
   pub distinct : AllPairs (λ a b. a ≢ b) (map id_of (transactions (ticketed p.items)))
-  -- each was valid where it named the outputs that stand beside it
+  -- each was valid when it named the outputs that are stored with it
   pub valid : All (λ e. WasValid e.1.tx e.1.resolved) p.items
-  -- the bytes are those of all its transactions together
+  -- the number of bytes is that of all its transactions
   pub bytes : p.bytes ≡ sum_by size_of (transactions (ticketed p.items))
-  -- no pool can hold more
+  -- no pool has more
   pub most : p.bytes ≤ 2 ^ 40
-  -- no more changes were made than there may be
+  -- the number of changes is at most the limit
   pub changes : p.changes ≤ p.config.limit
-  -- tickets rise, and none is 0
+  -- tickets are strictly increasing, and none is 0
   pub rising : IsRising p.items
-  -- no ticket is above the last one
+  -- no ticket is greater than the last one
   pub given : All (λ k. k ≤ p.last) (tickets (ticketed p.items))

@@ -11,18 +11,18 @@ use Rattle.mp_seqpool.specs.Command.{Command, Sync}
 use Rattle.mp_seqpool.specs.Pool.{Pool, Holding}
 use Rattle.mp_seqpool.specs.Prepared.{Prepared, Keep, Adopt, IsPrepared}
 
--- a step with this reply was prepared that keeps what is applied upon the overlay
+-- a step with this reply was prepared that keeps what the overlay has applied
 pub record IsKeep (h : Holding) (overlay : Overlay) (reply : Reply) : Type 0 where
   pub command : Command
   pub kept : List ℕ
   pub prepared : IsPrepared h (record { command = command; reply = reply; effect = Keep overlay kept })
 
--- a step with this reply was prepared that takes out what stands under these tickets and adopts the ledger state
+-- a step with this reply was prepared that takes out what has these tickets and adopts the ledger state
 pub record IsAdoption (h : Holding) (ledger : LedgerState) (gone : List ℕ) (reply : Reply) : Type 0 where
   pub command : Command
   pub prepared : IsPrepared h (record { command = command; reply = reply; effect = Adopt ledger gone })
 
--- the step of a sync that takes out those that are lost, on which no others hang, where all others are untouched
+-- the step of a sync that takes out the lost transactions, which have no other dependents, if all others are untouched
 pub record AdoptsParted (p : Pool) (ledger : LedgerState) (q : Prepared) : Type 0 where
   pub parted : Parted
   pub are : IsParted p.ledger (transactions p.items) ledger p.items parted

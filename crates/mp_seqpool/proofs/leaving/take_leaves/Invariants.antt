@@ -3,6 +3,6 @@ use Rattle.mp_resync.specs.ValidatedTx.{ticketed}
 use Rattle.mp_seqpool.specs.Inside.NamedLeaves.{Lacks}
 use Rattle.mp_seqpool.proofs.leaving.take_leaves.Given as goal
 
--- those under the tickets so far are out
+-- those with the tickets so far are out
 abbrev pub invariant-loop-ticket : goal.invariant-loop-ticket
 invariant-loop-ticket l = Lacks l.fn.overlay (ticketed l.items) (take l.ticket-index l.gone) l.overlay

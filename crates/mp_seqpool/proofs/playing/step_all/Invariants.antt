@@ -5,7 +5,8 @@ use Rattle.mp_seqpool.specs.PoolLaws.{IsLawful}
 use Rattle.mp_seqpool.specs.Inside.Command.{commands_of}
 use Rattle.mp_seqpool.proofs.playing.step_all.Given as goal
 
--- the answers so far and those to what is left are those to all, what is left leads where all does, and the pool is lawful
+-- the answers so far and those to the remaining commands are all, the remaining commands lead to the final state, and
+-- the pool is lawful
 abbrev pub invariant-loop-command : goal.invariant-loop-command
 invariant-loop-command g l =
     let accepts : Accepts = g.V.Verifier.accepts l.verifier in

@@ -9,7 +9,7 @@ use Rattle.mp_seqpool.specs.Inside.Effect.{effect_of}
 use Rattle.mp_seqpool.proofs.Finishing.{next_valid, told_left}
 use Rattle.mp_seqpool.proofs.pool.SeqPool.finish.Goals as goal
 
--- it is its command with what came of it
+-- it is its command, its reply and its effect
 parted : (q : Prepared) (r : Reply) (e : Effect) → r ≡ q.reply → e ≡ q.effect → q ≡ record { command = q.command; reply = r; effect = e }
 parted q r e reply effect =
     ap (λ r. record { command = q.command; reply = r; effect = q.effect }) (sym reply) ∙ ap (λ e. record { command = q.command; reply = r; effect = e }) (sym effect)
