@@ -7,7 +7,7 @@ use Rattle.mp_history.specs.Inside.Rule.{IsHome, Chain, IsKept}
 use Rattle.mp_history.proofs.Cells.{more, more_keeps, more_back}
 use Rattle.mp_history.proofs.Notes.{notes_of-own, notes_of-other}
 
--- a chain stands while no word leaves home
+-- a chain holds while no word leaves home
 pub chain-later : (cs ds : List Cell) → ((k : ℕ) → IsHome cs k → IsHome ds k) → (r : ℕ) (notes : List Noted) → Chain cs r notes → Chain ds r notes
 chain-later cs ds up r [] chain = tt
 chain-later cs ds up r (n ∷ ns) chain = (chain.0, (up r chain.1.0, chain-later cs ds up n.next ns chain.1.1))

@@ -1,4 +1,4 @@
--- What each event of the core keeps.
+-- What each event of the core preserves.
 use Rattle.std.proofs.Common.{◌≡◌, ℕ, zero, suc, ◌+◌, ◌<◌, ◌≤◌, Bool, true, false, cond, ◌&&◌, List, [], ◌∷◌, ◌++◌, length, refl, sym, ap, subst, ◌∙◌, arith, eqb-true}
 use Rattle.std.specs.Prelude.{◌==◌, Option, None, Some, IfSome, Result, Ok, Err, All, is_none, slice_get, nat_lt}
 use Rattle.std.proofs.Math.Seq.{take-length}
@@ -82,7 +82,7 @@ log-adopt : (w : World) (caller : ℕ) (o : Option Version) → (adopt w caller 
 log-adopt w caller None = refl
 log-adopt w caller (Some v) = kept_if (λ (u : World). u.log ≡ w.log) (nat_lt (w.held caller).number v.number) (with_held w caller v) w (λ _. refl) refl
 
--- The number of a version that is held never shrinks.
+-- The number of the version that a caller holds never decreases.
 
 abbrev pub IsLater : World → World → Type 0
 IsLater w v = (caller : ℕ) → (w.held caller).number ≤ (v.held caller).number
@@ -109,7 +109,7 @@ later-if b v w is = kept_if (IsLater w) b v w (λ _. is) (λ c. itself (w.held c
 chain : (a b c : ℕ) → a ≤ b → b ≤ c → a ≤ c
 chain a b c x y = omega arith
 
--- The version that a caller holds has all of the caller's own entries.
+-- The version that a caller holds contains all of the caller's own entries.
 
 pub record HasOwn (w : World) (caller : ℕ) : Type 0 where
   pub has : IfSome (w.last caller) (λ place. place < (w.held caller).number)
@@ -152,7 +152,7 @@ module _ (accepts : Accepts) where
     same = true_one.same ∙ ap (pool_of accepts p) (sym (take-append-le v.number log (d ∷ []) true_one.within));
   }
 
-  -- What is so of every world.
+  -- What holds of every world.
   pub record IsSound (callers : ℕ) (p : Pool) (w : World) : Type 0 where
     pub locked : w.locked ≡ pool_of accepts p w.log
     pub legal : IsLegal accepts callers p w.log
@@ -243,7 +243,7 @@ module _ (accepts : Accepts) where
   sound-run callers p w [] s = s
   sound-run callers p w (e ∷ es) s = sound-run callers p (step accepts callers w e) es (sound-step callers p w e s)
 
-  -- What an event enters goes last into the log.
+  -- What an event appends is the last entry of the log.
 
   log-committed : (w : World) (caller : ℕ) (command : Command) (a : Result Reply Refusal) → (after_commit accepts w caller command a).log ≡ w.log ++ entries_by caller command a
   log-committed w caller command (Ok reply) = refl

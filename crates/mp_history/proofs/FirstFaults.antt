@@ -71,7 +71,7 @@ same_place start = omega arith
 further : (n m : ℕ) → n < m → suc n < suc m
 further n m lt = omega arith
 
--- what is so of the fault that is passed on
+-- what holds of the fault that is passed on
 passed_on : {A : Type 0} (P : AuditFault → Type 0) (r : Result A AuditFault) (f : AuditFault) → IsErrAnd r (λ e. e ≡ f) → P f → IfErr r P
 passed_on P (Ok a) f is one = tt
 passed_on P (Err e) f is one = subst P (sym is) one
@@ -175,7 +175,7 @@ module _ (accepts : Accepts) where
   none_from callers p start [] is = refl
   none_from callers p start (x ∷ log) is = ap (λ o. option_or o (fault_from accepts callers (next accepts p x.command) (start + 1) log)) (none callers p start x is.0) ∙ none_from callers (next accepts p x.command) (start + 1) log is.1
 
-  -- What the audit meets.
+  -- What the audit finds.
 
   fault_at : (callers : ℕ) (p : Pool) (start : ℕ) (log : List Entry) (n : ℕ) (d : Entry) (f : AuditFault) → n < length log → d ≡ get_or log n d → IsLegal accepts callers p (take n log)
       → entry_fault accepts callers (pool_of accepts p (take n log)) (start + n) d ≡ Some f → fault_from accepts callers p start log ≡ Some f
@@ -196,7 +196,7 @@ module _ (accepts : Accepts) where
   is_illegal : (callers : ℕ) (p : Pool) (log : List Entry) (f : AuditFault) → first_fault accepts callers p log ≡ Some f → IsIllegal accepts callers p log
   is_illegal callers p log f e legal = let none = none_from callers p 0 log legal in Prim.cc
 
-  -- a fault of the entry at a place, after legal entries
+  -- a fault of the entry at an index, after legal entries
   module _ {A : Type 0} (callers : ℕ) (p q : Pool) (log : List Entry) (n : ℕ) (d : Entry) (f : AuditFault) (lt : n < length log) (at : d ≡ get_or log n d)
       (so_far : IsLegal accepts callers p (take n log) × (q ≡ pool_of accepts p (take n log))) (found : f ≢ NoMemory → entry_fault accepts callers q n d ≡ Some f) (r : Result A AuditFault) (is : IsErrAnd r (λ e. e ≡ f)) where
     first_is : f ≢ NoMemory → first_fault accepts callers p log ≡ Some f

@@ -27,7 +27,7 @@ eqb-refl n = elim (n == n) as (λ b. (n == n) ≡ b → b ≡ true) [
 locked_by : (callers : ℕ) (w : World) (caller : ℕ) → HasLock callers w caller → has_lock callers w caller ≡ true
 locked_by callers w caller has = both_true (lt-ltb caller callers has.known) (ap (λ h. is_holder h caller) has.holds ∙ eqb-refl caller)
 
--- a permitted event does what it does
+-- a permitted event has its effect
 done_if : (b : Bool) (v w : World) → b ≡ true → v ≡ cond b v w
 done_if b v w e = ap (λ a. cond a v w) (sym e)
 

@@ -11,7 +11,7 @@ use Rattle.mp_seqpool.proofs.Histories.{signed, lawful-after}
 use Rattle.mp_history.specs.Entry.{Entry}
 use Rattle.mp_history.specs.Log.{commands, IsRight, IsLegal, pool_of, last_of}
 
--- where the log ends with the caller's entry, that is its last one
+-- if the log ends with the caller's entry, that is its last one
 pub last_of-own : (caller : ℕ) (log : List Entry) (d : Entry) → (caller == d.caller) ≡ true → last_of caller (log ++ d ∷ []) ≡ Some (length log)
 last_of-own caller [] d e = ap (λ b. cond b (Some 0) None) e
 last_of-own caller (x ∷ log) d e = ap (λ o. option_or (option_map (λ place. place + 1) o) (cond (caller == x.caller) (Some 0) None)) (last_of-own caller log d e) ∙ ap (λ n. Some n) (one_more (length log))
@@ -32,7 +32,7 @@ module _ (accepts : Accepts) where
   legal-append callers p [] d legal right = (right, tt)
   legal-append callers p (x ∷ log) d legal right = (legal.0, legal-append callers (next accepts p x.command) log d legal.1 right)
 
-  -- a right entry more
+  -- one more right entry
   pub legal-more : (callers : ℕ) (p q r : Pool) (log : List Entry) (place : ℕ) (d : Entry) → place < length log → get_or log place d ≡ d → IsLegal accepts callers p (take place log) × (q ≡ pool_of accepts p (take place log)) → IsRight accepts callers q d → r ≡ next accepts q d.command
       → IsLegal accepts callers p (take (place + 1) log) × (r ≡ pool_of accepts p (take (place + 1) log))
   legal-more callers p q r log place d within at so_far right is =

@@ -1,4 +1,4 @@
--- What is noted of one history in a longer log.
+-- The notes of one history in a longer log.
 use Rattle.std.proofs.Common.{◌≡◌, ℕ, ◌<◌, ◌≤◌, true, false, cond, List, [], ◌∷◌, ◌++◌, length, refl, ap, sym, ◌∙◌, arith}
 use Rattle.std.specs.Prelude.{◌==◌}
 use Rattle.std.proofs.lemmas.List.{append-nil}
@@ -35,7 +35,7 @@ notes_of-other root log n is = notes_of-append root log (n ∷ []) ∙ (ap (λ b
 pub entries_of-one : (notes : List Noted) (n : Noted) (e : Entry) → n.entries ≡ e ∷ [] → entries_of (notes ++ n ∷ []) ≡ entries_of notes ++ e ∷ []
 entries_of-one notes n e is = entries_of-append notes (n ∷ []) ∙ ap (λ es. entries_of notes ++ es) (append-nil n.entries ∙ is)
 
--- a history that has opened goes on with the state that it opened with
+-- a history that has opened keeps the state with which it opened
 pub opening_of-prefix : (xs ys : List Noted) → 0 < length xs → IsPrefix xs ys → opening_of xs ≡ opening_of ys
 opening_of-prefix [] ys opened p = absurd (omega (arith, opened))
 opening_of-prefix (x ∷ xs) ys opened p = ap opening_of p.1
@@ -46,7 +46,7 @@ log_of-prefix root xs ys opened p = record {
   entries = history-prefix root xs ys p;
 }
 
--- of two beginnings of one history the shorter begins the longer
+-- of two prefixes of one history, the shorter is a prefix of the longer
 pub shorter_begins : (a b log : Log) → Begins a log → Begins b log → length a.entries ≤ length b.entries → Begins a b
 shorter_begins a b log p q le = record { opening = p.opening ∙ sym q.opening; entries = prefix_shorter a.entries b.entries log.entries p.entries q.entries le }
 

@@ -1,4 +1,4 @@
--- Tickets rise through the histories of pools of which each takes over from the one before.
+-- Tickets are strictly increasing through the histories of pools, each of which takes over from the one before.
 use Rattle.std.proofs.Common.{◌≡◌, ℕ, zero, suc, ◌+◌, ◌<◌, ◌≤◌, List, [], ◌∷◌, ◌++◌, length, take, refl, sym, ap, subst, ◌∙◌, arith}
 use Rattle.std.specs.Prelude.{All, Contains, Ok, slice_index}
 use Rattle.std.specs.List.{flat_map}
@@ -20,7 +20,7 @@ use Rattle.mp_history.specs.Entry.{Entry}
 use Rattle.mp_history.specs.Log.{Log, IsLegal, IsLegalLog, commands, pool_of, state_after}
 use Rattle.mp_history.specs.Successors.{ticket_in, given, Succeeds, AreSuccessors, SuccessorLaw}
 
--- ---- lists that rise from above one number up to another
+-- ---- lists that are strictly increasing, from above one number up to another
 
 abbrev Rise : ℕ → List ℕ → ℕ → Type 0
 Rise a [] b = a ≤ b
@@ -48,7 +48,7 @@ increasing a (t ∷ u ∷ ts) b rise (suc k) lt = subst (λ n. slice_index (u �
 itself : (n : ℕ) → n ≤ n
 itself n = omega arith
 
--- one reply more in front
+-- one more reply before the others
 replied : (a n b : ℕ) (r : Reply) (ts : List ℕ) → a ≤ n → ((k : ℕ) → r ≡ Accepted k → (k ≡ a + 1) × (n ≡ k)) → Rise n ts b → Rise a (ticket_in r ++ ts) b
 replied a n b (Accepted k) ts le gives rise =
     let is = gives k refl in

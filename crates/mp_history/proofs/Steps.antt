@@ -1,4 +1,4 @@
--- Each step keeps the rule and tells what it says.
+-- Each step preserves the rule and has its result.
 use Rattle.std.proofs.Common.{◌≡◌, ◌≢◌, ℕ, ◌+◌, ◌<◌, true, false, List, [], ◌∷◌, ◌++◌, length, refl, ap, sym, ◌∙◌, subst, arith, inl, eq-eqb, None}
 use Rattle.std.specs.Prelude.{◌==◌}
 use Rattle.std.proofs.lemmas.List.{append-nil, length-set, length_push}
@@ -71,7 +71,7 @@ opens_moves seen p next state cs log kept pre away =
       ),
     )
 
--- a history's notes that the right has seen are all
+-- the notes of a history that the right has seen are all
 pub whole : (cs : List Cell) (root p : ℕ) (notes all : List Noted) → Chain cs root all → IsPrefix notes all → right_after root notes ≡ p → (IsHome cs p → ⊥) → notes ≡ all
 whole cs root p notes all chain pre turn out =
     let rest : pre.0 ≡ [] = chain-end cs root notes pre.0 (subst (Chain cs root) (sym pre.1) chain) (λ h. out (subst (IsHome cs) turn h)) in

@@ -30,7 +30,7 @@ module _ (root : ℕ) (log later : List Noted) (n : Noted) (e : Entry) where
     turn = to ∙ ap (λ k. nib may_write k 0) (sym (ap (right_after root) is ∙ right_after-last root (notes_of root log) n));
   }
 
--- where all of a history's notes are those that the right has seen, who saw others of it saw how it begins
+-- if all notes of a history are those that the right has seen, anybody else has seen a prefix of them
 pub covered : (root : ℕ) (mine theirs all : List Noted) → notes_of root mine ≡ notes_of root all → 0 < length (notes_of root theirs) → IsPrefix theirs all → Begins (log_of root theirs) (log_of root mine)
 covered root mine theirs all same opened begins =
     subst (λ (ns : List Noted). Begins (log_of root theirs) (record { opening = opening_of ns; entries = entries_of ns })) (sym same) (log_of-prefix root theirs all opened begins)

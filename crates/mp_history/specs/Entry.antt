@@ -1,4 +1,4 @@
--- One line of a history.
+-- One entry of a history.
 use Rattle.std.specs.Prelude.{ℕ}
 use Rattle.mp_seqpool.specs.declared.command.Reply.{Reply}
 use Rattle.mp_seqpool.specs.Command.{Command}

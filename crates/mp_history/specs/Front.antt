@@ -1,7 +1,7 @@
--- Fronts: beginnings of one history that were seen.
+-- Fronts: prefixes of one history that somebody has seen.
 use Rattle.mp_history.specs.Log.{Log, Begins}
 
--- each of the two begins one history
+-- both are prefixes of one history
 pub record AreOfOneLog (a b : Log) : Type 0 where
   pub log : Log
   pub first : Begins a log

@@ -1,4 +1,4 @@
--- Histories that a pool may have had.
+-- Histories that a pool can have.
 use Rattle.std.specs.Prelude.{◌≡◌, ℕ, ◌+◌, ◌<◌, ◌==◌, List, [], ◌∷◌, ◌++◌, map, Option, None, Some, option_map, Ok, if◌then◌else◌}
 use Rattle.std.specs.Option.{option_or}
 use mathlib.Core.List.{IsPrefix}
@@ -9,7 +9,7 @@ use Rattle.mp_seqpool.specs.PoolLaws.{IsLawful}
 use Rattle.mp_seqpool.specs.SlowPool.{answer, next, pool_after}
 use Rattle.mp_history.specs.Entry.{Entry}
 
--- what one history says: the state that it opened with, and what was asked and replied since
+-- one history: the state with which it opened, and the commands and replies since
 pub record Log : Type 0 where
   pub opening : Pool
   pub entries : List Entry
@@ -18,7 +18,7 @@ pub record Log : Type 0 where
 abbrev pub entered : Log → Entry → Log
 entered log e = record log { entries = log.entries ++ e ∷ [] }
 
--- the first is how the second begins
+-- the first is a prefix of the second
 pub record Begins (a b : Log) : Type 0 where
   pub opening : a.opening ≡ b.opening
   pub entries : IsPrefix a.entries b.entries
@@ -34,14 +34,14 @@ last_of caller (e ∷ es) =
 
 -- The verifier decides which signatures are good.
 module _ (accepts : Accepts) where
-  -- an entry that may come upon a state
+  -- an entry that may come after a state
   pub record IsRight (callers : ℕ) (p : Pool) (e : Entry) : Type 0 where
     -- its caller is one of them
     pub known : e.caller < callers
-    -- its reply is the slow pool's
+    -- its reply is the reference pool's
     pub true_reply : answer accepts p e.command ≡ Ok e.reply
 
-  -- each entry is right upon the state after all before it
+  -- each entry is right on the state after all before it
   abbrev pub IsLegal : ℕ → Pool → List Entry → Type 0
   IsLegal callers p [] = Unit {0}
   IsLegal callers p (e ∷ es) = IsRight callers p e × IsLegal callers (next accepts p e.command) es
@@ -50,7 +50,7 @@ module _ (accepts : Accepts) where
   abbrev pub pool_of : Pool → List Entry → Pool
   pool_of p log = pool_after accepts p (commands log)
 
-  -- a history that a pool may have had, which opened with a lawful state and no change
+  -- a history that a pool can have, which opened with a lawful state and no changes
   pub record IsLegalLog (callers : ℕ) (log : Log) : Type 0 where
     pub lawful : IsLawful accepts log.opening
     pub unchanged : log.opening.changes ≡ 0

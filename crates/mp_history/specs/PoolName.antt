@@ -1,4 +1,4 @@
--- What the name of a pool stands for.
+-- The meaning of a pool's name.
 use Rattle.std.specs.Prelude.{ℕ, true}
 use Rattle.logbook.specs.Pages.{Book, Named}
 

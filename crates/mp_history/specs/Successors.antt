@@ -1,4 +1,4 @@
--- Histories of pools of which each takes over from the one before.
+-- Histories of pools, each of which takes over from the one before.
 use Rattle.std.specs.Prelude.{◌≡◌, ℕ, List, [], ◌∷◌, All}
 use Rattle.std.specs.List.{flat_map}
 use Rattle.std.specs.List.Sorted.{IsStrictlyIncreasing}
@@ -21,7 +21,7 @@ given log = flat_map (λ e. ticket_in e.reply) log.entries
 
 -- The verifier decides which signatures are good.
 module _ (accepts : Accepts) where
-  -- the history of a pool that takes over after this one, for so many changes
+  -- the history of a pool that takes over after this one, with this limit
   abbrev pub successor : ℕ → Log → Log
   successor limit log = record { opening = renewed limit (state_after accepts log); entries = [] }
 
@@ -32,14 +32,14 @@ module _ (accepts : Accepts) where
     pub legal : IsLegalLog accepts callers log
     pub opening : log.opening ≡ (successor limit before).opening
 
-  -- each history is one of a pool that takes over from the one before
+  -- each history is that of a pool that takes over from the one before
   abbrev pub AreSuccessors : Log → List Log → Type 0
   AreSuccessors log [] = Unit {0}
   AreSuccessors log (later ∷ logs) = Succeeds log later × AreSuccessors later logs
 
   -- What holds however often a pool hands over.
   pub record SuccessorLaw (log : Log) (logs : List Log) : Type 0 where
-    -- no ticket is given twice, and tickets rise through all of the histories
+    -- no ticket is given twice: tickets are strictly increasing through all of the histories
     pub tickets : IsStrictlyIncreasing (flat_map given (log ∷ logs))
-    -- what a later pool has under a ticket that was given before it stood there under that ticket
+    -- a later pool's item with a ticket that was given before is the item that had this ticket then
     pub lasts : All (λ later. Lasts (state_after accepts log) (state_after accepts later)) logs

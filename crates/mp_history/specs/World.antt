@@ -1,5 +1,5 @@
--- The core of a pool that many callers share: what may happen, one event at a time.
--- One caller at a time holds the lock, and it alone changes the state. Each change makes a version, which every caller may come to hold.
+-- The core of a pool that many callers share: its possible events, one at a time. One caller at a time holds the lock,
+-- and only this caller changes the state. Each change makes a version, which every caller may come to hold.
 use Rattle.std.specs.Prelude.{ℕ, ◌==◌, nat_lt, Bool, false, ◌&&◌, List, [], ◌∷◌, ◌++◌, length, Option, None, Some, is_none, Result, Ok, Err, slice_get, if◌then◌else◌}
 use Rattle.mp_rules.specs.Verifier.{Accepts}
 use Rattle.mp_seqpool.specs.declared.command.Reply.{Reply}
@@ -11,7 +11,7 @@ use Rattle.mp_history.specs.Entry.{Entry}
 
 -- a state of the pool that callers may hold
 pub record Version : Type 0 where
-  -- how many entries led to it
+  -- the number of entries that led to it
   pub number : ℕ
   -- the state after them
   pub state : Pool
@@ -22,42 +22,42 @@ pub record World : Type 0 where
   pub log : List Entry
   -- the state that only the lock's holder changes
   pub locked : Pool
-  -- the version that waits to be shown
+  -- the version that waits for publication
   pub waiting : Option Version
   -- the caller that holds the lock
   pub holder : Option ℕ
-  -- the versions that were shown, in order
+  -- the published versions, in order
   pub board : List Version
-  -- by caller, the version that it holds
+  -- for each caller, the version that it holds
   pub held : ℕ → Version
-  -- by caller, the place of its last own entry
+  -- for each caller, the place of its last entry
   pub last : ℕ → Option ℕ
-  -- the versions that were ever held
+  -- the versions that any caller ever held
   pub ever : List Version
 
--- what a caller does
+-- an action of a caller
 pub data Event : Type 0 where
   -- it takes the lock
   Take : (caller : ℕ) → Event
-  -- it asks, and what it asks is done and entered
+  -- it gives a command, which is executed and appended
   Commit : (caller : ℕ) (command : Command) → Event
-  -- it asks, and is refused
+  -- it gives a command, which is refused
   Answer : (caller : ℕ) (command : Command) → Event
-  -- it puts the version that waits on the board
+  -- it publishes the version that waits
   Show : (caller : ℕ) → Event
-  -- it would show a version, and can't
+  -- it can't publish a version
   ShowRefused : (caller : ℕ) → Event
-  -- it gives the lock back
+  -- it releases the lock
   Release : (caller : ℕ) → Event
-  -- it comes upon the version at a place on the board
+  -- it reads the published version with this index
   Read : (caller : ℕ) (which : ℕ) → Event
-  -- it comes upon one of those that were ever held, by its place among them
+  -- it learns one of the versions that were ever held, by its index
   Learn : (caller : ℕ) (which : ℕ) → Event
 
 abbrev pub first_version : Pool → Version
 first_version p = record { number = 0; state = p }
 
--- no entry, no holder, and the state that it opens with held by all and on the board
+-- no entries and no holder; all callers hold the opening state, which is published
 abbrev pub opens : Pool → World
 opens p = record {
   log = [];
@@ -90,21 +90,21 @@ put f caller x c = if c == caller then x else f c
 abbrev pub with_held : World → ℕ → Version → World
 with_held w caller v = record w { held = put w.held caller v; ever = w.ever ++ v ∷ [] }
 
--- the version of the locked state waits to be shown
+-- the version of the locked state waits for publication
 abbrev pub with_waiting : World → World
 with_waiting w = record w { waiting = Some (present w) }
 
--- where the state refuses: the caller holds the version of the locked state
+-- if the state refuses, the caller holds the version of the locked state
 abbrev pub after_answer : World → ℕ → Result Reply Refusal → World
 after_answer w caller (Ok reply) = w
 after_answer w caller (Err refusal) = with_held w caller (present w)
 
--- the version that waits, if there is one, is on the board
+-- the version that waits, if there is one, is published
 abbrev pub after_show : World → Option Version → World
 after_show w None = w
 after_show w (Some v) = record w { board = w.board ++ v ∷ []; waiting = None }
 
--- a version comes to a caller, which holds it where it is later than its own
+-- a caller holds the version if it is later than its own
 abbrev pub adopt : World → ℕ → Option Version → World
 adopt w caller None = w
 adopt w caller (Some v) = if nat_lt (w.held caller).number v.number then with_held w caller v else w
@@ -116,7 +116,7 @@ entries_by caller command (Err refusal) = []
 
 -- The verifier decides which signatures are good.
 module _ (accepts : Accepts) where
-  -- the entry last, and done
+  -- with the entry appended, and executed
   abbrev pub with_entry : World → Entry → World
   with_entry w e = record w {
     log = w.log ++ e ∷ [];
@@ -124,7 +124,8 @@ module _ (accepts : Accepts) where
     last = put w.last e.caller (Some (length w.log));
   }
 
-  -- where the state doesn't refuse: the entry goes last into the log, and the caller holds the version after it, which also waits
+  -- if the state doesn't refuse, the entry is appended to the log, and the caller holds the version after it, which
+  -- also waits for publication
   abbrev pub after_commit : World → ℕ → Command → Result Reply Refusal → World
   after_commit w caller command (Ok reply) =
       let v = with_entry w (record { caller = caller; command = command; reply = reply }) in
@@ -147,7 +148,7 @@ module _ (accepts : Accepts) where
   run callers w [] = w
   run callers w (e ∷ es) = run callers (step callers w e) es
 
-  -- what an event enters: a commit that is permitted, and nothing else
+  -- what an event appends: only a permitted commit appends an entry
   abbrev pub enters : ℕ → World → Event → List Entry
   enters callers w (Commit caller command) = if has_lock callers w caller then entries_by caller command (answer accepts w.locked command) else []
   enters callers w _ = []

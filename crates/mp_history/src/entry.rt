@@ -1,4 +1,4 @@
-//! One line of a history.
+//! One entry of a history.
 
 use mp_seqpool::{Command, Reply};
 use std::marker::Model;

@@ -1,4 +1,4 @@
-//! Why a history is not legal.
+//! Why a history isn't legal.
 
 ghost use Rattle.std.specs.Prelude.{◌≡◌};
 ghost use Rattle.mp_history.specs.AuditFault as audit_fault;
@@ -7,16 +7,16 @@ ghost use Rattle.mp_history.specs.declared.fault.AuditFault.TheVariants as fault
 use mp_memory::NoMemory;
 use thiserror::Error;
 
-/// Why an audit gives no pool: the first bad place of the history, from 0. `NoMemory` may stand in
-/// place of any answer.
+/// Why an audit returns no pool: the index of the first bad entry of the history, from 0. `NoMemory` may be returned
+/// instead of any answer.
 #[derive(Clone, Copy, Debug, PartialEq, Eq, Error)]
 pub enum AuditFault {
     #[error("no memory")]
     NoMemory,
-    /// The reply isn't the pool's after the entries before it.
+    /// The reply isn't the reference pool's after the entries before it.
     #[error("the reply of entry {0} is not the pool's")]
     WrongReply(usize),
-    /// The caller isn't below the number of callers.
+    /// The number of the caller isn't less than the number of callers.
     #[error("the caller of entry {0} is strange")]
     StrangeCaller(usize),
 }

@@ -14,7 +14,7 @@ use mp_memory::{Memory, NoMemory};
 use mp_seqpool::{Config, SeqPool, Verifier};
 use mp_tx::Ledger;
 
-// Does what one entry asks, where the entry is right.
+// Executes the command of one entry, if the entry is right.
 fn replay<V: Verifier>(
     pool: &mut SeqPool,
     callers: u32,
@@ -46,7 +46,7 @@ fn replay<V: Verifier>(
     }
 }
 
-// Does what the entries ask, in order, as far as they are right.
+// Executes the commands of the entries, in order, up to the first that is wrong.
 fn replay_all<V: Verifier>(
     pool: &mut SeqPool,
     callers: u32,
@@ -69,11 +69,10 @@ fn replay_all<V: Verifier>(
     Ok(())
 }
 
-/// Runs a history of so many callers anew on a pool that opens upon the ledger state, where the
-/// verifier decides which signatures are good. Where the history is legal, it gives the pool after
-/// all entries: each entry's caller is below `callers`, and its reply is the slow pool's after the
-/// entries before it. Otherwise it gives the first place where that fails, and the caller is looked
-/// at first there.
+/// Replays a history of this many callers on a pool that opens on the ledger state. The verifier decides which
+/// signatures are good. If the history is legal, returns the pool after all entries: the caller of each entry is less
+/// than `callers`, and its reply is the reference pool's after the entries before it.
+/// Else returns the fault of the first bad entry. Its caller is checked before its reply.
 pub fn audit<V: Verifier>(
     memory: Memory,
     config: Config,

@@ -1,4 +1,4 @@
-//! The word that the callers of a pool share, and the right to lengthen its history.
+//! The word that the callers of a pool share, and the right to append to its history.
 
 mod caller;
 mod commit_right;

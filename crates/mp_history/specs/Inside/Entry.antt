@@ -1,4 +1,4 @@
--- An entry without the share that its command's transaction is held by.
+-- An entry without the share of its command's transaction.
 use Rattle.mp_seqpool.specs.Inside.Command.{command_of}
 use Rattle.mp_history.specs.declared.entry.Entry.TheInside.{Inside}
 use Rattle.mp_history.specs.Entry.{Entry}

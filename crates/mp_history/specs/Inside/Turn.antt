@@ -1,9 +1,9 @@
--- What a commit right has, beside the front that it stands after.
+-- What a commit right has in addition to its front.
 use Rattle.std.specs.Prelude.{◌≡◌, ℕ, ◌<◌, List, length}
 use Rattle.logbook.specs.Pages.{Nib, nib, may_write}
 use Rattle.mp_history.specs.Inside.Noted.{Noted, notes_of, history, right_after}
 
--- the history's entries are so many, and the pen is the one that enters the next
+-- this is the number of the history's entries, and the pen makes the next one
 pub record IsTurn (root count : ℕ) (log : List Noted) (pen : Nib) : Type 0 where
   -- the history has opened
   pub opened : 0 < length (notes_of root log)

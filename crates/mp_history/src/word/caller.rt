@@ -1,4 +1,4 @@
-//! Who may commit.
+//! The callers that may commit.
 ghost use Rattle.std.specs.Prelude.{◌≡◌, ◌<◌, IfOk, Some};
 ghost use Rattle.mp_history.specs.Caller.{new_callers};
 ghost use Rattle.mp_seqpool.specs.Inside.Command.{command_of};
@@ -9,9 +9,9 @@ use mp_memory::{Memory, NoMemory};
 use mp_seqpool::{Command, Reply};
 use std::marker::{Model, PhantomData};
 
-/// The token of one caller of the pool. Contracts see the caller's number, and the place of the last
-/// entry that it made. It comes with the pool's history, one for each number; it can't be cloned, and
-/// nothing else makes one. Only `History::commit` changes it.
+/// The token of one caller of the pool. Contracts see the caller's number, and the place of its last entry. The tokens
+/// come with the pool's history, one for each number. A token can't be cloned, and nothing else makes one. Only
+/// `History::commit` changes it.
 #[derive(Drop)]
 pub struct Caller<N: PoolName> {
     number: u32,
@@ -59,21 +59,21 @@ impl<N: PoolName> Caller<N> {
         self.number
     }
 
-    /// The place of the last entry that it made.
+    /// The place of its last entry, if it has made one.
     pub fn last(&self) -> Option<u64>
         ensures { result ≡ self.now.last }
     {
         self.last
     }
 
-    /// It made the entry at this place.
+    /// Records that it made the entry at this place.
     pub(crate) fn made(&mut self, place: u64)
         ensures { self.new ≡ record self.old { last = Some place } }
     {
         self.last = Some(place);
     }
 
-    /// The line of a history that says what this caller asked and what the pool replied.
+    /// The entry for a command of this caller and the pool's reply.
     pub fn entry(&self, command: Command, reply: Reply) -> Entry
         ensures caller { result.caller ≡ self.now.number }
         ensures command { result.command ≡ command_of command }

@@ -1,4 +1,4 @@
-//! The right to lengthen a history.
+//! The right to append to a history.
 ghost use Rattle.std.specs.Prelude.{◌≡◌, ◌<◌, ◌^◌, [], length};
 ghost use Rattle.mp_seqpool.specs.Config.{renewed};
 ghost use Rattle.mp_history.specs.Log.{Begins, entered};
@@ -13,15 +13,15 @@ use logbook::{Offer, Pen, Seen, Word};
 use mp_seqpool::SeqPool;
 use std::marker::{Model, PhantomData};
 
-/// The right to lengthen the pool's history. There is one for each history: it comes with it, it
-/// can't be cloned, and nothing else makes one. Contracts see it as the whole history, since nobody
-/// else can enter anything: `covers` says so of each front.
+/// The right to append to the pool's history. There is one for each history: it comes with it, it can't be cloned, and
+/// nothing else makes one. Contracts see it as the whole history, since nobody else can append: `covers` guarantees
+/// this for each front.
 pub struct CommitRight<N: PoolName> {
-    // A word of the book that no history has: an exchange upon it sees the book as it is.
+    // A word of the book that no history has: an exchange on it observes the book.
     own: Word<Noted, u64, Law>,
     count: u64,
     seen: Seen<Noted, u64, Law>,
-    // The pen that enters the next entry.
+    // The pen that makes the next entry.
     pen: Pen,
     of: PhantomData<N>,
 }
@@ -58,8 +58,8 @@ impl<N: PoolName> Model for CommitRight<N> {
 }
 
 impl<N: PoolName> CommitRight<N> {
-    /// Opens the history of this name with what the pool holds, for so many changes: its word, and the
-    /// right that stands after no entry.
+    /// Opens the history of this name with the pool's content, for at most `limit` changes: its word, and the right,
+    /// which has no entries.
     pub(crate) fn first(
         name: NewName,
         pool: &SeqPool,
@@ -99,8 +99,8 @@ impl<N: PoolName> CommitRight<N> {
         )
     }
 
-    /// Enters the entry: an exchange upon the right's own word adds the word of the next pen, and one
-    /// upon the history's word raises the number of entries.
+    /// Appends the entry: an exchange on the right's own word adds the word of the next pen, and one on the history's
+    /// word increments the number of entries.
     pub(crate) fn enter(&mut self, head: &Word<Noted, u64, Law>, entry: &Entry)
         requires head { head.now ≡ head_of N.book N.root }
         requires room { length self.old.entries < 2 ^ 32 }
@@ -128,7 +128,7 @@ impl<N: PoolName> CommitRight<N> {
         self.count = count + 1;
     }
 
-    /// How many entries there are: the place of the next one.
+    /// The number of entries, which is the place of the next one.
     pub fn len(&self) -> u64
         ensures { result ≡ length self.now.entries }
     {
@@ -146,8 +146,8 @@ impl<N: PoolName> CommitRight<N> {
         }
     }
 
-    /// A front of this pool begins what the right stands after: while the right is held, nobody has
-    /// seen more than it has. It is an exchange that changes nothing, and takes no memory.
+    /// A front of this pool is a prefix of the history that the right has: while somebody has the right, nobody has
+    /// seen more. It is an exchange that changes nothing, and takes no memory.
     pub fn covers(&mut self, front: &Front<N>)
         ensures same { self.new ≡ self.old }
         ensures covers { Begins front.now self.new }

@@ -1,4 +1,4 @@
-//! What was seen of a history.
+//! Prefixes of a history.
 ghost use Rattle.std.specs.Prelude.{◌≡◌, ◌≤◌, length};
 ghost use Rattle.mp_history.specs.Log.{Begins};
 ghost use Rattle.mp_history.specs.Front.{AreOfOneLog};
@@ -8,8 +8,8 @@ use crate::word::rule::{Law, Noted};
 use logbook::Seen;
 use std::marker::{Model, PhantomData};
 
-/// A beginning of the pool's history that was seen. Contracts see it as the state that the pool
-/// opened with and the entries; the program keeps their number alone.
+/// A prefix of the pool's history, as somebody has seen it. Contracts see it as the state that the pool opened with and
+/// the entries. The program stores only their number.
 pub struct Front<N: PoolName> {
     pub(crate) count: u64,
     pub(crate) seen: Seen<Noted, u64, Law>,
@@ -44,7 +44,7 @@ impl<N: PoolName> Model for Front<N> {
 }
 
 impl<N: PoolName> Front<N> {
-    /// How many entries it has.
+    /// The number of its entries.
     pub fn len(&self) -> u64
         ensures { result ≡ length self.now.entries }
     {
@@ -62,7 +62,7 @@ impl<N: PoolName> Front<N> {
         }
     }
 
-    /// Of two fronts of one pool the shorter begins the longer. That costs nothing when it runs.
+    /// Of two fronts of one pool, the shorter is a prefix of the longer. It costs nothing when the program runs.
     pub fn compare(&self, other: &Front<N>)
         ensures this { length self.now.entries ≤ length other.now.entries
             → Begins self.now other.now }
@@ -74,7 +74,7 @@ impl<N: PoolName> Front<N> {
     }
 }
 
-/// Two fronts of one pool are beginnings of one history. That costs nothing when it runs.
+/// Two fronts of one pool are prefixes of one history. It costs nothing when the program runs.
 pub fn look<N: PoolName>(first: &Front<N>, second: &Front<N>)
     ensures { AreOfOneLog first.now second.now }
 {

@@ -16,9 +16,8 @@ use mp_memory::{Memory, NoMemory};
 use mp_seqpool::SeqPool;
 use std::marker::PhantomData;
 
-/// The pool's history: one word, the number of its entries. The entries themselves are seen by
-/// contracts alone, and take no memory. All callers may share it; who has the commit right
-/// lengthens it.
+/// The pool's history: one word, the number of its entries. Only contracts see the entries themselves, which take no
+/// memory. All callers may share it. Only the holder of the commit right appends to it.
 pub struct History<N: PoolName> {
     head: Word<Noted, u64, Law>,
     of: PhantomData<N>,
@@ -32,9 +31,9 @@ impl<N: PoolName> Drop for History<N> {
 }
 
 impl<N: PoolName> History<N> {
-    /// Opens a pool's history under its name, for 1 to 1,024 callers, with what the pool is once it is
-    /// renewed for so many changes: a history without entries, the right to lengthen it, and the tokens
-    /// of the callers 0, 1, .. in order. Without memory for the tokens the name is lost.
+    /// Opens a pool's history under its name, for 1 to 1,024 callers. It opens with the pool after `renew` for at most
+    /// `limit` changes. Returns a history without entries, the right to append to it, and the tokens of the callers 0,
+    /// 1, .. in order. If there is no memory for the tokens, the name is lost.
     pub fn open(
         name: NewName,
         memory: Memory,
@@ -62,9 +61,8 @@ impl<N: PoolName> History<N> {
         ))
     }
 
-    /// Enters the caller's entry last, always: it can't be refused, and takes no memory. The
-    /// caller's token then has the entry's place, so that each entry leaves a trace there. The
-    /// history may have up to 2^32 entries.
+    /// Appends the caller's entry. It can't be refused, and takes no memory. The caller's token then has the entry's
+    /// place, so each entry leaves a trace there. The history may have at most 2^32 entries.
     pub fn commit(&self, right: &mut CommitRight<N>, caller: &mut Caller<N>, entry: &Entry)
         requires room { length right.old.entries < 2 ^ 32 }
         requires own { entry.now.caller ≡ caller.old.number }

@@ -7,11 +7,10 @@ use crate::word::rule::{Adds, Law, Noted, Nothing};
 use logbook::{Offer, Pen, Seen, Start, Word};
 use std::marker::Model;
 
-/// A name for one pool, which `History::open` uses up. Contracts see it as the word that the pool's
-/// history is going to have.
+/// A name for one pool, which `History::open` uses up. Contracts see it as the word that the pool's history will have.
 #[derive(Drop)]
 pub struct NewName {
-    // A word of the book that no history has: an exchange upon it sees the book as it is.
+    // A word of the book that no history has: an exchange on it observes the book.
     pub(crate) own: Word<Noted, u64, Law>,
     pub(crate) seen: Seen<Noted, u64, Law>,
     // The right to make the history's word.

@@ -2,20 +2,19 @@
 
 use std::marker::Brand;
 
-/// Which pool it is. The parts of one pool (the word, the right, the fronts, the callers' tokens)
-/// have its name as their type argument, so parts of two pools don't fit together. A program has
-/// one type for it, `Brand`: each call that passes `Brand` says in its proof which name that is, as
-/// that of a `NewName` that it opens.
+/// Which pool it is. The parts of one pool (the word, the right, the fronts, the callers' tokens) have its name as
+/// their type argument, so parts of two pools can't be mixed. A program has only one type for it, `Brand`. Each call
+/// that passes `Brand` says in its proof which name that is: that of a `NewName` that it opens.
 pub trait PoolName {
     ghost use Rattle.std.specs.Prelude.{ℕ};
     ghost use Rattle.logbook.specs.Pages.{Book};
     ghost use Rattle.mp_rules.specs.Verifier.{Accepts};
 
-    // The book that keeps its history, in proofs alone.
+    // The book of its history, in proofs only.
     ghost book: { Book };
     // The key of its history's word in that book.
     ghost root: { ℕ };
-    // How many callers it has.
+    // The number of its callers.
     ghost callers: { ℕ };
     // Which signatures its verifier accepts.
     ghost accepts: { Accepts };

@@ -1,10 +1,10 @@
-//! The rule of the words that a history has, and the steps that they make.
+//! The rule of a history's words, and the steps on them.
 use crate::entry::Entry;
 use logbook::{Gain, Pen, Plain, Play, Rule, Word};
 use mp_seqpool::SeqPool;
 use std::marker::{Model, PhantomData};
 
-/// What a book of histories is made of. It is in no program: proofs alone speak of its values.
+/// What a book of histories contains. No program has it: only proofs use its values.
 pub struct Noted {
     of: PhantomData<()>,
 }
@@ -49,7 +49,7 @@ impl Rule<Noted, u64> for Law {
     ghost moves = { λ ask before after answer. Unit {0} };
 }
 
-/// Callers trade nothing with the book, and a step that enters nothing asks nothing.
+/// Callers exchange nothing with the book, and a step without an entry has no argument.
 pub struct Nothing;
 
 impl Gain<Noted, u64> for Nothing {
@@ -82,7 +82,8 @@ impl Play<Noted, u64> for Adds {
     ghost then = { told.Adds };
 }
 
-/// What a history opens with: the pen of its word, that of the first right, what the pool holds, and how many changes there may be.
+/// What a history opens with: the pen of its word, the pen of the first right, the pool's content, and the greatest
+/// number of changes.
 #[derive(Clone, Copy)]
 pub struct Opening<'a> {
     pub head: &'a Pen,
@@ -115,7 +116,7 @@ impl<'a> Plain<Opening<'a>, Noted, u64> for Opens {
     ghost state = { λ _. None };
 }
 
-/// An entry, with its history's word, the pen that enters it and the one that enters the next.
+/// An entry, with its history's word, the pen that makes it and the pen that makes the next.
 #[derive(Clone, Copy)]
 pub struct Addition<'a> {
     pub head: &'a Word<Noted, u64, Law>,
@@ -124,7 +125,7 @@ pub struct Addition<'a> {
     pub next: &'a Pen,
 }
 
-/// A step that enters an entry.
+/// A step that appends an entry.
 pub struct Commits;
 
 impl Play<Noted, u64> for Commits {
