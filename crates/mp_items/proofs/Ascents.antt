@@ -1,4 +1,4 @@
--- Tickets that rise strictly.
+-- Strictly increasing tickets.
 use Rattle.std.proofs.Common.{◌≡◌, ℕ, zero, suc, ◌+◌, ◌<◌, ◌≤◌, true, List, [], ◌∷◌, length, take, drop, get_or, refl, subst, arith}
 use Rattle.std.specs.Prelude.{nat_lt}
 use Rattle.std.specs.List.{AllByRecursion}
@@ -47,7 +47,7 @@ beyond : (first last m : ℕ) (ts : List ℕ) → last < m → AllByRecursion (�
 beyond first last m [] l a = tt
 beyond first last m (t ∷ ts) l a = let k = a.0 in ((λ f h. omega arith), beyond first last m ts l a.1)
 
--- those before the place are less than the first, and those behind it greater than the last
+-- those before the index are less than the first, and those after it are greater than the last
 pub outside : (first last : ℕ) (ts : List ℕ) (i : ℕ) → Ascends ts → AllByRecursion (λ t. nat_lt t first ≡ true) (take i ts) → BeginsAbove last (drop i ts) → AllByRecursion (λ t. first ≤ t → t ≤ last → ⊥) ts
 outside first last [] i s a b = tt
 outside first last (t ∷ ts) zero s a b = let k : last < t = b in ((λ f h. omega arith), beyond first last t ts b s.0)

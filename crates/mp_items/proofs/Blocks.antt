@@ -1,4 +1,4 @@
--- Items in blocks: chunks, or pages, which are seen as their items.
+-- Items in blocks, which are chunks or pages, and are seen as their items.
 use Rattle.std.proofs.Common.{◌≡◌, ℕ, zero, suc, ◌<◌, ◌≤◌, true, false, cond, List, [], ◌∷◌, ◌++◌, length, take, drop, refl, sym, ap, ◌∙◌, subst, arith}
 use Rattle.std.specs.Prelude.{not, nat_le, ◌||◌}
 use Rattle.std.specs.List.{AllByRecursion, flat_map}
@@ -16,7 +16,7 @@ use Rattle.mp_items.proofs.Parts.{last_by-append, flattened-append, Climbs, Firs
 abbrev pub ticket_in : ℕ × Transaction → ℕ
 ticket_in i = i.0
 
--- ---- parts of what rises rise
+-- ---- parts of a strictly increasing list are strictly increasing
 
 pub rising-left : (low : ℕ) (xs ys : List (ℕ × Transaction)) → IsRisingFrom low (xs ++ ys) → IsRisingFrom low xs
 rising-left low [] ys r = tt
@@ -51,7 +51,7 @@ below low m (x ∷ xs) r h = let k = at_least x.0 xs r.1 in (omega arith, below 
 -- ---- blocks, each seen as its items, with its last ticket
 
 module _ {B : Type 0} (items : B → List (ℕ × Transaction)) (last : B → ℕ) where
-  -- it has items, of which the last has this ticket
+  -- it has items, and the last one has this ticket
   abbrev pub Ends : B → Type 0
   Ends b = (low : ℕ) → last_by ticket_in low (items b) ≡ last b
 
@@ -66,7 +66,7 @@ module _ {B : Type 0} (items : B → List (ℕ × Transaction)) (last : B → �
       let l = e.0 low in
       (omega arith, blocks_climb (last b) bs e.1 (subst (λ n. IsRisingFrom n (flat_map items bs)) l (rising-right low (items b) (flat_map items bs) r)))
 
-  -- what is left of the first block, and the blocks behind it
+  -- what remains of the first block, and the blocks after it
   abbrev pub after_first : ℕ → List B → List (ℕ × Transaction)
   after_first t [] = []
   after_first t (b ∷ bs) = after (items b) t ++ flat_map items bs

@@ -1,4 +1,4 @@
--- Pages that are built get one chunk or one item more.
+-- One more chunk or one more item while pages are built.
 use Rattle.std.specs.Prelude.{Result, Ok, Err, IfOk}
 use Rattle.std.proofs.Common.{◌≡◌, ℕ, ◌<◌, ◌≤◌, List, [], ◌∷◌, ◌++◌, length, sym, ap, ◌∙◌, subst, arith}
 use Rattle.std.proofs.lemmas.List.{append-nil, append_assoc, length-map, map_push}
@@ -41,7 +41,7 @@ none_built b p c i =
       few_items = omega arith;
     }
 
--- what holds of a result holds of it in other words
+-- what holds of a result holds in other words
 pub in_other_words : {A E : Type 0} (P Q : A → Type 0) → ((a : A) → P a → Q a) → (r : Result A E) → IfOk r P → IfOk r Q
 in_other_words P Q f (Ok a) h = f a h
 in_other_words P Q f (Err e) h = tt

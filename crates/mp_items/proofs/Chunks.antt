@@ -27,11 +27,11 @@ open_joined : (c : List (ℕ × Transaction)) → flattened (filled_chunks c) �
 open_joined [] = refl
 open_joined (i ∷ is) = append-nil (i ∷ is)
 
--- joined they are all items
+-- their concatenation is all items
 pub joined_in : (l : Layout) → flattened (chunks_in l) ≡ items_in l
 joined_in l = flattened-append (chunks_of l.pages) (filled_chunks l.newest) ∙ ap (λ is. flattened (chunks_of l.pages) ++ is) (open_joined l.newest)
 
--- the chunks from a page on begin with those of the page
+-- the chunks from a page on begin with those of that page
 pub chunks_first : (ps : List (List (List (ℕ × Transaction)))) (p newest : List (List (ℕ × Transaction))) (i : ℕ) → drop i ps ≡ p ∷ drop (i + 1) ps
     → chunks_of (drop i ps) ++ newest ≡ p ++ (chunks_of (drop (i + 1) ps) ++ newest)
 chunks_first ps p newest i e = ap (λ qs. chunks_of qs ++ newest) e ∙ append_assoc p (chunks_of (drop (i + 1) ps)) newest

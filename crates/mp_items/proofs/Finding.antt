@@ -1,4 +1,4 @@
--- Items under tickets, and their bytes.
+-- Items by tickets, and their bytes.
 use Rattle.std.proofs.Common.{◌≡◌, ℕ, zero, suc, ◌+◌, ◌-◌, ◌<◌, ◌≤◌, Bool, true, false, cond, List, [], ◌∷◌, ◌++◌, length, drop, Option, Some, None, refl, sym, ap, ◌∙◌, inl, inr, subst, arith}
 use Rattle.std.specs.Prelude.{◌==◌, ◌||◌, nat_lt, slice_get}
 use Rattle.std.specs.List.{AllByRecursion}
@@ -14,7 +14,7 @@ use Rattle.mp_items.proofs.Ascents.{Ascends}
 use Rattle.mp_items.proofs.Blocks.{above}
 use Rattle.mp_items.proofs.Withins.{more_bytes}
 
--- the first item, where its ticket is this one
+-- the first item, if it has this ticket
 abbrev pub first_under : ℕ → List (ℕ × Transaction) → Option Transaction
 first_under t [] = None
 first_under t (x ∷ xs) = cond (x.0 == t) (Some x.1) None
@@ -29,7 +29,7 @@ same_where : (c : Bool) (x : Transaction) (o : Option Transaction) → (c ≡ fa
 same_where true x o h = refl
 same_where false x o h = h refl
 
--- it is the first of those with tickets from this one on
+-- it is the first of those with at least this ticket
 found_step : (b : Bool) (t : ℕ) (x : ℕ × Transaction) (xs : List (ℕ × Transaction)) → nat_lt (t - 1) x.0 ≡ b → 0 < t → IsRisingFrom x.0 xs
     → item_at xs t ≡ first_under t (after xs (t - 1)) → item_at (x ∷ xs) t ≡ first_under t (cond b (x ∷ after xs (t - 1)) (after xs (t - 1)))
 found_step true t x xs e p r ih =
@@ -86,7 +86,7 @@ one_more low t ts (x ∷ xs) r n =
           ∙ ap (λ s. s + bytes_of (among ts (x ∷ xs))) (sym it)
     ]
 
--- ---- places
+-- ---- indices
 
 pub get_front : {X : Type 0} (xs ys : List X) (i : ℕ) (x : X) → slice_get xs i ≡ Some x → slice_get (xs ++ ys) i ≡ Some x
 get_front [] ys i x e = let f : None ≡ Some x = e in absurd (grind arith)
@@ -103,7 +103,7 @@ not_greater : (t : ℕ) (ts : List ℕ) → AllByRecursion (λ u. t < u) ts → 
 not_greater t [] a = refl
 not_greater t (u ∷ us) a = let k = a.0 in ap (λ b. b || has_ticket us t) (ne_eqb u t (λ e. omega arith)) ∙ not_greater t us a.1
 
--- the bytes under the ticket at the place and those behind it
+-- the bytes of the ticket at the index and of those after it
 pub ticket_step : (ts rest : List ℕ) (i t : ℕ) (xs : List (ℕ × Transaction)) → IsRising xs → Ascends (drop i ts) → drop i ts ≡ t ∷ rest
     → bytes_of (among (drop i ts) xs) ≡ size_in (item_at xs t) + bytes_of (among rest xs)
 ticket_step ts rest i t xs r s e =

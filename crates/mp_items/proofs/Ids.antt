@@ -1,4 +1,4 @@
--- Whether an item is among lists of items.
+-- Whether lists of items have an item.
 use Rattle.std.proofs.Common.{◌≡◌, ℕ, Bool, true, false, cond, List, [], ◌∷◌, ◌++◌, refl, sym, ap, ◌∙◌}
 use Rattle.std.specs.Prelude.{◌||◌, Some, is_some}
 use Rattle.std.specs.List.{list_any}
@@ -27,7 +27,7 @@ any_flattened p (l ∷ ls) = any_append p l (flattened ls) ∙ ap (λ b. list_an
 any_joined : (id : List ℕ) (pages : List (List (List (ℕ × Transaction)))) → list_any (list_any (has_id id)) pages ≡ has_id id (joined pages)
 any_joined id pages = sym (any_flattened (is_of id) (chunks_of pages) ∙ any_flattened (list_any (is_of id)) pages)
 
--- those of pages, and those behind them
+-- those of pages, and those after them
 pub any_in : (id : List ℕ) (pages : List (List (List (ℕ × Transaction)))) (newest : List (ℕ × Transaction)) → has_id id (joined pages ++ newest) ≡ list_any (list_any (has_id id)) pages || has_id id newest
 any_in id pages newest = any_append (is_of id) (joined pages) newest ∙ ap (λ b. b || has_id id newest) (sym (any_joined id pages))
 

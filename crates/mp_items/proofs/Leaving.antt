@@ -1,4 +1,4 @@
--- Chunks and pages, one more of which is looked through.
+-- Chunks and pages, with one more that is searched.
 use Rattle.std.proofs.Common.{◌≡◌, ℕ, suc, ◌+◌, ◌<◌, ◌≤◌, Bool, true, false, cond, List, [], ◌∷◌, ◌++◌, length, take, drop, get_or, Option, Some, None, refl, sym, ap, ◌∙◌, subst, arith}
 use Rattle.std.specs.Prelude.{not, option_to_list}
 use Rattle.std.specs.List.{All}
@@ -13,7 +13,7 @@ use Rattle.mp_items.specs.Pages.{flattened, joined, IsFilled, IsPage, AreFilled}
 use Rattle.mp_items.proofs.Parts.{flattened-push, joined-push}
 use Rattle.mp_items.proofs.Blocks.{apart-append}
 
--- the element at the index, and those behind it
+-- the element at the index, and those after it
 pub here_at : {X : Type 0} (xs : List X) (i : ℕ) (x : X) → i < length xs → x ≡ get_or xs i x → drop i xs ≡ x ∷ drop (i + 1) xs
 here_at xs i x l e = drop_more xs i x l ∙ ap (λ y. y ∷ drop (i + 1) xs) (sym e)
 

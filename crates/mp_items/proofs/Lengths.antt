@@ -1,4 +1,4 @@
--- How long lists are that are joined.
+-- The lengths of concatenated lists.
 use Rattle.std.proofs.Common.{◌≡◌, ℕ, zero, suc, ◌+◌, ◌<◌, ◌≤◌, List, [], ◌∷◌, ◌++◌, length, take, get_or, refl, ap, ◌∙◌, arith}
 use Rattle.mp_items.specs.Pages.{flattened}
 
@@ -7,7 +7,7 @@ module _ {T : Type 0} where
   length_joined [] ys = omega arith
   length_joined (x ∷ xs) ys = ap suc (length_joined xs ys) ∙ omega arith
 
-  -- those before one of the lists and those in it are no more than all
+  -- those before one of the lists and those in it are at most all
   pub part_length : (xs : List (List T)) (k : ℕ) (x : List T) → k < length xs → x ≡ get_or xs k x → length (flattened (take k xs)) + length x ≤ length (flattened xs)
   part_length [] k x h e = let none : length {A = List T} [] ≡ 0 = refl in absurd (omega arith)
   part_length (y ∷ ys) zero x h e =

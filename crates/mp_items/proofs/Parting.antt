@@ -12,7 +12,7 @@ use Rattle.mp_items.proofs.Blocks.{ticket_in, rising-left, rising-right, rising-
 use Rattle.mp_items.specs.Pages.{last_by}
 
 module _ {B : Type 0} (items : B → List (ℕ × Transaction)) (last : B → ℕ) where
-  -- the blocks from the place on are these
+  -- the blocks from the index on are these
   pub parted : (low t : ℕ) (bs rest : List B) (i : ℕ) → AllByRecursion (Ends items last) bs → IsRisingFrom low (flat_map items bs) → i ≤ length bs
       → IsPartitionPoint (λ b. nat_le (last b) t ≡ true) (λ b. nat_le (last b) t ≡ false) bs i → take (length bs - i) (drop i bs) ≡ rest
       → after (flat_map items bs) t ≡ after_first items last t rest
@@ -25,7 +25,7 @@ module _ {B : Type 0} (items : B → List (ℕ × Transaction)) (last : B → �
   rising_at low [] (suc i) b rest r e = let l : 0 ≡ length (b ∷ rest) = ap length e in let more : length (b ∷ rest) ≡ suc (length rest) = refl in absurd (omega arith)
   rising_at low (x ∷ xs) (suc i) b rest r e = rising_at (last_by ticket_in low (items x)) xs i b rest (rising-right low (items x) (flat_map items xs) r) e
 
-  -- the block's tickets rise
+  -- the block's tickets are strictly increasing
   pub rising_there : (low : ℕ) (bs : List B) (i : ℕ) (b : B) (rest : List B) → IsRisingFrom low (flat_map items bs) → take (length bs - i) (drop i bs) ≡ b ∷ rest → IsRising (items b)
   rising_there low bs i b rest r e = rising_at low bs i b rest r (sym (take_rest bs i) ∙ e)
 

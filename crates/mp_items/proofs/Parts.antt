@@ -1,4 +1,4 @@
--- Lists, their beginnings and their ends.
+-- Lists, their prefixes and their suffixes.
 use Rattle.std.proofs.Common.{◌≡◌, ℕ, zero, suc, ◌<◌, ◌≤◌, Bool, true, false, List, [], ◌∷◌, ◌++◌, length, take, drop, map, get_or, refl, ap, ◌∙◌, arith}
 use Rattle.std.specs.List.{AllByRecursion, AllWithin, flat_map}
 use Rattle.std.specs.List.Sorted.{IsNonDecreasingBy}
@@ -20,7 +20,7 @@ module _ {T : Type 0} where
   last_by-map f v n [] = refl
   last_by-map f v n (x ∷ xs) = last_by-map f v (f (v x)) xs
 
-  -- what each has is no less than what the one before has
+  -- each number is at least the one before it
   abbrev pub Climbs : (T → ℕ) → ℕ → List T → Type 0
   Climbs f low [] = Unit {0}
   Climbs f low (x ∷ xs) = (low ≤ f x) × Climbs f (f x) xs
@@ -37,7 +37,7 @@ module _ {T : Type 0} where
   climbs f low (x ∷ xs) c (suc i) zero d h l = absurd (omega arith)
   climbs f low (x ∷ xs) c (suc i) (suc j) d h l = let more : length (x ∷ xs) ≡ suc (length xs) = refl in climbs f (f x) xs c.1 i j d (omega arith) (omega arith)
 
-  -- where there is a first, it fails the test
+  -- the first element, if there is one, fails the test
   abbrev pub FirstFails : (T → Bool) → List T → Type 0
   FirstFails p [] = Unit {0}
   FirstFails p (x ∷ xs) = p x ≡ false

@@ -1,4 +1,4 @@
--- The longest beginning within a number of bytes.
+-- The longest prefix within a number of bytes.
 use Rattle.std.proofs.Common.{◌≡◌, ℕ, suc, ◌+◌, ◌-◌, ◌≤◌, Bool, true, false, cond, List, [], ◌∷◌, ◌++◌, length, get_or, drop, refl, ap, arith}
 use Rattle.std.specs.Prelude.{nat_le}
 use Rattle.mp_tx.specs.Transaction.{Transaction}

@@ -1,4 +1,4 @@
--- Items in pages, and behind them those of an open chunk.
+-- Items in pages, followed by those of an open chunk.
 use Rattle.std.specs.Prelude.{ℕ, ◌≤◌, List, [], ◌∷◌, ◌++◌, length}
 use Rattle.mp_tx.specs.Transaction.{Transaction}
 use Rattle.mp_items.specs.Pages.{chunks_of, joined, AreFilled}
@@ -8,7 +8,7 @@ use Rattle.mp_items.specs.declared.layout.Layout.{Layout}
 abbrev pub items_in : Layout → List (ℕ × Transaction)
 items_in l = joined l.pages ++ l.newest
 
--- the chunk, where it has items
+-- the chunk, if it has items
 abbrev pub filled_chunks : List (ℕ × Transaction) → List (List (ℕ × Transaction))
 filled_chunks [] = []
 filled_chunks (i ∷ is) = (i ∷ is) ∷ []

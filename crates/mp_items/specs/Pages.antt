@@ -5,7 +5,7 @@ use Rattle.std.specs.Cmp.Lexicographic.{pointwise}
 use Rattle.mp_tx.specs.Transaction.{Transaction}
 use Rattle.mp_tx.specs.Spelling.{id_of, size_of}
 
--- the lists, end to end
+-- the concatenation of the lists
 abbrev pub flattened : {T : Type 0} → List (List T) → List T
 flattened lists = flat_map (λ l. l) lists
 
@@ -22,7 +22,7 @@ pub record IsFilled {T : Type 0} (list : List T) : Type 0 where
   pub least : 0 < length list
   pub most : length list ≤ 64
 
--- the page has 1 to 64 chunks, and each of them 1 to 64 items
+-- the page has 1 to 64 chunks, each of 1 to 64 items
 pub record IsPage (page : List (List (ℕ × Transaction))) : Type 0 where
   pub filled : IsFilled page
   pub chunks : All IsFilled page
@@ -30,24 +30,24 @@ pub record IsPage (page : List (List (ℕ × Transaction))) : Type 0 where
 abbrev pub AreFilled : List (List (List (ℕ × Transaction))) → Type 0
 AreFilled pages = All IsPage pages
 
--- what the last element has, or where there is none this
+-- a number of the last element, or this default if there is none
 abbrev pub last_by : {T : Type 0} → (T → ℕ) → ℕ → List T → ℕ
 last_by f n [] = n
 last_by f n (x ∷ xs) = last_by f (f x) xs
 
--- what the first element has, or 0
+-- a number of the first element, or 0 if there is none
 abbrev pub first_by : {T : Type 0} → (T → ℕ) → List T → ℕ
 first_by f [] = 0
 first_by f (x ∷ xs) = f x
 
--- the least ticket of a chunk whose tickets rise, and the greatest
+-- the first ticket of a chunk, which is the least, and the last, which is the greatest
 abbrev pub first_ticket : List (ℕ × Transaction) → ℕ
 first_ticket chunk = first_by (λ i. i.0) chunk
 
 abbrev pub last_ticket : List (ℕ × Transaction) → ℕ
 last_ticket chunk = last_by (λ i. i.0) 0 chunk
 
--- how many bytes the transaction has, or 0 where there is none
+-- the number of bytes of the transaction, or 0 if there is none
 abbrev pub size_in : Option Transaction → ℕ
 size_in None = 0
 size_in (Some t) = size_of t

@@ -1,10 +1,10 @@
--- What is read of a pool's items within a number of bytes.
+-- Reading a pool's items within a number of bytes.
 use Rattle.std.specs.Prelude.{ℕ, ◌≤◌, List, length}
 use mathlib.Core.List.{IsPrefix}
 use Rattle.mp_tx.specs.Transaction.{Transaction}
 use Rattle.mp_resync.specs.Keep.{bytes_of}
 
--- the longest beginning whose sizes sum to at most so many bytes
+-- the longest prefix whose sizes add up to at most this many bytes
 pub record IsLongestWithin (bytes : ℕ) (items run : List (ℕ × Transaction)) : Type 0 where
   pub begins : IsPrefix run items
   pub fits : bytes_of run ≤ bytes

@@ -1,14 +1,14 @@
-//! Items that are shared as one.
+//! Items that are shared together.
 
 use mp_memory::{Memory, NoMemory};
 use mp_seqpool::Item;
 use std::marker::Model;
 use std::sync::Arc;
 
-/// How many items a chunk may have.
+/// The greatest number of items in a chunk.
 pub const MAX_ITEMS: usize = 32;
 
-/// Items that change at once, and are shared as one where they don't.
+/// Items that change together, and are shared as one if none changes.
 pub struct Chunk {
     items: Arc<Vec<Item, Memory>, Memory>,
 }
@@ -44,7 +44,7 @@ impl Chunk {
         })
     }
 
-    /// The same chunk, which is shared. `NoMemory` where it is shared too often.
+    /// The same chunk, shared. Returns `NoMemory` if there are too many owners.
     pub fn share(&self) -> Result<Chunk, NoMemory>
         ensures { IfOk result (λ c. c ≡ self.now) }
     {
@@ -60,7 +60,7 @@ impl Chunk {
         &self.items
     }
 
-    /// The first item's ticket. Where there is no item it is 0.
+    /// The ticket of the first item, or 0 if there are no items.
     pub fn first_ticket(&self) -> u64
         ensures { result ≡ first_ticket self.now }
     {
@@ -70,7 +70,7 @@ impl Chunk {
         }
     }
 
-    /// The last item's ticket. Where there is no item it is 0.
+    /// The ticket of the last item, or 0 if there are no items.
     pub fn last_ticket(&self) -> u64
         ensures { result ≡ last_ticket self.now }
     {

@@ -1,4 +1,4 @@
-//! Items of their own.
+//! A list of items of one's own.
 
 use mp_memory::Memory;
 use mp_seqpool::Item;

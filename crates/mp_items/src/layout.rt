@@ -1,4 +1,4 @@
-//! How items lie: what is read of that, and what comes of it.
+//! The layout of items: reading it, and changing it.
 
 mod building;
 mod counting;
@@ -19,7 +19,7 @@ pub use reading::{bytes_among, chunk_at, find, run_after, run_back, run_of};
 pub use removal::without;
 pub use searching::has;
 
-/// The items of pages, and behind them those of an open chunk: the newest, or none.
+/// The items of pages, followed by those of an open chunk, which is the newest and may be empty.
 pub struct Layout {
     pub pages: Pages,
     pub newest: Chunk,
@@ -35,7 +35,7 @@ impl Drop for Layout {
 }
 
 impl Layout {
-    /// The same items, which are shared. `NoMemory` where they are shared too often.
+    /// The same items, shared. Returns `NoMemory` if there are too many owners.
     pub fn share(&self) -> Result<Layout, NoMemory>
         ensures { IfOk result (λ l. l ≡ self.now) }
     {

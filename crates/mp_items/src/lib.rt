@@ -1,4 +1,4 @@
-//! Items of a pool as they lie in versions: each list of them shares nearly everything with the one before.
+//! The items of a pool's versions. Each list of items shares nearly everything with the one before.
 #![tactic(auto)]
 
 mod chunk;

@@ -1,14 +1,14 @@
-//! Chunks that are shared as one.
+//! Chunks that are shared together.
 
 use crate::chunk::Chunk;
 use mp_memory::{Memory, NoMemory};
 use std::marker::Model;
 use std::sync::Arc;
 
-/// How many chunks a page may have.
+/// The greatest number of chunks in a page.
 pub const MAX_CHUNKS: usize = 64;
 
-/// Chunks that are shared as one where none of them changes.
+/// Chunks that are shared as one if none of them changes.
 pub struct Page {
     chunks: Arc<Vec<Chunk, Memory>, Memory>,
 }
@@ -42,7 +42,7 @@ impl Page {
         })
     }
 
-    /// The same page, which is shared. `NoMemory` where it is shared too often.
+    /// The same page, shared. Returns `NoMemory` if there are too many owners.
     pub fn share(&self) -> Result<Page, NoMemory>
         ensures { IfOk result (λ p. p ≡ self.now) }
     {
@@ -58,7 +58,7 @@ impl Page {
         &self.chunks
     }
 
-    /// The first ticket of its first chunk. Where there is no chunk it is 0.
+    /// The first ticket of its first chunk, or 0 if there are no chunks.
     pub fn first_ticket(&self) -> u64
         ensures { result ≡ first_by first_ticket self.now }
     {
@@ -68,7 +68,7 @@ impl Page {
         }
     }
 
-    /// The last ticket of its last chunk. Where there is no chunk it is 0.
+    /// The last ticket of its last chunk, or 0 if there are no chunks.
     pub fn last_ticket(&self) -> u64
         ensures { result ≡ last_by last_ticket 0 self.now }
     {

@@ -1,11 +1,11 @@
-//! Pages that are shared as one.
+//! Pages that are shared together.
 
 use crate::page::Page;
 use mp_memory::{Memory, NoMemory};
 use std::marker::Model;
 use std::sync::Arc;
 
-/// Pages that are shared as one where none of them changes.
+/// Pages that are shared as one if none of them changes.
 pub struct Pages {
     pages: Arc<Vec<Page, Memory>, Memory>,
 }
@@ -39,7 +39,7 @@ impl Pages {
         })
     }
 
-    /// The same pages, which are shared. `NoMemory` where they are shared too often.
+    /// The same pages, shared. Returns `NoMemory` if there are too many owners.
     pub fn share(&self) -> Result<Pages, NoMemory>
         ensures { IfOk result (λ p. p ≡ self.now) }
     {
@@ -55,7 +55,7 @@ impl Pages {
         &self.pages
     }
 
-    /// The last ticket of the last page. Where there is no page it is 0.
+    /// The last ticket of the last page, or 0 if there are no pages.
     pub fn last_ticket(&self) -> u64
         ensures { result ≡ last_by (last_by last_ticket 0) 0 self.now }
     {

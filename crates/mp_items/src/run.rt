@@ -13,7 +13,7 @@ use crate::page::Page;
 use mp_seqpool::Item;
 use std::marker::Model;
 
-/// Goes over items in order, and takes no memory. A contract sees those that are left.
+/// Visits items in order, and takes no memory. A contract sees the remaining ones.
 #[derive(Drop)]
 pub struct Run<'a> {
     items: &'a [Item],
@@ -36,10 +36,10 @@ impl<'a> Model for Run<'a> {
     ghost invariant = { λ r. All IsFilled r.chunks.now × AreFilled r.pages.now };
 }
 
-// Items, and the chunks, the pages and the newest items behind them.
+// Items, and the chunks, the pages and the newest items after them.
 type Parts<'a> = (&'a [Item], &'a [Chunk], &'a [Page], &'a [Item]);
 
-// Begins with the items of the first chunk, or with the newest.
+// Begins with the items of the first chunk, or else with the newest.
 fn first_of_pages<'a>(pages: &'a [Page], newest: &'a [Item]) -> Parts<'a>
     requires { AreFilled pages.now }
     ensures all { run_of result.0.now result.1.now result.2.now result.3.now
@@ -57,7 +57,7 @@ fn first_of_pages<'a>(pages: &'a [Page], newest: &'a [Item]) -> Parts<'a>
     }
 }
 
-// Begins with the items of the first chunk, or with the newest.
+// Begins with the items of the first chunk, or else with the newest.
 fn first_of<'a>(chunks: &'a [Chunk], pages: &'a [Page], newest: &'a [Item]) -> Parts<'a>
     requires chunks { All IsFilled chunks.now }
     requires pages { AreFilled pages.now }
@@ -94,7 +94,7 @@ impl<'a> Run<'a> {
         }
     }
 
-    /// The longest beginning of what is left that has at most so many bytes.
+    /// The longest prefix of the remaining items that has at most this many bytes.
     pub fn within(self, bytes: u64) -> RunWithin<'a>
         ensures { result ≡ within bytes self.entry }
     {
@@ -126,7 +126,7 @@ impl<'a> Iterator for Run<'a> {
     }
 }
 
-/// The longest beginning of a run within a number of bytes. A contract sees what is left of it.
+/// The longest prefix of a run within a number of bytes. A contract sees what remains of it.
 #[derive(Drop)]
 pub struct RunWithin<'a> {
     run: Run<'a>,

@@ -12,7 +12,7 @@ use crate::page::Page;
 use mp_seqpool::Item;
 use std::marker::Model;
 
-/// Goes over items from the newest back, and takes no memory. A contract sees those that are left, the newest first.
+/// Visits items from the newest back, and takes no memory. A contract sees the remaining ones, the newest first.
 #[derive(Drop)]
 pub struct RunBack<'a> {
     pages: &'a [Page],

@@ -6,7 +6,7 @@ use Rattle.mp_seqpool.specs.Item.{items_of}
 use Rattle.mp_items.specs.Pages.{flattened, joined, IsFilled, AreFilled}
 use Rattle.mp_items.specs.declared.layout.building.Built.{Built}
 
--- They are built of these items.
+-- They consist of these items.
 pub record IsBuilt (items : List (ℕ × Transaction)) (b : Built) : Type 0 where
   pub all : joined b.pages.items ++ (flattened b.chunks.items ++ items_of b.items.items) ≡ items
   pub filled : AreFilled b.pages.items

@@ -1,4 +1,4 @@
--- Runs, whose items lie in items, chunks and pages.
+-- Runs, whose items are in items, chunks and pages.
 use Rattle.std.specs.Prelude.{ℕ, List, ◌++◌}
 use Rattle.mp_tx.specs.Transaction.{Transaction}
 use Rattle.mp_seqpool.specs.Item.{items_of}

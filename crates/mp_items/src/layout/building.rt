@@ -16,7 +16,7 @@ use mp_seqpool::{Item, SeqPool};
 use std::mem;
 use std::sync::Arc;
 
-/// Full pages, the chunks of the page that comes next, and the items of its next chunk.
+/// Full pages, the chunks of the next page, and the items of its next chunk.
 #[derive(Drop)]
 pub struct Built {
     pub pages: Vec<Page, Memory>,
@@ -37,7 +37,7 @@ fn close_page(memory: Memory, built: &mut Built) -> Result<(), NoMemory>
     Ok(())
 }
 
-// Makes room for one more chunk.
+// Makes room for one more chunk, by closing the page if it is full.
 fn make_chunk_room(memory: Memory, built: &mut Built) -> Result<(), NoMemory>
     ensures built { (all : List (ℕ × Transaction)) → IsBuilt all built.old
         → OnOk result (IsBuilt all built.new) }
@@ -64,7 +64,7 @@ fn close_chunk(memory: Memory, built: &mut Built) -> Result<(), NoMemory>
     Ok(())
 }
 
-// Makes room for one more item.
+// Makes room for one more item, by closing the chunk if it is full.
 fn make_item_room(memory: Memory, built: &mut Built) -> Result<(), NoMemory>
     ensures built { (all : List (ℕ × Transaction)) → IsBuilt all built.old
         → OnOk result (IsBuilt all built.new) }
@@ -77,7 +77,7 @@ fn make_item_room(memory: Memory, built: &mut Built) -> Result<(), NoMemory>
     Ok(())
 }
 
-// Puts the item in at the end.
+// Appends the item.
 fn put(memory: Memory, built: &mut Built, item: Item) -> Result<(), NoMemory>
     ensures { (all : List (ℕ × Transaction)) → IsBuilt all built.old
         → OnOk result (IsBuilt (all ++ item_of item ∷ []) built.new) }
@@ -87,7 +87,7 @@ fn put(memory: Memory, built: &mut Built, item: Item) -> Result<(), NoMemory>
     Ok(())
 }
 
-// Makes a page of the chunks, where there are some.
+// Makes a page of the chunks, if there are any.
 fn close_chunks(memory: Memory, built: &mut Built) -> Result<(), NoMemory>
     ensures built { (all : List (ℕ × Transaction)) → IsBuilt all built.old
         → OnOk result (IsBuilt all built.new) }
@@ -100,7 +100,7 @@ fn close_chunks(memory: Memory, built: &mut Built) -> Result<(), NoMemory>
     Ok(())
 }
 
-// Where no item comes any more: those that are in no chunk yet are the open one's.
+// Called after the last item: the items that are in no chunk yet become the open chunk.
 fn finished(memory: Memory, mut built: Built) -> Result<Layout, NoMemory>
     ensures items { (all : List (ℕ × Transaction)) → IsBuilt all built
         → IfOk result (λ l. items_in l ≡ all) }
@@ -114,7 +114,7 @@ fn finished(memory: Memory, mut built: Built) -> Result<Layout, NoMemory>
     })
 }
 
-/// The pool's items. All chunks of pages have 32 items, and all but the last page 64 chunks.
+/// The pool's items. Each chunk in a page has 32 items, and each page except the last has 64 chunks.
 pub fn of_pool(memory: Memory, pool: &SeqPool) -> Result<Layout, NoMemory>
     ensures items { IfOk result (λ l. items_in l ≡ pool.now.pool.items) }
     ensures rising { IfOk result (λ l. IsRising (items_in l)) }

@@ -1,4 +1,4 @@
-//! How many items there are.
+//! The number of items.
 
 ghost use Rattle.std.specs.Prelude.{◌≡◌, ◌<◌, ◌^◌, length};
 ghost use Rattle.mp_items.specs.Layout.{items_in};
@@ -8,7 +8,7 @@ use crate::chunk::Chunk;
 use crate::layout::Layout;
 use crate::page::Page;
 
-// How many items the chunks have.
+// The number of items in the chunks.
 fn count_in(chunks: &[Chunk]) -> usize
     requires { length (flattened chunks.now) < 2 ^ 64 }
     ensures { result ≡ length (flattened chunks.now) }
@@ -20,7 +20,7 @@ fn count_in(chunks: &[Chunk]) -> usize
     count
 }
 
-// How many items the pages have.
+// The number of items in the pages.
 fn count_in_pages(pages: &[Page]) -> usize
     requires { length (joined pages.now) < 2 ^ 64 }
     ensures { result ≡ length (joined pages.now) }
@@ -32,7 +32,7 @@ fn count_in_pages(pages: &[Page]) -> usize
     count
 }
 
-/// How many items there are. It takes no walk over them.
+/// The number of items. It doesn't pass over them.
 pub fn count_of(layout: &Layout) -> usize
     requires { length (items_in layout.now) < 2 ^ 64 }
     ensures { result ≡ length (items_in layout.now) }

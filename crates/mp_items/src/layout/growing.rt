@@ -1,4 +1,4 @@
-//! One item more.
+//! One more item.
 
 ghost use Rattle.std.specs.Prelude.{◌≡◌, ◌<◌, [], ◌∷◌, ◌++◌, length, All, IfOk};
 ghost use Rattle.mp_seqpool.specs.Item.{item_of, items_of};
@@ -12,7 +12,7 @@ use crate::pages::Pages;
 use mp_memory::{Memory, NoMemory};
 use mp_seqpool::Item;
 
-// The pages before the one that the next chunk goes to, and the chunks that it has.
+// The pages before the one for the next chunk, and the chunks of that page.
 fn end_of(pages: &[Page]) -> (&[Page], &[Chunk])
     requires { AreFilled pages.now }
     ensures all { joined result.0.now ++ flattened result.1.now ≡ joined pages.now }
@@ -31,7 +31,7 @@ fn end_of(pages: &[Page]) -> (&[Page], &[Chunk])
     }
 }
 
-// A chunk of these items, which it shares, and this one.
+// A chunk of these items, which it shares, and one more.
 fn longer_chunk(memory: Memory, items: &[Item], item: Item) -> Result<Chunk, NoMemory>
     requires { length items.now < 64 }
     ensures { IfOk result (λ c. c ≡ items_of items.now ++ item_of item ∷ []) }
@@ -44,7 +44,7 @@ fn longer_chunk(memory: Memory, items: &[Item], item: Item) -> Result<Chunk, NoM
     Chunk::of(memory, all)
 }
 
-// A page of these chunks, which it shares, and this one.
+// A page of these chunks, which it shares, and one more.
 fn longer_page(memory: Memory, chunks: &[Chunk], chunk: Chunk) -> Result<Page, NoMemory>
     requires { length chunks.now < 64 }
     ensures { IfOk result (λ p. p ≡ chunks.now ++ chunk ∷ []) }
@@ -57,7 +57,7 @@ fn longer_page(memory: Memory, chunks: &[Chunk], chunk: Chunk) -> Result<Page, N
     Page::of(memory, all)
 }
 
-// These pages, which are shared, and this one.
+// These pages, which are shared, and one more.
 fn longer(memory: Memory, pages: &[Page], page: Page) -> Result<Pages, NoMemory>
     ensures { IfOk result (λ all. all ≡ pages.now ++ page ∷ []) }
 {
@@ -69,7 +69,7 @@ fn longer(memory: Memory, pages: &[Page], page: Page) -> Result<Pages, NoMemory>
     Pages::of(memory, all)
 }
 
-// Pages with the chunk behind the others. They share all with these pages but the last page.
+// Pages with the chunk after the others. They share all of these pages except the last.
 fn with_chunk(memory: Memory, pages: &[Page], chunk: Chunk) -> Result<Pages, NoMemory>
     requires filled { AreFilled pages.now }
     requires chunk { IsFilled chunk }
@@ -81,7 +81,8 @@ fn with_chunk(memory: Memory, pages: &[Page], chunk: Chunk) -> Result<Pages, NoM
     longer(memory, others, page)
 }
 
-/// The items, and this one behind them. Where the open chunk is full, the pages get it, and the item begins the next.
+/// The items, and one more after them. If the open chunk is full, it goes into the pages, and the item begins the next
+/// chunk.
 pub fn grown(memory: Memory, layout: &Layout, item: Item) -> Result<Layout, NoMemory>
     requires { IsLaid layout.now }
     ensures items { IfOk result (λ l. items_in l ≡ items_in layout.now ++ item_of item ∷ []) }

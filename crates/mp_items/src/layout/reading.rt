@@ -1,4 +1,4 @@
-//! What is read of items.
+//! Reading items.
 
 ghost use Rattle.std.specs.Prelude.{◌≡◌, ◌≤◌, ◌+◌, ◌^◌, ◌++◌, reverse, option_map, slice_get, All};
 ghost use Rattle.std.specs.Option.{ForSome};
@@ -25,7 +25,7 @@ fn items_after(items: &[Item], ticket: u64) -> &[Item]
     &items[at..]
 }
 
-// Those of the first chunk that has any, and the chunks behind it.
+// The items with greater tickets in the first chunk that has any, and the chunks after it.
 fn chunks_after(chunks: &[Chunk], ticket: u64) -> (&[Item], &[Chunk])
     requires filled { All IsFilled chunks.now }
     requires rising { IsRising (flattened chunks.now) }
@@ -40,7 +40,7 @@ fn chunks_after(chunks: &[Chunk], ticket: u64) -> (&[Item], &[Chunk])
     }
 }
 
-// The same of pages, and the pages behind.
+// The same for pages, and the pages after it.
 fn pages_after(pages: &[Page], ticket: u64) -> (&[Item], &[Chunk], &[Page])
     requires filled { AreFilled pages.now }
     requires rising { IsRising (joined pages.now) }
@@ -90,7 +90,7 @@ pub fn run_after(layout: &Layout, ticket: u64) -> Run<'_>
     )
 }
 
-/// The item under the ticket, if there is one.
+/// The item of the ticket, if there is one.
 pub fn find(layout: &Layout, ticket: u64) -> Option<&Item>
     requires laid { IsLaid layout.now }
     requires rising { IsRising (items_in layout.now) }
@@ -110,7 +110,7 @@ pub fn find(layout: &Layout, ticket: u64) -> Option<&Item>
     }
 }
 
-// How many bytes the item under the ticket has, or 0.
+// The number of bytes of the ticket's item, or 0 if there is none.
 fn bytes_under(layout: &Layout, ticket: u64) -> u64
     requires laid { IsLaid layout.now }
     requires rising { IsRising (items_in layout.now) }
@@ -122,7 +122,7 @@ fn bytes_under(layout: &Layout, ticket: u64) -> u64
     }
 }
 
-/// How many bytes the items under these tickets have together. It looks for each ticket.
+/// The number of bytes of all items with these tickets. It searches for each ticket.
 pub fn bytes_among(layout: &Layout, tickets: &[u64]) -> u64
     requires laid { IsLaid layout.now }
     requires rising { IsRising (items_in layout.now) }
@@ -137,7 +137,7 @@ pub fn bytes_among(layout: &Layout, tickets: &[u64]) -> u64
     bytes
 }
 
-// The chunk, counted from 0, where it has items: there is one at 0 alone.
+// The items of the newest chunk, if `place` is 0 and it has items.
 fn newest_at(newest: &Chunk, place: usize) -> Option<&[Item]>
     ensures { option_map (λ c. items_of c.now) result ≡ slice_get (filled_chunks newest.now) place }
 {
@@ -149,7 +149,7 @@ fn newest_at(newest: &Chunk, place: usize) -> Option<&[Item]>
     }
 }
 
-// The chunk at this place, counted from 0, of those of pages and the one behind them.
+// The chunk at this index, from 0, among those of pages and the one after them.
 fn chunk_among<'a>(pages: &'a [Page], newest: &'a Chunk, place: usize) -> Option<&'a [Item]>
     ensures { option_map (λ c. items_of c.now) result
         ≡ slice_get (chunks_of pages.now ++ filled_chunks newest.now) place }
@@ -165,7 +165,7 @@ fn chunk_among<'a>(pages: &'a [Page], newest: &'a Chunk, place: usize) -> Option
     newest_at(newest, left)
 }
 
-/// The chunk at this place of all, counted from 0. The open one is the last, where it has items.
+/// The chunk at this index, from 0, among all. The open chunk is the last, if it has items.
 pub fn chunk_at(layout: &Layout, place: usize) -> Option<&[Item]>
     ensures { option_map (λ c. items_of c.now) result ≡ slice_get (chunks_in layout.now) place }
 {

@@ -1,4 +1,4 @@
-//! What is left where some items go.
+//! The items that remain after some go.
 
 ghost use Rattle.std.specs.Prelude.{◌≡◌, ◌<◌, ◌≤◌, [], ◌∷◌, ◌++◌, length, option_to_list, if◌then◌else◌, All, IfOk, OnOk};
 ghost use Rattle.std.specs.Bool.{OnFalse};
@@ -29,7 +29,7 @@ fn any_within(tickets: &[u64], first: u64, last: u64) -> bool
     }
 }
 
-// Whether the ticket is one of them.
+// Whether the list has the ticket.
 fn is_among(tickets: &[u64], ticket: u64) -> bool
     requires { IsStrictlyIncreasing tickets.now }
     ensures { result ≡ has_ticket tickets.now ticket }
@@ -37,7 +37,7 @@ fn is_among(tickets: &[u64], ticket: u64) -> bool
     tickets.binary_search(&ticket).is_ok()
 }
 
-// Puts the item in at the end, where it stays.
+// Appends the item, if it stays.
 fn keep_item(kept: &mut Vec<Item, Memory>, item: &Item, stays: bool) -> Result<(), NoMemory>
     ensures { OnOk result (items_of kept.new.items
         ≡ items_of kept.old.items ++ (if stays then items_of (item.now ∷ []) else [])) }
@@ -48,7 +48,7 @@ fn keep_item(kept: &mut Vec<Item, Memory>, item: &Item, stays: bool) -> Result<(
     Ok(())
 }
 
-// Puts the chunk in at the end, where it has items.
+// Appends the chunk, if it has items.
 fn keep_chunk(kept: &mut Vec<Chunk, Memory>, chunk: Chunk) -> Result<(), NoMemory>
     ensures { OnOk result (kept.new.items ≡ kept.old.items ++ filled_chunks chunk) }
 {
@@ -58,7 +58,7 @@ fn keep_chunk(kept: &mut Vec<Chunk, Memory>, chunk: Chunk) -> Result<(), NoMemor
     Ok(())
 }
 
-// Puts the page in at the end, where there is one.
+// Appends the page, if there is one.
 fn keep_page(kept: &mut Vec<Page, Memory>, page: Option<Page>) -> Result<(), NoMemory>
     ensures { OnOk result (kept.new.items ≡ kept.old.items ++ option_to_list page) }
 {
@@ -84,7 +84,7 @@ fn left_items(
     Ok(kept)
 }
 
-// What is left of a chunk: the same chunk where it loses nothing. It may be empty.
+// What remains of a chunk. It is the same chunk if it loses nothing, and it may be empty.
 fn left_chunk(memory: Memory, chunk: &Chunk, tickets: &[u64]) -> Result<Chunk, NoMemory>
     requires rising { IsRising chunk.now }
     requires increasing { IsStrictlyIncreasing tickets.now }
@@ -96,7 +96,7 @@ fn left_chunk(memory: Memory, chunk: &Chunk, tickets: &[u64]) -> Result<Chunk, N
     Chunk::of(memory, left_items(memory, chunk.as_slice(), tickets)?)
 }
 
-// What is left of the chunks.
+// What remains of the chunks.
 fn left_chunks(
     memory: Memory,
     chunks: &[Chunk],
@@ -116,7 +116,7 @@ fn left_chunks(
     Ok(kept)
 }
 
-// What is left of a page: the same page where it loses nothing.
+// What remains of a page. It is the same page if it loses nothing.
 fn left_page(memory: Memory, page: &Page, tickets: &[u64]) -> Result<Option<Page>, NoMemory>
     requires filled { IsPage page.now }
     requires rising { IsRising (flattened page.now) }
@@ -134,7 +134,7 @@ fn left_page(memory: Memory, page: &Page, tickets: &[u64]) -> Result<Option<Page
     }
 }
 
-// What is left of the pages.
+// What remains of the pages.
 fn left_pages(
     memory: Memory,
     pages: &[Page],
@@ -153,7 +153,7 @@ fn left_pages(
     Ok(kept)
 }
 
-// The same pages where they lose nothing.
+// The same pages if they lose nothing, and else what remains of them.
 fn shared_or_left(memory: Memory, pages: &Pages, tickets: &[u64]) -> Result<Pages, NoMemory>
     requires filled { AreFilled pages.now }
     requires rising { IsRising (joined pages.now) }
@@ -167,7 +167,7 @@ fn shared_or_left(memory: Memory, pages: &Pages, tickets: &[u64]) -> Result<Page
     Pages::of(memory, left_pages(memory, pages.as_slice(), tickets)?)
 }
 
-/// The items without those under these tickets. What loses nothing is shared: a chunk, a page, or all pages.
+/// The items without those with these tickets. A chunk, a page, or all pages are shared if they lose nothing.
 pub fn without(memory: Memory, layout: &Layout, tickets: &[u64]) -> Result<Layout, NoMemory>
     requires laid { IsLaid layout.now }
     requires rising { IsRising (items_in layout.now) }

@@ -4,7 +4,7 @@ use Rattle.mp_resync.specs.ValidatedTx.{ticketed}
 use Rattle.mp_items.specs.Inside.Built.{IsBuilt}
 use Rattle.mp_items.proofs.layout.building.of_pool.Given as goal
 
--- it is built of the items so far
+-- it consists of the items so far
 abbrev pub invariant-loop-ticket : goal.invariant-loop-ticket
 invariant-loop-ticket l =
     goal.iterator-loop-ticket.can_next l.ticket-iterator

@@ -4,7 +4,7 @@ use Rattle.mp_seqpool.specs.Prepared.{apart}
 use Rattle.mp_items.specs.Pages.{flattened, IsFilled}
 use Rattle.mp_items.proofs.layout.removal.left_chunks.Given as goal
 
--- what is left of the chunks so far
+-- what remains of the chunks so far
 abbrev pub invariant-loop-chunk : goal.invariant-loop-chunk
 invariant-loop-chunk l =
     (flattened l.kept.items ≡ apart l.tickets (flattened (take l.chunk-index l.chunks))) × All IsFilled l.kept.items × (length l.kept.items ≤ l.chunk-index)
