@@ -1,4 +1,4 @@
--- What is kept of items, one of which more is tried.
+-- What is kept of items, with one more that is tried.
 use Rattle.std.proofs.Common.{◌≡◌, ℕ, ◌+◌, ◌≤◌, Bool, true, false, if◌then◌else◌, List, [], ◌∷◌, ◌++◌, map, refl, sym, ap, subst, ◌∙◌, arith}
 use Rattle.std.specs.Prelude.{sum_by, Option, Some, All}
 use Rattle.std.specs.Borrow.{Bor}
@@ -35,11 +35,11 @@ bytes-append xs ys = ap (sum_by size_of) (map-append (λ e. e.1) xs ys) ∙ sum_
 bytes-cons : (i : ℕ × Transaction) (is : Items) → bytes_of (i ∷ is) ≡ size_of i.1 + bytes_of is
 bytes-cons i is = sum_by-cons size_of i.1 (transactions is)
 
--- what was shown, what is shown now, and what is left are all
+-- the items visited before, the current one and the remaining ones are all
 turn : (all s t u : Items) (xs : List (Bor Item)) (r : Option (Bor Item)) (x : Bor Item) → s ≡ all → Yields (TakesFirst shown) s xs t → r ≡ Some x → TakesFirst shown t r u → all ≡ map shown xs ++ shown x ∷ u
 turn all s t u xs r x start y is step = sym start ∙ rest_so_far shown xs s t y ∙ ap (λ l. map shown xs ++ l) (rest_more shown t u r x is step)
 
--- one more was shown
+-- one more was visited
 pub shown-last : (xs : List (Bor Item)) (x : Bor Item) → map shown (xs ++ x ∷ []) ≡ map shown xs ++ shown x ∷ []
 shown-last xs x = map-append shown xs (x ∷ [])
 
@@ -55,7 +55,7 @@ module _ (accepts : Accepts) where
   kept_less_step true n i xs ys a b = let sum = bytes-cons i xs in omega arith
   kept_less_step false n i xs ys a b = omega arith
 
-  -- what is kept has no more bytes than all
+  -- what is kept has at most as many bytes as all
   kept_less : (tick : ℕ) (u : Unspent) (xs : Items) → bytes_of (keep_upon accepts u tick xs) ≤ bytes_of xs
   kept_less tick u [] = omega arith
   kept_less tick u (i ∷ is) =

@@ -1,4 +1,4 @@
-//! What of items stays valid upon another ledger state.
+//! Which items stay valid on another ledger state.
 ghost use Rattle.std.specs.Prelude.{◌≡◌, ◌+◌, ◌≤◌, ◌^◌, All, IfOk, OnOk};
 ghost use Rattle.mp_tx.specs.Spelling.{size_of};
 ghost use Rattle.mp_rules.specs.Checked.{IsSigned};
@@ -13,16 +13,16 @@ use mp_tx::Ledger;
 use mp_utxo::Overlay;
 use std::sync::Arc;
 
-/// Items that stay valid upon a ledger state, one after the other. Their transactions are shared with the pool that has them.
+/// Items that stay valid on a ledger state, one after the other. They share their transactions with the pool.
 #[derive(Drop)]
 pub struct KeptItems {
     /// The transactions with their tickets, oldest first.
     pub items: Items,
-    /// How many bytes they have together.
+    /// The total number of their bytes.
     pub bytes: u64,
 }
 
-// What was kept so far: the ledger state with it applied, the items, and how many bytes they have.
+// What has been kept so far: the ledger state with it applied, the items, and the number of their bytes.
 #[derive(Drop)]
 struct Kept {
     overlay: Overlay,
@@ -30,7 +30,7 @@ struct Kept {
     bytes: u64,
 }
 
-// Nothing yet, upon the ledger state.
+// The ledger state without items.
 fn begin(memory: Memory, ledger: &Ledger) -> Result<Kept, NoMemory>
     ensures { IfOk result (IsBegun ledger.now) }
 {
@@ -41,7 +41,7 @@ fn begin(memory: Memory, ledger: &Ledger) -> Result<Kept, NoMemory>
     })
 }
 
-// Applies the item and puts it last.
+// Applies the item and appends it.
 fn keep(kept: &mut Kept, item: &Item) -> Result<(), NoMemory>
     requires { kept.old.bytes + size_of (item_of item.now).1 ≤ 2 ^ 40 }
     ensures { OnOk result (Keeps kept.old (item_of item.now) kept.new) }
@@ -53,7 +53,7 @@ fn keep(kept: &mut Kept, item: &Item) -> Result<(), NoMemory>
     Ok(())
 }
 
-// Keeps the item where it is valid after those that were kept, and leaves it out where it isn't.
+// Keeps the item if it is valid after those that were kept, and else leaves it out.
 fn try_item<V: Verifier>(
     memory: Memory,
     kept: &mut Kept,
@@ -90,8 +90,8 @@ fn try_all<V: Verifier>(
     Ok(kept)
 }
 
-/// What of the items would stay valid upon the ledger state: each that is valid upon it after those kept before it. They have at
-/// most 2^40 bytes together. Their signatures are good, and aren't looked at again.
+/// The items that would stay valid on the ledger state: each that is valid there after those kept before it. Together
+/// they have at most 2^40 bytes. Their signatures are good, and aren't checked again.
 ///
 /// # Errors
 /// `NoMemory`.

@@ -1,4 +1,4 @@
-//! Trying a pool's transactions upon another ledger state, of which the pool notices nothing.
+//! Trying a pool's transactions on another ledger state, without an effect on the pool.
 #![tactic(auto)]
 
 mod kept;
