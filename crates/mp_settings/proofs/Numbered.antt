@@ -1,4 +1,4 @@
--- Outputs that are numbered, or that stand apart, have no reference twice.
+-- Outputs that are numbered, or that are distinct, have no reference twice.
 use Rattle.std.proofs.Common.{◌≡◌, ℕ, ◌<◌, ◌≤◌, List, [], length, get_or, sym, ap, subst, ◌∙◌, arith, length-take-le}
 use Rattle.std.proofs.lemmas.List.{get_or_default, get_or-map, get_or-take, length-map}
 use Rattle.mp_tx.specs.declared.reference.OutRef.{OutRef}

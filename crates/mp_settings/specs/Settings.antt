@@ -8,7 +8,7 @@ use Rattle.mp_settings.specs.declared.settings.Settings.{Settings}
 abbrev pub no_settings : ℕ → Settings
 no_settings salt = record { block_bytes = None; limit = None; last = None; tick = None; salt = salt }
 
--- a scenario's salt is no secret
+-- the salt of a scenario is public
 abbrev pub scenario_settings : Settings
 scenario_settings = no_settings 0
 
@@ -19,7 +19,7 @@ with_setting s (Limit n) = option_map (λ x. record s { limit = x }) (set_once s
 with_setting s (Last n) = option_map (λ x. record s { last = x }) (set_once s.last n)
 with_setting s (Tick n) = option_map (λ x. record s { tick = x }) (set_once s.tick n)
 
--- with what holds where nothing is set
+-- with the defaults
 abbrev pub block_bytes_of : Settings → ℕ
 block_bytes_of s = unwrap_or s.block_bytes 500000
 

@@ -32,7 +32,7 @@ pub fn make_ledger(
     }
 }
 
-/// The bytes of a block: the setting holds where a line tells none.
+/// The greatest size of a block in bytes: that of the line if it has one, and else that of the settings.
 pub fn block_bytes_at(settings: &Settings, told: &Option<BlockBytes>) -> u64
     ensures same { result ≡ unwrap_or told.now (block_bytes_of settings.now) }
     ensures range { HasBlockBytes result }
@@ -43,7 +43,7 @@ pub fn block_bytes_at(settings: &Settings, told: &Option<BlockBytes>) -> u64
     }
 }
 
-/// The ledger state that a line tells.
+/// The ledger state of a line.
 pub fn ledger_at(memory: Memory, settings: &Settings, ledger: NewLedger) -> Result<Ledger, NoMemory>
     ensures { IfOk result (λ l. l ≡ ledger_at settings.now ledger) }
 {

@@ -1,4 +1,4 @@
-//! What a scenario's settings are, which ledger states its lines tell, and whose signatures count.
+//! The settings of a scenario, the ledger states of its lines, and its verifier.
 #![tactic(auto)]
 
 mod ledgers;

@@ -7,7 +7,7 @@ use mp_memory::{Memory, NoMemory};
 use mp_tx::{OutRef, Output};
 use std::marker::Model;
 
-/// The opening outputs so far, numbered from 0 under the id of zeros.
+/// The opening outputs so far, numbered from 0. Their transaction id is zeros.
 pub struct Openings {
     entries: Vec<(OutRef, Output), Memory>,
 }
@@ -38,7 +38,7 @@ impl Openings {
     ghost use Rattle.mp_names.specs.References.{opening_ref};
     ghost use Rattle.mp_tx.specs.Ledger.{refs, AreDistinct};
 
-    /// No output.
+    /// No outputs.
     pub fn new(memory: Memory) -> Openings
         ensures { result ≡ [] }
     {
@@ -47,7 +47,7 @@ impl Openings {
         }
     }
 
-    /// How many there are.
+    /// The number of outputs.
     pub fn len(&self) -> usize
         ensures { result ≡ length self.now }
     {
@@ -65,7 +65,7 @@ impl Openings {
         }
     }
 
-    /// Puts the output last, under the next reference.
+    /// Appends the output, with the next reference.
     pub fn push(&mut self, output: Output) -> Result<(), NoMemory>
         requires { length self.old < 2 ^ 16 }
         ensures ok { OnOk result
@@ -77,7 +77,7 @@ impl Openings {
         Ok(())
     }
 
-    /// Takes out the output that was put in last.
+    /// Removes the last output.
     pub fn pop(&mut self)
         ensures { (outputs : List (OutRef × Output)) (output : OutRef × Output)
             → self.old ≡ outputs ++ output ∷ [] → self.new ≡ outputs }
@@ -85,7 +85,7 @@ impl Openings {
         let _ = self.entries.pop();
     }
 
-    /// The outputs under their references.
+    /// The outputs with their references.
     pub fn as_slice(&self) -> &[(OutRef, Output)]
         ensures entries { result.now ≡ self.now }
         ensures distinct { AreDistinct (refs result.now) }
@@ -93,7 +93,7 @@ impl Openings {
         &self.entries
     }
 
-    /// The outputs under their references.
+    /// The outputs with their references.
     pub fn into_entries(self) -> Vec<(OutRef, Output), Memory>
         ensures entries { result.items ≡ self }
         ensures distinct { AreDistinct (refs result.items) }

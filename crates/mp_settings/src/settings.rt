@@ -8,19 +8,19 @@ const BLOCK_BYTES: u64 = 500_000;
 
 const CHANGES: u64 = 1_000_000;
 
-// Whoever runs a scenario has written it, so nobody is to be kept from choosing where outputs lie in a table.
+// The author of a scenario also runs it, so nobody has to be kept from choosing colliding references.
 const SALT: u64 = 0;
 
-/// What was set before the first command, and else what holds where nothing is set.
+/// What was set before the first command, with defaults for the rest.
 #[derive(Drop)]
 pub struct Settings {
     pub block_bytes: Option<BlockBytes>,
     pub limit: Option<Limit>,
-    /// The ticket before the first one that is given; 0 where nothing is set.
+    /// The ticket before the first one that the pool gives. The default is 0.
     pub last: Option<u64>,
-    /// The tick of the opening ledger state; 0 where nothing is set.
+    /// The tick of the opening ledger state. The default is 0.
     pub tick: Option<u64>,
-    /// What the tables of all ledger states are salted with. No line sets it.
+    /// The salt of the tables of all ledger states. No line sets it.
     pub salt: Salt,
 }
 
@@ -32,7 +32,7 @@ impl Settings {
     ghost use Rattle.mp_settings.specs.Settings.{no_settings, scenario_settings, with_setting};
     ghost use Rattle.mp_settings.specs.Settings.{block_bytes_of, limit_of, last_of, tick_of, salt_of};
 
-    /// Nothing is set.
+    /// No setting is set.
     pub fn new(salt: Salt) -> Settings
         ensures { result ≡ no_settings salt }
     {
@@ -45,14 +45,14 @@ impl Settings {
         }
     }
 
-    /// Nothing is set, and the salt is that of scenarios, which is no secret.
+    /// No setting is set, and the salt is that of scenarios, which is public.
     pub fn of_scenario() -> Settings
         ensures { result ≡ scenario_settings }
     {
         Settings::new(Salt::new(SALT))
     }
 
-    /// Sets what wasn't set before. After an `Err` nothing has changed.
+    /// Sets a value that isn't set yet. If it returns `Err`, nothing has changed.
     pub fn set<'a>(&mut self, setting: Setting) -> Result<(), LineFault<'a>>
         ensures ok { OnOk result (with_setting self.old setting ≡ Some self.new) }
         ensures bad { IsBad result → with_setting self.old setting ≡ None }
@@ -72,7 +72,7 @@ impl Settings {
         }
     }
 
-    /// The bytes that a block may have; 500,000 where nothing is set.
+    /// The greatest size of a block, in bytes. The default is 500,000.
     pub fn block_bytes(&self) -> u64
         ensures same { result ≡ block_bytes_of self.now }
         ensures range { HasBlockBytes result }
@@ -90,14 +90,14 @@ impl Settings {
         self.tick.unwrap_or(0)
     }
 
-    /// What the tables of all ledger states are salted with.
+    /// The salt of the tables of all ledger states.
     pub fn salt(&self) -> Salt
         ensures { result ≡ salt_of self.now }
     {
         self.salt
     }
 
-    /// How many changes there may be; 1,000,000 where nothing is set.
+    /// The greatest number of changes. The default is 1,000,000.
     pub fn limit(&self) -> u64
         ensures same { result ≡ limit_of self.now }
         ensures range { IsLimit result }
@@ -108,7 +108,7 @@ impl Settings {
         }
     }
 
-    /// The ticket before the first one that is given.
+    /// The ticket before the first one that the pool gives.
     pub fn last(&self) -> u64
         ensures { result ≡ last_of self.now }
     {

@@ -5,7 +5,7 @@ use mp_tx::{Key, Sig, TxId};
 
 const KEY_BYTES: usize = 32;
 
-/// Accepts a signature exactly where it is the key followed by the id.
+/// Accepts a signature exactly when it is the key followed by the id.
 #[derive(Drop)]
 pub struct KeyAndId;
 
