@@ -1,4 +1,4 @@
--- Fields put together, and the transaction that they make.
+-- Drafts of transactions, and the transactions that they make.
 use Rattle.std.specs.Prelude.{ℕ, ◌+◌, ◌-◌, ◌%◌, ◌^◌, ◌==◌, List, [], ◌∷◌, ◌++◌, map, replicate, is_none, Option, None, Some, option_map, option_and_then, unwrap_or, if◌then◌else◌}
 use Rattle.mp_bundle.specs.Bundle.{Entry}
 use Rattle.mp_tx.specs.declared.reference.OutRef.{OutRef}
@@ -19,7 +19,7 @@ use Rattle.mp_names.specs.Names.{Names}
 use Rattle.mp_names.specs.Payments.{output_of}
 use Rattle.mp_lines.specs.Fields.{field_of}
 
--- inputs, references and policy scripts rise, and what is paid keeps its order
+-- inputs, references and policy scripts are strictly increasing; payments keep their order
 pub record Draft : Type 0 where
   pub inputs : List Input
   pub references : List OutRef
@@ -43,12 +43,12 @@ with_field d (Forges b) = option_map (λ x. record d { forge = x }) (set_once d.
 with_field d (Carries s) = Some (record d { scripts = insert_rising script_cmp s d.scripts })
 with_field d (Signs s) = Some (record d { signers = d.signers ++ s ∷ [] })
 
--- all words are fields
+-- if all words are fields
 abbrev pub draft_of : Names → Draft → List (List ℕ) → Option Draft
 draft_of names d [] = Some d
 draft_of names d (word ∷ words) = option_and_then (λ f. option_and_then (λ e. draft_of names e words) (with_field d f)) (field_of names word)
 
--- at any tick that isn't excluded, and forging nothing where nothing is said
+-- valid at any tick that isn't excluded; forging nothing by default
 abbrev pub transaction_of : Draft → List Signature → Transaction
 transaction_of d signatures = record {
   inputs = d.inputs;
@@ -61,32 +61,32 @@ transaction_of d signatures = record {
   signatures = signatures;
 }
 
--- the byte with another lowest bit
+-- the byte with its lowest bit flipped
 abbrev pub flip : ℕ → ℕ
 flip k = if k % 2 == 0 then k + 1 else k - 1
 
--- the first byte of a signature: that of the key, or another
+-- the first byte of a signature: that of the key, or another one if it is bad
 abbrev pub first_byte : Signer → ℕ
 first_byte s = if s.is_good then s.key else flip s.key
 
--- A key is 32 times its number. Its good signature is the key and then the id
+-- a key is 32 bytes that all have its number; its good signature is the key and then the id
 unfoldable pub signature_of : List ℕ → Signer → Signature
 signature_of id s = record { key = replicate 32 s.key; sig = first_byte s ∷ replicate 31 s.key ++ id }
 
--- the signatures, in rising order
+-- the signatures, in strictly increasing order
 abbrev pub signatures_of : List ℕ → List Signature → List Signer → List Signature
 signatures_of id done [] = done
 signatures_of id done (s ∷ signers) = signatures_of id (insert_rising signature_cmp (signature_of id s) done) signers
 
--- these parts may stand in a transaction
+-- a transaction may have these parts
 abbrev pub if_fits : Transaction → Option Transaction
 if_fits t = if is_none (parts_fault t) then Some t else None
 
--- with signatures of the id that the transaction has without them
+-- with signatures of the id of the unsigned transaction
 abbrev pub signed : Draft → Transaction → Option Transaction
 signed d t = if_fits (transaction_of d (signatures_of (id_of t) [] d.signers))
 
--- what is declared, after it was made without signatures, for its id
+-- what is declared, after the unsigned transaction was made for its id
 abbrev pub declare_signed : Draft → Transaction → Option DeclaredTx
 declare_signed d t = option_map (λ s. record { tx = s; payments = d.payments }) (signed d t)
 

@@ -14,13 +14,13 @@ use Rattle.mp_names.specs.Bundles.{bundle_of}
 use Rattle.mp_names.specs.Payments.{script_or_yes, datum_or_unit, lock_words, payment_of}
 use Rattle.mp_names.specs.References.{ref_of, paid_at}
 
--- the script that a word names, and else that of the output spent, and `yes` where that output doesn't exist
+-- the script that a word names; without a word, that of the output spent, or `yes` if that output doesn't exist
 abbrev pub validator_of : Names → Option (List ℕ) → Option Payment → Option (List ℕ)
 validator_of names None (Some p) = Some p.script
 validator_of names None None = script_or_yes names None
 validator_of names (Some word) p = script_or_yes names (Some word)
 
--- the same of the datum, and `unit`
+-- the same for the datum, with `unit`
 abbrev pub spent_datum_of : Names → Option (List ℕ) → Option Payment → Option (List ℕ)
 spent_datum_of names None (Some p) = Some p.datum
 spent_datum_of names None None = datum_or_unit names None
@@ -33,7 +33,7 @@ input_by (Some r) (Some s) None e = None
 input_by (Some r) None d e = None
 input_by None s d e = None
 
--- REF, and behind a colon, 58, SCRIPT, SCRIPT/DATUM or SCRIPT/DATUM/REDEEMER
+-- REF, and after a colon (58) SCRIPT, SCRIPT/DATUM or SCRIPT/DATUM/REDEEMER
 unfoldable pub input_of : Names → List ℕ → Option Input
 input_of names word =
     let parts = split_once 58 word in
@@ -51,7 +51,7 @@ good_signer k = Signs (record { key = k; is_good = true })
 abbrev pub bad_signer : ℕ → Field
 bad_signer k = Signs (record { key = k; is_good = false })
 
--- each kind by the word that stands before its value
+-- each kind by the word before its value
 abbrev pub witness_field : Names → List ℕ → List ℕ → Option Field
 witness_field names key value =
     if pointwise nat_eq key (codes "policy") then option_map Carries (script_named value names)
@@ -73,6 +73,6 @@ field_by names key value =
     else if pointwise nat_eq key (codes "out") then option_map Pays (payment_of names value)
     else limit_field names key value
 
--- KIND=VALUE; 61 is the sign of equality
+-- KIND=VALUE; the equals sign is 61
 unfoldable pub field_of : Names → List ℕ → Option Field
 field_of names word = option_and_then (field_by names (split_once 61 word).0) (split_once 61 word).1

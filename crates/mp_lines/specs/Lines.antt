@@ -1,4 +1,4 @@
--- What lines ask, in view of what was declared before them.
+-- The meaning of lines, given the declarations before them.
 use Rattle.std.specs.Prelude.{ℕ, ◌++◌, nat_eq, List, [], ◌∷◌, codes, Option, None, Some, option_map, option_and_then, if◌then◌else◌, Result, Ok, Err, is_ok}
 use Rattle.std.specs.Cmp.Lexicographic.{pointwise}
 use Rattle.hex.specs.Hex.{decode_of}
@@ -38,7 +38,7 @@ pub data Line : Type 0 where
   -- the ids
   Remove : List (List ℕ) → Line
   Sync : NewLedger → Line
-  -- what would stay upon this ledger state
+  -- asks which transactions would stay on this ledger state
   For : NewLedger → Line
   Asks : Query → Line
 
@@ -99,7 +99,7 @@ output_by names words =
 abbrev pub output_line : Names → List (List ℕ) → Option Line
 output_line names words = option_and_then (output_by names) (two_words words)
 
--- tx NAME ITEM .., one item at least
+-- tx NAME ITEM .., with at least one item
 abbrev pub tx_line : Names → List (List ℕ) → Option Line
 tx_line names [] = None
 tx_line names (name ∷ []) = None
@@ -112,12 +112,12 @@ tx_line names (name ∷ item ∷ items) =
 abbrev pub submit_line : Names → List (List ℕ) → Option Line
 submit_line names words = option_map (λ t. Submit t.tx) (option_and_then (λ w. tx_named w names) (one_word words))
 
--- the ids of the transactions named, behind these
+-- the ids of the named transactions, after these
 abbrev pub put_ids : Names → List (List ℕ) → List (List ℕ) → Option (List (List ℕ))
 put_ids names ids [] = Some ids
 put_ids names ids (word ∷ words) = option_and_then (λ t. put_ids names (ids ++ id_of t.tx ∷ []) words) (tx_named word names)
 
--- remove TX .., one at least
+-- remove TX .., with at least one transaction
 abbrev pub remove_line : Names → List (List ℕ) → Option Line
 remove_line names [] = None
 remove_line names (word ∷ words) = option_map Remove (put_ids names [] (word ∷ words))
@@ -163,6 +163,6 @@ abbrev pub words_line : Names → List (List ℕ) → Option Line
 words_line names [] = Some Blank
 words_line names (word ∷ words) = if are_none_or_comment (word ∷ words) then Some Blank else asked_line names word words
 
--- what the line asks, if it is one of the language
+-- the meaning of the line, if it is one of the language
 unfoldable pub line_of : Names → List ℕ → Option Line
 line_of names line = if is_clean line then words_line names (words_of line) else None

@@ -1,4 +1,4 @@
--- What lines ask that only read the pool.
+-- The meaning of lines that only read the pool.
 use Rattle.std.specs.Prelude.{ℕ, nat_eq, List, codes, Option, None, option_map, option_and_then, if◌then◌else◌}
 use Rattle.std.specs.Cmp.Lexicographic.{pointwise}
 use Rattle.mp_text.specs.Numbers.{number_of}
@@ -8,7 +8,7 @@ use Rattle.mp_lines.specs.declared.query.Query.{Query}
 use Rattle.mp_lines.specs.declared.query.Query.TheVariants.{Snapshot, After, Lookup, Has, Take, Forge, Offer}
 use Rattle.mp_lines.specs.Words.{no_word, one_word, two_words}
 
--- the number of a line that has one
+-- the number in a line that has one
 abbrev pub one_number : List (List ℕ) → Option ℕ
 one_number words = option_and_then number_of (one_word words)
 

@@ -1,4 +1,4 @@
--- How many words follow the first one of a line.
+-- The number of words after the first one of a line.
 use Rattle.std.specs.Prelude.{ℕ, List, [], ◌∷◌, Option, None, Some}
 
 -- that there is none
@@ -6,13 +6,13 @@ abbrev pub no_word : List (List ℕ) → Option (Unit {0})
 no_word [] = Some tt
 no_word (word ∷ more) = None
 
--- the word, where it is the only one
+-- the word, if it is the only one
 abbrev pub one_word : List (List ℕ) → Option (List ℕ)
 one_word [] = None
 one_word (word ∷ []) = Some word
 one_word (word ∷ other ∷ more) = None
 
--- the words, where there are two
+-- the words, if there are two
 abbrev pub two_words : List (List ℕ) → Option (List ℕ × List ℕ)
 two_words [] = None
 two_words (word ∷ []) = None

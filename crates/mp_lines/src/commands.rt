@@ -26,7 +26,7 @@ pub fn submit_line<'a>(names: &Names, words: &'a [u8]) -> Result<Line, LineFault
     Ok(Line::Submit(Arc::try_clone(declared.tx())?))
 }
 
-// Puts in the ids of the transactions named.
+// Appends the ids of the named transactions.
 fn put_ids<'a>(
     ids: &mut Vec<TxId, Memory>,
     names: &Names,

@@ -1,4 +1,4 @@
-//! Parts of transactions once more.
+//! Copies of parts of transactions.
 
 ghost use Rattle.std.specs.Prelude.{◌≡◌, [], ◌∷◌, ◌++◌, map, IfOk, OnOk};
 ghost use Rattle.mp_names.specs.Payments.{output_of};
@@ -8,7 +8,7 @@ use mp_names::Payment;
 use mp_script::{Data, Script};
 use mp_tx::{Input, OutRef, Output};
 
-/// The input that spends the reference with these, which are shared.
+/// The input that spends the reference with this validator, datum and redeemer, which are shared.
 pub fn make_input(
     from: OutRef,
     validator: &Script,
@@ -52,7 +52,7 @@ fn put_output(outputs: &mut Vec<Output, Memory>, payment: &Payment) -> Result<()
     Ok(())
 }
 
-/// Puts the same inputs last.
+/// Appends shares of the inputs.
 pub fn copy_inputs(copies: &mut Vec<Input, Memory>, inputs: &[Input]) -> Result<(), NoMemory>
     ensures { OnOk result (copies.new.items ≡ copies.old.items ++ inputs.now) }
 {
@@ -63,7 +63,7 @@ pub fn copy_inputs(copies: &mut Vec<Input, Memory>, inputs: &[Input]) -> Result<
     Ok(())
 }
 
-/// Puts the same scripts last.
+/// Appends shares of the scripts.
 pub fn copy_scripts(copies: &mut Vec<Script, Memory>, scripts: &[Script]) -> Result<(), NoMemory>
     ensures { OnOk result (copies.new.items ≡ copies.old.items ++ scripts.now) }
 {
@@ -74,7 +74,7 @@ pub fn copy_scripts(copies: &mut Vec<Script, Memory>, scripts: &[Script]) -> Res
     Ok(())
 }
 
-/// Puts the outputs last that are paid.
+/// Appends the outputs of the payments.
 pub fn put_outputs(outputs: &mut Vec<Output, Memory>, payments: &[Payment]) -> Result<(), NoMemory>
     ensures { OnOk result (outputs.new.items ≡ outputs.old.items ++ map output_of payments.now) }
 {

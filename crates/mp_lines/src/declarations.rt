@@ -1,4 +1,4 @@
-//! Lines that declare something.
+//! Lines with declarations.
 
 ghost use Rattle.std.specs.Prelude.{◌≡◌, Ok, None, Some, option_map, option_and_then, IfOk};
 ghost use Rattle.mp_text.specs.Words.{words_of};
@@ -18,10 +18,10 @@ use mp_names::{LineFault, Name, NamedDatum, NamedScript, Names, Reason, payment_
 use mp_script::{Data, DataFault, Script, ScriptFault};
 use mp_text::first_word;
 
-/// The bytes that the hexadecimal digits write, of either case.
+/// The bytes of the hexadecimal digits, of either case.
 ///
 /// # Errors
-/// `Bad` where they aren't pairs of such digits. `NoMemory` may stand in place of each answer.
+/// `Bad` if they aren't pairs of hexadecimal digits. `NoMemory` may be returned instead of any answer.
 pub fn bytes_of(memory: Memory, digits: &[u8]) -> Result<Vec<u8, Memory>, LineFault<'_>>
     ensures { Gives (λ v. v.items) (bytes_of digits.now) result }
 {
@@ -32,7 +32,7 @@ pub fn bytes_of(memory: Memory, digits: &[u8]) -> Result<Vec<u8, Memory>, LineFa
     }
 }
 
-// The script of these bytes, which the digits write.
+// The script of these bytes. The digits are those of the line.
 fn if_script<'a>(memory: Memory, bytes: &[u8], digits: &'a [u8]) -> Result<Script, LineFault<'a>>
     ensures { Reads (if_script bytes.now) result }
 {
@@ -43,7 +43,7 @@ fn if_script<'a>(memory: Memory, bytes: &[u8], digits: &'a [u8]) -> Result<Scrip
     }
 }
 
-// The datum of these bytes, which the digits write.
+// The datum of these bytes. The digits are those of the line.
 fn if_datum<'a>(memory: Memory, bytes: &[u8], digits: &'a [u8]) -> Result<Data, LineFault<'a>>
     ensures { Reads (if_datum bytes.now) result }
 {
@@ -68,7 +68,7 @@ fn datum_of(memory: Memory, digits: &[u8]) -> Result<Data, LineFault<'_>>
     if_datum(memory, &bytes, digits)
 }
 
-// What was made, with a copy of its name.
+// The declared value, with a copy of its name.
 fn named<'a, T: Drop>(
     memory: Memory,
     name: &[u8],

@@ -1,4 +1,4 @@
-//! Fields put together.
+//! Drafts of transactions.
 
 ghost use Rattle.std.specs.Prelude.{◌≡◌, [], ◌∷◌, ◌++◌, Ok, Some, None, option_and_then, unwrap_or, IfOk, IfErr, OnOk};
 ghost use Rattle.mp_names.specs.declared.fault.LineFault.TheVariants as line_faults;
@@ -24,10 +24,11 @@ use std::marker::Model;
 use std::mem;
 use std::sync::Arc;
 
-// Nobody signs it, so no id is needed yet.
+// Nothing is signed yet, so no id is needed.
 const NO_ID: TxId = [0; 32];
 
-/// Fields put together: inputs, references and policy scripts rise, and payments and signers keep their order.
+/// The fields of a transaction so far. Inputs, references and policy scripts are strictly increasing. Payments and
+/// signers keep their order.
 pub struct Draft {
     inputs: Vec<Input, Memory>,
     references: Vec<OutRef, Memory>,
@@ -71,7 +72,7 @@ fn put_last<'a, T: Drop>(items: &mut Vec<T, Memory>, item: T) -> Result<(), Line
     Ok(())
 }
 
-// Before the first that is greater.
+// Inserts the item before the first that is greater.
 fn put_rising<'a, T: Rising + Drop>(
     items: &mut Vec<T, Memory>,
     item: T,
@@ -88,7 +89,7 @@ impl Draft {
     ghost use Rattle.mp_names.specs.Fault.{IsBad};
     ghost use Rattle.mp_lines.specs.Draft.{empty_draft, with_field};
 
-    /// No field.
+    /// A draft without fields.
     pub fn new(memory: Memory) -> Draft
         ensures { result ≡ empty_draft }
     {
@@ -104,8 +105,8 @@ impl Draft {
         }
     }
 
-    /// Puts the field in. The first tick, the last tick and what is forged may be said once; said again they are `Bad`, for the
-    /// reason given.
+    /// Adds the field. The first tick, the last tick and the forged tokens may be given once. Given again, they are
+    /// `Bad`, with this reason.
     pub fn add<'a>(&mut self, field: Field, reason: Reason<'a>) -> Result<(), LineFault<'a>>
         ensures ok { OnOk result (with_field self.old field ≡ Some self.new) }
         ensures bad { IsBad result → with_field self.old field ≡ None }
@@ -123,7 +124,7 @@ impl Draft {
     }
 }
 
-// What is told of a word that may stand once, until it is known which one stands for the same.
+// The reason for a word that may occur once, until it is known which earlier word means the same.
 fn repeated(word: &[u8]) -> Reason<'_> {
     Reason::Repeats {
         later: word,
@@ -131,7 +132,7 @@ fn repeated(word: &[u8]) -> Reason<'_> {
     }
 }
 
-// Puts in the fields that the words are.
+// Adds the fields of the words.
 fn fill<'a>(
     draft: &mut Draft,
     memory: Memory,
@@ -177,7 +178,7 @@ fn bare_parts(memory: Memory, draft: &Draft) -> TxParts
     }
 }
 
-// Puts in copies of the others, and what these signers make of the id.
+// Adds copies of the others, and the signatures of the id by these signers.
 fn put_others(
     parts: &mut TxParts,
     memory: Memory,
@@ -208,7 +209,7 @@ fn put_together<'a>(memory: Memory, parts: TxParts) -> Result<Tx, LineFault<'a>>
     }
 }
 
-// The transaction with what these signers make of the id.
+// The transaction, with the signatures of the id by these signers.
 fn make_tx<'a>(
     memory: Memory,
     draft: &Draft,
@@ -229,7 +230,7 @@ fn make_unsigned<'a>(memory: Memory, draft: &Draft) -> Result<Tx, LineFault<'a>>
     make_tx(memory, draft, &NO_ID, &[])
 }
 
-// Whoever signs needs the id, so what is signed is made again.
+// A signer needs the id, so a signed transaction is made twice.
 fn sign<'a>(memory: Memory, draft: &Draft, unsigned: Tx) -> Result<Tx, LineFault<'a>>
     requires { if_fits (transaction_of draft.now []) ≡ Some unsigned }
     ensures { Reads (signed draft.now unsigned) result }
@@ -256,7 +257,7 @@ fn make_shared<'a>(memory: Memory, draft: &Draft) -> Result<Arc<Tx, Memory>, Lin
     Ok(Arc::new(memory, tx)?)
 }
 
-// The transaction of the draft, whose payments go with it.
+// The transaction of the draft, with its payments.
 #[tactic(auto, unfolding(crate::specs::Draft::declared_of))]
 fn declared_of<'a>(memory: Memory, draft: &mut Draft) -> Result<DeclaredTx, LineFault<'a>>
     ensures { Reads (declared_of draft.old) result }
@@ -280,7 +281,7 @@ fn make_declared<'a>(
     declared_of(memory, &mut draft)
 }
 
-/// The transaction that the fields make which the words are.
+/// The transaction of the fields in these words.
 pub fn declared_by<'a>(
     memory: Memory,
     names: &Names,

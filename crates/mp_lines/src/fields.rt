@@ -23,7 +23,7 @@ use mp_tx::{Input, OutRef};
 
 const MAX_KEY: u64 = 255;
 
-/// Who signs: the number of a key, and whether the signature is good.
+/// A signer: the number of a key, and whether the signature is good.
 #[derive(Clone, Copy)]
 pub struct Signer {
     pub key: u8,
@@ -43,7 +43,7 @@ pub enum Field {
     Signs(Signer),
 }
 
-// The script that a word names; else that of the output spent, and `yes` where that doesn't exist.
+// The script that a word names. Without a word, that of the output spent, or `yes` if that output doesn't exist.
 fn validator_of<'n, 'a>(
     names: &'n Names,
     word: Option<&'a [u8]>,
@@ -58,7 +58,7 @@ fn validator_of<'n, 'a>(
     }
 }
 
-// The datum that a word names; else that of the output spent, and `unit` where that doesn't exist.
+// The datum that a word names. Without a word, that of the output spent, or `unit` if that output doesn't exist.
 fn spent_datum_of<'n, 'a>(
     names: &'n Names,
     word: Option<&'a [u8]>,
@@ -73,7 +73,7 @@ fn spent_datum_of<'n, 'a>(
     }
 }
 
-// REF, and behind a colon the script, the datum and the redeemer.
+// REF, and after a colon the script, the datum and the redeemer.
 #[tactic(auto, unfolding(crate::specs::Fields::input_of))]
 fn input_of<'a>(names: &Names, word: &'a [u8]) -> Result<Input, LineFault<'a>>
     ensures { Reads (input_of names.now word.now) result }
@@ -221,7 +221,7 @@ fn field_by<'a>(
     }
 }
 
-/// The field that a word is, by the kind before its sign of equality.
+/// The field of a word, by the kind before its equals sign.
 #[tactic(auto, unfolding(crate::specs::Fields::field_of))]
 pub fn field_of<'a>(memory: Memory, names: &Names, word: &'a [u8]) -> Result<Field, LineFault<'a>>
     ensures { Reads (field_of names.now word.now) result }

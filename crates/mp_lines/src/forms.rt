@@ -1,21 +1,21 @@
-//! The forms of lines. Those of lines that only read the pool stand where these are read.
+//! The forms of lines. The forms of lines that only read the pool are in the module that parses them.
 
 /// The form of a line.
 #[derive(Clone, Copy)]
 pub struct Form {
     /// Its first word, which no other form has.
     pub word: &'static [u8],
-    /// The form as it is told.
+    /// The form as messages show it.
     pub text: &'static [u8],
 }
 
-/// The bytes that a block may have.
+/// The greatest size of a block, in bytes.
 pub const BLOCK: Form = Form {
     word: b"block",
     text: b"block N",
 };
 
-/// The changes that the pool makes.
+/// The greatest number of changes.
 pub const LIMIT: Form = Form {
     word: b"limit",
     text: b"limit N",
@@ -71,7 +71,7 @@ pub const SYNC: Form = Form {
     text: b"sync TICK REF ..' or 'sync TICK block=N REF ..",
 };
 
-/// A ledger state upon which the pool's transactions are tried.
+/// A ledger state on which the pool's transactions are tried.
 pub const FOR: Form = Form {
     word: b"for",
     text: b"for TICK REF ..' or 'for TICK block=N REF ..",

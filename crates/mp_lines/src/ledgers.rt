@@ -1,4 +1,4 @@
-//! Ledger states that lines tell.
+//! The ledger states of lines.
 
 ghost use Rattle.std.specs.Prelude.{◌≡◌, [], None, Some, option_map, option_copied, OnOk};
 ghost use Rattle.std.specs.Result.{result_ok};
@@ -17,13 +17,13 @@ use mp_names::{
 };
 use mp_text::first_word;
 
-/// What stands before the outputs or the transactions of a line.
+/// The start of a line, before its outputs or transactions.
 #[derive(Drop)]
 pub struct LedgerHead<'a> {
     pub tick: u64,
-    /// The bytes of a block, where they are told.
+    /// The block bytes, if the line has them.
     pub block_bytes: Option<BlockBytes>,
-    /// The words behind.
+    /// The remaining words.
     pub rest: &'a [u8],
 }
 
@@ -61,7 +61,7 @@ fn read_outputs<'a>(
     Ok(outputs)
 }
 
-// The first output that a word before names too, unless one before it is bad.
+// The first output that an earlier word also names, unless an earlier word is bad.
 fn repeat_in<'a>(names: &Names, words: &'a [u8]) -> Option<Reason<'a>> {
     first_repeat(
         words,
@@ -85,7 +85,7 @@ fn outputs_of<'a>(memory: Memory, names: &Names, words: &'a [u8]) -> Result<Outp
     }
 }
 
-// What stands behind `block=`.
+// The text after `block=`.
 #[tactic(auto, unfolding(crate::specs::Ledgers::block_word))]
 fn block_word(word: &[u8]) -> Option<&[u8]>
     ensures { option_copied result ≡ block_word word.now }
@@ -94,7 +94,7 @@ fn block_word(word: &[u8]) -> Option<&[u8]>
     if key == BLOCK.word { value } else { None }
 }
 
-// The bytes of a block, where the first word tells them, and the words behind.
+// The block bytes, if the first word has them, and the remaining words.
 fn block_bytes_in(words: &[u8]) -> Result<(Option<BlockBytes>, &[u8]), Reason<'_>>
     ensures { option_map (λ b. (b.0, words_of b.1.now)) (result_ok result)
         ≡ block_bytes_in (words_of words.now) }
@@ -108,7 +108,7 @@ fn block_bytes_in(words: &[u8]) -> Result<(Option<BlockBytes>, &[u8]), Reason<'_
     }
 }
 
-/// What the words of a line of this form tell before the outputs or the transactions.
+/// Parses the words of a line of this form up to its outputs or transactions.
 pub fn read_head<'a>(form: &'static [u8], words: &'a [u8]) -> Result<LedgerHead<'a>, Reason<'a>>
     ensures { option_map to_head (result_ok result) ≡ head_of (words_of words.now) }
 {
@@ -124,7 +124,7 @@ pub fn read_head<'a>(form: &'static [u8], words: &'a [u8]) -> Result<LedgerHead<
     })
 }
 
-/// The ledger state that the words of a line of this form tell.
+/// The ledger state in the words of a line of this form.
 pub fn read_ledger<'a>(
     memory: Memory,
     names: &Names,

@@ -1,4 +1,4 @@
-//! The lines of scenarios: what each one asks, in view of what was declared before it.
+//! The lines of scenarios: the meaning of each, given the declarations before it.
 #![tactic(auto)]
 
 mod commands;

@@ -1,4 +1,4 @@
-//! What a line asks.
+//! The meaning of a line.
 
 ghost use Rattle.std.specs.Prelude.{◌≡◌, Some, None, option_map};
 ghost use Rattle.std.specs.Result.{result_ok};
@@ -22,13 +22,13 @@ use mp_text::{MAX_LINE_BYTES, first_word, is_clean, is_comment_or_blank};
 use mp_tx::{Tx, TxId};
 use std::sync::Arc;
 
-/// So many outputs of the opening ledger state a scenario may have: they have indices of 16 bits.
+/// The greatest number of outputs of the opening ledger state, as their indices have 16 bits.
 pub const MAX_OUTPUTS: usize = 1 << 16;
 
-/// What a line asks.
+/// The meaning of a line.
 #[derive(Drop)]
 pub enum Line {
-    /// Nothing: the line has no word, or is a comment.
+    /// Nothing: the line has no words, or is a comment.
     Blank,
     Sets(Setting),
     Script(NamedScript),
@@ -39,7 +39,7 @@ pub enum Line {
     Submit(Arc<Tx, Memory>),
     Remove(Vec<TxId, Memory>),
     Sync(NewLedger),
-    /// What would stay upon this ledger state.
+    /// Asks which transactions would stay on this ledger state.
     For(NewLedger),
     Asks(Query),
 }
@@ -129,11 +129,11 @@ impl Line {
     ghost use Rattle.mp_names.specs.Fault.{Gives};
     ghost use Rattle.mp_lines.specs.Inside.Line.{to_line};
 
-    /// What the line, without its line feed, asks where these names are declared.
+    /// The meaning of the line, without its line feed, given the declared names.
     ///
     /// # Errors
-    /// `Bad` where the line is none of the language: a byte that isn't printable, over 4,096 bytes, a first word that it
-    /// doesn't know, or words that don't follow the rules of that line. `NoMemory` may stand in place of each answer.
+    /// `Bad` if the line isn't one of the language: it has a byte that isn't printable, more than 4,096 bytes, an
+    /// unknown first word, or words that break the rules of its form. `NoMemory` may be returned instead of any answer.
     #[tactic(auto, unfolding(crate::specs::Lines::line_of))]
     pub fn parse<'a>(memory: Memory, names: &Names, line: &'a [u8]) -> Result<Line, LineFault<'a>>
         ensures { Gives to_line (line_of names.now line.now) result }

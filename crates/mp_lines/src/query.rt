@@ -1,4 +1,4 @@
-//! What a line asks that only reads the pool.
+//! Lines that only read the pool.
 
 ghost use Rattle.std.specs.Prelude.{◌≡◌, option_map};
 ghost use Rattle.std.specs.Result.{result_ok};
@@ -11,22 +11,22 @@ use crate::words::{no_word, one_word, two_words};
 use mp_names::{Names, Reason, any_number};
 use mp_tx::TxId;
 
-/// What a line asks that only reads the pool. Contracts of runs say what each is answered.
+/// The meaning of a line that only reads the pool. The contracts of runs define the answers.
 #[derive(Clone, Copy)]
 pub enum Query {
-    /// All transactions with the pool's numbers.
+    /// All transactions, with the pool's numbers.
     Snapshot,
     /// The transactions with a greater ticket.
     After(u64),
-    /// The transaction under the ticket.
+    /// The transaction with the ticket.
     Lookup(u64),
-    /// Whether a transaction with this id is there.
+    /// Whether the pool has a transaction with this id.
     Has(TxId),
-    /// The oldest transactions, as long as they fit into so many bytes together.
+    /// The oldest transactions that fit into this many bytes together.
     Take(u64),
-    /// A block of at most so many bytes.
+    /// A block of at most this many bytes.
     Forge(u64),
-    /// What the peer is offered next: at most so many transactions, and so many bytes together.
+    /// What the peer is offered next: at most this many transactions, with at most this many bytes together.
     Offer { count: u64, bytes: u64 },
 }
 
@@ -55,7 +55,7 @@ const TAKE: Form = Form {
     text: b"take BYTES",
 };
 
-// A block for whoever forges one.
+// A block for a block producer.
 const FORGE: Form = Form {
     word: b"forge",
     text: b"forge BYTES",
@@ -67,7 +67,7 @@ const OFFER: Form = Form {
     text: b"offer COUNT BYTES",
 };
 
-// The one number of a line of this form.
+// The one number in a line of this form.
 fn one_number<'a>(form: &'static [u8], words: &'a [u8]) -> Result<u64, Reason<'a>>
     ensures { result_ok result ≡ one_number (words_of words.now) }
 {
@@ -136,7 +136,7 @@ fn offer_query(words: &[u8]) -> Result<Query, Reason<'_>>
     offer_by(count, bytes)
 }
 
-// The lines that lend from the oldest transaction on, or from a cursor.
+// The lines that read from the oldest transaction on, or from a cursor.
 fn first_query<'a>(word: &'a [u8], words: &'a [u8]) -> Result<Query, Reason<'a>>
     ensures { result_ok result ≡ first_query word.now (words_of words.now) }
 {
@@ -151,7 +151,7 @@ fn first_query<'a>(word: &'a [u8], words: &'a [u8]) -> Result<Query, Reason<'a>>
     }
 }
 
-/// What a line with this first word asks that only reads the pool.
+/// The query of a line with this first word.
 pub fn read_query<'a>(names: &Names, word: &'a [u8], words: &'a [u8]) -> Result<Query, Reason<'a>>
     ensures { result_ok result ≡ query_of names.now word.now (words_of words.now) }
 {

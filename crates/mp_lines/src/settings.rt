@@ -1,4 +1,4 @@
-//! Lines that set something.
+//! Lines with settings.
 
 ghost use Rattle.std.specs.Prelude.{◌≡◌, option_and_then, option_map};
 ghost use Rattle.std.specs.Result.{result_ok};

@@ -1,4 +1,4 @@
-//! How the signers of a scenario sign.
+//! The signatures of a scenario's signers.
 
 ghost use Rattle.std.specs.Prelude.{◌≡◌, OnOk};
 ghost use Rattle.mp_lines.specs.Draft.{flip, first_byte, signature_of, signatures_of};
@@ -28,7 +28,7 @@ fn first_byte(signer: Signer) -> u8
     }
 }
 
-// The key, which is 32 times its number, and then the id. A bad one has another first byte.
+// The key, which is 32 bytes that all have its number, and then the id. A bad signature has another first byte.
 #[tactic(auto, unfolding(crate::specs::Draft::signature_of))]
 fn signature_of(id: &TxId, signer: Signer) -> Signature
     ensures { result ≡ signature_of id.now signer }
@@ -42,7 +42,7 @@ fn signature_of(id: &TxId, signer: Signer) -> Signature
     }
 }
 
-/// Puts in what the signers make of the id, each where it stands in rising order.
+/// Adds the signers' signatures of the id, in strictly increasing order.
 pub fn put_signatures(
     signatures: &mut Vec<Signature, Memory>,
     id: &TxId,

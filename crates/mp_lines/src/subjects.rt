@@ -1,4 +1,4 @@
-//! What no two fields of a transaction may say.
+//! Fields that a transaction may have only once.
 
 use crate::fields::{Field, field_of};
 use mp_bytes::Hash;
@@ -6,7 +6,7 @@ use mp_memory::Memory;
 use mp_names::{Names, Reason, first_repeat};
 use mp_tx::OutRef;
 
-// What a field says that no other field of its transaction may say too.
+// The part of a field that no other field of its transaction may repeat.
 #[derive(Clone, Copy, PartialEq, Eq)]
 enum Subject {
     Reference(OutRef),
@@ -51,7 +51,7 @@ fn is_bad(memory: Memory, names: &Names, word: &[u8]) -> bool {
     !word.is_empty() && field_of(memory, names, word).is_err()
 }
 
-/// The first field that says what one before it says, where no two may, unless one before it is bad.
+/// The first field that repeats one before it, although it may occur only once, unless an earlier field is bad.
 pub fn repeat_in<'a>(memory: Memory, names: &Names, words: &'a [u8]) -> Option<Reason<'a>> {
     first_repeat(
         words,

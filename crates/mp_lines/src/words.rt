@@ -1,4 +1,4 @@
-//! How many words follow the first one of a line.
+//! The number of words after the first one of a line.
 
 ghost use Rattle.std.specs.Prelude.{◌≡◌, option_copied, option_map};
 ghost use Rattle.std.specs.Result.{result_ok};
@@ -8,7 +8,7 @@ ghost use Rattle.mp_lines.specs.Words.{no_word, one_word, two_words};
 use mp_names::Reason;
 use mp_text::first_word;
 
-/// That a line of this form has no word behind its first.
+/// Checks that a line of this form has no word after its first.
 pub fn no_word<'a>(form: &'static [u8], words: &'a [u8]) -> Result<(), Reason<'a>>
     ensures { result_ok result ≡ no_word (words_of words.now) }
 {

@@ -1,4 +1,4 @@
--- What a draft keeps.
+-- What a draft stores.
 use Rattle.std.specs.Prelude.{[]}
 use Rattle.mp_tx.specs.Transaction.{Transaction}
 use Rattle.mp_lines.specs.declared.draft.Draft.TheInside.{Inside}

@@ -1,4 +1,4 @@
--- What a head of the code says.
+-- How contracts see a head.
 use Rattle.mp_text.specs.Words.{words_of}
 use Rattle.mp_lines.specs.declared.ledgers.LedgerHead as code
 use Rattle.mp_lines.specs.Ledgers.{LedgerHead}

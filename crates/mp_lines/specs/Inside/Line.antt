@@ -1,4 +1,4 @@
--- What a line of the code says.
+-- How contracts see a line.
 use Rattle.std.specs.Arc.{arc_value}
 use Rattle.mp_lines.specs.declared.line.Line.{Line}
 use Rattle.mp_lines.specs.declared.line.Line.TheVariants as lines

@@ -3,7 +3,7 @@ use Rattle.mp_text.specs.Words.{words_of}
 use Rattle.mp_lines.specs.Draft.{draft_of}
 use Rattle.mp_lines.proofs.draft.fill.Given as goal
 
--- the rest makes of the draft what all make of the first
+-- the remaining words make of the draft what all make of the first
 abbrev pub invariant-loop-word : goal.invariant-loop-word
 invariant-loop-word l = draft_of l.names l.draft (words_of l.rest) ≡ draft_of l.names l.fn.draft (words_of l.words)
 
