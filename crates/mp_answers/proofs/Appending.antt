@@ -1,4 +1,4 @@
--- What is written grows by nothing, and by one text after another.
+-- Appending nothing, and one text after another.
 use Rattle.std.proofs.Common.{ℕ, List, [], ◌++◌, sym, ap, ◌∙◌, append_assoc, append-nil}
 use Rattle.std.specs.Prelude.{Option, None, Some}
 use Rattle.std.specs.Io.KnownBytes.{Appends}

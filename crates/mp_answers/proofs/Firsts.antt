@@ -16,7 +16,7 @@ of_none : (n : ℕ) → take {A = ℕ × Transaction} n [] ≡ []
 of_none zero = refl
 of_none (suc n) = refl
 
--- one more is found
+-- one more item is found
 pub one_found : (count n room bytes : ℕ) (i : ℕ × Transaction) (rest : List (ℕ × Transaction)) → n < count → size_of i.1 ≤ room - bytes
     → take (count - n) (within (room - bytes) (i ∷ rest)) ≡ i ∷ take (count - (n + 1)) (within (room - (bytes + size_of i.1)) rest)
 one_found count n room bytes i rest lt le =
@@ -39,7 +39,7 @@ shorter : (b : Bool) (i : ℕ × Transaction) (xs is : List (ℕ × Transaction)
 shorter true i xs is le = omega (arith, le)
 shorter false i xs is le = omega arith
 
--- what fits isn't more than there is
+-- there are at most as many that fit as there are items
 length-within : (room : ℕ) (items : List (ℕ × Transaction)) → length (within room items) ≤ length items
 length-within room [] = omega arith
 length-within room (i ∷ is) = shorter (nat_le (size_of i.1) room) i (within (room - size_of i.1) is) is (length-within (room - size_of i.1) is)
@@ -52,7 +52,7 @@ take_long (suc n) (x ∷ xs) le = ap (λ l. x ∷ l) (take_long n xs (omega (ari
 pub all_within : (room : ℕ) (items : List (ℕ × Transaction)) → take (length items) (within room items) ≡ within room items
 all_within room items = take_long (length items) (within room items) (length-within room items)
 
--- with one item more there is one less to come
+-- with one more item there is one less to come
 module _ (count room bytes size n m : ℕ) (i : ℕ × Transaction) (found new it rest all : List (ℕ × Transaction)) where
   pub goes_on : it ≡ i ∷ rest → new ≡ found ++ i ∷ [] → m ≡ n + 1 → size ≡ size_of i.1 → n < count → size ≤ room - bytes
       → found ++ take (count - n) (within (room - bytes) it) ≡ take count (within room all) → bytes ≡ bytes_of found → bytes ≤ room

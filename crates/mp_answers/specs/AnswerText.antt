@@ -32,16 +32,16 @@ name_or_hex (first ∷ others) bytes = first ∷ others
 abbrev pub policy_text : Names → List ℕ → List ℕ
 policy_text names policy = name_or_hex (policy_name policy names) policy
 
--- a token's name, where it is of lower-case letters and digits
+-- the name of a token, if it consists of lower-case letters and digits
 abbrev pub token_name_text : List ℕ → List ℕ
 token_name_text name = if list_all is_letter_or_digit name then name else hex_text name
 
--- the policy, and then a dot and the name, where it isn't empty
+-- the policy, and then a dot and the name, if it isn't empty
 abbrev pub token_text : Names → List ℕ → List ℕ → List ℕ
 token_text names policy [] = policy_text names policy
 token_text names policy (byte ∷ bytes) = policy_text names policy ++ 46 ∷ token_name_text (byte ∷ bytes)
 
--- the words of refusals; those of rules stand in the order of the rules' numbers
+-- the words of refusals; those of rules are in the order of the rules' numbers
 abbrev pub refusal_words : List (List ℕ)
 refusal_words =
     codes "history"
@@ -67,11 +67,11 @@ refusal_words =
 abbrev pub word_at : List (List ℕ) → ℕ → List ℕ
 word_at words place = slice_index_or words place []
 
--- where the word of a rule stands among them
+-- the index of a rule's word
 abbrev pub rule_place : Invalid → ℕ
 rule_place fault = 3 + number fault
 
--- where that of a refusal does
+-- the index of a refusal's word
 abbrev pub refusal_place : Refusal → ℕ
 refusal_place refusals.HistoryFull = 0
 refusal_place refusals.TicketsSpent = 1
@@ -80,7 +80,7 @@ refusal_place (refusals.Full need free) = 3
 refusal_place refusals.NoMemory = 4
 refusal_place (refusals.Invalid fault) = rule_place fault
 
--- what is told with the word; a key by its first byte
+-- the details of a fault; a key is shown by its first byte
 abbrev pub told_of_fault : Names → Invalid → List ℕ
 told_of_fault names rules.NoMemory = []
 told_of_fault names rules.NoInputs = []
@@ -105,7 +105,7 @@ told_of_refusal names (refusals.AlreadyInPool ticket) = number_text ticket
 told_of_refusal names (refusals.Full need free) = number_text need ++ number_text free
 told_of_refusal names (refusals.Invalid fault) = told_of_fault names fault
 
--- the word, and what is told with it
+-- the word and its details
 unfoldable pub refusal_text : Names → Refusal → List ℕ
 refusal_text names refusal = word_at refusal_words (refusal_place refusal) ++ told_of_refusal names refusal
 
@@ -118,12 +118,12 @@ reply_text (Accepted ticket) = codes "accepted" ++ number_text ticket
 reply_text (Removed named dropped) = codes "removed" ++ tickets_text named ++ codes " dropped" ++ tickets_text dropped
 reply_text (Synced kept dropped) = codes "kept" ++ tickets_text kept ++ codes " dropped" ++ tickets_text dropped
 
--- what is told of an answer
+-- the text of an answer
 abbrev pub told_text : Names → Result Reply Refusal → List ℕ
 told_text names (Ok reply) = reply_text reply
 told_text names (Err refusal) = codes "refused " ++ refusal_text names refusal
 
--- a line feed ends it
+-- with a line feed at the end
 unfoldable pub answer_text : Names → Result Reply Refusal → List ℕ
 answer_text names answer = told_text names answer ++ 10 ∷ []
 
@@ -135,6 +135,6 @@ item_text names item = number_text item.0 ++ 58 ∷ name_of (id_of item.1) names
 abbrev pub items_text : Names → List (ℕ × Transaction) → List ℕ
 items_text names items = flat_map (item_text names) items
 
--- how many transactions, how many bytes, the last ticket
+-- the number of transactions, their bytes, and the last ticket
 abbrev pub numbers_text : Pool → List ℕ
 numbers_text p = number_text (length p.items) ++ number_text (bytes_held p) ++ number_text p.last

@@ -12,7 +12,7 @@ use Rattle.mp_lines.specs.declared.query.Query.{Query}
 use Rattle.mp_lines.specs.declared.query.Query.TheVariants.{Snapshot, After, Lookup, Has, Take, Forge, Offer}
 use Rattle.mp_answers.specs.AnswerText.{number_text, items_text, numbers_text}
 
--- how many items, how many bytes, and the items
+-- the number of items, their bytes, and the items
 abbrev pub sized_text : Names → List (ℕ × Transaction) → List ℕ
 sized_text names items = number_text (length items) ++ number_text (bytes_of items) ++ items_text names items
 
@@ -24,7 +24,7 @@ abbrev pub has_text : Bool → List ℕ
 has_text true = codes "has yes"
 has_text false = codes "has no"
 
--- with what the peer has been offered up to this cursor
+-- the words of an answer; the cursor is the last ticket that the peer was offered
 abbrev pub words_text : Names → ℕ → Pool → Query → List ℕ
 words_text names cursor p Snapshot = codes "snapshot" ++ numbers_text p ++ items_text names p.items
 words_text names cursor p (After ticket) = codes "after" ++ items_text names (after p.items ticket)
@@ -34,11 +34,11 @@ words_text names cursor p (Take bytes) = codes "take" ++ sized_text names (withi
 words_text names cursor p (Forge bytes) = codes "block" ++ sized_text names (within bytes p.items)
 words_text names cursor p (Offer count bytes) = codes "offer" ++ items_text names (offer cursor count bytes p.items)
 
--- a line feed ends it
+-- with a line feed at the end
 unfoldable pub query_text : Names → ℕ → Pool → Query → List ℕ
 query_text names cursor p query = words_text names cursor p query ++ 10 ∷ []
 
--- what stays upon another ledger state
+-- what stays on another ledger state
 unfoldable pub for_text : Names → List (ℕ × Transaction) → List ℕ
 for_text names items = (codes "for" ++ items_text names items) ++ 10 ∷ []
 

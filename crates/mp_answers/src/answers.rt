@@ -12,10 +12,10 @@ use mp_seqpool::{Answer, Refusal, Reply};
 
 type Text = Vec<u8, Memory>;
 
-// The line of an accepted submit fits into so many bytes.
+// The capacity for the line of an accepted submit, in bytes.
 const ACCEPTED_ROOM: usize = 32;
 
-// Each ticket after a space.
+// Appends each ticket after a space.
 fn put_tickets(text: &mut Text, tickets: &[u64]) -> Result<(), NoMemory>
     ensures { OnOk result (text.new.items ≡ text.old.items ++ tickets_text tickets.now) }
 {
@@ -25,7 +25,7 @@ fn put_tickets(text: &mut Text, tickets: &[u64]) -> Result<(), NoMemory>
     Ok(())
 }
 
-// The word and the tickets.
+// Appends the word and the tickets.
 fn put_list(text: &mut Text, word: &[u8], tickets: &[u64]) -> Result<(), NoMemory>
     ensures { OnOk result
         (text.new.items ≡ text.old.items ++ (word.now ++ tickets_text tickets.now)) }
@@ -42,7 +42,7 @@ fn put_accepted(text: &mut Text, ticket: u64) -> Result<(), NoMemory>
     put_number(text, ticket)
 }
 
-// The word with tickets, and then the tickets that were dropped.
+// Appends the word with tickets, and then the dropped tickets.
 fn put_lists(text: &mut Text, word: &[u8], tickets: &[u64], dropped: &[u64]) -> Result<(), NoMemory>
     ensures { OnOk result (text.new.items ≡ text.old.items
         ++ ((word.now ++ tickets_text tickets.now)
@@ -52,7 +52,7 @@ fn put_lists(text: &mut Text, word: &[u8], tickets: &[u64], dropped: &[u64]) -> 
     put_list(text, b" dropped", dropped)
 }
 
-/// Puts the words of a reply: its kind and its tickets.
+/// Appends the words of a reply: its kind and its tickets.
 pub fn put_reply(text: &mut Text, reply: &Reply) -> Result<(), NoMemory>
     ensures { OnOk result (text.new.items ≡ text.old.items ++ reply_text reply.now) }
 {

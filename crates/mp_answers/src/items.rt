@@ -1,4 +1,4 @@
-//! Items as lines tell them: transactions under their tickets, by their names.
+//! Items in lines: transactions by their names, with their tickets.
 
 ghost use Rattle.std.specs.Prelude.{◌≡◌, ◌++◌, option_map, OnOk};
 ghost use Rattle.std.specs.Arc.{arc_value};
@@ -16,7 +16,7 @@ use std::sync::Arc;
 
 type Text = Vec<u8, Memory>;
 
-/// A transaction under its ticket: the ticket and the name.
+/// Appends an item: its ticket and the name of its transaction.
 pub fn put_item(text: &mut Text, names: &Names, ticket: u64, tx: &Tx) -> Result<(), NoMemory>
     ensures { OnOk result (text.new.items ≡ text.old.items
         ++ item_text names.now (ticket, tx.now)) }
@@ -27,7 +27,7 @@ pub fn put_item(text: &mut Text, names: &Names, ticket: u64, tx: &Tx) -> Result<
     Ok(())
 }
 
-/// Each item: its ticket, and the name of its transaction.
+/// Appends each item: its ticket and the name of its transaction.
 pub fn put_items(text: &mut Text, names: &Names, items: &[Item]) -> Result<(), NoMemory>
     ensures { OnOk result (text.new.items ≡ text.old.items
         ++ items_text names.now (items_of items.now)) }
@@ -38,7 +38,7 @@ pub fn put_items(text: &mut Text, names: &Names, items: &[Item]) -> Result<(), N
     Ok(())
 }
 
-/// What stands under a ticket.
+/// Appends the transaction of a ticket, or that there is none.
 pub fn put_found(
     text: &mut Text,
     names: &Names,
@@ -56,7 +56,7 @@ pub fn put_found(
     }
 }
 
-/// Whether a transaction is there.
+/// Appends whether a transaction is there.
 pub fn put_has(text: &mut Text, has: bool) -> Result<(), NoMemory>
     ensures { OnOk result (text.new.items ≡ text.old.items ++ has_text has) }
 {
@@ -67,7 +67,7 @@ pub fn put_has(text: &mut Text, has: bool) -> Result<(), NoMemory>
     }
 }
 
-/// How many items there are, their bytes, and the items.
+/// Appends the number of items, their bytes, and the items.
 pub fn put_sized(text: &mut Text, names: &Names, bytes: u64, items: &[Item]) -> Result<(), NoMemory>
     requires { bytes ≡ bytes_of (items_of items.now) }
     ensures { OnOk result (text.new.items ≡ text.old.items

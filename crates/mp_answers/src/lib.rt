@@ -1,4 +1,4 @@
-//! The lines that commands and queries write: what a pool answered, and what it holds.
+//! The lines that commands and queries write: the pool's answers and its content.
 #![tactic(auto)]
 
 mod answers;

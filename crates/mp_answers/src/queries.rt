@@ -1,4 +1,4 @@
-//! The lines of what is read of a pool.
+//! The lines of queries.
 
 ghost use Rattle.std.specs.Prelude.{◌≡◌, ◌++◌, [], codes, take, if◌then◌else◌, IfOk, OnOk};
 ghost use Rattle.mp_tickets.specs.Tickets.{has_ticket};
@@ -24,7 +24,7 @@ use std::sync::Arc;
 
 type Text = Vec<u8, Memory>;
 
-// Items of a pool, and how many bytes their transactions have together.
+// Items of a pool, and the total number of their bytes.
 struct Found {
     items: Vec<Item, Memory>,
     bytes: u64,
@@ -36,7 +36,7 @@ impl Drop for Found {
     }
 }
 
-// Of these the first ones, at most so many, as long as they fit into so many bytes together.
+// The first of these items, at most `count`, that fit into this many bytes together.
 fn first_within(
     memory: Memory,
     items: Iter<'_, ValidatedTx>,
@@ -78,7 +78,7 @@ fn put_contents(
     Ok(())
 }
 
-// How many transactions there are, their bytes, and the last ticket.
+// Appends the number of transactions, their bytes, and the last ticket.
 fn put_numbers(text: &mut Text, pool: &SeqPool) -> Result<(), NoMemory>
     ensures { OnOk result (text.new.items ≡ text.old.items ++ numbers_text pool.now.pool) }
 {
@@ -96,7 +96,7 @@ fn put_snapshot(text: &mut Text, names: &Names, pool: &SeqPool) -> Result<(), No
     put_contents(text, names, pool.contents())
 }
 
-// The oldest transactions, as long as they fit into so many bytes together.
+// The oldest transactions that fit into this many bytes together.
 fn oldest_within(memory: Memory, pool: &SeqPool, room: u64) -> Result<Found, NoMemory>
     ensures items { IfOk result
         (λ f. items_of f.items.items ≡ within room pool.now.pool.items) }
@@ -105,7 +105,7 @@ fn oldest_within(memory: Memory, pool: &SeqPool, room: u64) -> Result<Found, NoM
     first_within(memory, pool.contents(), pool.len() as u64, room)
 }
 
-// The word, and those transactions.
+// Appends the word, and those transactions.
 fn put_oldest(
     memory: Memory,
     text: &mut Text,
@@ -122,7 +122,7 @@ fn put_oldest(
     put_sized(text, names, found.bytes, &found.items)
 }
 
-// The ticket of the last item, or the cursor where there is none.
+// The ticket of the last item, or the cursor if there are none.
 fn moved_over(cursor: u64, items: &[Item]) -> u64
     ensures { result ≡ moved cursor (items_of items.now) }
 {
@@ -132,7 +132,7 @@ fn moved_over(cursor: u64, items: &[Item]) -> u64
     }
 }
 
-// What the peer is offered next.
+// Appends what the peer is offered next.
 fn put_offer(
     memory: Memory,
     text: &mut Text,
@@ -182,7 +182,7 @@ fn put_query(
     }
 }
 
-/// The line that the query writes, and the peer's cursor behind it: an offer moves it.
+/// The line that the query writes, and the peer's cursor after it. Only an offer moves the cursor.
 ///
 /// # Errors
 /// `NoMemory`.
@@ -204,7 +204,7 @@ pub fn query_line(
     Ok((text, next))
 }
 
-// The transaction under its ticket, unless it is dropped.
+// Appends the transaction with its ticket, unless it is dropped.
 fn put_unless_dropped(
     text: &mut Text,
     names: &Names,
@@ -221,7 +221,7 @@ fn put_unless_dropped(
     put_item(text, names, ticket, tx)
 }
 
-// The transactions that aren't dropped.
+// Appends the transactions that aren't dropped.
 fn put_others(
     text: &mut Text,
     names: &Names,
@@ -237,7 +237,7 @@ fn put_others(
     Ok(())
 }
 
-// What stays of these where some are dropped.
+// The line of these transactions without the dropped ones.
 #[tactic(auto, unfolding(crate::specs::QueryText::for_text))]
 fn others_line(
     memory: Memory,
@@ -255,7 +255,7 @@ fn others_line(
     Ok(text)
 }
 
-/// The line of what would stay upon the ledger state, where the verifier accepts the signatures in the pool.
+/// The line of the transactions that would stay on the ledger state. The verifier accepts the signatures in the pool.
 ///
 /// # Errors
 /// `NoMemory`.

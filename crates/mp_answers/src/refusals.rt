@@ -1,4 +1,4 @@
-//! The names of refusals, and what is told with them.
+//! The words of refusals, and their details.
 
 ghost use Rattle.std.specs.Prelude.{◌≡◌, ◌<◌, ◌∷◌, ◌++◌, length, map, OnOk};
 ghost use Rattle.mp_answers.specs.AnswerText.{number_text, hex_text, token_name_text, policy_text, token_text, word_at, rule_place, refusal_place, told_of_fault, told_of_refusal, refusal_text};
@@ -12,10 +12,10 @@ use mp_text::are_letters_or_digits;
 
 type Text = Vec<u8, Memory>;
 
-/// How many kinds of refusals there are.
+/// The number of kinds of refusals.
 pub const REFUSALS: usize = 18;
 
-/// The words of refusals. Those of rules stand in the order of the rules' numbers.
+/// The words of refusals. Those of rules are in the order of the rules' numbers.
 pub const REFUSAL_WORDS: [&[u8]; REFUSALS] = [
     b"history",
     b"tickets",
@@ -37,7 +37,7 @@ pub const REFUSAL_WORDS: [&[u8]; REFUSALS] = [
     b"reference",
 ];
 
-// A number sign and the digits of the bytes.
+// Appends a number sign and the hexadecimal digits of the bytes.
 fn put_hex(memory: Memory, text: &mut Text, bytes: &[u8]) -> Result<(), NoMemory>
     ensures { OnOk result (text.new.items ≡ text.old.items ++ hex_text bytes.now) }
 {
@@ -46,7 +46,7 @@ fn put_hex(memory: Memory, text: &mut Text, bytes: &[u8]) -> Result<(), NoMemory
     put_word(text, digits.as_bytes())
 }
 
-// Whoever makes a token names it as he likes, also with a line feed.
+// The author of a token picks its name freely, and may put a line feed into it.
 fn put_token_name(memory: Memory, text: &mut Text, name: &[u8]) -> Result<(), NoMemory>
     ensures { OnOk result (text.new.items ≡ text.old.items ++ token_name_text name.now) }
 {
@@ -93,7 +93,7 @@ fn put_token(
     Ok(())
 }
 
-// The policy, behind a space.
+// Appends the policy, after a space.
 fn put_policy_behind(
     memory: Memory,
     text: &mut Text,
@@ -107,7 +107,7 @@ fn put_policy_behind(
     put_policy(memory, text, names, policy)
 }
 
-// The token, behind a space.
+// Appends the token, after a space.
 fn put_token_behind(
     memory: Memory,
     text: &mut Text,
@@ -122,7 +122,7 @@ fn put_token_behind(
     put_token(memory, text, names, policy, name)
 }
 
-// Where the word of the rule stands.
+// The index of the rule's word.
 fn rule_place(fault: &Invalid) -> usize
     ensures place { result ≡ rule_place fault.now }
     ensures least { result < 18 }
@@ -130,7 +130,7 @@ fn rule_place(fault: &Invalid) -> usize
     3 + fault.number() as usize
 }
 
-/// Where the word of the refusal stands among `REFUSAL_WORDS`.
+/// The index of the refusal's word in `REFUSAL_WORDS`.
 pub fn refusal_place(refusal: &Refusal) -> usize
     ensures place { result ≡ refusal_place refusal.now }
     ensures least { result < 18 }
@@ -145,7 +145,7 @@ pub fn refusal_place(refusal: &Refusal) -> usize
     }
 }
 
-// A space and the place.
+// Appends a space and the index.
 fn put_place(text: &mut Text, place: usize) -> Result<(), NoMemory>
     ensures { OnOk result (text.new.items ≡ text.old.items ++ number_text place) }
 {
@@ -178,7 +178,7 @@ fn put_told_of_fault(
     }
 }
 
-// The bytes that are wanted, and those that are free.
+// Appends the number of bytes that are needed, and of those that are free.
 fn put_bytes(text: &mut Text, need: u64, free: u64) -> Result<(), NoMemory>
     ensures { OnOk result
         (text.new.items ≡ text.old.items ++ (number_text need ++ number_text free)) }
@@ -187,7 +187,7 @@ fn put_bytes(text: &mut Text, need: u64, free: u64) -> Result<(), NoMemory>
     put_number(text, free)
 }
 
-// What is told with the word.
+// Appends the details of the refusal.
 fn put_told_of_refusal(
     memory: Memory,
     text: &mut Text,
@@ -205,7 +205,7 @@ fn put_told_of_refusal(
     }
 }
 
-// The word at the place.
+// Appends the word at the index.
 fn put_word_at(text: &mut Text, words: &[&[u8]], place: usize) -> Result<(), NoMemory>
     requires { place < length words.now }
     ensures { OnOk result
@@ -214,7 +214,7 @@ fn put_word_at(text: &mut Text, words: &[&[u8]], place: usize) -> Result<(), NoM
     put_word(text, words[place])
 }
 
-/// The word of the refusal, and what is told with it.
+/// Appends the word of the refusal, and its details.
 #[tactic(auto, unfolding(crate::specs::AnswerText::refusal_text))]
 pub fn put_refusal(
     memory: Memory,

@@ -8,7 +8,7 @@ use mp_memory::{Memory, NoMemory};
 
 type Text = Vec<u8, Memory>;
 
-/// A space and the number.
+/// Appends a space and the number.
 pub fn put_number(text: &mut Text, number: u64) -> Result<(), NoMemory>
     ensures { OnOk result (text.new.items ≡ text.old.items ++ number_text number) }
 {
@@ -18,7 +18,7 @@ pub fn put_number(text: &mut Text, number: u64) -> Result<(), NoMemory>
     Ok(())
 }
 
-/// The word.
+/// Appends the word.
 pub fn put_word(text: &mut Text, word: &[u8]) -> Result<(), NoMemory>
     ensures { OnOk result (text.new.items ≡ text.old.items ++ word.now) }
 {

@@ -3,7 +3,7 @@ use Rattle.mp_resync.specs.ValidatedTx.{ticketed}
 use Rattle.mp_answers.specs.AnswerText.{items_text}
 use Rattle.mp_answers.proofs.queries.put_contents.Given as goal
 
--- with the items that are left it is the whole text
+-- with the remaining items it is the whole text
 abbrev pub invariant-loop-ticket : goal.invariant-loop-ticket
 invariant-loop-ticket l =
     l.text.items ++ items_text l.names (ticketed l.ticket-iterator) ≡ l.fn.text.items ++ items_text l.names (ticketed l.fn.items)
