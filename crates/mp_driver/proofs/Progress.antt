@@ -1,4 +1,4 @@
--- How far a run has come.
+-- The progress of a run.
 use Rattle.std.proofs.Common.{◌≡◌, ℕ, ◌+◌, ◌≤◌, List, [], ◌∷◌, ◌++◌, length, take, refl, sym, ap, subst, ◌∙◌, arith, append_assoc, append-nil, length-append}
 use Rattle.std.specs.Prelude.{Option, None, Some, Result, Err}
 use Rattle.std.specs.Io.KnownBytes.{Appends}
@@ -13,7 +13,7 @@ use Rattle.mp_names.specs.Fault.{IsBad}
 use Rattle.mp_driver.specs.Scene.{Scene, empty_scene, line_step, follow, outcome}
 use Rattle.mp_driver.specs.Ending.{outcome_of, fault_of, stop_of, AreDone, Answers, Ended}
 
--- The lines that are done wrote a text, which is what the writer got, and what is told of all starts with it.
+-- The lines so far wrote a text, which the writer has, and which is a prefix of the text of all lines.
 pub record Progress (old now : Option (List ℕ)) (all rest : List (List ℕ)) (s : Scene) (n : ℕ) : Type 0 where
   pub lines : List (List ℕ)
   pub text : List ℕ
@@ -24,7 +24,7 @@ pub record Progress (old now : Option (List ℕ)) (all rest : List (List ℕ)) (
 pub begins : (o : Option (List ℕ)) (all : List (List ℕ)) → Progress o o all all empty_scene 1
 begins o all = record { lines = []; text = []; whole = refl; told = λ more. refl; wrote = Appends-nothing o }
 
--- what a line that is good makes of what is told
+-- the effect of a good line on the outcome
 good : (s t : Scene) (n : ℕ) (line answer : List ℕ) (more : List (List ℕ)) → line_step s line ≡ Some (t, answer) → outcome s n (line ∷ more) ≡ (answer ++ (outcome t (n + 1) more).0, (outcome t (n + 1) more).1)
 good s t n line answer more e = ap (follow n (λ u. outcome u (n + 1) more)) e
 
@@ -39,7 +39,7 @@ goes_on old now new all rest s t n line answer p step more_written = record {
   wrote = Appends-more old now new p.text answer p.wrote more_written;
 }
 
--- the lines that are done
+-- the lines so far
 stops : (old now : Option (List ℕ)) (all rest : List (List ℕ)) (s : Scene) (n : ℕ) → Progress old now all rest s n → (k : ℕ) × Answers old now (take k all)
 stops old now all rest s n p =
     let front : take (length p.lines) all ≡ p.lines = ap (take (length p.lines)) p.whole ∙ take-append_seam p.lines rest in
@@ -48,7 +48,7 @@ stops old now all rest s n p =
       (subst (Appends old now) (sym (ap (λ o. o.0) e ∙ append-nil p.text)) p.wrote, ap (λ o. o.1) e),
     )
 
--- what the result has where it is Ok
+-- the value of a result that is Ok
 abbrev pub value_of : {X E : Type 0} → Result X E → Type 0
 value_of {X} r = X
 
@@ -62,7 +62,7 @@ halts X bytes old now rest s n line (Bad reason) short p bad =
     ap outcome_of p.whole ∙ p.told (line ∷ rest) ∙ ap (λ t. (p.text ++ (follow n (λ u. outcome u (n + 1) rest) t).0, (follow n (λ u. outcome u (n + 1) rest) t).1)) (bad tt) in
     (short, subst (Appends old now) (sym (ap (λ o. o.0) e ∙ append-nil p.text)) p.wrote, ap (λ o. o.1) e)
 
--- a front of an answer
+-- a prefix of an answer
 pub is_cut : (old now new : Option (List ℕ)) (all rest : List (List ℕ)) (s t : Scene) (n : ℕ) (line answer : List ℕ) → Progress old now all (line ∷ rest) s n → line_step s line ≡ Some (t, answer) → AppendsFront now new answer
     → AppendsFront old new (outcome_of all).0
 is_cut old now new all rest s t n line answer p step (taken, lt, w) =

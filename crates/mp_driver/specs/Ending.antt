@@ -1,4 +1,4 @@
--- How a run ends, and what it has written then.
+-- How a run ends, and what it has written by then.
 use Rattle.std.specs.Prelude.{◌≡◌, ℕ, ◌≤◌, ◌^◌, List, length, take, Option, None, Some, Result, Ok, Err}
 use Rattle.std.specs.Io.KnownBytes.{Appends, Keeps}
 use Rattle.mp_text.specs.Lines.{lines_of}
@@ -12,27 +12,27 @@ use Rattle.mp_driver.specs.declared.stop.Stop.{Stop}
 use Rattle.mp_driver.specs.declared.stop.Stop.TheVariants as stop
 use Rattle.mp_driver.specs.Scene.{empty_scene, outcome}
 
--- the text of lines up to the first bad one, and the number of that one, from 1
+-- the text of the lines before the first bad one, and the number of that one, from 1
 abbrev pub outcome_of : List (List ℕ) → List ℕ × Option ℕ
 outcome_of lines = outcome empty_scene 1 lines
 
--- the bad line that ends it, if one does
+-- the bad line that ends it, if there is one
 abbrev pub bad_line_of : Stop → Option (ℕ × Reason)
 bad_line_of (stop.BadLine n reason) = Some (n, reason)
 bad_line_of other = None
 
--- the fault that a run ends with, where the answers to its text end so
+-- the fault of a run, given the end of the answers to its text
 abbrev pub fault_of : Stop → Fault
 fault_of stop.NoMemory = NoMemory
 fault_of (stop.BadLine n reason) = BadLine n
 fault_of stop.Write = WriteFault
 
--- where the line with this number isn't answered
+-- why the line with this number isn't answered
 abbrev pub stop_of : ℕ → LineFault → Stop
 stop_of n line.NoMemory = stop.NoMemory
 stop_of n (line.Bad reason) = stop.BadLine n reason
 
--- no more than 2^24 bytes are done
+-- at most 2^24 bytes were executed
 abbrev pub AreDone : List ℕ → Type 0
 AreDone bytes = length bytes ≤ 2 ^ 24
 
@@ -40,8 +40,8 @@ AreDone bytes = length bytes ≤ 2 ^ 24
 abbrev pub Answers : Option (List ℕ) → Option (List ℕ) → List (List ℕ) → Type 0
 Answers old new lines = Appends old new (outcome_of lines).0 × ((outcome_of lines).1 ≡ None)
 
--- all answers; those before the first bad line; nothing; a front of the answers, and not all; and those of some first lines, none of
--- them bad
+-- in order of the cases: all answers; those before the first bad line; nothing; a proper prefix of the answers; the
+-- answers to some first lines, none of them bad
 abbrev pub Ended : List ℕ → Option (List ℕ) → Option (List ℕ) → Result (Unit {0}) Fault → Type 0
 Ended bytes old new (Ok u) = AreDone bytes × Answers old new (lines_of bytes)
 Ended bytes old new (Err (BadLine n)) = AreDone bytes × Appends old new (outcome_of (lines_of bytes)).0 × ((outcome_of (lines_of bytes)).1 ≡ Some n)
@@ -49,11 +49,11 @@ Ended bytes old new (Err ReadFault) = Keeps old new
 Ended bytes old new (Err WriteFault) = AreDone bytes × AppendsFront old new (outcome_of (lines_of bytes)).0
 Ended bytes old new (Err NoMemory) = (k : ℕ) × Answers old new (take k (lines_of bytes))
 
--- how the run ends where the answers to its text end so
+-- the end of the run, given the end of the answers to its text
 abbrev pub ended_so : Result (Unit {0}) Stop → Result (Unit {0}) Fault
 ended_so (Ok u) = Ok u
 ended_so (Err stop) = Err (fault_of stop)
 
--- the same of the answers to a text, which also tell what is wrong with a bad line
+-- the same for the answers to a text, which also have the reason of a bad line
 abbrev pub AreAnswers : List ℕ → Option (List ℕ) → Option (List ℕ) → Result (Unit {0}) Stop → Type 0
 AreAnswers bytes old new result = Ended bytes old new (ended_so result)

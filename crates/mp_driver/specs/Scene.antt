@@ -1,4 +1,4 @@
--- What a scenario has come to, and what a line makes of it.
+-- The state of a scenario, and the effect of a line on it.
 use Rattle.std.specs.Prelude.{ℕ, ◌+◌, ◌^◌, nat_lt, List, [], ◌∷◌, ◌++◌, length, Option, None, Some, option_map, option_and_then, if◌then◌else◌}
 use Rattle.mp_tx.specs.declared.reference.OutRef.{OutRef}
 use Rattle.mp_tx.specs.declared.output.Output.{Output}
@@ -23,7 +23,7 @@ use Rattle.mp_settings.specs.Verifier.{is_key_and_id}
 use Rattle.mp_answers.specs.AnswerText.{answer_text}
 use Rattle.mp_answers.specs.QueryText.{query_text, for_text, cursor_after}
 
--- the opening outputs before the first command, and the pool from it on
+-- the opening outputs before the first command, and the pool after it
 pub data Stage : Type 0 where
   Before : List (OutRef × Output) → Stage
   Open : Pool → Stage
@@ -51,7 +51,7 @@ with_pool s p = record s { stage = Open p }
 abbrev pub Step : Type 0
 Step = Option (Scene × List ℕ)
 
--- a setting stands before the first command
+-- settings come before the first command
 abbrev pub set_at : Scene → Setting → Stage → Step
 set_at s setting (Before outputs) = option_map (λ g. (record s { settings = g }, [])) (with_setting s.settings setting)
 set_at s setting (Open p) = None
@@ -59,7 +59,7 @@ set_at s setting (Open p) = None
 abbrev pub with_names : Scene → Names → Scene × List ℕ
 with_names s names = (record s { names = names }, [])
 
--- an output under the next reference, before the first command, at most 65,536 times
+-- an output with the next reference, before the first command, at most 65,536 times
 abbrev pub with_output : Scene → List ℕ → Payment → List (OutRef × Output) → Scene
 with_output s name p outputs = record s {
   names = with_binding s.names (record { name = name; binding = Opening (opening_ref (length outputs)) p });
@@ -70,21 +70,21 @@ abbrev pub output_at : Scene → List ℕ → Payment → Stage → Step
 output_at s name p (Before outputs) = if nat_lt (length outputs) (2 ^ 16) then Some (with_output s name p outputs, []) else None
 output_at s name p (Open q) = None
 
--- the pool answers, and takes the step
+-- the pool answers, and changes
 abbrev pub reply_to : Scene → Command → Scene × List ℕ
 reply_to s c = (
   with_pool s (next is_key_and_id (pool_at s.settings s.stage) c),
   answer_text s.names (answer is_key_and_id (pool_at s.settings s.stage) c),
 )
 
--- the pool stays as it is; an offer moves the cursor
+-- the pool doesn't change; an offer moves the cursor
 abbrev pub with_cursor : Scene → ℕ → Pool → Scene
 with_cursor s cursor p = record s { cursor = cursor; stage = Open p }
 
 abbrev pub answer_query : Scene → Pool → Query → Scene × List ℕ
 answer_query s p query = (with_cursor s (cursor_after s.cursor p query) p, query_text s.names s.cursor p query)
 
--- what would stay upon this ledger state
+-- what would stay on this ledger state
 abbrev pub try_ledger : Scene → Pool → LedgerState → Scene × List ℕ
 try_ledger s p l = (with_pool s p, for_text s.names (keep is_key_and_id l p.items))
 
@@ -104,7 +104,7 @@ take s (Asks query) = Some (answer_query s (pool_at s.settings s.stage) query)
 unfoldable pub line_step : Scene → List ℕ → Step
 line_step s line = option_and_then (take s) (line_of s.names line)
 
--- A line that is bad ends it, and else what the line writes stands before what is written after it.
+-- a bad line ends it; else what the line writes comes before what is written after it
 abbrev pub follow : ℕ → (Scene → List ℕ × Option ℕ) → Step → List ℕ × Option ℕ
 follow n others None = ([], Some n)
 follow n others (Some step) = (step.1 ++ (others step.0).0, (others step.0).1)

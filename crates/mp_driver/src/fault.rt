@@ -1,11 +1,11 @@
-//! Why a run comes to no good end.
+//! Why a run fails.
 
 ghost use Rattle.std.specs.Prelude.{◌≡◌};
 ghost use Rattle.mp_driver.specs.Fault as run_fault;
 
 use std::fmt;
 
-/// Why a run ended before its input did. Its text is the line that the program prints.
+/// Why a run ended before its input. `Display` writes the line that the program prints.
 #[derive(Clone, Copy, Debug, PartialEq, Eq)]
 pub enum Fault {
     NoMemory,

@@ -1,4 +1,4 @@
-//! Runs a scenario: from its text, by a reader, to its answers, by a writer.
+//! Running a scenario: from its text, by a reader, to its answers, by a writer.
 #![tactic(auto)]
 
 mod fault;

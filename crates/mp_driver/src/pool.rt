@@ -18,8 +18,8 @@ use std::marker::Model;
 /// What a line writes: nothing, or one line of text.
 pub type Text = Vec<u8, Memory>;
 
-/// The pool of a scenario, which one thread has: it opened empty, and came by commands to what it holds. Its verifier accepts a
-/// signature that is the key followed by the id.
+/// The pool of a scenario, which one thread has. It opened empty, and commands led to its content. Its verifier accepts
+/// a signature that is the key followed by the id.
 pub struct ScenarioPool {
     pool: SeqPool,
 }
@@ -69,7 +69,7 @@ impl ScenarioPool {
     ghost use Rattle.mp_settings.specs.Verifier.{is_key_and_id};
     ghost use Rattle.mp_driver.specs.Scene.{Before, pool_at};
 
-    /// The empty pool upon the opening outputs.
+    /// The empty pool on the opening outputs.
     pub fn open(
         memory: Memory,
         settings: &Settings,
@@ -94,7 +94,7 @@ impl ScenarioPool {
         })
     }
 
-    /// Does what the command asks, and gives the answer.
+    /// Executes the command, and returns the answer.
     ///
     /// # Errors
     /// `NoMemory`, and then nothing has changed.
@@ -108,7 +108,7 @@ impl ScenarioPool {
         step(&mut self.pool, command)
     }
 
-    /// The line that the query writes, and the peer's cursor behind it.
+    /// The line that the query writes, and the peer's cursor after it.
     ///
     /// # Errors
     /// `NoMemory`.
@@ -126,7 +126,7 @@ impl ScenarioPool {
         query_line(memory, names, cursor, &self.pool, query)
     }
 
-    /// The line of what would stay upon the ledger state.
+    /// The line of the transactions that would stay on the ledger state.
     ///
     /// # Errors
     /// `NoMemory`.

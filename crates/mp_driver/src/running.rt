@@ -13,7 +13,7 @@ use mp_names::LineFault;
 use mp_text::{InputFault, MAX_BYTES, first_line, read_all, write_all};
 use std::io::{Read, Write};
 
-// Where the line with this number isn't answered.
+// Why the line with this number isn't answered.
 fn stop_at(number: u64, fault: LineFault<'_>) -> Stop<'_>
     ensures { result ≡ stop_of number fault.entry }
 {
@@ -23,7 +23,7 @@ fn stop_at(number: u64, fault: LineFault<'_>) -> Stop<'_>
     }
 }
 
-// Does the lines of a text in order, writing each line's answer.
+// Executes the lines of a text in order, and writes the answer to each.
 fn answer_from<'a, W: Write>(
     memory: Memory,
     scene: &mut Scene,
@@ -50,12 +50,12 @@ fn answer_from<'a, W: Write>(
     Ok(())
 }
 
-/// Does the lines of a text in order, writing each line's answer. They are answered by a pool that opens with the first command,
-/// and accepts a signature that is the key followed by the id.
+/// Executes the lines of a text in order, and writes the answer to each. The pool opens with the first command, and
+/// accepts a signature that is the key followed by the id.
 ///
 /// # Errors
-/// `BadLine` at the first line that is none of the language, after the answers of those before it; `Write` with a front of the
-/// answers written; `NoMemory` after the answers of the lines before.
+/// `BadLine` at the first line that isn't one of the language, after the answers to the lines before it. `Write` if a
+/// write fails, after a prefix of the answers. `NoMemory` after the answers to the lines before.
 pub fn answer_text<'a, W: Write>(
     memory: Memory,
     text: &'a [u8],
@@ -70,13 +70,13 @@ pub fn answer_text<'a, W: Write>(
     }
 }
 
-/// Reads all of the input, and then does its lines in order, as `answer_text`.
+/// Reads all of the input, and then executes its lines in order, as `answer_text` does.
 ///
 /// # Errors
-/// `ReadFault` before anything is written, where a read fails, there are over 2^24 bytes or the end
-/// isn't found in 2^25 reads; `BadLine` at the first line that is none of the language, after the
-/// answers of those before it; `WriteFault` with a front of the answers written; `NoMemory` after the
-/// answers of the lines before.
+/// `ReadFault` before anything is written, if a read fails, if there are more than 2^24 bytes, or if 2^25 reads don't
+/// reach the end.
+/// `BadLine` at the first line that isn't one of the language, after the answers to the lines before it.
+/// `WriteFault` if a write fails, after a prefix of the answers. `NoMemory` after the answers to the lines before.
 pub fn run<R: Read, W: Write>(memory: Memory, reader: &mut R, writer: &mut W) -> Result<(), Fault>
     ensures { IfSome (R.remaining reader.old)
         (λ bytes. Ended bytes (W.contents writer.old) (W.contents writer.new) result) }

@@ -1,4 +1,4 @@
-//! What a scenario has come to, line by line.
+//! The state of a scenario, line by line.
 
 ghost use Rattle.std.specs.Prelude.{◌≡◌, IfOk, OnOk};
 ghost use Rattle.mp_seqpool.specs.Command.{Remove};
@@ -17,16 +17,16 @@ use mp_tx::TxId;
 use std::mem;
 use std::sync::Arc;
 
-/// How far a scenario is.
+/// Whether the first command has come.
 #[derive(Drop)]
 pub enum Stage {
-    /// No command has come: the opening outputs so far.
+    /// Before the first command: the opening outputs so far.
     Before(Openings),
-    /// From the first command on: the pool.
+    /// After it: the pool.
     Open(ScenarioPool),
 }
 
-/// What a scenario has come to.
+/// The state of a scenario.
 pub struct Scene {
     pub names: Names,
     pub settings: Settings,
@@ -85,7 +85,7 @@ impl Scene {
         })
     }
 
-    // A setting stands before the first command.
+    // Settings come before the first command.
     fn set<'a>(&mut self, setting: Setting) -> Result<(), LineFault<'a>>
         ensures ok { OnOk result
             (set_at (scene_of self.old) setting (stage_of self.old.stage)
@@ -100,7 +100,7 @@ impl Scene {
         }
     }
 
-    // An output stands before the first command.
+    // Outputs come before the first command.
     fn put_output<'a>(&mut self, name: Name, payment: Payment) -> Result<(), LineFault<'a>>
         ensures ok { OnOk result
             (output_at (scene_of self.old) name payment (stage_of self.old.stage)
@@ -153,7 +153,7 @@ impl Scene {
         Ok(text)
     }
 
-    // The pool adopts the ledger state that a line tells.
+    // The pool adopts the ledger state of a line.
     fn sync_to(&mut self, memory: Memory, ledger: NewLedger) -> Result<Text, NoMemory>
         ensures { IfOk result (λ text.
             take (scene_of self.old) (Sync ledger) ≡ Some (scene_of self.new, text.items)) }
@@ -162,7 +162,7 @@ impl Scene {
         self.reply_to(memory, &Command::Sync(ledger))
     }
 
-    // What would stay upon the ledger state that a line tells.
+    // The line of the transactions that would stay on the ledger state of a line.
     fn try_ledger(&mut self, memory: Memory, ledger: NewLedger) -> Result<Text, NoMemory>
         ensures { IfOk result (λ text.
             take (scene_of self.old) (For ledger) ≡ Some (scene_of self.new, text.items)) }
@@ -175,10 +175,11 @@ impl Scene {
         pool.try_ledger(memory, &self.names, &ledger)
     }
 
-    /// Does what the line asks, and gives what it writes. A bad line does nothing.
+    /// Executes the line, and returns what it writes. A bad line changes nothing.
     ///
     /// # Errors
-    /// `Bad` where a setting comes twice or after the first command, and where an output comes after it or is the 65,537th.
+    /// `Bad` if a setting comes twice or after the first command, and if an output comes after the first command or is
+    /// the 65,537th. `NoMemory` if an allocation fails.
     pub fn take<'a>(&mut self, memory: Memory, line: Line) -> Result<Text, LineFault<'a>>
         ensures ok { IfOk result (λ text.
             take (scene_of self.old) (to_line line) ≡ Some (scene_of self.new, text.items)) }
@@ -205,10 +206,10 @@ impl Scene {
         Ok(Vec::new(memory))
     }
 
-    /// Does what a line says, and gives what it writes. A bad line does nothing.
+    /// Parses and executes the line, and returns what it writes. A bad line changes nothing.
     ///
     /// # Errors
-    /// `Bad` where the line is none of the language, and else as `take`.
+    /// `Bad` if the line isn't one of the language, and else the errors of `take`.
     #[tactic(auto, unfolding(crate::specs::Scene::line_step))]
     pub fn read_line<'a>(&mut self, memory: Memory, line: &'a [u8]) -> Result<Text, LineFault<'a>>
         ensures ok { IfOk result (λ text.

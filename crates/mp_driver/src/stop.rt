@@ -1,4 +1,4 @@
-//! Why the answers to a text end before it does.
+//! Why the answers to a text end early.
 
 ghost use Rattle.std.specs.Prelude.{◌≡◌};
 ghost use Rattle.mp_driver.specs.Ending.{bad_line_of, fault_of};
@@ -6,7 +6,7 @@ ghost use Rattle.mp_driver.specs.Ending.{bad_line_of, fault_of};
 use crate::fault::Fault;
 use mp_names::Reason;
 
-/// Why the answers to a text end before it does.
+/// Why the answers to a text end early.
 #[derive(Clone, Copy)]
 pub enum Stop<'a> {
     NoMemory,
@@ -16,7 +16,7 @@ pub enum Stop<'a> {
 }
 
 impl<'a> Stop<'a> {
-    /// The number of the bad line and what is wrong with it, if it is for one.
+    /// The number of the bad line and what is wrong with it, if that is the reason.
     pub fn bad_line(&self) -> Option<(u64, Reason<'a>)>
         ensures { result ≡ bad_line_of self.now }
     {
@@ -26,7 +26,7 @@ impl<'a> Stop<'a> {
         }
     }
 
-    /// The fault that a run ends with.
+    /// The fault of a run that ends like this.
     pub fn to_fault(&self) -> Fault
         ensures { result ≡ fault_of self.now }
     {

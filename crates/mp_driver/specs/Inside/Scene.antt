@@ -1,4 +1,4 @@
--- What the scene of the code says.
+-- How contracts see the scene.
 use Rattle.mp_driver.specs.declared.scene.Stage.{Stage}
 use Rattle.mp_driver.specs.declared.scene.Stage.TheVariants as stages
 use Rattle.mp_driver.specs.declared.scene.Scene.{Scene}

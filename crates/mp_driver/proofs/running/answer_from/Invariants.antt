@@ -4,7 +4,7 @@ use Rattle.mp_driver.specs.Inside.Scene.{scene_of}
 use Rattle.mp_driver.proofs.Progress.{Progress}
 use Rattle.mp_driver.proofs.running.answer_from.Given as goal
 
--- the lines before the rest are done, and each of them had a byte
+-- the lines before the rest are executed, and each had at least one byte
 abbrev pub invariant-loop-line : goal.invariant-loop-line
 invariant-loop-line g l =
     Progress (g.W.Write.contents l.fn.writer) (g.W.Write.contents l.writer) (lines_of l.text) (lines_of l.rest) (scene_of l.scene) l.number
