@@ -1,4 +1,4 @@
-//! What stands round the marks: the title, the legend, the lanes and the axis.
+//! The frame around the marks: the title, the legend, the lanes and the axis.
 
 use crate::layout::{LEFT, Layout, TOP};
 use crate::mark::Kind;
@@ -132,7 +132,7 @@ fn put_axis(svg: &mut Svg, layout: &Layout) -> Result<(), NoMemory> {
     put_ticks(svg, layout)
 }
 
-/// Puts all but the marks and the end.
+/// Appends everything except the marks and the end.
 pub fn put_frame(svg: &mut Svg, layout: &Layout, refusals: u64) -> Result<(), NoMemory> {
     put_head(svg, layout)?;
     put_title(svg, layout, refusals)?;

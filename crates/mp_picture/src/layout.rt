@@ -1,9 +1,9 @@
-//! Where things stand, in pixels from the left and from the top.
+//! Positions, in pixels from the left and from the top.
 
 use crate::refusals::Piled;
 use mp_memory::{Memory, NoMemory};
 
-/// Where the lanes begin.
+/// The left edge of the lanes.
 pub const LEFT: u64 = 84;
 
 pub const TOP: u64 = 84;
@@ -14,7 +14,7 @@ const MARGIN: u64 = 16;
 
 const FOOT: u64 = 52;
 
-// A lane has a band for its entries, and rows for refusals beneath.
+// A lane has a band for its entries, and rows for refusals below it.
 const BAND: u64 = 24;
 
 const ROW: u64 = 8;
@@ -23,7 +23,7 @@ const COLUMN: u64 = 8;
 
 const MOST_ROWS: u64 = 4;
 
-/// How far apart places stand, and how far a mark reaches from its middle.
+/// The distance between places, and the radius of a mark.
 #[derive(Clone, Copy)]
 pub struct Scale {
     pub step: u64,
@@ -37,11 +37,11 @@ pub struct Layout {
     pub entries: u64,
     pub scale: Scale,
     rows: u64,
-    // Where the gap before each entry begins, then where the one after the last begins and ends.
+    // The left edge of the gap before each entry, then the left and the right edge of the gap after the last.
     edges: Vec<u64, Memory>,
 }
 
-// More places stand closer together.
+// The more places there are, the smaller their distance.
 fn scale_of(entries: u64) -> Scale {
     if entries <= 60 {
         Scale { step: 24, reach: 6 }
@@ -52,7 +52,7 @@ fn scale_of(entries: u64) -> Scale {
     }
 }
 
-// How many rows the highest pile takes.
+// The number of rows of the highest pile.
 fn rows_of(refusals: &[Piled]) -> u64 {
     let mut rows = 0;
     for refusal in refusals {
@@ -61,7 +61,7 @@ fn rows_of(refusals: &[Piled]) -> u64 {
     rows.min(MOST_ROWS)
 }
 
-// Widens each gap until the piles in it have room for their columns.
+// Widens each gap until it has room for the columns of its piles.
 fn widen(gaps: &mut [u64], step: u64, refusals: &[Piled]) {
     for refusal in refusals {
         let columns = refusal.rank / MOST_ROWS;
@@ -72,7 +72,7 @@ fn widen(gaps: &mut [u64], step: u64, refusals: &[Piled]) {
     }
 }
 
-// Puts where each gap begins in place of how wide it is.
+// Replaces the width of each gap by its left edge.
 fn add_up(gaps: &mut [u64]) {
     let mut edge = LEFT;
     for gap in gaps.iter_mut() {
@@ -83,7 +83,7 @@ fn add_up(gaps: &mut [u64]) {
 }
 
 impl Layout {
-    /// The plan for so many lanes and entries, with room for the refusals.
+    /// The plan for these numbers of lanes and entries, with room for the refusals.
     pub fn new(
         memory: Memory,
         workers: u32,
@@ -108,7 +108,7 @@ impl Layout {
         self.edges.get(place as usize).copied()
     }
 
-    /// The middle of the entry at a place. `None`: there is no such entry.
+    /// The middle of the entry at a place, or `None` if there is no such entry.
     pub fn entry_x(&self, place: u64) -> Option<u64> {
         if place < self.entries {
             self.edge(place.saturating_add(1))
@@ -128,12 +128,12 @@ impl Layout {
         )
     }
 
-    /// How high a lane is.
+    /// The height of a lane.
     pub fn lane_height(&self) -> u64 {
         self.rows.saturating_mul(ROW).saturating_add(BAND)
     }
 
-    /// Where a worker's lane begins.
+    /// The top of a worker's lane.
     pub fn lane_y(&self, worker: u32) -> u64 {
         u64::from(worker)
             .saturating_mul(self.lane_height())
@@ -151,13 +151,13 @@ impl Layout {
         self.lane_y(refusal.worker).saturating_add(below)
     }
 
-    /// Where the lanes end on the right.
+    /// The right edge of the lanes.
     pub fn right(&self) -> u64 {
         let end = self.edge(self.entries.saturating_add(1)).unwrap_or(LEFT);
         end.max(LEAST_WIDTH - MARGIN)
     }
 
-    /// Where the last lane ends.
+    /// The bottom of the last lane.
     pub fn bottom(&self) -> u64 {
         self.lane_y(self.workers)
     }
@@ -170,7 +170,7 @@ impl Layout {
         self.bottom().saturating_add(FOOT)
     }
 
-    /// Whether the axis tells the number of a place.
+    /// Whether the axis shows the number of a place.
     pub fn is_numbered(&self, place: u64) -> bool {
         if self.entries <= 20 {
             true

@@ -1,4 +1,4 @@
-//! The picture of a race: a lane for each worker, and in it what came of each of its commands.
+//! The picture of a race: a lane for each worker, with the results of its commands.
 #![tactic(auto)]
 
 mod frame;

@@ -1,6 +1,6 @@
-//! What a picture shows.
+//! The content of a picture.
 
-/// What came of a command.
+/// The result of a command.
 #[derive(Clone, Copy, Debug, PartialEq, Eq)]
 pub enum Kind {
     Accepted,
@@ -9,12 +9,12 @@ pub enum Kind {
     Refused,
 }
 
-/// One command of a race, and what came of it.
+/// One command of a race, and its result.
 #[derive(Clone, Copy, Debug, PartialEq, Eq)]
 pub struct Mark {
-    /// Who asked, from 0.
+    /// The worker that ran it, from 0.
     pub worker: u32,
-    /// The place of its entry in the history, from 0. Where it was refused, how many entries there were.
+    /// The place of its entry in the history, from 0. For a refusal, the number of entries at that time.
     pub place: u64,
     pub kind: Kind,
 }

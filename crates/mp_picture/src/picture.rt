@@ -1,4 +1,4 @@
-//! A race, drawn.
+//! Drawing a race.
 
 ghost use Rattle.std.specs.Prelude.{◌≡◌, OnErr};
 
@@ -9,7 +9,7 @@ use crate::refusals::{Piled, pile};
 use crate::shapes::{Svg, put_mark};
 use mp_memory::{Memory, NoMemory};
 
-// A change of the ledger is all workers' concern: a line goes through all lanes.
+// A change of the ledger concerns all workers: a line goes through all lanes.
 fn put_line(svg: &mut Svg, layout: &Layout, x: u64) -> Result<(), NoMemory> {
     let bottom = layout.bottom();
     write!(svg, r##"<path d="M{x} {TOP}V{bottom}" stroke="#009e73" "##)?;
@@ -71,8 +71,8 @@ fn put_all(
     Ok(())
 }
 
-/// Puts the picture's text (SVG) at the end of the text: a lane for each worker, and the places of the history to the right.
-/// A mark whose worker or place isn't there is left out. After an `Err` the text is as it was.
+/// Appends the picture as SVG: a lane for each worker, with the places of the history from left to right. A mark with
+/// an unknown worker or place is left out. If it returns `Err`, the text is as before.
 pub fn put_picture(
     text: &mut Vec<u8, Memory>,
     workers: u32,

@@ -3,7 +3,7 @@
 use crate::mark::{Kind, Mark};
 use mp_memory::{Memory, NoMemory};
 
-/// A refusal, and how many of the same worker at the same place stand before it in their pile.
+/// A refusal, and the number of refusals of the same worker at the same place below it in the pile.
 #[derive(Clone, Copy)]
 pub struct Piled {
     pub worker: u32,
@@ -11,7 +11,7 @@ pub struct Piled {
     pub rank: u64,
 }
 
-// The refusals by these workers at no more than so many entries, each as the first of its pile.
+// The refusals of these workers at no more than this many entries, each as the first of its pile.
 fn refusals(
     memory: Memory,
     workers: u32,
@@ -32,7 +32,7 @@ fn refusals(
     Ok(refusals)
 }
 
-// Where the refusal after this one stands in its pile.
+// The rank of the next refusal in its pile.
 fn next_rank(before: Piled, refusal: &Piled) -> u64 {
     if before.worker == refusal.worker && before.place == refusal.place {
         before.rank.saturating_add(1)
@@ -41,7 +41,7 @@ fn next_rank(before: Piled, refusal: &Piled) -> u64 {
     }
 }
 
-// Counts those of each pile, which stand side by side.
+// Numbers the refusals of each pile, which are adjacent.
 fn rank(refusals: &mut [Piled]) {
     let mut before: Option<Piled> = None;
     for refusal in refusals.iter_mut() {
@@ -52,7 +52,7 @@ fn rank(refusals: &mut [Piled]) {
     }
 }
 
-/// The refusals by these workers at no more than so many entries, in piles.
+/// The refusals of these workers at no more than this many entries, in piles.
 pub fn pile(
     memory: Memory,
     workers: u32,

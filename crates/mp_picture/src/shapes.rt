@@ -1,4 +1,4 @@
-//! The marks, each a shape and a colour of its own.
+//! The marks. Each kind has its own shape and colour.
 
 use crate::mark::Kind;
 use mp_memory::{Memory, NoMemory};
@@ -48,7 +48,7 @@ fn put_cross(svg: &mut Svg, x: u64, y: u64) -> Result<(), NoMemory> {
     Ok(())
 }
 
-/// Puts the mark of a kind with its middle there. A refusal's is as small everywhere.
+/// Appends the mark of a kind, with its middle at this point. The mark of a refusal always has the same size.
 pub fn put_mark(svg: &mut Svg, kind: Kind, x: u64, y: u64, reach: u64) -> Result<(), NoMemory> {
     match kind {
         Kind::Accepted => put_circle(svg, x, y, reach),
