@@ -1,9 +1,9 @@
--- The status that the program ends with.
+-- The exit status of the program.
 use Rattle.std.specs.Prelude.{◌≡◌, ℕ, List, Option, Result, Ok, Err}
 use Rattle.mp_driver.specs.declared.fault.Fault.{Fault}
 use Rattle.mp_driver.specs.Ending.{Ended}
 
--- 0, or 1 at a fault
+-- 0, or 1 after a fault
 abbrev pub status_of : Result (Unit {0}) Fault → ℕ
 status_of (Ok u) = 0
 status_of (Err fault) = 1

@@ -1,6 +1,6 @@
-//! The program of a plain `./keltuvar run`: it runs the scenario of standard input, and writes the answers to standard output. It
-//! stands on less than the whole program, so that a first answer comes sooner. It ends with status 0, with 1 at a fault, and with 2 where
-//! it is given an argument.
+//! The program of a plain `./keltuvar run`: it runs the scenario of standard input, and writes the answers to standard
+//! output. It depends on fewer crates than the whole program, so that it is built sooner. It ends with status 0, with 1
+//! after a fault, and with 2 if it has an argument.
 #![tactic(auto)]
 
 ghost use Rattle.std.specs.Prelude.{◌≡◌, ◌≢◌, ◌<◌, IfSome};
@@ -24,7 +24,7 @@ fn main(rt: HostRuntime) -> ExitCode {
     }
 }
 
-// Runs the scenario of standard input, unless there are words behind the program's name.
+// Runs the scenario of standard input, unless there are words after the program's name.
 fn run_unless_asked(rt: &HostRuntime, words: usize) -> ExitCode
     ensures { 1 < words → exit_status result ≡ 2 }
 {
@@ -34,7 +34,7 @@ fn run_unless_asked(rt: &HostRuntime, words: usize) -> ExitCode
     run_input(rt)
 }
 
-// How many words the command line has, the program's name among them.
+// The number of words in the command line, including the program's name.
 fn count_words(rt: &HostRuntime) -> io::Result<usize> {
     Ok(env::args(rt)?.count())
 }
@@ -47,7 +47,7 @@ fn run_input(rt: &HostRuntime) -> ExitCode {
     }
 }
 
-// Runs the scenario that the reader gives, and writes the answers to the writer.
+// Runs the scenario of the reader, and writes the answers to the writer.
 fn run_over<R: Read, W: Write>(
     rt: &HostRuntime,
     memory: Memory,
@@ -73,7 +73,7 @@ fn end(rt: &HostRuntime, ended: Result<(), Fault>) -> ExitCode
     }
 }
 
-// Where there is an argument: 2.
+// With an argument: 2.
 fn end_refused(rt: &HostRuntime) -> ExitCode
     ensures { exit_status result ≡ 2 }
 {
@@ -81,7 +81,7 @@ fn end_refused(rt: &HostRuntime) -> ExitCode
     ExitCode::from(REFUSED)
 }
 
-// Where the command line can't be read: 2, or 1 where there is no memory for it.
+// If the command line can't be read: 2, or 1 if there is no memory for it.
 fn end_unworded(rt: &HostRuntime, error: io::Error) -> ExitCode
     ensures refused { error_kind error ≢ kinds.OutOfMemory → exit_status result ≡ 2 }
     ensures memory { error_kind error ≡ kinds.OutOfMemory → exit_status result ≡ 1 }
