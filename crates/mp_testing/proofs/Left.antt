@@ -1,10 +1,10 @@
--- What a failing reader has left after a read of its filler.
+-- The remaining bytes of a failing reader after a read of its filler.
 use Rattle.std.proofs.Common.{◌≡◌, ℕ, ◌+◌, ◌-◌, ◌<◌, ◌≤◌, Bool, true, false, cond, List, [], ◌++◌, sym, ap, subst, ◌∙◌, arith}
 use Rattle.std.specs.Prelude.{Some, None, replicate}
 use Rattle.std.specs.Io.KnownBytes.{Consumes, IsAtEnd}
 use Rattle.std.proofs.lemmas.List.{replicate-append-replicate}
 
--- so many `x`
+-- n bytes `x`
 abbrev x_times : ℕ → List ℕ
 x_times n = replicate n 120
 

@@ -1,7 +1,7 @@
--- Devices that fail when they are told to.
+-- Devices that can be told to fail.
 use Rattle.std.specs.Prelude.{ℕ, List, ◌++◌, replicate, Option, Some, None, ◌==◌, if◌then◌else◌}
 use Rattle.mp_testing.specs.declared.reader.FailingReader.{FailingReader}
 
--- what a reader has left, where a read gives a byte at least: its bytes, and then as many `x`, 120, as its filler says
+-- the remaining bytes of a reader, if a read returns at least one byte: its bytes, and then `filler` bytes `x` (120)
 abbrev pub left_in : FailingReader → Option (List ℕ)
 left_in r = if r.at_once == 0 then None else Some (r.bytes.now ++ replicate r.filler 120)

@@ -1,5 +1,5 @@
-//! What the tests of the other crates share: the trial of a call under each refusal of memory, devices that fail, and sample
-//! transactions. Nothing of the product stands on it.
+//! What tests of several crates share: trials with failing allocations, devices that fail, and sample transactions. No
+//! crate of the product depends on it.
 #![tactic(auto)]
 
 mod reader;

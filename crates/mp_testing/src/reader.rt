@@ -1,29 +1,29 @@
-//! A reader that fails when it is told to.
+//! A reader that can be told to fail.
 ghost use Rattle.std.specs.Prelude.{◌≡◌, ◌≤◌, length, take, replicate};
 
 use std::io;
 use std::io::{ErrorKind, Read};
 
-/// A reader of some bytes and then of as many `x` as the filler says. Contracts know what it has left, unless its reads give
-/// no byte.
+/// A reader of some bytes, followed by `filler` bytes `x`. Contracts know the remaining bytes, unless its reads return
+/// none.
 #[derive(Drop)]
 pub struct FailingReader {
-    /// What is still to be read.
+    /// The bytes that remain to be read.
     pub bytes: &'static [u8],
-    /// How many `x` come after the bytes.
+    /// The number of `x` after the bytes.
     pub filler: usize,
-    /// The most bytes that one read gives.
+    /// The greatest number of bytes that one read returns.
     pub at_once: usize,
-    /// Which read fails, from 1. At 0 none does.
+    /// Which read fails, from 1. For 0, none does.
     pub fails_at: u64,
-    /// How many reads there were.
+    /// The number of reads so far.
     pub reads: u64,
 }
 
 impl FailingReader {
     ghost use Rattle.std.specs.Prelude.{◌≡◌};
 
-    /// A reader of these bytes, up to 4,096 of them at once, of which no read fails.
+    /// A reader of these bytes. Each read returns at most 4,096 bytes, and none fails.
     pub fn of(bytes: &'static [u8]) -> FailingReader
         ensures bytes { result.bytes.now ≡ bytes.now }
         ensures filler { result.filler ≡ 0 }

@@ -1,8 +1,8 @@
-//! Cases as rows: what is seen of each, and what is wanted.
+//! Cases as rows: the observed and the expected result of each.
 use crate::trial::Seen;
 use std::io;
 
-/// Gives 1 where what is seen of the case is as it is wanted. Otherwise it prints the case, and gives 0.
+/// Returns 1 if the observed result is the expected one. Else prints the case, and returns 0.
 pub fn count(rt: &impl Print, name: &str, seen: Option<Seen>, wanted: Seen) -> io::Result<u64> {
     if seen == Some(wanted) {
         return Ok(1);

@@ -10,7 +10,7 @@ use std::sync::Arc;
 /// The policy of the coin, whose name is empty.
 pub const COIN: PolicyId = [0; 32];
 
-/// The script that lets everything pass.
+/// The script that accepts everything.
 pub fn script(memory: Memory) -> Result<Script, NoMemory> {
     Script::decode(memory, &[1]).map_err(|_| NoMemory)
 }
@@ -28,7 +28,7 @@ pub fn output_of(id: &TxId, index: u16) -> OutRef
     OutRef { id: *id, index }
 }
 
-/// Output `index` of the transaction whose id is zeros: a ledger state begins with such outputs.
+/// Output `index` of the transaction whose id is zeros. A ledger state begins with such outputs.
 pub fn opening(index: u16) -> OutRef
     ensures id { result.id ≡ replicate 32 0 }
     ensures index { result.index ≡ index }
@@ -36,7 +36,7 @@ pub fn opening(index: u16) -> OutRef
     output_of(&[0; 32], index)
 }
 
-/// An input that spends the reference by the plain script.
+/// An input that spends the reference with the plain script.
 pub fn input(memory: Memory, from: OutRef) -> Result<Input, NoMemory> {
     Ok(Input {
         from,
@@ -46,7 +46,7 @@ pub fn input(memory: Memory, from: OutRef) -> Result<Input, NoMemory> {
     })
 }
 
-/// A bundle of so much coin, and of no other token. A quantity below 1 is taken as 1.
+/// A bundle of this much coin, and of no other token. A quantity less than 1 counts as 1.
 pub fn coin(memory: Memory, quantity: i64) -> Result<Bundle, NoMemory> {
     let mut entries = Vec::new(memory);
     entries.push((COIN, Vec::new(memory), quantity.max(1)))?;
@@ -67,7 +67,7 @@ fn unit_hash(memory: Memory) -> Result<Hash, NoMemory> {
     }
 }
 
-/// An output of so much coin that the plain script locks, with the unit datum.
+/// An output of this much coin that the plain script locks, with the unit datum.
 pub fn output(memory: Memory, quantity: i64) -> Result<Output, NoMemory> {
     Ok(Output {
         address: script_hash(memory)?,
@@ -76,7 +76,7 @@ pub fn output(memory: Memory, quantity: i64) -> Result<Output, NoMemory> {
     })
 }
 
-/// Parts that spend these references in turn, and pay these quantities of coin. A quantity of 0 is taken as 1.
+/// Parts that spend these references in order, and pay these quantities of coin. A quantity of 0 counts as 1.
 pub fn parts(memory: Memory, spent: &[OutRef], paid: &[u32]) -> Result<TxParts, NoMemory> {
     let mut inputs = Vec::new(memory);
     for from in spent {
@@ -102,7 +102,7 @@ fn outputs_of(memory: Memory, paid: &[u32]) -> Result<Vec<Output, Memory>, NoMem
     Ok(outputs)
 }
 
-/// The transaction of such parts, whose references are to rise.
+/// The transaction of these parts. The references have to be strictly increasing.
 pub fn transaction(
     memory: Memory,
     spent: &[OutRef],

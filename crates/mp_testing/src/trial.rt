@@ -1,16 +1,16 @@
-//! A call tried under each refusal of memory: the helper for the tests of each crate.
+//! Trials of calls in which each allocation fails in turn.
 ghost use Rattle.std.specs.Prelude.{◌<◌, IfOk};
 
 use mp_memory::Metered;
 use std::alloc::Allocator;
 use thiserror::Error;
 
-/// What a trial arms. It is a trait so that the trial's signature names no handle, and so no lifetime of one.
+/// What a trial arms. It is a trait so that the signature of a trial names no handle, and therefore no lifetime.
 pub trait Refusals {
-    /// Arms the refusal of the `nth` growth from now. At 0 none is refused.
+    /// Arms the refusal: the `nth` allocation from now fails. For 0, none fails.
     fn refuse(&self, nth: u64);
 
-    /// Whether the refusal that was armed last has not come yet.
+    /// Whether the refusal that was armed last hasn't happened yet.
     fn waits(&self) -> bool;
 }
 
@@ -24,37 +24,37 @@ impl<B: Allocator> Refusals for Metered<B> {
     }
 }
 
-/// What is seen of a value or an answer, as numbers.
+/// An observed value or answer, as numbers.
 pub type Seen = [u64; 6];
 
-/// A call that is tried, with what it is called on.
+/// A call that is tried, and the value on which it is called.
 pub trait Call {
-    /// What it is called on.
+    /// The type of the value.
     type Value: Drop;
 
-    /// A new value, if one can be made.
+    /// A new value, or `None` if it can't be made.
     fn make(&self) -> Option<Self::Value>;
 
-    /// What the call answers, or that it had no memory.
+    /// The answer of the call, or `None` if an allocation failed.
     fn call(&self, value: &mut Self::Value) -> Option<Seen>;
 
-    /// What is seen of the value.
+    /// The observed state of the value.
     fn look(&self, value: &Self::Value) -> Seen;
 }
 
-/// A trial gives up on a call that makes as many growths, since it makes more than half their square.
+/// A trial gives up on a call with this many allocations, as the trial makes more than half their square.
 pub const MAX_GROWTHS: u64 = 10_000;
 
-/// What a trial came to where the call stood each refusal.
+/// The result of a trial in which the call passed.
 #[derive(Clone, Copy, Debug, PartialEq, Eq)]
 pub struct Trialled {
-    /// What the call answers where no growth is refused.
+    /// The answer of the call if no allocation fails.
     pub answer: Seen,
-    /// How many growths the call makes on a new value, each of which was refused once.
+    /// The number of allocations of the call on a new value. Each failed once.
     pub growths: u64,
 }
 
-/// What a trial found wrong. The number is that of the refused growth, from 1.
+/// What a trial found wrong. The number is that of the failed allocation, from 1.
 #[derive(Clone, Copy, Debug, PartialEq, Eq, Error)]
 pub enum TrialFault {
     #[error("no value was made to call")]
@@ -73,14 +73,14 @@ pub enum TrialFault {
     Endless,
 }
 
-// What a call on a new value was seen to do while the refusal of one growth waited.
+// What was observed in a call on a new value while a refusal was armed.
 #[derive(Clone, Copy)]
 struct Try {
-    // Whether the refusal came.
+    // Whether the refusal happened.
     is_met: bool,
     answer: Option<Seen>,
     is_changed: bool,
-    // What the same call answers once no refusal waits.
+    // The answer of the same call once no refusal is armed.
     next: Option<Seen>,
 }
 
@@ -105,7 +105,7 @@ fn try_once<R: Refusals, C: Call>(memory: &R, call: &C, nth: u64) -> Option<Try>
     Some(try_on(memory, call, &mut value, nth))
 }
 
-// Whether the call met the refusal of its growth `nth`, and stood it.
+// Whether the refusal of allocation `nth` happened. An `Err` says that the call didn't pass.
 fn stands(tried: Try, nth: u64, wanted: Seen) -> Result<bool, TrialFault> {
     match tried {
         Try {
@@ -127,10 +127,10 @@ fn stands(tried: Try, nth: u64, wanted: Seen) -> Result<bool, TrialFault> {
     }
 }
 
-/// Tries the call under the refusal of each of its growths in turn, each time on a new value. After each refusal it has to
-/// say that it had no memory, the value has to look as before, and the same call on it has to answer as it does where
-/// nothing is refused. An `Err` says what did not hold. At `NotMade` and `Unasked` the system itself may have had no
-/// memory. No refusal waits afterwards.
+/// Tries the call with each of its allocations failing in turn, each time on a new value. After each failure, the call
+/// has to return that it had no memory, the value has to be as before, and the same call on it has to give the answer
+/// that it gives if nothing fails. An `Err` says what didn't hold. For `NotMade` and `Unasked`, the system itself may
+/// have had no memory. No refusal is armed afterwards.
 pub fn under_each_refusal<R: Refusals, C: Call>(
     memory: &R,
     call: &C,

@@ -1,25 +1,25 @@
-//! A writer that fails when it is told to.
+//! A writer that can be told to fail.
 use std::alloc::Global;
 use std::io;
 use std::io::{ErrorKind, Write};
 
-/// A writer that keeps what it takes. Contracts know what it has taken.
+/// A writer that stores what it takes. Contracts know what it has taken.
 #[derive(Drop)]
 pub struct FailingWriter {
-    /// What was taken.
+    /// The bytes that were taken.
     pub taken: Vec<u8>,
-    /// The most bytes that one write takes.
+    /// The greatest number of bytes that one write takes.
     pub at_once: usize,
-    /// Which write fails, from 1. At 0 none does.
+    /// Which write fails, from 1. For 0, none does.
     pub fails_at: u64,
-    /// How many writes there were.
+    /// The number of writes so far.
     pub writes: u64,
 }
 
 impl FailingWriter {
     ghost use Rattle.std.specs.Prelude.{◌≡◌, []};
 
-    /// A writer that has taken nothing, takes up to 4,096 bytes at once, and of which no write fails.
+    /// A writer that has taken nothing. Each write takes at most 4,096 bytes, and none fails.
     pub fn new(alloc: Global) -> FailingWriter
         ensures taken { result.taken.items ≡ [] }
         ensures at_once { result.at_once ≡ 4096 }
