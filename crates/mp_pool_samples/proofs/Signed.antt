@@ -1,4 +1,4 @@
--- Where every signature is accepted, all signatures in a pool are.
+-- If every signature is accepted, all signatures in a pool are.
 use Rattle.std.proofs.Common.{◌≡◌, ap, refl, ◌∷◌, []}
 use Rattle.std.specs.Prelude.{true, not, List, None, option_map, map, All}
 use Rattle.std.specs.List.{find}

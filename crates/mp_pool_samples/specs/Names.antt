@@ -1,4 +1,4 @@
--- What the pools of the tests are opened under.
+-- The names with which the pools of the tests are opened.
 use Rattle.std.specs.Prelude.{true}
 use Rattle.mp_rules.specs.Verifier.{Accepts}
 

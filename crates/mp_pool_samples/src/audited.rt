@@ -1,4 +1,4 @@
-//! What an audit tells.
+//! The results of audits.
 use crate::samples::Samples;
 use crate::told::{Told, read_fault};
 use crate::verifier::ACCEPTS_ALL;
@@ -26,7 +26,7 @@ fn tell_upon(
     }
 }
 
-/// What an audit of the entries tells, upon the ledger state of the sample.
+/// The result of an audit of the entries, on the ledger state of the sample.
 pub fn tell(
     samples: &Samples,
     ledger: usize,

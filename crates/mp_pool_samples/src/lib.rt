@@ -1,4 +1,4 @@
-//! What the tests of pools share: what is asked, and what is told of an answer. Nothing of the product stands on it.
+//! What tests of pools share: commands, and observed answers. No crate of the product depends on it.
 #![tactic(auto)]
 
 mod audited;
@@ -10,7 +10,7 @@ pub use audited::tell;
 use mp_seqpool::Config;
 pub use verifier::{ACCEPTS_ALL, AcceptsAll};
 
-/// How pools are set up.
+/// The configuration of the pools.
 pub const CONFIG: Config = Config {
     limit: 1_000_000,
     last: 0,

@@ -1,4 +1,4 @@
-//! What the pools are asked, made once. What can't be made is `None`.
+//! Sample commands for pools, made once. The result is `None` if they can't be made.
 mod guarded;
 mod ledgers;
 mod submits;
@@ -11,11 +11,10 @@ use mp_seqpool::{Command, Ids};
 use mp_tx::{Ledger, Tx, TxId, TxParts};
 use std::sync::Arc;
 
-/// So many samples submit a transaction of 181 bytes that spends an opening output and pays 100: sample 0 the first one, and so
-/// on.
+/// The first samples, from 0. Sample n submits a transaction of 181 bytes that spends opening output n and pays 100.
 pub const SPENDING: u16 = 130;
 
-/// Submits of three transactions: the first spends opening 0, the second what the first pays, the third opening 1.
+/// Three submits: the first spends opening 0, the second what the first pays, the third opening 1.
 pub const THREE: usize = 130;
 
 /// A submit of a transaction that spends what sample 1 pays.
@@ -24,18 +23,18 @@ pub const CHAINED: usize = 133;
 /// The first of two submits that spend the first two opening outputs, and are signed by keys of 0 and of 1.
 pub const SIGNED: usize = 134;
 
-/// A submit that spends the same output as sample 1, and pays 60 and 40. Behind it stand two that spend these, and are signed
-/// by keys of 0 and of 1.
+/// A submit that spends the same output as sample 1, and pays 60 and 40. The next two samples spend these, and are
+/// signed by keys of 0 and of 1.
 pub const RIVAL: usize = 136;
 
-/// Before this sample all are submits.
+/// All samples before this one are submits.
 pub const SUBMITS: usize = 139;
 
-/// Six commands, of which the first and the last submit the guarded transaction. Between them nothing is removed, and a
-/// guarded ledger state is adopted at the ticks 1, 2 and 3, where the guarded output has 100, 120 and 99 coin.
+/// Six commands. The first and the last submit the guarded transaction. Between them are a remove of nothing, and syncs
+/// to guarded ledger states at the ticks 1, 2 and 3, in which the guarded output has 100, 120 and 99 coin.
 pub const GUARDED: usize = 139;
 
-/// The guarded ledger state at tick 0, where the guarded output has 100 coin.
+/// The guarded ledger state at tick 0, in which the guarded output has 100 coin.
 pub const OF_100: usize = 145;
 
 /// The same with 120 coin.
@@ -44,13 +43,13 @@ pub const OF_120: usize = 146;
 /// A remove of nothing.
 pub const NOTHING: usize = 140;
 
-/// A ledger state at tick 1 of what sample 0 pays alone.
+/// A ledger state at tick 1 with only the outputs of sample 0.
 pub const AFTER_FIRST: usize = 147;
 
 /// The ledger state of all opening outputs that samples spend.
 pub const ALL: usize = 148;
 
-/// The first opening output alone.
+/// Only the first opening output.
 pub const PART: usize = 149;
 
 /// The first hundred opening outputs.
@@ -62,7 +61,7 @@ pub const REMOVE_FIRST: usize = 151;
 /// A remove of sample 1.
 pub const REMOVE_SECOND: usize = 152;
 
-/// A remove of the samples 63 and 64, which stand under the tickets 64 and 65 where all are submitted in order.
+/// A remove of the samples 63 and 64. They have the tickets 64 and 65 if all are submitted in order.
 pub const REMOVE_TWO: usize = 153;
 
 /// A remove of sample 69.
@@ -71,7 +70,8 @@ pub const REMOVE_SEVENTIETH: usize = 154;
 /// A signed submit that spends both outputs of the submit `RIVAL`, which have 60 and 40 coin.
 pub const MERGED: usize = 155;
 
-/// A submit that spends the same output as sample 1, and pays 50 twice. Behind it stands a signed one that spends both of these.
+/// A submit that spends the same output as sample 1, and pays 50 twice. The next sample is signed and spends both of
+/// these.
 pub const EVEN: usize = 156;
 
 /// A remove of sample 2.
@@ -101,7 +101,7 @@ impl Samples {
         self.commands.get(number)
     }
 
-    /// The samples from the first number to before the second, or none where there aren't so many.
+    /// The samples from the first number up to and without the second, or none if there aren't that many.
     pub fn commands(&self, from: usize, to: usize) -> &[Command] {
         match self.commands.get(from..to) {
             Some(commands) => commands,
@@ -144,7 +144,7 @@ fn ids_of(memory: Memory, commands: &[Command], numbers: &[usize]) -> Option<Vec
     Some(ids)
 }
 
-/// A remove of what these samples submit comes last.
+/// Appends a remove of the transactions that these samples submit.
 pub fn push_remove(memory: Memory, commands: &mut Commands, numbers: &[usize]) -> Option<()> {
     let ids = ids_of(memory, commands, numbers)?;
     let Ok(shared) = Arc::new(memory, Ids::of(ids)) else {
@@ -153,7 +153,7 @@ pub fn push_remove(memory: Memory, commands: &mut Commands, numbers: &[usize]) -
     commands.push(Command::Remove(shared)).ok()
 }
 
-/// The transaction's submit comes last.
+/// Appends a submit of the transaction.
 pub fn push_tx(memory: Memory, commands: &mut Commands, parts: TxParts) -> Option<()> {
     let Ok(tx) = Tx::of_parts(memory, parts) else {
         return None;

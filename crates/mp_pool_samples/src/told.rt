@@ -1,9 +1,9 @@
-//! What a call is told, as plain data.
+//! Observed answers, as plain data.
 use mp_history::AuditFault;
 use mp_seqpool::{Answer, Invalid, Refusal, Reply};
 use mp_testing::Seen;
 
-/// What a call is told. Tickets are told as the digits of a number: 1 and 2 are 12, and 0 is none.
+/// An observed answer. Tickets are the digits of a number: 1 and 2 are 12, and 0 is none.
 #[derive(Clone, Copy)]
 pub enum Told {
     Accepted(u64),
@@ -15,17 +15,17 @@ pub enum Told {
     HistoryFull,
     InputMissing(usize),
     ValidatorRefused(usize),
-    /// The pool after a legal history: how many transactions stand in it, and the last ticket.
+    /// The pool after a legal history: the number of its transactions, and the last ticket.
     Legal(usize, u64),
     WrongReply(usize),
     StrangeCaller(usize),
     NoMemory,
-    /// None of these, or not the same twice.
+    /// None of these, or two answers that differ.
     Otherwise,
 }
 
 impl Told {
-    /// What is told as numbers, of which the first says of which kind it is. From the fourth on they are 0.
+    /// The answer as numbers. The first is its kind, and from the fourth on they are 0.
     pub fn seen(self) -> Seen {
         let [kind, first, second] = match self {
             Told::Accepted(ticket) => [1, ticket, 0],
@@ -44,7 +44,7 @@ impl Told {
         [kind, first, second, 0, 0, 0]
     }
 
-    /// What is told, unless there was no memory.
+    /// The answer, or `None` if an allocation failed.
     pub fn answered(self) -> Option<Seen> {
         match self {
             Told::NoMemory => None,
@@ -53,7 +53,7 @@ impl Told {
     }
 }
 
-/// The digits with those of one ticket more.
+/// The digits, with those of one more ticket.
 pub fn with_digit(digits: u64, ticket: u64) -> u64 {
     digits.saturating_mul(10).saturating_add(ticket)
 }
@@ -66,7 +66,7 @@ fn digits(tickets: &[u64]) -> u64 {
     digits
 }
 
-/// What the reply tells.
+/// The observed reply.
 pub fn read_reply(reply: &Reply) -> Told {
     match reply {
         Reply::Accepted { ticket } => Told::Accepted(*ticket),
@@ -79,7 +79,7 @@ pub fn read_reply(reply: &Reply) -> Told {
     }
 }
 
-/// What the refusal tells.
+/// The observed refusal.
 pub fn read_refusal(refusal: &Refusal) -> Told {
     match refusal {
         Refusal::NoMemory => Told::NoMemory,
@@ -91,7 +91,7 @@ pub fn read_refusal(refusal: &Refusal) -> Told {
     }
 }
 
-/// What the answer tells.
+/// The observed answer.
 pub fn read_answer(answer: &Answer) -> Told {
     match answer {
         Ok(reply) => read_reply(reply),
@@ -99,7 +99,7 @@ pub fn read_answer(answer: &Answer) -> Told {
     }
 }
 
-/// What the fault of an audit tells.
+/// The observed fault of an audit.
 pub fn read_fault(fault: AuditFault) -> Told {
     match fault {
         AuditFault::NoMemory => Told::NoMemory,

@@ -1,8 +1,8 @@
-//! Who decides which signatures are good.
+//! The verifier of the samples.
 use mp_rules::Verifier;
 use mp_tx::{Key, Sig, TxId};
 
-/// Accepts each signature, and has a mark by which it is known.
+/// Accepts each signature, and has a mark that identifies it.
 #[derive(Clone, Copy)]
 pub struct AcceptsAll {
     pub mark: u64,

@@ -1,4 +1,5 @@
-//! A transaction whose validator looks at what its own output holds, and the ledger states that it spends from.
+//! A transaction whose validator reads the bundle of the output that it locks, and the ledger states from which it
+//! spends.
 use crate::samples::ledgers::push_sync;
 use crate::samples::{Commands, push_remove, push_tx};
 use mp_memory::{Memory, NoMemory};
@@ -6,7 +7,7 @@ use mp_script::Script;
 use mp_testing::{opening, output, parts};
 use mp_tx::{Ledger, LedgerFault, OutRef, Output, Salt, TxParts};
 
-// Whether its own output has at least 100 coin: 100, the policy and the name of coin, OwnQuantity, AtMost.
+// Accepts if the output that it locks has at least 100 coin: 100, the policy and the name of coin, OwnQuantity, AtMost.
 const ENOUGH: [u8; 47] = [
     2, 0, 0, 0, 0, 0, 0, 0, 100, 3, 32, 0, 0, 0, 0, 0, 0, 0, 0, 0, 0, 0, 0, 0, 0, 0, 0, 0, 0, 0, 0,
     0, 0, 0, 0, 0, 0, 0, 0, 0, 0, 0, 0, 3, 0, 0x53, 0x22,
@@ -28,8 +29,8 @@ fn guard(memory: Memory, parts: &mut TxParts) -> Option<()> {
     Some(())
 }
 
-// It spends openings 2 and 3 and pays 200 coin. Opening 2 has to have 100 or more. Its bytes are 274: 181, 47 for the second
-// input, and 46 for the longer validator.
+// It spends openings 2 and 3 and pays 200 coin. Opening 2 must have at least 100. Its bytes are 274: 181, 47 for the
+// second input, and 46 for the longer validator.
 fn guarded_parts(memory: Memory) -> Option<TxParts> {
     let Ok(mut parts) = parts(memory, &[opening(2), opening(3)], &[200]) else {
         return None;
@@ -45,7 +46,7 @@ fn guarded_output(memory: Memory, quantity: i64) -> Result<Output, NoMemory> {
     Ok(guarded)
 }
 
-// Opening 2 is guarded and has so much coin. Openings 2 and 3 have 200 together, so that all other rules hold.
+// Opening 2 is guarded and has this much coin. Openings 2 and 3 have 200 together, so all other rules hold.
 fn output_at(memory: Memory, coin: u8, index: u16) -> Result<Output, NoMemory> {
     match index {
         2 => guarded_output(memory, i64::from(coin)),
@@ -70,7 +71,7 @@ pub fn guarded_ledger(memory: Memory, tick: u64, coin: u8) -> Result<Ledger, Led
     }
 }
 
-/// The six guarded commands.
+/// Appends the six guarded commands.
 pub fn push_guarded(memory: Memory, commands: &mut Commands) -> Option<()> {
     push_tx(memory, commands, guarded_parts(memory)?)?;
     push_remove(memory, commands, &[])?;

@@ -14,7 +14,7 @@ fn entry(memory: Memory, reference: OutRef) -> Result<Entries, NoMemory> {
     Ok(entries)
 }
 
-/// A sync with the ledger state comes last.
+/// Appends a sync to the ledger state.
 pub fn push_sync(commands: &mut Commands, ledger: Result<Ledger, LedgerFault>) -> Option<()> {
     let Ok(ledger) = ledger else {
         return None;
@@ -22,7 +22,7 @@ pub fn push_sync(commands: &mut Commands, ledger: Result<Ledger, LedgerFault>) -
     commands.push(Command::Sync(ledger)).ok()
 }
 
-// The ledger state at tick 1 of what sample 0 pays.
+// Appends a sync to the ledger state at tick 1 with what sample 0 pays.
 fn push_after_first(memory: Memory, commands: &mut Commands) -> Option<()> {
     let paid = output_of(&submitted(commands, 0)?, 0);
     let Ok(entries) = entry(memory, paid) else {
@@ -32,7 +32,7 @@ fn push_after_first(memory: Memory, commands: &mut Commands) -> Option<()> {
     push_sync(commands, ledger)
 }
 
-/// All ledger states but those of the six guarded commands, in the order of their numbers.
+/// Appends all ledger states except those of the six guarded commands, in the order of their numbers.
 pub fn push_ledgers(memory: Memory, commands: &mut Commands) -> Option<()> {
     push_sync(commands, guarded_ledger(memory, 0, 100))?;
     push_sync(commands, guarded_ledger(memory, 0, 120))?;

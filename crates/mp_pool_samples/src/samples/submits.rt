@@ -4,7 +4,7 @@ use mp_memory::{Memory, NoMemory};
 use mp_testing::{opening, output_of, parts};
 use mp_tx::{OutRef, Signature, TxParts};
 
-// A submit of a transaction that spends the output and pays so much comes last.
+// Appends a submit of a transaction that spends the output and pays these quantities.
 fn push(memory: Memory, commands: &mut Commands, spent: OutRef, paid: &[u32]) -> Option<()> {
     match parts(memory, &[spent], paid) {
         Ok(parts) => push_tx(memory, commands, parts),
@@ -12,7 +12,7 @@ fn push(memory: Memory, commands: &mut Commands, spent: OutRef, paid: &[u32]) ->
     }
 }
 
-// It spends output 0 of what the command at this place submits.
+// Appends a submit that spends output 0 of the transaction submitted by the command at this index.
 fn push_child(memory: Memory, commands: &mut Commands, place: usize) -> Option<()> {
     let parent = submitted(commands, place)?;
     push(memory, commands, output_of(&parent, 0), &[100])
@@ -25,7 +25,7 @@ fn signed(memory: Memory, spent: &[OutRef], paid: u32, by: u8) -> Result<TxParts
     Ok(parts)
 }
 
-// A key that begins with this number has signed it.
+// The same, signed by a key that begins with this number.
 fn push_signed(
     memory: Memory,
     commands: &mut Commands,
@@ -52,21 +52,21 @@ fn push_upon_rival(memory: Memory, commands: &mut Commands) -> Option<()> {
     push_signed(memory, commands, &[output_of(&rival, 1)], 40, 1)
 }
 
-// It spends both outputs of what the command at this place submits, and is signed.
+// Appends a signed submit that spends both outputs of the transaction submitted by the command at this index.
 fn push_heir(memory: Memory, commands: &mut Commands, place: usize) -> Option<()> {
     let parent = submitted(commands, place)?;
     let spent = [output_of(&parent, 0), output_of(&parent, 1)];
     push_signed(memory, commands, &spent, 100, 2)
 }
 
-/// A submit that spends the two outputs of the rival; and one that pays twice the same, and one that spends these.
+/// Appends a submit that spends the two outputs of the rival, one that pays the same twice, and one that spends these.
 pub fn push_merged(memory: Memory, commands: &mut Commands) -> Option<()> {
     push_heir(memory, commands, RIVAL)?;
     push(memory, commands, opening(1), &[50, 50])?;
     push_heir(memory, commands, EVEN)
 }
 
-/// All submits but the guarded ones, in the order of their numbers.
+/// Appends all submits except the guarded ones, in the order of their numbers.
 pub fn push_submits(memory: Memory, commands: &mut Commands) -> Option<()> {
     push_spending(memory, commands)?;
     push(memory, commands, opening(0), &[100])?;
