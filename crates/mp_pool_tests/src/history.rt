@@ -1,4 +1,4 @@
-//! Histories: audits that were worked out by hand, and the history word.
+//! Histories: audits that were computed by hand, and the history word.
 mod audits;
 mod committing;
 mod entries;
@@ -10,7 +10,7 @@ use std::io;
 use std::sync::Wait;
 use std::thread::Threads;
 
-/// How many cases hold.
+/// The number of cases that hold.
 pub fn held<R: Print + Threads + Wait + Sync>(rt: &R, samples: &Samples) -> io::Result<u64> {
     let audits = held_audits(rt, samples)?;
     let commits = held_commits(rt, samples)?;

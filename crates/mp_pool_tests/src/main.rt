@@ -1,5 +1,5 @@
-//! Tests the sequential pool, histories and versions for what no contract says: threads, what is shared, and answers that were worked out
-//! by hand. It prints each case that is found otherwise, and for each part how many held.
+//! Tests the sequential pool, histories and versions for properties that no contract states: threads, sharing, and
+//! answers that were computed by hand. It prints each case that fails, and the number of cases that hold in each part.
 #![tactic(auto)]
 
 mod history;

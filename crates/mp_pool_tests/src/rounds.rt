@@ -1,5 +1,5 @@
-//! What removes cost, round after round: one that takes out a transaction on which no other hangs makes no overlay, and of places that
-//! are vacant no more than some stay.
+//! The cost of removes, round after round. A remove of a transaction without dependents builds no overlay, and the
+//! number of vacant places stays bounded.
 use mp_pool_samples::samples::{ALL, REMOVE_FIRST, Samples};
 use mp_pool_samples::{ACCEPTS_ALL, CONFIG};
 use mp_seqpool::{Command, SeqPool};
@@ -8,15 +8,15 @@ use std::io;
 
 const ROUNDS: u64 = 200;
 
-// A remove of one transaction makes fewer growths.
+// A remove of one transaction makes fewer allocations.
 const MOST_GROWTHS: u64 = 200;
 
-// Whether the command is answered while the growth is refused that is the `nth` from now, if there are so many.
+// Whether the command is answered while allocation `nth` is refused, if there are that many.
 fn answers(pool: &mut SeqPool, command: &Command) -> bool {
     matches!(pool.step(command, &ACCEPTS_ALL), Ok(Ok(_)))
 }
 
-// How many growths the command makes, which is answered where none is refused. Each is refused in turn before.
+// The number of allocations of the command. Each fails in turn before, and then the command is answered.
 fn growths(samples: &Samples, pool: &mut SeqPool, command: &Command) -> Option<u64> {
     for nth in 1..MOST_GROWTHS {
         samples.memory.refuse(nth);
@@ -30,7 +30,7 @@ fn growths(samples: &Samples, pool: &mut SeqPool, command: &Command) -> Option<u
     None
 }
 
-// How many growths it takes to remove the transaction of the first sample, which is submitted before.
+// The number of allocations of removing the transaction of the first sample, which is submitted before.
 fn round(samples: &Samples, pool: &mut SeqPool) -> Option<u64> {
     if !answers(pool, samples.command(0)?) {
         return None;
@@ -38,12 +38,12 @@ fn round(samples: &Samples, pool: &mut SeqPool) -> Option<u64> {
     growths(samples, pool, samples.command(REMOVE_FIRST)?)
 }
 
-// Whether a remove takes more growths than the first one, and so makes an overlay anew.
+// Whether a remove makes more allocations than the first one, and so builds an overlay from scratch.
 fn is_dear(samples: &Samples, pool: &mut SeqPool, first: u64) -> Option<bool> {
     Some(round(samples, pool)? > first)
 }
 
-// How many rounds make an overlay anew, and the numbers of the first and the last of them, counted from 1.
+// How many rounds build an overlay from scratch, and the numbers of the first and the last of them, from 1.
 fn dear_rounds(samples: &Samples) -> Option<Seen> {
     let Ok(mut pool) = SeqPool::start(samples.memory, CONFIG, samples.ledger(ALL)?) else {
         return None;
@@ -62,7 +62,7 @@ fn dear_rounds(samples: &Samples) -> Option<Seen> {
     Some([count, first, last, 0, 0, 0])
 }
 
-/// How many cases hold.
+/// The number of cases that hold.
 pub fn held(rt: &impl Print, samples: &Samples) -> io::Result<u64> {
     let wanted = [3, 66, 198, 0, 0, 0];
     count(

@@ -1,5 +1,5 @@
-//! The sequential pool: answers to what no scenario can ask for, worked out by hand. A scenario's remove names a transaction at least, and
-//! its sync can't give an output of a reference that paid otherwise before.
+//! The sequential pool: answers to commands that no scenario can give, computed by hand. A scenario's remove names at
+//! least one transaction, and its sync can't change the output of a reference.
 use mp_pool_samples::samples::{GUARDED, OF_100, Samples};
 use mp_pool_samples::told::{Told, read_answer, with_digit};
 use mp_pool_samples::{ACCEPTS_ALL, CONFIG};
@@ -7,8 +7,8 @@ use mp_seqpool::{Played, SeqPool, play};
 use mp_testing::{Seen, count};
 use std::io;
 
-// What the guarded commands are told on a pool where the guarded output has 100 coin: the validator looks at what its own output
-// holds.
+// The answers to the guarded commands, on a pool whose guarded output has 100 coin: the validator reads the bundle of
+// the output that it locks.
 static ROWS: [(&str, Told); 6] = [
     (
         "a submit of what looks at its own output",
@@ -21,7 +21,7 @@ static ROWS: [(&str, Told); 6] = [
     ("a submit upon too little", Told::ValidatorRefused(0)),
 ];
 
-// The tickets as the digits of a number, the bytes, the last ticket and the changes of a pool.
+// The pool's tickets as the digits of a number, its bytes, the last ticket and the number of changes.
 fn look_at(pool: &SeqPool) -> Seen {
     let mut tickets = 0;
     for (ticket, _) in pool.contents() {
@@ -37,7 +37,7 @@ fn look_at(pool: &SeqPool) -> Seen {
     ]
 }
 
-// What comes of the guarded commands.
+// Runs the guarded commands.
 fn play_guarded(samples: &Samples) -> Option<Played> {
     let ledger = samples.ledger(OF_100)?;
     let commands = samples.commands(GUARDED, GUARDED + 6);
@@ -63,7 +63,7 @@ fn count_played(rt: &impl Print, played: &Played) -> io::Result<u64> {
     Ok(held.wrapping_add(count_answers(rt, played)?))
 }
 
-/// How many cases hold.
+/// The number of cases that hold.
 pub fn held(rt: &impl Print, samples: &Samples) -> io::Result<u64> {
     match play_guarded(samples) {
         Some(played) => count_played(rt, &played),

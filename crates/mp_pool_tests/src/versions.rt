@@ -1,4 +1,4 @@
-//! Versions: what is read of them, where chunks and pages end, what is shared, and the board.
+//! Versions: reading them, the ends of chunks and pages, sharing, and the board.
 mod board;
 mod both;
 mod pages;
@@ -21,7 +21,7 @@ fn held_alone(rt: &impl Print, samples: &Samples) -> io::Result<u64> {
     Ok(readings.wrapping_add(pages).wrapping_add(shares))
 }
 
-/// How many cases hold.
+/// The number of cases that hold.
 pub fn held<R: Print + Threads + Wait + Sync>(rt: &R, samples: &Samples) -> io::Result<u64> {
     let held = held_alone(rt, samples)?;
     Ok(held.wrapping_add(held_boards(rt, samples)?))

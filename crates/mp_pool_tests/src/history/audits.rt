@@ -1,4 +1,4 @@
-//! Audits that were worked out by hand.
+//! Audits that were computed by hand.
 use crate::history::entries::{Telling, idle_entries, three_entries};
 use mp_history::Entry;
 use mp_pool_samples::samples::{PART, Samples};
@@ -10,8 +10,8 @@ use std::io;
 
 const ONE_CHANGE: Config = Config { limit: 1, last: 0 };
 
-// Who asks for the submits, the tickets of the submits and of what goes with the removal, how many callers there are, whether
-// there may be one change only, which of the entries are looked at, and what the audit tells.
+// The callers of the submits, the tickets of the submits and of what goes with the removal, the number of callers,
+// whether the limit is one change, which of the entries are audited, and the expected result.
 type Row = (
     &'static str,
     [u32; 2],
@@ -157,13 +157,13 @@ fn tell_row(samples: &Samples, row: &Row) -> Option<Seen> {
     Some(tell_some(samples, config, count, &entries, some).seen())
 }
 
-// A history of more entries than any other here.
+// A history with more entries than any other here.
 fn tell_long(samples: &Samples) -> Option<Seen> {
     let entries = idle_entries(samples, 5_000)?;
     Some(tell(samples, PART, CONFIG, 1, &entries).seen())
 }
 
-/// How many cases hold.
+/// The number of cases that hold.
 pub fn held_audits(rt: &impl Print, samples: &Samples) -> io::Result<u64> {
     let long = tell_long(samples);
     let mut held = count(rt, "a long history", long, Told::Legal(0, 0).seen())?;

@@ -14,14 +14,13 @@ use std::marker::Brand;
 use std::sync::{Mutex, Wait};
 use std::thread::{Threads, join};
 
-// Each of two threads commits so many.
+// The number of commits of each of the two threads.
 const EACH: usize = 50;
 
-// No history is longer.
+// The greatest length of a history.
 const MAX_ENTRIES: u64 = 1 << 32;
 
-// What lies under the lock: the right, the entries in the order in which it entered them, and how many of them got the next place
-// each.
+// The content of the lock: the right, the entries in order, and how many of them got the next place.
 #[derive(Drop)]
 struct Shared<N: PoolName> {
     right: CommitRight<N>,
@@ -74,7 +73,7 @@ fn submit_one<N: PoolName>(
     shared.lock(rt).submit(history, caller, command)
 }
 
-// Submits these, and gives what it saw in the end.
+// Submits these, and returns the front that it saw last.
 fn submit_some<N: PoolName>(
     rt: &impl Wait,
     history: &History<N>,
@@ -96,8 +95,8 @@ fn last_ticket(samples: &Samples, entries: &[Entry]) -> u64 {
     }
 }
 
-// How long the history is, and what the thread has seen that ends last; how many got the next place each; and the last ticket
-// of an audit.
+// The length of the history and of the last front that a thread saw, the number of entries that got the next place, and
+// the last ticket of an audit.
 fn see<N: PoolName>(
     samples: &Samples,
     shared: &mut Shared<N>,
@@ -178,7 +177,7 @@ fn commits<R: Threads + Wait + Sync>(rt: &R, samples: &Samples) -> Option<Seen> 
     of_name::<Brand, R>(rt, samples, NewName::new(), &pool)
 }
 
-/// How many cases hold.
+/// The number of cases that hold.
 pub fn held_commits<R: Print + Threads + Wait + Sync>(
     rt: &R,
     samples: &Samples,

@@ -1,14 +1,14 @@
-//! Histories of two submits and a removal: the first submit spends an opening output, the second what the first pays, and the
-//! removal takes out the first, so the second goes with it.
+//! Histories of two submits and a removal. The first submit spends an opening output, and the second spends what the
+//! first pays. The removal takes out the first, so the second goes with it.
 use mp_history::Entry;
 use mp_memory::{Memory, NoMemory};
 use mp_pool_samples::samples::{NOTHING, REMOVE_FIRST, Samples, THREE};
 use mp_seqpool::{Reply, Tickets};
 
-/// What the entries of a history tell.
+/// The variable parts of a history.
 #[derive(Clone, Copy)]
 pub struct Telling {
-    /// Who asks for the submits. Caller 0 asks for the removal.
+    /// The callers of the submits. Caller 0 makes the removal.
     pub callers: [u32; 2],
     /// The tickets of the submits, and the one that goes with the first.
     pub tickets: [u64; 3],
@@ -17,7 +17,7 @@ pub struct Telling {
 /// Entries in order.
 pub type Entries = Vec<Entry, Memory>;
 
-// The entry of caller `caller` who asks for the sample and is told this.
+// Appends the entry of this caller, for the sample and this reply.
 fn push_entry(
     samples: &Samples,
     entries: &mut Entries,
@@ -53,7 +53,7 @@ fn only(memory: Memory, ticket: u64) -> Result<Tickets, NoMemory> {
     Ok(tickets)
 }
 
-// It stood under ticket 1.
+// Its transaction had ticket 1.
 fn removal(memory: Memory, ticket: u64) -> Result<Reply, NoMemory> {
     let named = only(memory, 1)?;
     Ok(Reply::Removed {
@@ -83,7 +83,7 @@ fn push_nothing(samples: &Samples, entries: &mut Entries) -> Option<()> {
     push_entry(samples, entries, 0, NOTHING, reply)
 }
 
-/// So many entries, each of which removes nothing.
+/// This number of entries, each of which removes nothing.
 pub fn idle_entries(samples: &Samples, number: u64) -> Option<Entries> {
     let mut entries = Vec::new(samples.memory);
     for _ in 0..number {

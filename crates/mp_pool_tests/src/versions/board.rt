@@ -1,4 +1,4 @@
-//! The board: threads that read while versions are shown.
+//! The board: threads that read while versions are published.
 ghost use Rattle.std.specs.Prelude.{◌≡◌, IfSome};
 ghost use Rattle.mp_seqpool.specs.PoolLaws.{IsLawful};
 ghost use Rattle.mp_seqpool.specs.Config.{renewed};
@@ -17,10 +17,10 @@ use std::marker::Brand;
 use std::sync::{Arc, Wait};
 use std::thread::{Threads, map_indices};
 
-// How often each thread reads or shows.
+// How often each thread reads or publishes.
 const TIMES: u32 = 500;
 
-// How many threads there are: one that shows the version, and four that read.
+// The number of threads: one publishes the version, and four read.
 const THREADS: usize = 5;
 
 // The pool's version, after no entry of a history.
@@ -41,7 +41,7 @@ fn open<N: PoolName>(memory: Memory, name: NewName, pool: &SeqPool) -> Result<Sh
     Ok(Shown::of(version, right.front()))
 }
 
-// Whether there was no memory to show the version.
+// Publishes the version. An `Err` says that there was no memory for it.
 fn show<N: PoolName>(rt: &impl Wait, board: &Board<N>, shown: &Shown<N>) -> Result<(), NoMemory> {
     match board.show(rt, shown.share()?) {
         Ok(()) => Ok(()),
@@ -49,7 +49,7 @@ fn show<N: PoolName>(rt: &impl Wait, board: &Board<N>, shown: &Shown<N>) -> Resu
     }
 }
 
-// Shows the version so often, and tells how often there was no memory for that.
+// Publishes the version `TIMES` times, and returns how often there was no memory for it.
 fn show_all<N: PoolName>(rt: &impl Wait, board: &Board<N>, shown: &Shown<N>) -> u64 {
     let mut refused: u64 = 0;
     for _ in 0..TIMES {
@@ -65,7 +65,7 @@ fn is_strange<N: PoolName>(shown: &Shown<N>) -> bool {
     (snapshot.size(), snapshot.number(), snapshot.tick()) != ((0, 0), 0, 0)
 }
 
-// Reads the newest version so often, and tells how often it had other numbers than the one that is shown.
+// Reads the newest version `TIMES` times, and returns how often its numbers weren't those of the published version.
 fn read_all<N: PoolName>(board: &Board<N>) -> u64 {
     let mut strange: u64 = 0;
     for _ in 0..TIMES {
@@ -76,7 +76,7 @@ fn read_all<N: PoolName>(board: &Board<N>) -> u64 {
     strange
 }
 
-// What goes wrong in one of the threads.
+// The number of failures in one of the threads.
 fn run<N: PoolName>(rt: &impl Wait, board: &Board<N>, shown: &Shown<N>, thread: usize) -> u64 {
     if thread == 0 {
         return show_all(rt, board, shown);
@@ -92,7 +92,7 @@ fn sum(numbers: &[u64]) -> u64 {
     sum
 }
 
-// How many threads there were, what went wrong in them, and whether the board shows a version before and after them.
+// The number of threads, their failures, and whether the board has a version before and after them.
 fn see<N: PoolName + Send + Sync, R: Threads + Wait + Sync>(
     rt: &R,
     memory: Memory,
@@ -156,7 +156,7 @@ fn new_pool(samples: &Samples) -> Option<SeqPool>
     SeqPool::start(samples.memory, CONFIG, samples.ledger(PART)?).ok()
 }
 
-/// How many cases hold.
+/// The number of cases that hold.
 pub fn held_boards<R: Print + Threads + Wait + Sync>(rt: &R, samples: &Samples) -> io::Result<u64> {
     match new_pool(samples) {
         Some(pool) => of_name::<Brand, R>(rt, samples.memory, NewName::new(), &pool),

@@ -1,4 +1,4 @@
-//! Pools, each with the version of it.
+//! Pools, each with its version.
 ghost use Rattle.std.specs.Prelude.{◌≡◌, IfOk};
 ghost use Rattle.std.specs.Coded.{codes};
 ghost use Rattle.std.specs.FinMap as finite;
@@ -14,7 +14,7 @@ use mp_testing::Seen;
 use mp_tx::Ledger;
 use mp_versions::Version;
 
-/// A pool, and the version of it.
+/// A pool and its version.
 pub struct Both {
     pub pool: SeqPool,
     pub version: Version,
@@ -30,7 +30,7 @@ impl Drop for Both {
     }
 }
 
-// The pool with a version that is made of all of it.
+// The pool with a version of all its items.
 fn whole(memory: Memory, pool: SeqPool) -> Option<Both> {
     match Version::of(memory, &pool) {
         Ok(version) => Some(Both { pool, version }),
@@ -38,7 +38,7 @@ fn whole(memory: Memory, pool: SeqPool) -> Option<Both> {
     }
 }
 
-/// A pool with no transaction.
+/// A pool without transactions.
 pub fn start(memory: Memory, ledger: &Ledger) -> Option<Both> {
     match SeqPool::start(memory, CONFIG, ledger) {
         Ok(pool) => whole(memory, pool),
@@ -46,7 +46,7 @@ pub fn start(memory: Memory, ledger: &Ledger) -> Option<Both> {
     }
 }
 
-/// The step that does what the command asks.
+/// The step that executes the command.
 pub fn prepare(pool: &mut SeqPool, command: &Command) -> Result<Prepared, Refusal>
     ensures same { pool.new.pool ≡ pool.old.pool }
     ensures ready { IfOk result (IsPrepared pool.new) }
@@ -66,7 +66,7 @@ pub fn next(memory: Memory, both: &Both, prepared: &Prepared) -> Result<Version,
     both.version.after(memory, &both.pool, prepared)
 }
 
-// Takes the step, which leads to the version.
+// Executes the step, which leads to the version.
 fn take(both: &mut Both, prepared: Prepared, version: Version)
     requires prepared { IsPrepared both.old.pool prepared }
     requires next { version.pool ≡ leads_to both.old.pool.pool prepared }
@@ -75,7 +75,7 @@ fn take(both: &mut Both, prepared: Prepared, version: Version)
     both.version = version;
 }
 
-/// Does what the command asks. The version is made from the one before.
+/// Executes the command. The version is made from the one before.
 pub fn step(memory: Memory, both: &mut Both, command: &Command) -> Option<()> {
     let Ok(prepared) = prepare(&mut both.pool, command) else {
         return None;
@@ -87,7 +87,7 @@ pub fn step(memory: Memory, both: &mut Both, command: &Command) -> Option<()> {
     Some(())
 }
 
-/// Does what each command asks, in order.
+/// Executes the commands in order.
 pub fn step_all(memory: Memory, both: &mut Both, commands: &[Command]) -> Option<()> {
     for command in commands {
         step(memory, both, command)?;
@@ -95,7 +95,7 @@ pub fn step_all(memory: Memory, both: &mut Both, commands: &[Command]) -> Option
     Some(())
 }
 
-/// A pool upon the ledger state that was asked these.
+/// A pool on the ledger state, after these commands.
 pub fn asked(samples: &Samples, ledger: usize, commands: &[Command]) -> Option<Both> {
     let mut both = start(samples.memory, samples.ledger(ledger)?)?;
     step_all(samples.memory, &mut both, commands)?;
@@ -110,8 +110,8 @@ fn digits(run: Run<'_>) -> u64 {
     digits
 }
 
-/// How many items there are, their bytes, the last ticket, the number, the ledger state's block bytes, and the tickets as the
-/// digits of a number: 1 and 2 are 12, and 0 is none.
+/// The number of items, their bytes, the last ticket, the version's number, the ledger state's block bytes, and the
+/// tickets as the digits of a number: 1 and 2 are 12, and 0 is none.
 pub fn look_at(version: &Version) -> Seen {
     [
         version.len() as u64,

@@ -1,4 +1,5 @@
-//! Where chunks and pages end. A page has 2,048 items where all its chunks are full, and up to 32 more stand in the open chunk.
+//! The ends of chunks and pages. A page has 2,048 items if all its chunks are full, and the open chunk has at most 32
+//! more.
 use crate::versions::both::{Both, start, step};
 use mp_memory::{Memory, NoMemory};
 use mp_pool_samples::samples::Samples;
@@ -7,7 +8,7 @@ use mp_testing::{Seen, count, ledger, opening, transaction};
 use mp_versions::{Version, laws};
 use std::io;
 
-/// How many items the chunk at this place has, or 0 where there is no chunk.
+/// The number of items of the chunk at this index, or 0 if there is no such chunk.
 pub fn chunk_len(version: &Version, place: usize) -> u64 {
     match laws::chunk(version, place) {
         Some(items) => items.len() as u64,
@@ -15,8 +16,8 @@ pub fn chunk_len(version: &Version, place: usize) -> u64 {
     }
 }
 
-// The number of the first chunk that isn't full, how many items it has, and how many the one behind it has. Without such a chunk
-// the last number is told.
+// The number of the first chunk that isn't full, the number of its items, and that of the next chunk. Without such a
+// chunk, it is the last number.
 fn end(version: &Version) -> [u64; 3] {
     for place in 0..u16::MAX {
         let len = chunk_len(version, usize::from(place));
@@ -35,7 +36,7 @@ fn end_anew(memory: Memory, both: &Both) -> [u64; 3] {
     }
 }
 
-// Where the version ends, and where one does that is made of all of the pool.
+// The end of the version, and that of a version of all items of the pool.
 fn ends(memory: Memory, both: &Both) -> Seen {
     let [a, b, c] = end(&both.version);
     let [d, e, f] = end_anew(memory, both);
@@ -49,7 +50,7 @@ fn submit_opening(memory: Memory, both: &mut Both, index: u16) -> Option<()> {
     step(memory, both, &Command::Submit(tx))
 }
 
-// Transactions that spend the openings from `first` up to `end` are submitted, each in its turn.
+// Submits transactions that spend the openings from `first` up to and without `end`, one by one.
 fn submit_openings(memory: Memory, both: &mut Both, first: u16, end: u16) -> Option<()> {
     for index in first..end {
         submit_opening(memory, both, index)?;
@@ -57,8 +58,8 @@ fn submit_openings(memory: Memory, both: &mut Both, first: u16, end: u16) -> Opt
     Some(())
 }
 
-// The openings that are spent, from the first number to before the second; and then the number of the first chunk that isn't
-// full, and how many items it has.
+// The openings that are spent, from the first number up to and without the second; then the number of the first chunk
+// that isn't full, and the number of its items.
 static ROWS: [(&str, [u16; 2], [u64; 2]); 6] = [
     ("2,047 items", [0, 2_047], [63, 31]),
     ("2,080 items", [2_047, 2_080], [65, 0]),
@@ -99,7 +100,7 @@ fn roomy(memory: Memory) -> Option<Both> {
     }
 }
 
-/// How many cases hold.
+/// The number of cases that hold.
 pub fn held_pages(rt: &impl Print, samples: &Samples) -> io::Result<u64> {
     match roomy(samples.memory) {
         Some(mut both) => count_rows(rt, samples.memory, &mut both),

@@ -1,4 +1,4 @@
-//! What is read of a version that was made one from another. It has 129 transactions of 181 bytes each, without those under the
+//! Reading a version that was made step by step. It has 129 transactions of 181 bytes each, without those with the
 //! tickets 64 and 65.
 use crate::versions::both::{Both, asked, step};
 use crate::versions::pages::chunk_len;
@@ -13,23 +13,23 @@ use std::io;
 // What is read.
 #[derive(Clone, Copy)]
 enum Reading {
-    // How many there are, their bytes, the last ticket and the number.
+    // The number of items, their bytes, the last ticket and the version's number.
     Size,
     // The lengths of the first four chunks.
     Chunks,
-    // The same of a version that is made of all of the pool.
+    // The same for a version of all items of the pool.
     ChunksAnew,
-    // How many have greater tickets, and the first and the last of those.
+    // The number of items with greater tickets, and the first and the last ticket of those.
     After(u64),
-    // How many have no more bytes together, and the first and the last of those.
+    // The number of items that fit into this many bytes together, and the first and the last ticket of those.
     Within(u64),
-    // Whether a transaction stands under the ticket.
+    // Whether the ticket has a transaction.
     Lookup(u64),
     // Whether the transaction of the sample is there.
     Has(usize),
 }
 
-// How many there are, with the first ticket and the last.
+// The number of items, with the first ticket and the last.
 type Ends = (u64, u64, u64);
 
 fn with_ticket(ends: Ends, ticket: u64) -> Ends {
@@ -107,7 +107,7 @@ fn read(samples: &Samples, both: &Both, reading: Reading) -> Option<Seen> {
     })
 }
 
-// What is read, and what is wanted first.
+// What is read, and the first expected numbers.
 type Row = (&'static str, Reading, [u64; 4]);
 
 const YES: [u64; 4] = [1, 0, 0, 0];
@@ -172,7 +172,7 @@ fn count_rows(rt: &impl Print, samples: &Samples, both: &Both) -> io::Result<u64
     Ok(held)
 }
 
-/// How many cases hold.
+/// The number of cases that hold.
 pub fn held_readings(rt: &impl Print, samples: &Samples) -> io::Result<u64> {
     match of_127(samples) {
         Some(both) => count_rows(rt, samples, &both),

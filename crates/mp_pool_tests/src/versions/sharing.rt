@@ -1,5 +1,5 @@
-//! A chunk that a step leaves as it is is shared: its transactions get no further owner. The chunks of 129 have four times
-//! 32 transactions and 1.
+//! A chunk that a step doesn't change is shared: its transactions get no new owners. The chunks of 129 transactions
+//! have 32, 32, 32, 32 and 1.
 ghost use Rattle.mp_seqpool.specs.Prepared.{IsPrepared};
 
 use crate::versions::both::{Both, asked, next, prepare};
@@ -11,7 +11,7 @@ use mp_versions::Version;
 use std::io;
 use std::sync::Arc;
 
-// How many owners the transaction under the ticket has, or 0 where there is none.
+// The number of owners of the ticket's transaction, or 0 if there is none.
 fn owners(version: &Version, ticket: u64) -> usize {
     match version.lookup(ticket) {
         Some(tx) => Arc::strong_count(tx),
@@ -19,7 +19,7 @@ fn owners(version: &Version, ticket: u64) -> usize {
     }
 }
 
-// How many owners the transactions under the tickets 1, 66, 98 and 129 have: one of each chunk but the second.
+// The numbers of owners of the transactions with the tickets 1, 66, 98 and 129: one in each chunk except the second.
 fn owners_of_four(version: &Version) -> [usize; 4] {
     [
         owners(version, 1),
@@ -29,7 +29,7 @@ fn owners_of_four(version: &Version) -> [usize; 4] {
     ]
 }
 
-// How many owners more each of them has than before.
+// How many more owners each of them has than before.
 fn more(version: &Version, before: [usize; 4]) -> Seen {
     let after = owners_of_four(version);
     [
@@ -72,8 +72,8 @@ fn more_renewed(both: &Both) -> Option<Seen> {
     more_with(&both.version.renewed(9), &both.version, before)
 }
 
-// A step, the sample that it does, and how many owners more the transactions have that stand under the tickets 1, 66, 98 and 129 once
-// the version after it was made.
+// A step, its sample, and how many more owners the transactions with the tickets 1, 66, 98 and 129 have after the next
+// version was made.
 static ROWS: [(&str, usize, Seen); 3] = [
     ("what a submit shares", 129, [0, 0, 0, 1, 0, 0]),
     (
@@ -88,7 +88,7 @@ fn see_step(samples: &Samples, both: &mut Both, number: usize) -> Option<Seen> {
     more_after_step(samples.memory, both, samples.command(number)?)
 }
 
-// How many transactions there are, their bytes, the last ticket and the changes.
+// The number of transactions, their bytes, the last ticket and the number of changes.
 fn stand(pool: &SeqPool) -> Seen {
     [
         pool.len() as u64,
@@ -117,7 +117,7 @@ fn count_rows(rt: &impl Print, samples: &Samples, both: &mut Both) -> io::Result
     Ok(held)
 }
 
-/// How many cases hold.
+/// The number of cases that hold.
 pub fn held_shares(rt: &impl Print, samples: &Samples) -> io::Result<u64> {
     match asked(samples, ALL, samples.commands(0, 129)) {
         Some(mut both) => count_rows(rt, samples, &mut both),
