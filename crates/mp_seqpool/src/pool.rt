@@ -476,7 +476,7 @@ impl SeqPool {
         self.changes += 1;
     }
 
-    // Adds the transaction, as the step of `prepare_append` would. The caller makes the reply known.
+    // Adds the transaction, with the effect of the step of `prepare_append`, but without making that step.
     fn take_in(&mut self, tx: &Arc<Tx, Memory>, resolved: Resolved) -> Result<Reply, NoMemory>
         requires place { HasPlace self.old.pool (arc_value tx.now) }
         requires new { ticket_of (id_of (arc_value tx.now)) self.old.pool.items ≡ None }
