@@ -1,4 +1,4 @@
--- What the example's pool is opened under.
+-- The name with which the example's pool is opened.
 use Rattle.std.specs.Prelude.{false}
 use Rattle.mp_rules.specs.Verifier.{Accepts}
 

@@ -4,7 +4,7 @@ use mp_memory::{Memory, NoMemory};
 use mp_tx::{OutRef, Tx};
 use std::sync::Arc;
 
-/// Transactions, and how many bytes they have together.
+/// Transactions, and the total number of their bytes.
 #[derive(Drop)]
 pub struct Block {
     pub txs: Vec<Arc<Tx, Memory>, Memory>,
@@ -12,7 +12,7 @@ pub struct Block {
 }
 
 impl Block {
-    /// A block of no transaction.
+    /// A block without transactions.
     pub fn empty(memory: Memory) -> Block {
         Block {
             txs: Vec::new(memory),
@@ -26,7 +26,7 @@ impl Block {
     }
 }
 
-/// A block of these.
+/// A block of the transactions in this run.
 pub fn fill(memory: Memory, run: RunWithin<'_>) -> Result<Block, NoMemory> {
     let mut block = Block::empty(memory);
     for item in run {

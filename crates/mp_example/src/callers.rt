@@ -1,4 +1,4 @@
-//! What each caller does in a thread of its own.
+//! The part of each caller, in a thread of its own.
 use crate::ledger::opening;
 use crate::payment::pay_on;
 use anyhow::{Result, bail};
@@ -10,7 +10,7 @@ use mp_tx::{Key, Sig, TxId};
 use std::sync::Wait;
 use std::thread::{Threads, map_vec};
 
-/// No transaction here is signed.
+/// A verifier that accepts no signature. No transaction here is signed.
 #[derive(Clone, Copy)]
 pub struct RefusesAll;
 
@@ -24,14 +24,14 @@ impl Verifier for RefusesAll {
     }
 }
 
-/// A caller's pass, and the receipts that it got.
+/// A caller's pass, and its receipts.
 #[derive(Drop)]
 pub struct Caller<N: PoolName> {
     pub pass: Pass<N>,
     pub receipts: Vec<Receipt, Memory>,
 }
 
-// Each transaction spends an opening output that no other spends.
+// Each transaction spends an opening output that no other one spends.
 fn submit_two<N: PoolName>(
     rt: &impl Wait,
     memory: Memory,
@@ -78,7 +78,7 @@ fn receipts_of<N: PoolName>(
     Ok(receipts)
 }
 
-/// The history: what the receipts of all callers tell of, in the order of their places.
+/// The history: the entries in the receipts of all callers, in the order of their places.
 pub fn history_of<N: PoolName>(
     memory: Memory,
     callers: &mut [Caller<N>],

@@ -5,14 +5,14 @@ use anyhow::Result;
 use mp_memory::Memory;
 use mp_tx::{Ledger, OutRef, Output, Salt};
 
-/// A block has room for four transactions of 181 bytes.
+/// The block bytes: room for four transactions of 181 bytes.
 pub const BLOCK_BYTES: u64 = 724;
 
-// The ledger state that the pool opens with has as many outputs.
+// The number of outputs of the ledger state with which the pool opens.
 const OPENINGS: u16 = 8;
 
-// A host picks this number at random and keeps it secret, so that nobody can choose transactions that make a ledger state's
-// table slow. No answer depends on it. It is fixed here, since nobody else asks this pool.
+// A host picks this number at random and keeps it secret, so that nobody can choose transactions that make a ledger
+// state's table slow. No answer depends on it. Here it is fixed, since nobody else uses this pool.
 const SALT: u64 = 7;
 
 /// Output `index` of the ledger state that the pool opens with.

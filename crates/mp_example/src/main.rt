@@ -1,6 +1,6 @@
-//! Four threads share one pool: each submits two transactions, a block is filled from what then stands, the pool
-//! adopts the ledger state after that block, an audit goes through the pool's history, and the pool hands over to a
-//! successor. What is printed is the same in whatever order the threads run.
+//! Four threads share one pool. Each submits two transactions, a block is filled from the pool's content, the pool
+//! adopts the ledger state after that block, an audit checks the pool's history, and the pool hands over to a
+//! successor. The output doesn't depend on the order of the threads.
 #![tactic(auto)]
 
 ghost use Rattle.std.specs.Prelude.{◌≡◌};
@@ -27,13 +27,13 @@ use std::thread::Threads;
 
 const CALLERS: u32 = 4;
 
-// At most a thousand changes, and the first ticket is 1.
+// At most 1,000 changes, and the first ticket is 1.
 const CONFIG: Config = Config {
     limit: 1_000,
     last: 0,
 };
 
-// Fills a block from the newest snapshot, and lets the pool adopt the ledger state after it.
+// Fills a block from the newest snapshot, and the pool adopts the ledger state after it.
 fn make_block<N: PoolName>(
     rt: &(impl Wait + Print),
     memory: Memory,
@@ -69,7 +69,7 @@ fn adopt<N: PoolName>(
     Ok(receipt)
 }
 
-// Prints what the audit of the history finds.
+// Prints the result of the audit of the history.
 fn print_audit(rt: &impl Print, memory: Memory, ledger: &Ledger, entries: &[Entry]) -> Result<()> {
     let config = mp_seqpool::Config {
         limit: CONFIG.limit,
@@ -81,7 +81,7 @@ fn print_audit(rt: &impl Print, memory: Memory, ledger: &Ledger, entries: &[Entr
     Ok(())
 }
 
-// What the callers do. It gives their passes back.
+// Runs the callers, and returns their passes.
 fn share<N: PoolName + Send + Sync, R: Threads + Wait + Print + Sync>(
     rt: &R,
     memory: Memory,
@@ -100,7 +100,7 @@ fn share<N: PoolName + Send + Sync, R: Threads + Wait + Print + Sync>(
     passes_of(memory, callers)
 }
 
-// A host does this before its pool's history is full, or when the versions that were shown take too much memory. The
+// A host does this before its pool's history is full, or when the published versions take too much memory. The
 // successor has a name of its own, and its callers get new passes.
 fn hand_over<N: PoolName, M: PoolName>(
     rt: &(impl Wait + Print),
@@ -135,9 +135,10 @@ fn print_opening<M: PoolName>(
     Ok(())
 }
 
-// `N` is the pool's name, a type that keeps the parts of one pool apart from those of another. Whoever opens a pool says
-// what it stands for: a new name, the number of callers, and which signatures the verifier accepts. `main` passes `Brand`,
-// and `proofs/main/Invariants.antt` says these three of it; `open` passes it for the successor.
+// `N` is the pool's name, a type that keeps the parts of one pool apart from those of another. Each call that opens a
+// pool says in its proof what the name is: a new name, the number of callers, and which signatures the verifier
+// accepts. `main` passes `Brand`, and `proofs/main/Invariants.antt` says these three things of it. `open` passes it for
+// the successor.
 fn open<N: PoolName + Send + Sync, R: Threads + Wait + Print + Sync>(
     rt: &R,
     memory: Memory,

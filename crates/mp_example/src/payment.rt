@@ -5,7 +5,7 @@ use mp_memory::{Memory, NoMemory};
 use mp_tx::{Data, Input, OutRef, Output, Script, Tx, TxParts};
 use std::sync::Arc;
 
-// The script of one operator, which lets everyone spend.
+// The script of one operator, with which everybody may spend.
 fn anyone(memory: Memory) -> Result<Script> {
     Ok(Script::decode(memory, &[1])?)
 }
@@ -35,14 +35,14 @@ fn output_of(script: &Script, datum: &Data, value: Bundle) -> Output {
     }
 }
 
-/// An output of 100 coin that anyone may spend.
+/// An output of 100 coin that everybody may spend.
 pub fn payment(memory: Memory) -> Result<Output> {
     let script = anyone(memory)?;
     let datum = unit(memory)?;
     Ok(output_of(&script, &datum, coin(memory)?))
 }
 
-// An input that spends such an output.
+// An input that spends an output like that.
 fn spending(memory: Memory, from: OutRef) -> Result<Input> {
     let validator = anyone(memory)?;
     let datum = unit(memory)?;
@@ -68,7 +68,7 @@ fn parts(memory: Memory, inputs: Vec<Input, Memory>, outputs: Vec<Output, Memory
     }
 }
 
-/// A transaction that spends the output under the reference, and pays one like it. It is valid at every tick.
+/// A transaction that spends the output of the reference, and pays one like it. It is valid at every tick.
 pub fn pay_on(memory: Memory, from: OutRef) -> Result<Arc<Tx, Memory>> {
     let inputs = only(memory, spending(memory, from)?)?;
     let outputs = only(memory, payment(memory)?)?;
