@@ -8,7 +8,7 @@ use mp_tx::{Ledger, OutRef, Output};
 use std::rt::Clock;
 use std::time::{Duration, Instant};
 
-/// How many outputs a block spends, and how many it makes.
+/// The number of outputs that a block spends, and of those that it makes.
 const OUTPUTS: usize = 100;
 
 // The references of the outputs, oldest first: those of a ledger state of this size, and those that the blocks make.
@@ -33,7 +33,7 @@ fn made_by(
     Some(made)
 }
 
-// The ledger state after a block that spends the first of the references, and makes those from the place `size` on.
+// The ledger state after a block that spends the first of the references, and makes those from the index `size` on.
 fn follow(
     memory: Memory,
     ledger: &Ledger,
@@ -63,7 +63,7 @@ fn follow_all(
     Some(state)
 }
 
-// Whether the state has the last of the outputs, and the first no more.
+// Whether the state has the last of the outputs, and no longer the first.
 fn has_followed(state: &Ledger, references: &[OutRef]) -> bool {
     match (references.first(), references.last()) {
         (Some(first), Some(last)) => state.get(first).is_none() && state.get(last).is_some(),
@@ -71,8 +71,8 @@ fn has_followed(state: &Ledger, references: &[OutRef]) -> bool {
     }
 }
 
-/// What it takes to make the ledger states after a thousand blocks, one after the other, each of which spends a hundred of the
-/// oldest outputs and makes a hundred. `None` where the last isn't as it should be.
+/// The time for the ledger states after 1,000 blocks, one after the other, each of which spends the 100 oldest outputs
+/// and makes 100. Returns `None` if the last state isn't as expected.
 pub fn time_blocks(
     clock: &impl Clock,
     memory: Memory,

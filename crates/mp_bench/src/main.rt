@@ -1,6 +1,6 @@
-//! Measures what the product's parts cost. Without an argument it prints the names of its measurements. With `run` it takes
-//! each, or the one that is named after it, at several sizes, and prints a line for it: its name, the size, and the nanoseconds
-//! that one step took. With `mempool-hour` it tries mempools that hand over for an hour.
+//! Measures the cost of the product's parts. Without an argument, it prints the names of its measurements. With `run`,
+//! it takes all measurements, or the one that is named after it, at several sizes. For each it prints a line with the
+//! name, the size, and the nanoseconds of one step. With `mempool-hour`, it tries mempools that hand over, for an hour.
 #![tactic(auto)]
 
 mod blocks;
@@ -36,7 +36,7 @@ fn time<R: Clock + Threads + Wait + Sync>(rt: &R, round: &Round<'_>) -> Option<D
     }
 }
 
-// What the steps take in the best of several rounds, once all is made.
+// The time of the steps in the best of several rounds, without the preparation.
 fn best<R: Clock + Threads + Wait + Sync>(
     rt: &R,
     filled: Option<()>,
@@ -88,7 +88,7 @@ fn time_at<R: Clock + Threads + Wait + Sync>(
     best_upon(rt, memory, measurement, size, &ledger)
 }
 
-// Takes the measurement at each size. Of a sync the time for each transaction is told.
+// Takes the measurement at each size. For a sync, prints the time per transaction.
 fn take<R: Clock + Threads + Wait + Print + Sync>(
     rt: &R,
     memory: Memory,
@@ -108,7 +108,7 @@ fn take<R: Clock + Threads + Wait + Print + Sync>(
     Ok(())
 }
 
-// Takes those of the name, or all. Gives how many were taken.
+// Takes the measurements with this name, or all. Returns how many were taken.
 fn take_named<R: Clock + Threads + Wait + Print + Sync>(
     rt: &R,
     memory: Memory,
@@ -131,7 +131,7 @@ fn print_names(rt: &impl Print) -> Result<()> {
     Ok(())
 }
 
-// The numbers from the third word on, or the usual ones where there are none.
+// The numbers from the third word on, or the default ones if there are none.
 fn numbers(words: &[String], usual: [u64; 3]) -> Result<[u64; 3]> {
     let mut numbers = usual;
     for (number, word) in numbers.iter_mut().zip(words.iter().skip(2)) {

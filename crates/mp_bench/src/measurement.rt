@@ -1,58 +1,58 @@
 //! What is measured.
 
-/// The sizes that each measurement is taken at: how many outputs or transactions there are.
+/// The sizes of each measurement: the number of outputs or transactions.
 pub const SIZES: [u64; 3] = [1_000, 10_000, 100_000];
 
-/// How many steps are taken, however large the ledger state or the pool is.
+/// The number of steps, whatever the size of the ledger state or the pool.
 pub const STEPS: u64 = 1_000;
 
-/// What takes the steps.
+/// What runs the steps.
 #[derive(Clone, Copy)]
 pub enum Work {
-    /// The bytes of a transaction are decoded.
+    /// Decodes the bytes of a transaction.
     Decode,
-    /// Transactions are checked upon the ledger state.
+    /// Checks transactions on the ledger state.
     Check,
-    /// Ledger states follow a thousand blocks.
+    /// Applies 1,000 blocks, one after the other.
     Blocks,
-    /// The pool of one thread is asked.
+    /// The pool of one thread executes the commands.
     Pool,
-    /// One caller asks the mempool.
+    /// One caller of the mempool gives the commands.
     OneThread,
-    /// Four callers ask the mempool at once, each a quarter.
+    /// Four callers of the mempool give the commands at the same time, a quarter each.
     FourThreads,
-    /// One caller asks the mempool, and another takes snapshots.
+    /// One caller of the mempool gives the commands, and another takes snapshots.
     Watch,
-    /// Each of a thousand callers who haven't seen any of the transactions takes a snapshot.
+    /// Each of 1,000 callers that haven't seen any of the transactions takes a snapshot.
     Newer,
 }
 
-/// What is asked.
+/// The commands.
 #[derive(Clone, Copy)]
 pub enum Asked {
-    /// Submits of the first thousand transactions.
+    /// Submits of the first 1,000 transactions.
     First,
-    /// Submits of the next thousand.
+    /// Submits of the next 1,000.
     Next,
-    /// The bytes of these are decoded, and each is submitted at once.
+    /// Decodes the bytes of these, and submits each at once.
     Arriving,
-    /// Submits of the next thousand, where each is signed.
+    /// Submits of the next 1,000, each of which is signed.
     Signed,
-    /// Removes of the first thousand transactions, one by one.
+    /// Removes of the first 1,000 transactions, one by one.
     Remove,
-    /// A sync with a ledger state upon which every other transaction is valid.
+    /// A sync to a ledger state on which every other transaction is valid.
     Sync,
-    /// A sync with a ledger state upon which all are valid.
+    /// A sync to a ledger state on which all transactions are valid.
     Stay,
-    /// Nothing.
+    /// No commands.
     Nothing,
 }
 
-/// A measurement: its name, what takes the steps, whether a pool has as many transactions as the size says before them, what is
-/// asked, and how much of that is answered.
+/// A measurement: its name, what runs the steps, whether the pool first has as many transactions as the size says, the
+/// commands, and how many of them are answered.
 pub type Measurement = (&'static str, Work, bool, Asked, u64);
 
-/// All of them, in the order in which they are taken.
+/// All measurements, in the order in which they are taken.
 pub static MEASUREMENTS: [Measurement; 15] = [
     ("decode", Work::Decode, false, Asked::First, STEPS),
     ("check", Work::Check, false, Asked::First, STEPS),

@@ -1,4 +1,4 @@
-//! Rounds: what they begin with, and the steps of one thread.
+//! Rounds: their preparation, and the steps of one thread.
 
 use crate::measurement::{Asked, Measurement, STEPS, Work};
 use crate::samples::{
@@ -22,7 +22,7 @@ pub struct Tally {
 }
 
 impl Tally {
-    /// Nothing yet.
+    /// All counts are 0.
     pub fn new() -> Tally {
         Tally {
             answered: AtomicU64::new(0),
@@ -32,7 +32,7 @@ impl Tally {
     }
 }
 
-/// What a round begins with.
+/// The input of a round.
 #[derive(Clone, Copy)]
 pub struct Round<'a> {
     pub memory: Memory,
@@ -40,9 +40,9 @@ pub struct Round<'a> {
     pub asked: Asked,
     pub size: u64,
     pub ledger: &'a Ledger,
-    /// What a pool is asked before the time is taken.
+    /// The commands before the time is taken.
     pub before: &'a [Command],
-    /// What is asked then, the bytes of its transactions, and how much of it is answered.
+    /// The commands whose time is taken, the bytes of their transactions, and how many of them are answered.
     pub commands: &'a [Command],
     pub bytes: &'a [Bytes],
     pub answered: u64,
@@ -57,7 +57,7 @@ fn push_remove_of(memory: Memory, commands: &mut Commands, submit: &Command) -> 
     }
 }
 
-// A remove each of the first thousand.
+// Appends a remove of each of the first 1,000.
 fn push_removes(memory: Memory, commands: &mut Commands, before: &[Command]) -> Option<()> {
     for submit in before.iter().take(STEPS as usize) {
         push_remove_of(memory, commands, submit)?;
@@ -84,7 +84,7 @@ fn push_asked(
     }
 }
 
-/// What a pool is asked before the time is taken, and then.
+/// Prepares the commands before the time is taken, and those after.
 pub fn fill(
     memory: Memory,
     before: &mut Commands,
@@ -97,7 +97,7 @@ pub fn fill(
     push_asked(memory, commands, before, asked, size)
 }
 
-/// The ledger state that has the outputs that are spent.
+/// The ledger state with the outputs that are spent.
 pub fn opening(memory: Memory, asked: Asked, size: u64) -> Option<Ledger> {
     let outputs = match asked {
         Asked::Next | Asked::Arriving | Asked::Signed => size.saturating_add(STEPS),
@@ -147,7 +147,7 @@ fn count_answered(pool: &mut SeqPool, commands: &[Command], verifier: &Spinning)
     answered
 }
 
-// Whether what arrives is taken in.
+// Whether the decoded transaction is accepted.
 fn is_taken(memory: Memory, pool: &mut SeqPool, bytes: &[u8], verifier: &Spinning) -> bool {
     match submit_of(memory, bytes) {
         Some(command) => is_answered(pool, &command, verifier),
@@ -174,7 +174,7 @@ fn take_steps(round: &Round<'_>, pool: &mut SeqPool) -> u64 {
     }
 }
 
-// How many transactions the pool has after the steps.
+// The number of transactions in the pool after the steps.
 fn left(round: &Round<'_>) -> u64 {
     match round.asked {
         Asked::Remove => round.size.saturating_sub(STEPS),
@@ -196,7 +196,8 @@ fn time_steps(clock: &impl Clock, round: &Round<'_>, pool: &mut SeqPool) -> Opti
     None
 }
 
-/// What the steps take one thread. `None` where they don't come to what they should, so none can be left out.
+/// The time of the steps in one thread. Returns `None` if their results aren't as expected, so that no step can be left
+/// out.
 pub fn time_alone(clock: &impl Clock, round: &Round<'_>) -> Option<Duration> {
     let config = Config {
         limit: 1 << 32,

@@ -1,5 +1,5 @@
-//! What is measured is made of these: ledger states, and transactions with one input and one output. What can't be made is
-//! `None`.
+//! The samples of the measurements: ledger states, and transactions with one input and one output. The result is `None`
+//! if they can't be made.
 
 use mp_bytes::digest;
 use mp_memory::Memory;
@@ -14,7 +14,7 @@ pub type Commands = Vec<Command, Memory>;
 /// The bytes of a transaction.
 pub type Bytes = Vec<u8, Memory>;
 
-/// Block bytes for all transactions.
+/// Block bytes that are enough for all transactions.
 pub const MANY: u64 = 1 << 39;
 
 /// The reference to the output with this number.
@@ -36,7 +36,7 @@ fn outputs_by(memory: Memory, step: u64, size: u64) -> Option<Vec<(OutRef, Outpu
     Some(outputs)
 }
 
-/// A ledger state with each output of `size`, or each second one, and so on.
+/// A ledger state of `size` with every output for step 1, every second one for step 2, and so on.
 pub fn ledger_by(memory: Memory, step: u64, block_bytes: u64, size: u64) -> Option<Ledger> {
     let outputs = outputs_by(memory, step, size)?;
     Ledger::of_outputs(memory, Salt::new(7), 0, block_bytes, outputs).ok()
@@ -56,8 +56,8 @@ fn made(memory: Memory, parts: TxParts) -> Option<Arc<Tx, Memory>> {
     Arc::new(memory, tx).ok()
 }
 
-/// A submit comes last: of a transaction that spends this and pays so much. It has 181 bytes for one output, and 277 where it is
-/// signed. Gives its id.
+/// Appends a submit of a transaction that spends this output and pays this much, and returns its id. It has 181 bytes
+/// for one output, and 277 if it is signed.
 pub fn push_submit(
     memory: Memory,
     commands: &mut Commands,
@@ -72,13 +72,13 @@ pub fn push_submit(
     Some(id)
 }
 
-/// A submit of the transaction whose bytes these are.
+/// A submit of the transaction with these bytes.
 pub fn submit_of(memory: Memory, bytes: &[u8]) -> Option<Command> {
     let tx = Tx::decode(memory, bytes).ok()?;
     Some(Command::Submit(Arc::new(memory, tx).ok()?))
 }
 
-// The bytes of the transaction, or none where none is submitted.
+// The bytes of the transaction, or none if the command isn't a submit.
 fn bytes_of(memory: Memory, command: &Command) -> Option<Bytes> {
     match command {
         Command::Submit(tx) => tx.encode(memory).ok(),
@@ -94,12 +94,12 @@ fn encode_all(memory: Memory, commands: &[Command]) -> Option<Vec<Bytes, Memory>
     Some(all)
 }
 
-/// The bytes of the transactions that are submitted, or none where there is no memory.
+/// The bytes of the submitted transactions, or none if there is no memory.
 pub fn all_bytes(memory: Memory, commands: &[Command]) -> Vec<Bytes, Memory> {
     encode_all(memory, commands).unwrap_or(Vec::new(memory))
 }
 
-/// Submits come last that spend the outputs from this number on, up to the one before that number.
+/// Appends submits that spend the outputs from the first number up to and without the second.
 pub fn push_submits(
     memory: Memory,
     commands: &mut Commands,
@@ -113,14 +113,14 @@ pub fn push_submits(
     Some(())
 }
 
-/// A remove of these comes last.
+/// Appends a remove of these.
 pub fn push_remove(memory: Memory, commands: &mut Commands, ids: &[TxId]) -> Option<()> {
     let ids = Ids::of(Vec::from_slice(memory, ids).ok()?);
     let shared = Arc::new(memory, ids).ok()?;
     commands.push(Command::Remove(shared)).ok()
 }
 
-/// A sync with a ledger state of `size` comes last.
+/// Appends a sync to a ledger state of `size`.
 pub fn push_sync(
     memory: Memory,
     commands: &mut Commands,

@@ -1,4 +1,4 @@
-//! The mempool that callers share: what is asked of it, and the steps of its measurements.
+//! The mempool that callers share: its commands, and the steps of its measurements.
 ghost use Rattle.std.specs.Prelude.{◌≡◌};
 ghost use Rattle.mp_history.specs.PoolName.{head_of};
 ghost use Rattle.mp_bench.specs.Signatures.{any};
@@ -18,13 +18,13 @@ use std::sync::atomic::Ordering;
 use std::thread::{Threads, for_each_mut};
 use std::time::{Duration, Instant};
 
-// As many changes as there may be, and the first ticket is 1.
+// The greatest number of changes, and the first ticket is 1.
 const CONFIG: Config = Config {
     limit: 1 << 32,
     last: 0,
 };
 
-/// The command is asked of the mempool.
+/// Gives the command to the mempool.
 pub fn ask<N: PoolName>(
     rt: &impl Wait,
     mempool: &Mempool<N, Spinning>,
@@ -62,7 +62,7 @@ fn ask_all<N: PoolName>(
     answered
 }
 
-// Whether what arrives is taken in.
+// Whether the decoded transaction is accepted.
 fn is_taken<N: PoolName>(
     rt: &impl Wait,
     memory: Memory,
@@ -91,7 +91,7 @@ fn count_taken<N: PoolName>(
     taken
 }
 
-// How much of its part of the round the caller is answered.
+// How many commands of the caller's part of the round are answered.
 fn take_part<N: PoolName>(
     rt: &impl Wait,
     mempool: &Mempool<N, Spinning>,
@@ -122,7 +122,7 @@ fn look_until<N: PoolName>(mempool: &Mempool<N, Spinning>, pass: &mut Pass<N>, t
     tally.looks.store(looks, Ordering::SeqCst);
 }
 
-/// How many of these callers see so many entries.
+/// How many of these callers see this many entries.
 pub fn count_seen<N: PoolName>(
     mempool: &Mempool<N, Spinning>,
     passes: &mut [Pass<N>],
@@ -137,7 +137,7 @@ pub fn count_seen<N: PoolName>(
     seen
 }
 
-// What the caller asks in a thread of its own.
+// The commands of the caller, in a thread of its own.
 fn part_of<'a>(round: &Round<'a>, caller: usize) -> &'a [Command] {
     let (from, to) = match round.work {
         Work::FourThreads => (
@@ -204,7 +204,7 @@ fn reset(tally: &Tally) {
     tally.has_ended.store(false, Ordering::SeqCst);
 }
 
-// What the steps take, once the mempool has its transactions.
+// The time of the steps, once the mempool has its transactions.
 fn time_steps<N: PoolName + Send + Sync, R: Clock + Threads + Wait + Sync>(
     rt: &R,
     mempool: &Mempool<N, Spinning>,
@@ -225,7 +225,7 @@ fn time_steps<N: PoolName + Send + Sync, R: Clock + Threads + Wait + Sync>(
     Some(of_thousand(time, round.tally.looks.load(Ordering::SeqCst)))
 }
 
-// What a thousand of so many take.
+// The time of 1,000 steps, given that of `steps`.
 fn of_thousand(time: Duration, steps: u64) -> Duration {
     let nanos = time.as_nanos().saturating_mul(u128::from(STEPS)) / u128::from(steps.max(1));
     Duration::from_nanos(u64::try_from(nanos).unwrap_or(u64::MAX))
@@ -256,7 +256,7 @@ fn open<N: PoolName + Send + Sync, R: Clock + Threads + Wait + Sync>(
     }
 }
 
-/// What the steps of the round take on a new mempool of so many callers.
+/// The time of the round's steps on a new mempool with this many callers.
 pub fn time_shared<R: Clock + Threads + Wait + Sync>(
     rt: &R,
     callers: u32,

@@ -1,5 +1,5 @@
-//! A long trial of mempools that hand over. In each round callers ask a mempool for whatever the dice say, each in a thread of its
-//! own; it hands over to a successor, upon which they go on; and audits go through both histories.
+//! A long trial of mempools that hand over. In each round, callers give random commands to a mempool, each in a thread
+//! of its own. Then it hands over to a successor, and they continue on that. Audits check both histories.
 
 mod audits;
 mod chapter;
@@ -27,10 +27,10 @@ use std::thread::Threads;
 use std::time::{Duration, Instant};
 use table::{OUTPUTS, Table, count_owners, fill};
 
-// In how many turns callers play on a pool at most.
+// The greatest number of turns that callers play on a pool.
 const TURNS: u64 = 40;
 
-/// What all rounds begin with, and what came of all commands.
+/// What all rounds begin with, and the counts of all commands.
 pub struct Trial {
     memory: Memory,
     ledger: Ledger,
@@ -53,7 +53,7 @@ impl Drop for Trial {
     }
 }
 
-// What all rounds have come to so far, and the seed of the next one.
+// The totals of all rounds so far, and the seed of the next one.
 #[derive(Clone, Copy)]
 struct Totals {
     seed: u64,
@@ -79,7 +79,7 @@ fn part_of(dice: &mut Dice) -> Part {
     }
 }
 
-// Plays both pools, and goes through their histories.
+// Plays both pools, and checks their histories.
 fn play_both<R: Clock + Threads + Wait + Sync>(
     rt: &R,
     trial: &Trial,
@@ -96,7 +96,7 @@ fn play_both<R: Clock + Threads + Wait + Sync>(
     Ok(())
 }
 
-// Plays a round. Nothing of its pools may be left then.
+// Plays a round. Afterwards, nothing of its pools may remain.
 fn play_round<R: Clock + Threads + Wait + Sync>(
     rt: &R,
     trial: &Trial,
@@ -114,7 +114,7 @@ fn play_round<R: Clock + Threads + Wait + Sync>(
     Ok(())
 }
 
-// Plays rounds until the time is over, one at least. Their tickets go on.
+// Plays rounds until the time is over, at least one. Their tickets continue.
 fn play_rounds<R: Clock + Threads + Wait + Sync>(
     rt: &R,
     trial: &Trial,
@@ -138,7 +138,7 @@ fn play_rounds<R: Clock + Threads + Wait + Sync>(
     Ok(())
 }
 
-// Prints what came of the commands and of the audits.
+// Prints the counts of the commands and of the audits.
 fn print(rt: &impl Print, counts: [u64; 5], totals: &Totals) -> io::Result<()> {
     let [entered, refused, snapshots, learned, strange] = counts;
     println!(rt;
@@ -176,10 +176,10 @@ fn run_upon<R: Clock + Threads + Wait + Print + Sync>(
     }
 }
 
-/// Plays rounds until so many seconds are over, and prints what came of them.
+/// Plays rounds for this many seconds, and prints the counts.
 ///
 /// # Errors
-/// What went wrong, and the seed of its round, at once. A trial of that seed begins with the same commands.
+/// The first failure, with the seed of its round. A trial of that seed begins with the same commands.
 pub fn run<R: Clock + Threads + Wait + Print + Sync>(
     rt: &R,
     memory: Memory,

@@ -1,30 +1,30 @@
-//! A verifier that takes its time.
+//! A verifier that takes a fixed time.
 
 use mp_rules::Verifier;
 use mp_tx::{Key, Sig, TxId};
 use std::sync::atomic::{AtomicU64, Ordering};
 
-// So many turns took some 50 microseconds on the machine of the figures.
+// This many turns took about 50 microseconds on the machine of the published figures.
 const TURNS: u32 = 31_250;
 
 /// A verifier that accepts each signature after a fixed number of turns of arithmetic.
 #[derive(Drop)]
 pub struct Spinning {
-    // What the turns came to last, so that none can be left out.
+    // The result of the last turns, so that no turn can be optimized away.
     last: AtomicU64,
 }
 
 fn turn_often(first: u64) -> u64 {
     let mut number = first;
     for _ in 0..TURNS {
-        // Shifted and multiplied in turn, so that several turns can't be made one.
+        // Shift and multiply alternate, so that several turns can't be merged into one.
         number = (number ^ (number >> 29)).wrapping_mul(6_364_136_223_846_793_005);
     }
     number
 }
 
 impl Spinning {
-    /// A verifier that has accepted nothing.
+    /// A verifier that hasn't accepted anything yet.
     pub fn new() -> Spinning {
         Spinning {
             last: AtomicU64::new(0),

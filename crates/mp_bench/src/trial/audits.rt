@@ -1,4 +1,4 @@
-//! Audits of the history of a pool, and of its successor's.
+//! Audits of the history of a pool and of its successor.
 
 use super::Trial;
 use super::chapter::{Chapter, View, are_rising};
@@ -9,7 +9,7 @@ use mp_history::{AuditFault, Entry, audit};
 use mp_seqpool::{Config, SeqPool};
 use mp_tx::TxId;
 
-// Does what one entry asks, where the entry is right.
+// Executes the command of one entry, if the entry is right.
 fn replay(
     pool: &mut SeqPool,
     callers: u32,
@@ -27,7 +27,7 @@ fn replay(
     }
 }
 
-// Does what the entries of so many callers ask, as far as they are right: an audit upon what the pool has.
+// Executes the commands of the entries, up to the first that is wrong: an audit that begins with the pool's content.
 fn audit_upon(
     pool: &mut SeqPool,
     callers: u32,
@@ -49,12 +49,12 @@ fn has(pool: &SeqPool, held: &[(u64, TxId)]) -> bool {
     pool.len() == held.len()
 }
 
-// Whether the pool is as it was seen.
+// Whether the pool is as the snapshot saw it.
 fn is_as_seen(pool: &SeqPool, view: &View) -> bool {
     pool.changes() == view.number && pool.last_ticket() == view.last && has(pool, &view.held)
 }
 
-// Whether the tickets of a history rise from this one on, and it leads to what was seen last.
+// Whether the tickets of a history are strictly increasing from this one on, and it leads to what was seen last.
 fn look_at(pool: &SeqPool, chapter: &Chapter, last: u64) -> Result<(), Fault> {
     if !are_rising(&chapter.entries, last) {
         return Err(Fault::OldTicket);
@@ -65,7 +65,7 @@ fn look_at(pool: &SeqPool, chapter: &Chapter, last: u64) -> Result<(), Fault> {
     Ok(())
 }
 
-// The pool after the history, if that is legal.
+// The pool after the history, if it is legal.
 fn audit_first(trial: &Trial, plan: Plan, entries: &[Entry]) -> Result<SeqPool, Fault> {
     let config = Config {
         limit: LIMIT,
@@ -84,7 +84,7 @@ fn audit_first(trial: &Trial, plan: Plan, entries: &[Entry]) -> Result<SeqPool, 
     }
 }
 
-// Goes through a successor's history, which begins with what the pool that handed over had.
+// Audits a successor's history, which begins with the content of the pool that handed over.
 fn audit_second(pool: &mut SeqPool, callers: u32, entries: &[Entry]) -> Result<(), Fault> {
     pool.renew(LIMIT);
     match audit_upon(pool, callers, entries, &Spinning::new()) {
@@ -93,14 +93,14 @@ fn audit_second(pool: &mut SeqPool, callers: u32, entries: &[Entry]) -> Result<(
     }
 }
 
-// Whether each pool opened as it had to: the first one empty, and its successor with what it had.
+// Whether each pool opened as it should: the first one empty, and its successor with the content of the first.
 fn opened_well(plan: Plan, tale: &Tale) -> bool {
     let end = &tale.before.closing;
     tale.before.opening.opens_with(plan.last, &[])
         && tale.after.opening.opens_with(end.last, &end.held)
 }
 
-/// Goes through both histories, and compares where each begins and ends with what was seen there.
+/// Audits both histories, and compares where each begins and ends with what was seen there.
 pub fn audit_tale(trial: &Trial, plan: Plan, tale: &Tale) -> Result<(), Fault> {
     if !opened_well(plan, tale) {
         return Err(Fault::OtherOpening);

@@ -1,4 +1,4 @@
-//! What came of one pool.
+//! The record of one pool.
 
 use mp_history::{Entry, PoolName};
 use mp_memory::Memory;
@@ -8,7 +8,7 @@ use mp_tx::TxId;
 use mp_versions::Snapshot;
 use std::sync::{Mutex, Wait};
 
-/// What a snapshot says: how many entries there were, the last ticket, and the transactions under their tickets.
+/// The content of a snapshot: the number of entries, the last ticket, and the transactions with their tickets.
 pub struct View {
     pub number: u64,
     pub last: u64,
@@ -34,7 +34,7 @@ impl View {
         }
     }
 
-    /// Takes down what the snapshot says.
+    /// Records the snapshot.
     pub fn take_down<N: PoolName>(&mut self, snapshot: &Snapshot<'_, N>) -> Option<()> {
         self.number = snapshot.number();
         self.last = snapshot.last();
@@ -44,13 +44,13 @@ impl View {
         Some(())
     }
 
-    /// Whether a pool opens so that takes these over, and this last ticket.
+    /// Whether a pool opens like this if it takes over these transactions and this last ticket.
     pub fn opens_with(&self, last: u64, held: &[(u64, TxId)]) -> bool {
         self.number == 0 && self.last == last && self.held.as_slice() == held
     }
 }
 
-/// What came of one pool: with what it opened, what was entered, and what it had in the end.
+/// The record of one pool: its content when it opened, its entries, and its content at the end.
 pub struct Chapter {
     pub opening: View,
     pub entries: Vec<Entry, Memory>,
@@ -67,7 +67,7 @@ impl Drop for Chapter {
     }
 }
 
-// Whether the places are 0, 1, .., so many.
+// Whether the places are 0, 1, .. up to and without `count`.
 fn are_whole(receipts: &[Receipt], count: u64) -> bool {
     for (place, receipt) in receipts.iter().enumerate() {
         if receipt.place != place as u64 {
@@ -77,7 +77,7 @@ fn are_whole(receipts: &[Receipt], count: u64) -> bool {
     receipts.len() as u64 == count
 }
 
-// All receipts in the order of their places. None is left.
+// Moves all receipts into one list, in the order of their places.
 fn gather(
     rt: &impl Wait,
     memory: Memory,
@@ -98,7 +98,7 @@ fn entries_of(memory: Memory, receipts: Vec<Receipt, Memory>) -> Option<Vec<Entr
     Some(entries)
 }
 
-/// The history of so many entries, if these receipts tell of all.
+/// The history of this many entries, if the receipts have them all.
 pub fn take_history(
     rt: &impl Wait,
     memory: Memory,
@@ -112,7 +112,7 @@ pub fn take_history(
     entries_of(memory, receipts)
 }
 
-/// Whether the tickets that were given rise from this one on.
+/// Whether the given tickets are strictly increasing from this one on.
 pub fn are_rising(entries: &[Entry], last: u64) -> bool {
     let mut last = last;
     for entry in entries {
@@ -127,7 +127,7 @@ pub fn are_rising(entries: &[Entry], last: u64) -> bool {
 }
 
 impl Chapter {
-    /// Nothing yet.
+    /// An empty record.
     pub fn empty(memory: Memory) -> Chapter {
         Chapter {
             opening: View::empty(memory),

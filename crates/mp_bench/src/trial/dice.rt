@@ -1,13 +1,13 @@
-//! Numbers that look random.
+//! Pseudorandom numbers.
 
-/// A row of numbers that look random: the same from the same seed.
+/// A sequence of pseudorandom numbers, which the seed determines.
 #[derive(Clone, Copy)]
 pub struct Dice {
     state: u64,
 }
 
 impl Dice {
-    /// The row of this seed.
+    /// The sequence of this seed.
     pub fn of(seed: u64) -> Dice {
         Dice { state: seed }
     }
@@ -20,7 +20,7 @@ impl Dice {
         second ^ (second >> 31)
     }
 
-    /// One of the items, where there are any.
+    /// One of the items, or `None` if there are none.
     pub fn pick<'a, T>(&mut self, items: &'a [T]) -> Option<&'a T> {
         let place = self.roll() % (items.len() as u64).max(1);
         items.get(place as usize)

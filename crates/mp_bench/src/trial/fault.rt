@@ -1,9 +1,9 @@
-//! Why a trial ends before its time.
+//! Why a trial ends early.
 
 use mp_history::AuditFault;
 use thiserror::Error;
 
-/// Why a trial ends before its time.
+/// Why a trial ends early.
 #[derive(Clone, Copy, Debug, PartialEq, Eq, Error)]
 pub enum Fault {
     #[error("no memory, or no clock")]

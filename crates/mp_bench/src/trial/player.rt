@@ -1,4 +1,4 @@
-//! A caller that asks for whatever the dice say.
+//! A caller that gives random commands.
 
 use super::dice::Dice;
 use super::table::Table;
@@ -15,10 +15,10 @@ use std::sync::{Mutex, Wait};
 use std::thread;
 use std::time::{Duration, Instant};
 
-// How many commands a caller asks for in a turn.
+// The number of commands that a caller gives in a turn.
 const BURST: u32 = 20;
 
-/// What came of the commands of all callers.
+/// The results of all callers' commands.
 #[derive(Drop)]
 pub struct Counts {
     entered: AtomicU64,
@@ -28,20 +28,21 @@ pub struct Counts {
     strange: AtomicU64,
 }
 
-// What came of a command.
+// The result of a command.
 #[derive(Clone, Copy)]
 enum Came {
     Entered,
     Refused,
     Snapshot,
     Learned,
-    /// What must not come: that memory was wanting, that the pass isn't known, or that a snapshot goes back or isn't sound.
+    /// A result that must not occur: an allocation failure, an unknown pass, or a snapshot that goes backwards or isn't
+    /// sound.
     Strange,
     Nothing,
 }
 
 impl Counts {
-    /// Nothing yet.
+    /// All counts are 0.
     pub fn none() -> Counts {
         Counts {
             entered: AtomicU64::new(0),
@@ -64,13 +65,13 @@ impl Counts {
         count.fetch_add(1, Ordering::SeqCst);
     }
 
-    /// Whether anything came that must not come.
+    /// Whether a result occurred that must not.
     pub fn has_strange(&self) -> bool {
         self.strange.load(Ordering::SeqCst) != 0
     }
 
-    /// How many were entered and refused, how many snapshots were taken, how often a caller was told of a version, and how much
-    /// came that must not come.
+    /// The numbers of accepted commands, of refusals, of snapshots, of versions that a caller learned, and of results
+    /// that must not occur.
     pub fn read(&self) -> [u64; 5] {
         [
             self.entered.load(Ordering::SeqCst),
@@ -82,7 +83,7 @@ impl Counts {
     }
 }
 
-/// What callers do on one pool: from which seed, and in how many turns.
+/// What callers do on one pool: the seed, and the number of turns.
 #[derive(Clone, Copy)]
 pub struct Part {
     pub seed: u64,
@@ -97,15 +98,15 @@ pub struct Scene<'a, N: PoolName> {
     pub table: &'a Table,
     pub counts: &'a Counts,
     pub receipts: &'a Mutex<Vec<Receipt, Memory>>,
-    /// Where callers tell one another what they have seen.
+    /// The post through which callers pass on what they have seen.
     pub post: &'a Mutex<Shown<N>>,
     pub part: Part,
-    /// When each of their turns begins: at the same times for all.
+    /// When their first turn begins: turns begin at the same times for all.
     pub start: Instant,
     pub period: Duration,
 }
 
-// Keeps the receipt.
+// Stores the receipt.
 fn note<N: PoolName>(
     rt: &impl Wait,
     receipts: &Mutex<Vec<Receipt, Memory>>,
@@ -134,7 +135,8 @@ fn change<N: PoolName>(
     }
 }
 
-// Whether it has at least so many entries and given tickets, its tickets rise, and its numbers are those of its transactions.
+// Whether it has at least this many entries and this last ticket, its tickets are strictly increasing, and its numbers
+// are those of its transactions.
 fn is_sound<N: PoolName>(snapshot: &Snapshot<'_, N>, least: u64, last: u64) -> bool {
     let mut count: usize = 0;
     let mut bytes: u64 = 0;
@@ -161,7 +163,7 @@ fn look<N: PoolName>(mempool: &Mempool<N, Spinning>, pass: &mut Pass<N>) -> Came
     }
 }
 
-// Looks at what would stay upon another ledger state.
+// Asks what would stay on another ledger state.
 fn look_upon<N: PoolName>(
     scene: &Scene<'_, N>,
     pass: &mut Pass<N>,
@@ -202,7 +204,7 @@ fn tell<N: PoolName>(rt: &impl Wait, post: &Mutex<Shown<N>>, pass: &Pass<N>) -> 
     }
 }
 
-// Does what the dice say.
+// Takes one random step.
 fn step<N: PoolName>(rt: &impl Wait, scene: &Scene<'_, N>, dice: &mut Dice, pass: &mut Pass<N>) {
     let came = match dice.roll() % 16 {
         0 => change(rt, scene, pass, dice.pick(&scene.table.syncs)),

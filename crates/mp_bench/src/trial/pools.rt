@@ -1,4 +1,4 @@
-//! A pool and its successor, and what their callers do.
+//! The greatest number of changes of each pool.
 ghost use Rattle.std.specs.Prelude.{◌≡◌};
 ghost use Rattle.mp_history.specs.PoolName.{head_of};
 ghost use Rattle.mp_bench.specs.Signatures.{any};
@@ -18,23 +18,23 @@ use std::sync::{Mutex, Wait};
 use std::thread::{Threads, for_each_mut};
 use std::time::{Duration, Instant};
 
-/// How many changes each pool makes at most.
+/// All callers together give about 10,000 commands a second.
 pub const LIMIT: u64 = 10_000;
 
 // All callers together ask for some ten thousand commands a second.
 const MILLIS_FOR_EACH: u64 = 2;
 
-/// What is done in a round.
+/// The plan of a round.
 #[derive(Clone, Copy)]
 pub struct Plan {
     /// The ticket before the first one.
     pub last: u64,
-    /// What is done on the pool, and what on its successor.
+    /// What is done on the pool, and on its successor.
     pub before: Part,
     pub after: Part,
 }
 
-/// What came of a pool and of its successor.
+/// The records of a pool and of its successor.
 pub struct Tale {
     pub before: Chapter,
     pub after: Chapter,
@@ -84,7 +84,7 @@ fn is_fresh<N: PoolName>(place: usize, pass: &Pass<N>) -> bool {
     pass.caller() as usize == place && pass.last().is_none() && pass.front().len() == 0
 }
 
-// Whether these are the passes of so many callers before any change.
+// Whether these are the passes of this many callers before any change.
 fn are_fresh<N: PoolName>(passes: &[Pass<N>], callers: u32) -> bool {
     for (place, pass) in passes.iter().enumerate() {
         if !is_fresh(place, pass) {
@@ -102,7 +102,7 @@ fn see<N: PoolName>(
     view.take_down(&mempool.reader().snapshot(passes.first_mut()?))
 }
 
-// Plays the part, and takes down with what the pool opens and ends.
+// Plays the part, and records the content of the pool when it opens and at the end.
 fn play_part<N: PoolName + Send + Sync, R: Clock + Threads + Wait + Sync>(
     rt: &R,
     trial: &Trial,
@@ -116,7 +116,7 @@ fn play_part<N: PoolName + Send + Sync, R: Clock + Threads + Wait + Sync>(
     see(mempool, passes, &mut chapter.closing)
 }
 
-// What comes of a pool whose passes are these.
+// The record of a pool with these passes.
 fn live<N: PoolName + Send + Sync, R: Clock + Threads + Wait + Sync>(
     rt: &R,
     trial: &Trial,
@@ -134,7 +134,7 @@ fn live<N: PoolName + Send + Sync, R: Clock + Threads + Wait + Sync>(
     Ok(())
 }
 
-// What comes of the successor, whose last version all callers see in the end.
+// The record of the successor, whose last version all callers see at the end.
 fn live_on<M: PoolName + Send + Sync, R: Clock + Threads + Wait + Sync>(
     rt: &R,
     trial: &Trial,
@@ -150,7 +150,7 @@ fn live_on<M: PoolName + Send + Sync, R: Clock + Threads + Wait + Sync>(
     Ok(())
 }
 
-// What comes of the pool, and of a successor of this name.
+// The records of the pool, and of a successor with this name.
 fn go_on<N: PoolName + Send + Sync, M: PoolName + Send + Sync, R: Clock + Threads + Wait + Sync>(
     rt: &R,
     trial: &Trial,

@@ -1,4 +1,4 @@
-//! What callers ask for.
+//! The commands of the callers.
 
 use crate::samples::{Commands, MANY, push_remove, push_submit, push_sync, reference};
 use mp_memory::Memory;
@@ -7,17 +7,18 @@ use mp_testing::output_of;
 use mp_tx::TxId;
 use std::sync::Arc;
 
-/// How many outputs the ledger states have at most.
+/// The greatest number of outputs of the ledger states.
 pub const OUTPUTS: u64 = 128;
 
-// Block bytes for few transactions.
+// Block bytes for only a few transactions.
 const FEW: u64 = 2_000;
 
-/// What callers ask for.
+/// The commands of the callers.
 pub struct Table {
-    /// For each output two submits that spend it, and one that spends what the first pays; and a remove of up to three of them.
+    /// For each output, two submits that spend it, one that spends what the first pays, and a remove of up to three of
+    /// them.
     pub changes: Commands,
-    /// Syncs with ledger states with all outputs or some.
+    /// Syncs to ledger states with all outputs or some of them.
     pub syncs: Commands,
 }
 
@@ -30,7 +31,7 @@ impl Drop for Table {
     }
 }
 
-// Gives the id of the first.
+// Appends the changes of one output, and returns the id of the first transaction.
 fn push_family(memory: Memory, commands: &mut Commands, number: u64) -> Option<TxId> {
     let spent = reference(number);
     let id = push_submit(memory, commands, spent, &[100], false)?;
@@ -55,13 +56,13 @@ fn push_syncs(memory: Memory, commands: &mut Commands) -> Option<()> {
     Some(())
 }
 
-/// All that callers ask for is put into the table.
+/// Fills the table with all commands.
 pub fn fill(memory: Memory, table: &mut Table) -> Option<()> {
     push_changes(memory, &mut table.changes)?;
     push_syncs(memory, &mut table.syncs)
 }
 
-/// How many owners the transactions have, all together.
+/// The total number of the transactions' owners.
 pub fn count_owners(commands: &[Command]) -> usize {
     let mut owners: usize = 0;
     for command in commands {
