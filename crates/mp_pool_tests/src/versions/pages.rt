@@ -17,7 +17,7 @@ pub fn chunk_len(version: &Version, place: usize) -> u64 {
 }
 
 // The number of the first chunk that isn't full, the number of its items, and that of the next chunk. Without such a
-// chunk, it is the last number.
+// chunk, all are `u64::MAX`.
 fn end(version: &Version) -> [u64; 3] {
     for place in 0..u16::MAX {
         let len = chunk_len(version, usize::from(place));
