@@ -11,10 +11,10 @@ use mp_seqpool::{Command, Ids};
 use mp_tx::{Ledger, Tx, TxId, TxParts};
 use std::sync::Arc;
 
-/// The first samples, from 0. Sample n submits a transaction of 181 bytes that spends opening output n and pays 100.
+/// How many samples, from 0 on, submit a transaction of 181 bytes: sample n spends opening output n and pays 100.
 pub const SPENDING: u16 = 130;
 
-/// Three submits: the first spends opening 0, the second what the first pays, the third opening 1.
+/// The first of three submits: the first spends opening 0, the second what the first pays, the third opening 1.
 pub const THREE: usize = 130;
 
 /// A submit of a transaction that spends what sample 1 pays.
