@@ -36,7 +36,7 @@ impl Drop for Found {
     }
 }
 
-// The first of these items, at most `count`, that fit into this many bytes together.
+// The longest prefix of these items that has at most `count` items and fits into `room` bytes.
 fn first_within(
     memory: Memory,
     items: Iter<'_, ValidatedTx>,
@@ -96,7 +96,7 @@ fn put_snapshot(text: &mut Text, names: &Names, pool: &SeqPool) -> Result<(), No
     put_contents(text, names, pool.contents())
 }
 
-// The oldest transactions that fit into this many bytes together.
+// The longest prefix of the transactions, oldest first, that fits into `room` bytes.
 fn oldest_within(memory: Memory, pool: &SeqPool, room: u64) -> Result<Found, NoMemory>
     ensures items { IfOk result
         (λ f. items_of f.items.items ≡ within room pool.now.pool.items) }
