@@ -22,7 +22,7 @@ pub enum Query {
     Lookup(u64),
     /// Whether the pool has a transaction with this id.
     Has(TxId),
-    /// The oldest transactions that fit into this many bytes together.
+    /// The longest prefix of the transactions, oldest first, that fits into this many bytes.
     Take(u64),
     /// A block of at most this many bytes.
     Forge(u64),
