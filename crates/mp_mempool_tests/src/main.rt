@@ -1,6 +1,6 @@
-//! Tests the pool that callers share, what is read of it for peers, and what it stands on, for what no contract says: growths that are
-//! refused, threads, what is dropped, and answers that were worked out by hand. It prints each case that is found otherwise, and for each
-//! part how many held.
+//! Tests the pool that callers share, and reading it for peers, for properties that no contract states: failing
+//! allocations, threads, what is dropped, and answers that were computed by hand. It prints each case that fails, and
+//! the number of cases that hold in each part.
 #![tactic(auto)]
 
 mod mempool;

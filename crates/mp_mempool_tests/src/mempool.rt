@@ -1,5 +1,6 @@
-//! The pool that many callers share: what they are told and see, threads that share a pool, and each call under refusals of memory.
-//! What callers ask and are told stands in tables, which one function plays on a new pool. Pools hand over to successors.
+//! The pool that many callers share: what they hear and see, threads that share a pool, and each call with failing
+//! allocations. Tables have the calls and the expected results, and one function plays a table on a new pool. Pools
+//! hand over to successors.
 mod calls;
 mod growths;
 mod heard;
@@ -39,7 +40,7 @@ fn held_alone(rt: &(impl Print + Wait), samples: &Samples) -> io::Result<u64> {
     )
 }
 
-/// How many cases hold.
+/// The number of cases that hold.
 pub fn held<R: Print + Threads + Wait + Sync>(rt: &R, samples: &Samples) -> io::Result<u64> {
     let held = held_alone(rt, samples)?;
     Ok(held.wrapping_add(held_threads(rt, samples)?))

@@ -1,5 +1,5 @@
-//! What is read of a pool for peers and for blocks: what is offered where transactions come and go, limits that let nothing through,
-//! how many owners the transactions have while an offer or a block is there, and each refused growth.
+//! Reading a pool for peers and for blocks: offers while transactions come and go, limits that let nothing through, the
+//! number of the transactions' owners while an offer or a block exists, and each failing allocation.
 ghost use Rattle.std.specs.Prelude.{◌≡◌};
 ghost use Rattle.mp_history.specs.PoolName.{head_of};
 ghost use Rattle.mp_pool_samples.specs.Names.{any};
@@ -27,7 +27,7 @@ const CONFIG: Config = Config {
     last: 0,
 };
 
-// Makes each row's call in turn, and counts the rows that hold.
+// Makes the call of each row in turn, and counts the rows that hold.
 fn play<N: PoolName>(
     rt: &(impl Wait + Print),
     mempool: &Mempool<N, AcceptsAll>,
@@ -46,7 +46,7 @@ fn play<N: PoolName>(
     Ok(held)
 }
 
-// How many rows hold on a new pool of one caller.
+// The number of rows that hold on a new pool with one caller.
 fn of_name<N: PoolName>(
     rt: &(impl Wait + Print),
     name: NewName,
@@ -64,7 +64,7 @@ fn of_name<N: PoolName>(
     }
 }
 
-/// How many cases hold.
+/// The number of cases that hold.
 pub fn held(rt: &(impl Wait + Print), samples: &Samples) -> io::Result<u64> {
     match samples.ledger(ALL) {
         Some(ledger) => of_name::<Brand>(rt, NewName::new(), samples, ledger),

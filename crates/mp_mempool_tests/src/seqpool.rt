@@ -1,4 +1,5 @@
-//! The sequential pool, and a version of all of it, at each refused growth: the pool stays, and then the same call answers.
+//! The sequential pool, and a version of all its items, with each allocation failing: the pool doesn't change, and the
+//! same call then answers.
 use crate::trials::{Trial, count_trial};
 use mp_memory::NoMemory;
 use mp_pool_samples::samples::{AFTER_FIRST, GUARDED, OF_120, REMOVE_FIRST, Samples, THREE};
@@ -9,14 +10,14 @@ use mp_testing::{Call, Seen, under_each_refusal};
 use mp_versions::Version;
 use std::io;
 
-// What is called on a pool with the three transactions.
+// The call on a pool with the three transactions.
 #[derive(Clone, Copy)]
 enum Way {
-    // Another such pool is made.
+    // Makes another pool like that.
     Play,
-    // The version of the pool is made.
+    // Makes the version of the pool.
     Show,
-    // The sample is asked for, as one step.
+    // Executes the command of the sample, as one step.
     Step(usize),
 }
 
@@ -35,7 +36,7 @@ fn play_three(samples: &Samples) -> Option<SeqPool> {
     }
 }
 
-// The tickets as the digits of a number, the bytes, the last ticket and the changes.
+// The pool's tickets as the digits of a number, its bytes, the last ticket and the number of changes.
 fn stand(pool: &SeqPool) -> [u64; 4] {
     let mut tickets = 0;
     for (ticket, _) in pool.contents() {
@@ -49,7 +50,7 @@ fn look_at(pool: &SeqPool) -> Seen {
     [tickets, bytes, last, changes, 0, 0]
 }
 
-// What is told, and how the pool stands then.
+// The answer, and the state of the pool after it.
 fn step(pool: &mut SeqPool, command: &Command) -> Option<Seen> {
     let told = match pool.step(command, &ACCEPTS_ALL) {
         Ok(answer) => read_answer(&answer),
@@ -60,7 +61,7 @@ fn step(pool: &mut SeqPool, command: &Command) -> Option<Seen> {
     Some([kind, first, second, tickets, bytes, last])
 }
 
-// How many transactions there are, their bytes, the last ticket, and the changes.
+// The number of transactions, their bytes, the last ticket, and the number of changes.
 fn look_at_version(version: &Version) -> Seen {
     [
         version.len() as u64,
@@ -93,9 +94,9 @@ impl Call for Calling<'_> {
     }
 }
 
-// What is called, what is seen then, and how many growths there are at least. A step is told 1 and its ticket, 2 and the tickets that were
-// named and those that went with them, or 3 and those that stay and those that don't; and then it is seen which tickets stand in the pool,
-// its bytes and the last ticket.
+// The call, its expected result, and the least number of its allocations. The answer to a step is 1 and its ticket, 2
+// and the tickets that were named and those that went with them, or 3 and the tickets that stay and those that don't.
+// Then come the pool's tickets, its bytes and the last ticket.
 static ROWS: [(&str, Way, Seen, u64); 5] = [
     ("a pool of three", Way::Play, [123, 543, 3, 3, 0, 0], 6),
     ("a version of a pool", Way::Show, [3, 543, 3, 3, 0, 0], 3),
@@ -123,7 +124,7 @@ fn try_way(samples: &Samples, way: Way) -> Trial {
     under_each_refusal(&samples.memory, &Calling { samples, way })
 }
 
-/// How many cases hold.
+/// The number of cases that hold.
 pub fn held(rt: &impl Print, samples: &Samples) -> io::Result<u64> {
     let mut held = 0u64;
     for (name, way, wanted, least) in &ROWS {

@@ -1,8 +1,8 @@
-//! Calls under each refusal of memory: what is found of each, and what is wanted.
+//! Calls with each allocation failing: the observed and the expected results.
 use mp_testing::{Seen, TrialFault, Trialled};
 use std::io;
 
-/// What comes of a trial of a call.
+/// The result of a trial of a call.
 pub type Trial = Result<Trialled, TrialFault>;
 
 fn holds(trial: &Trial, wanted: Seen, least: u64) -> bool {
@@ -12,8 +12,8 @@ fn holds(trial: &Trial, wanted: Seen, least: u64) -> bool {
     }
 }
 
-/// Gives 1 where the call's answer under each refusal is as it is wanted, and the call makes at least so many growths. Otherwise it prints
-/// the case, and gives 0.
+/// Returns 1 if the answer of the call is the expected one whichever allocation fails, and the call makes at least this
+/// many allocations. Else prints the case, and returns 0.
 pub fn count_trial(
     rt: &impl Print,
     name: &str,

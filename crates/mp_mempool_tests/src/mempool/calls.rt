@@ -9,25 +9,26 @@ use mp_seqpool::Command;
 use mp_versions::Shown;
 use std::sync::Wait;
 
-/// What one caller does.
+/// An action of one caller.
 #[derive(Clone, Copy)]
 pub enum Call {
-    /// It asks for the sample.
+    /// It gives the command of the sample.
     Ask(usize),
-    /// It asks for the samples from the first number to before the second, and hears of the last one.
+    /// It gives the commands of the samples from the first number up to and without the second, and hears the answer to
+    /// the last one.
     AskAll(usize, usize),
-    /// It asks for what would stay upon the ledger state of the sample.
+    /// It asks what would stay on the ledger state of the sample.
     SnapshotFor(usize),
     Snapshot,
-    /// It reads what it has seen, without a look at the pool.
+    /// It reads what it has seen, without reading the pool.
     Seen,
-    /// It reads where its last entry stands.
+    /// It reads the place of its last entry.
     Last,
     /// It learns what that caller has seen.
     Learn(usize),
-    /// From now on the refusal of that growth waits.
+    /// It arms the refusal of that allocation.
     Refuse(u64),
-    /// It asks whether the refusal has come. None waits any more.
+    /// It asks whether the refusal has happened, and disarms it.
     Met,
     /// It looks at each pass.
     Passes,
@@ -36,7 +37,7 @@ pub enum Call {
 /// The passes of all callers.
 pub type Passes<N> = Vec<Pass<N>, Memory>;
 
-/// The command is asked of the pool.
+/// Gives the command to the pool.
 pub fn ask<N: PoolName>(
     rt: &impl Wait,
     mempool: &Mempool<N, AcceptsAll>,
@@ -50,7 +51,7 @@ pub fn ask<N: PoolName>(
     }
 }
 
-// What is heard of the last one.
+// Gives all of them, and returns the answer to the last one.
 fn ask_all<N: PoolName>(
     rt: &impl Wait,
     mempool: &Mempool<N, AcceptsAll>,
@@ -83,7 +84,7 @@ fn read_last<N: PoolName>(pass: &Pass<N>) -> Heard {
     }
 }
 
-// What a caller does with its own pass.
+// An action of a caller with its own pass.
 fn use_pass<N: PoolName>(
     rt: &impl Wait,
     mempool: &Mempool<N, AcceptsAll>,

@@ -1,4 +1,5 @@
-//! Each call at each refused growth: where there is no memory nothing changes, and then the same call is answered.
+//! Each call with each allocation failing: it changes nothing if an allocation fails, and the same call is then
+//! answered.
 use crate::mempool::calls::Call;
 use crate::mempool::heard::{Heard, NO_MEMORY};
 use crate::mempool::pools::{LONG, Line, MAX_GROWTHS, Played, play};
@@ -10,19 +11,19 @@ use mp_testing::{Seen, count};
 use std::io;
 use std::sync::Wait;
 
-// Both transactions that stand before the call.
+// Both transactions that are in the pool before the call.
 const BOTH: Heard = Heard::Sees(2, 2, 12);
 
-// A call on a pool in which two transactions stand, what is heard of it, and what is heard of a submit of sample 0 after it, whose id the
-// first signed sample has too.
+// A call on a pool with two transactions, its answer, and the answer to a submit of sample 0 after it. The first signed
+// sample has the same id as sample 0.
 type Case = (Call, Heard, Heard);
 
 const SUBMIT: Call = Call::Ask(0);
 
 const NEXT: Heard = Heard::Entered(3, Told::Accepted(3));
 
-// Each case, and whether the call is answered without some growths: a submit of what is signed alone is where only the look before the
-// lock has no memory.
+// Each case, and whether the call is answered although some allocations fail. Only a submit of a signed transaction is:
+// the check before the lock may run out of memory.
 static ROWS: [(&str, Case, bool); 5] = [
     (
         "a submit at refused growths",
@@ -71,7 +72,8 @@ static ROWS: [(&str, Case, bool); 5] = [
     ),
 ];
 
-// The call is answered although that growth is refused. Where there is no such growth, something else is heard of the last line.
+// The call is answered although that allocation fails. If there is no such allocation, the answer of the last line
+// differs.
 fn answered(rt: &impl Wait, samples: &Samples, case: Case, nth: u64) -> Played {
     let (call, wanted, _) = case;
     let lines: [Line; 5] = [
@@ -84,7 +86,7 @@ fn answered(rt: &impl Wait, samples: &Samples, case: Case, nth: u64) -> Played {
     play(rt, samples, 2, LONG, &lines)
 }
 
-// The call is refused, both callers see what stood before it, and then it is answered, and so is the next change.
+// The call is refused, both callers see what was there before it, and then it is answered, and so is the next change.
 fn refused(rt: &impl Wait, samples: &Samples, case: Case, nth: u64) -> Played {
     let (call, wanted, next) = case;
     let lines: [Line; 10] = [
@@ -102,10 +104,10 @@ fn refused(rt: &impl Wait, samples: &Samples, case: Case, nth: u64) -> Played {
     play(rt, samples, 2, LONG, &lines)
 }
 
-// What a refused growth comes to.
+// The outcome of a failing allocation.
 #[derive(Clone, Copy)]
 enum Outcome {
-    // There is no such growth.
+    // There is no such allocation.
     Unmet,
     Answered,
     Refused,
@@ -121,8 +123,8 @@ fn try_growth(rt: &impl Wait, samples: &Samples, case: Case, nth: u64) -> Outcom
     }
 }
 
-// How many growths are refused, up to the five that are wanted, and whether the call is answered without some; or `None` where a
-// trial goes wrong.
+// How many allocations fail, up to the expected five, and whether the call is answered although some fail. Returns
+// `None` if a trial goes wrong.
 fn try_all(rt: &impl Wait, samples: &Samples, case: Case) -> Option<Seen> {
     let mut refused: u64 = 0;
     let mut answered: u64 = 0;
@@ -137,7 +139,7 @@ fn try_all(rt: &impl Wait, samples: &Samples, case: Case) -> Option<Seen> {
     None
 }
 
-// How many growths a submit makes that spends both outputs of another, which stands in the pool. 0 where it goes wrong.
+// The number of allocations of a submit that spends both outputs of another, which is in the pool. 0 if it goes wrong.
 fn growths_of(rt: &impl Wait, samples: &Samples, parent: usize, child: usize) -> u64 {
     for nth in 1..MAX_GROWTHS {
         let lines: [Line; 4] = [
@@ -155,7 +157,7 @@ fn growths_of(rt: &impl Wait, samples: &Samples, parent: usize, child: usize) ->
     0
 }
 
-// The look before the lock finds each output that is named, in order: scripts aren't run again under the lock, so it makes no
+// The check before the lock finds each named output, in order, so scripts don't run again under the lock. It makes no
 // difference whether the two outputs differ.
 fn see_scripts(rt: &impl Wait, samples: &Samples) -> Seen {
     let differing = growths_of(rt, samples, RIVAL, MERGED);
@@ -170,7 +172,7 @@ fn see_scripts(rt: &impl Wait, samples: &Samples) -> Seen {
     ]
 }
 
-/// How many cases hold.
+/// The number of cases that hold.
 pub fn held_growths(rt: &(impl Print + Wait), samples: &Samples) -> io::Result<u64> {
     let mut held = 0u64;
     for (name, case, is_answered) in &ROWS {

@@ -7,28 +7,28 @@ use mp_pool_samples::told::{Told, read_refusal, read_reply, with_digit};
 use mp_testing::Seen;
 use mp_versions::Snapshot;
 
-/// What a caller hears. Tickets are told as the digits of a number: 1 and 2 are 12, 0 is none, and `MANY` are more than 19.
+/// What a caller hears. Tickets are the digits of a number: 1 and 2 are 12, 0 is none, and `MANY` are more than 19.
 #[derive(Clone, Copy)]
 pub enum Heard {
     /// The place of the entry, and the reply.
     Entered(u64, Told),
     Refused(Told),
     Foreign,
-    /// What would stay: the entries of the history, the tickets, and the bytes.
+    /// What would stay: the number of entries of the history, the tickets, and the bytes.
     Kept(u64, u64, u64),
-    /// What is seen: the entries of the history, how many transactions there are, and their tickets.
+    /// What is seen: the number of entries of the history, the number of transactions, and their tickets.
     Sees(u64, usize, u64),
     /// The place of the caller's last entry.
     Last(u64),
     /// The caller has made no entry.
     NoLast,
-    /// Whether the refusal of memory has come.
+    /// Whether the refused allocation has come.
     Met(bool),
-    /// So many passes, each with its place as its number, have seen nothing.
+    /// This many passes have seen nothing, and the index of each is its number.
     Fresh(usize),
-    /// The pass at this place isn't so.
+    /// The pass at this index isn't like that.
     Unlike(usize),
-    /// There is nothing to tell.
+    /// There is no answer.
     Done,
     /// There is no such caller or sample.
     Nobody,
@@ -37,17 +37,17 @@ pub enum Heard {
 /// More than 19 tickets.
 pub const MANY: u64 = u64::MAX;
 
-/// There was no memory.
+/// An allocation failed.
 pub const NO_MEMORY: Heard = Heard::Refused(Told::NoMemory);
 
-// What is told, from an entry at this place on; without one it is 0.
+// The answer as numbers, with an entry at this place, or 0 without one.
 fn told_from(told: Told, place: u64) -> Seen {
     let [kind, first, second, ..] = told.seen();
     [kind, first, second, place, 0, 0]
 }
 
 impl Heard {
-    /// What is heard as numbers, of which the first says of which kind it is. From the fifth on they are 0.
+    /// What is heard, as numbers. The first is its kind, and from the fifth on they are 0.
     pub fn seen(self) -> Seen {
         let [kind, first, second, third] = match self {
             Heard::Entered(place, told) => return told_from(told, place.saturating_add(1)),
@@ -67,7 +67,7 @@ impl Heard {
     }
 }
 
-/// What is heard by the answer to a change.
+/// The answer to a change.
 pub fn read_answer<N: PoolName>(answer: &Result<Receipt, Refusal<N>>) -> Heard {
     match answer {
         Ok(receipt) => Heard::Entered(receipt.place, read_reply(&receipt.entry.reply)),
@@ -84,7 +84,7 @@ fn digits_of(items: &[Item]) -> u64 {
     digits
 }
 
-/// What is heard of what would stay.
+/// The answer about what would stay.
 pub fn read_kept(kept: &Result<SnapshotFor, NoMemory>) -> Heard {
     match kept {
         Ok(kept) => Heard::Kept(kept.number, digits_of(kept.items.as_slice()), kept.bytes),
@@ -100,7 +100,7 @@ fn digits_in(run: Run<'_>) -> u64 {
     digits
 }
 
-/// What is seen in the snapshot.
+/// The content of the snapshot.
 pub fn read_snapshot<N: PoolName>(snapshot: &Snapshot<'_, N>) -> Heard {
     Heard::Sees(
         snapshot.number(),

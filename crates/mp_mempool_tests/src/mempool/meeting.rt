@@ -1,11 +1,11 @@
-//! Checks of signatures that wait for each other. They are made before the lock is taken, so both come through.
+//! Checks of signatures that wait for each other. They are made before the lock is taken, so both finish.
 use mp_memory::{Memory, NoMemory};
 use mp_rules::Verifier;
 use mp_tx::{Key, Sig, TxId};
 use std::sync::Arc;
 use std::sync::atomic::{AtomicU64, Ordering};
 
-// A check that waits for the other one looks for it so often at most.
+// The greatest number of times that a check looks for the other one.
 const MOST_LOOKS: u64 = 1_000_000_000;
 
 /// Whether each of two checks has begun, and how many have seen the other.
@@ -48,14 +48,14 @@ impl Flags {
     }
 }
 
-/// Accepts each signature, once it has looked for the check of the other of two keys.
+/// Accepts each signature, after it has waited for the check of the other of two keys.
 #[derive(Drop)]
 pub struct Meeting {
     flags: Arc<Flags, Memory>,
 }
 
 impl Meeting {
-    /// The verifier of these flags.
+    /// The verifier with these flags.
     pub fn of(flags: &Arc<Flags, Memory>) -> Result<Meeting, NoMemory> {
         Ok(Meeting {
             flags: Arc::try_clone(flags)?,

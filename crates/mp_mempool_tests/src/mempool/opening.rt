@@ -1,4 +1,4 @@
-//! Which pools are opened.
+//! Which pools open.
 use crate::mempool::calls::Call;
 use crate::mempool::heard::Heard;
 use crate::mempool::pools::{Line, Played, play};
@@ -13,7 +13,7 @@ const BAD_CALLERS: Played = Played::NotOpened(OpenRefusal::BadCallers, 7);
 
 const BAD_LIMIT: Played = Played::NotOpened(OpenRefusal::BadLimit, 7);
 
-// The callers and the limit, with what comes of it.
+// The callers and the limit, and the result.
 static ROWS: [(&str, u32, u64, Played); 9] = [
     ("a pool of 1", 1, 1, Played::AsTold),
     ("a pool of 1,024", 1_024, 1 << 32, Played::AsTold),
@@ -26,13 +26,13 @@ static ROWS: [(&str, u32, u64, Played); 9] = [
     ("1,025 and too many changes", 1_025, u64::MAX, BAD_CALLERS),
 ];
 
-// What comes of the opening: each caller has its pass.
+// The result of the opening: each caller has its pass.
 fn open(rt: &impl Wait, samples: &Samples, callers: u32, limit: u64) -> Played {
     let fresh: [Line; 1] = [(0, Call::Passes, Heard::Fresh(callers as usize))];
     play(rt, samples, callers, limit, &fresh)
 }
 
-// The opening of a pool of three callers.
+// The opening of a pool with three callers.
 #[derive(Drop)]
 struct Opening<'a, R: Wait> {
     rt: &'a R,
@@ -62,7 +62,7 @@ fn try_opening<R: Wait>(rt: &R, samples: &Samples) -> Trial {
     under_each_refusal(&samples.memory, &Opening { rt, samples })
 }
 
-/// How many cases hold.
+/// The number of cases that hold.
 pub fn held_openings<R: Print + Wait>(rt: &R, samples: &Samples) -> io::Result<u64> {
     let trial = try_opening(rt, samples);
     let mut held = count_trial(rt, "an opening at refused growths", trial, [0; 6], 6)?;

@@ -1,4 +1,4 @@
-//! Pools of some callers, on which tables of calls are played.
+//! Pools on which tables of calls are played.
 ghost use Rattle.std.specs.Prelude.{◌≡◌};
 ghost use Rattle.mp_history.specs.PoolName.{head_of};
 ghost use Rattle.mp_pool_samples.specs.Names.{any};
@@ -14,30 +14,30 @@ use mp_tx::Ledger;
 use std::marker::Brand;
 use std::sync::Wait;
 
-/// More changes than any table makes.
+/// A limit that no table reaches.
 pub const LONG: u64 = 1_000_000;
 
-/// A trial gives up on a call that makes so many growths.
+/// A trial gives up on a call with this many allocations.
 pub const MAX_GROWTHS: u64 = 1_000;
 
-/// A line of a table: a caller by its number, what it does, and what it is to hear.
+/// A line of a table: the number of a caller, its action, and what it should hear.
 pub type Line = (usize, Call, Heard);
 
-/// What comes of a table.
+/// The result of a table.
 #[derive(Clone, Copy)]
 pub enum Played {
-    /// All is heard as the table says.
+    /// Every caller hears what the table says.
     AsTold,
-    /// The line of this number, from 0, is the first of which something else is heard.
+    /// The first line, from 0, whose caller hears something else, and what it hears.
     Otherwise(usize, Heard),
-    /// The pool isn't opened, and the verifier that comes back has this mark.
+    /// The pool doesn't open, and this is the mark of the verifier that comes back.
     NotOpened(OpenRefusal, u64),
-    /// There is no ledger state to open upon.
+    /// There is no ledger state on which to open.
     NoLedger,
 }
 
 impl Played {
-    /// What comes of the table, as numbers.
+    /// The result as numbers.
     pub fn seen(self) -> Seen {
         match self {
             Played::AsTold => [0; 6],
@@ -50,13 +50,13 @@ impl Played {
         }
     }
 
-    /// Whether all is heard as the table says.
+    /// Whether every caller hears what the table says.
     pub fn is_as_told(self) -> bool {
         matches!(self, Played::AsTold)
     }
 }
 
-/// What comes of the table on the pool.
+/// The result of the table on the pool.
 pub fn play_on<N: PoolName>(
     rt: &impl Wait,
     mempool: &Mempool<N, AcceptsAll>,
@@ -94,7 +94,7 @@ fn of_name<N: PoolName>(
     }
 }
 
-/// What comes of the table on a new pool of so many callers, with room for so many changes.
+/// The result of the table on a new pool with this many callers and this limit.
 pub fn play(rt: &impl Wait, samples: &Samples, callers: u32, limit: u64, lines: &[Line]) -> Played {
     match samples.ledger(ALL) {
         Some(ledger) => {

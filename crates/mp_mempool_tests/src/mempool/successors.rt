@@ -1,4 +1,4 @@
-//! A pool that hands over to a successor, or doesn't, and is then as it was.
+//! A pool that hands over to a successor, or fails to and is then as before.
 ghost use Rattle.std.specs.Prelude.{◌≡◌};
 ghost use Rattle.mp_history.specs.PoolName.{head_of};
 ghost use Rattle.mp_pool_samples.specs.Names.{any};
@@ -19,7 +19,7 @@ use std::io;
 use std::marker::Brand;
 use std::sync::Wait;
 
-// How the passes of both callers are handed in.
+// How the passes of both callers are passed.
 #[derive(Clone, Copy)]
 enum Order {
     Whole,
@@ -28,7 +28,7 @@ enum Order {
     None,
 }
 
-// A handover: the passes, the limit and the callers that are asked for, and which growth is refused, where one is.
+// A handover: the passes, the limit, the number of callers, and the allocation that fails, if one does.
 #[derive(Clone, Copy)]
 struct Case {
     order: Order,
@@ -44,14 +44,14 @@ const GOOD: Case = Case {
     refused: 0,
 };
 
-// The pool has room for two changes and has two callers.
+// The pool has two callers, and a limit of two changes.
 const BEFORE: [Line; 3] = [
     (0, Call::Ask(1), Heard::Entered(0, Told::Accepted(1))),
     (1, Call::Ask(CHAINED), Heard::Entered(1, Told::Accepted(2))),
     (0, Call::Ask(0), Heard::Refused(Told::HistoryFull)),
 ];
 
-// Where the pool hasn't handed over, all is as it was.
+// If the pool hasn't handed over, it is as before.
 const AS_BEFORE: [Line; 4] = [
     (0, Call::Last, Heard::Last(0)),
     (1, Call::Last, Heard::Last(1)),
@@ -59,7 +59,7 @@ const AS_BEFORE: [Line; 4] = [
     (1, Call::Ask(0), Heard::Refused(Told::HistoryFull)),
 ];
 
-// The successor has what stood in the pool, and goes on with the next ticket at the first place.
+// The successor has the pool's content. It continues with the next ticket, and with the place 0.
 const AFTER: [Line; 6] = [
     (0, Call::Passes, Heard::Fresh(1)),
     (0, Call::Snapshot, Heard::Sees(0, 2, 12)),
@@ -73,7 +73,7 @@ const AFTER: [Line; 6] = [
     (0, Call::Ask(2), Heard::Refused(Told::HistoryFull)),
 ];
 
-// Takes the passes out that aren't handed in.
+// Takes out the passes that aren't passed.
 fn arrange<N: PoolName>(memory: Memory, passes: &mut Passes<N>, order: Order) -> Passes<N> {
     let mut kept = Vec::new(memory);
     match order {
@@ -105,13 +105,13 @@ fn place_of<N: PoolName>(refusal: &SuccessorRefusal<N>) -> u64 {
     }
 }
 
-// What comes of a table, with what came of the handover: the number of the refusal, or 0, and its place.
+// The result of a table, with the result of the handover: the number of the refusal, or 0, and its place.
 fn with_played(number: u64, place: u64, played: Played) -> Seen {
     let [kind, line, heard, ..] = played.seen();
     [number, place, kind, line, heard, 0]
 }
 
-// What is seen of a handover to a successor of this name, and of the pool that is there after it.
+// The result of a handover to a successor with this name, and of the pool after it.
 fn see<N: PoolName, M: PoolName>(
     rt: &impl Wait,
     name: NewName,
@@ -144,7 +144,7 @@ fn see<N: PoolName, M: PoolName>(
 // A pool with its passes.
 type Opened<N> = (Mempool<N, AcceptsAll>, Passes<N>);
 
-// A pool of two callers, on which the table was played.
+// A pool with two callers, on which the table was played.
 fn open<N: PoolName>(
     rt: &impl Wait,
     name: NewName,
@@ -170,7 +170,7 @@ fn open<N: PoolName>(
     }
 }
 
-// What is seen of the handover, and whether the growth was refused.
+// The result of the handover, and whether the allocation failed.
 fn try_case<N: PoolName>(
     rt: &impl Wait,
     name: NewName,
@@ -194,7 +194,7 @@ fn see_case(rt: &impl Wait, samples: &Samples, case: Case) -> Option<Seen> {
 
 const NO_SUCCESSOR: Seen = [1, 0, 0, 0, 0, 0];
 
-// How many growths a handover makes, up to the five that are wanted, each of which was refused once: then nothing has changed.
+// The number of allocations of a handover, up to the expected five. Each fails once, and then nothing has changed.
 fn see_growths(rt: &impl Wait, samples: &Samples) -> Option<Seen> {
     for nth in 1..MAX_GROWTHS {
         let seen = see_case(
@@ -215,7 +215,7 @@ fn see_growths(rt: &impl Wait, samples: &Samples) -> Option<Seen> {
     None
 }
 
-// Two transactions come, of which the first caller has seen one, and go.
+// Two transactions come, the first caller sees one of them, and both go.
 const COME: [Line; 2] = [
     (0, Call::Ask(1), Heard::Entered(0, Told::Accepted(1))),
     (1, Call::Ask(CHAINED), Heard::Entered(1, Told::Accepted(2))),
@@ -231,7 +231,8 @@ fn share_first<N: PoolName>(passes: &[Pass<N>]) -> Option<Shown<N>> {
     passes.first()?.shown().share().ok()
 }
 
-// How many owners more the transactions have while a version of the pool that handed over is held, and once it is dropped.
+// How many more owners the transactions have while somebody has a version of the pool that handed over, and after it is
+// dropped.
 fn count_held<N: PoolName, M: PoolName>(
     rt: &impl Wait,
     name: NewName,
@@ -273,7 +274,7 @@ fn see_freed(rt: &impl Wait, samples: &Samples) -> Option<Seen> {
     see_held::<Brand>(rt, NewName::new(), samples)
 }
 
-// What is handed in, with the number of the refusal and its place.
+// The passes, with the number of the refusal and its place.
 static ROWS: [(&str, Order, u64, u32, u64, u64); 10] = [
     ("a successor", Order::Whole, 2, 1, 0, 0),
     ("no passes", Order::None, 2, 1, 2, 0),
@@ -294,7 +295,7 @@ static ROWS: [(&str, Order, u64, u32, u64, u64); 10] = [
     ("no passes, nobody and no change", Order::None, 0, 0, 2, 0),
 ];
 
-/// How many cases hold.
+/// The number of cases that hold.
 pub fn held_successors(rt: &(impl Print + Wait), samples: &Samples) -> io::Result<u64> {
     let growths = see_growths(rt, samples);
     let mut held = count(

@@ -1,4 +1,4 @@
-//! What callers are told, what they see of one another's changes, and what a pool that is dropped lets go of.
+//! What callers hear, what they see of each other's changes, and what a dropped pool releases.
 use crate::mempool::calls::Call;
 use crate::mempool::heard::Heard;
 use crate::mempool::pools::{LONG, Line, play};
@@ -11,7 +11,7 @@ use mp_testing::{Seen, count};
 use std::io;
 use std::sync::{Arc, Wait};
 
-// The pool has room for four changes. The second caller has seen what refuses it.
+// The pool has a limit of four changes. The second caller has seen the reason of its refusal.
 const ANSWERS: [Line; 8] = [
     (0, Call::Ask(1), Heard::Entered(0, Told::Accepted(1))),
     (1, Call::Ask(RIVAL), Heard::Refused(Told::InputMissing(0))),
@@ -27,10 +27,10 @@ const ANSWERS: [Line; 8] = [
     (0, Call::Ask(1), Heard::Refused(Told::HistoryFull)),
 ];
 
-// The first caller makes two changes. The second learns the first of them from it, tries another ledger state, which
-// changes nothing, and makes the third change. The third looks after each, and is told nothing. The fourth doesn't look,
-// so the first can't learn from it. At last the fourth looks, and the first learns, while the next growth would be
-// refused: neither makes one.
+// The first caller makes two changes. The second learns the first change from it, tries another ledger state, which
+// changes nothing, and makes the third change. The third reads after each change, and learns nothing from others. The
+// fourth doesn't read, so the first can't learn from it. At the end the fourth reads and the first learns, while the
+// next allocation would fail: neither makes one.
 const SIGHT: [Line; 19] = [
     (0, Call::Ask(1), Heard::Entered(0, Told::Accepted(1))),
     (0, Call::Snapshot, Heard::Sees(1, 1, 1)),
@@ -53,7 +53,7 @@ const SIGHT: [Line; 19] = [
     (0, Call::Met, Heard::Met(false)),
 ];
 
-// Two transactions go, one of them because of the other, and one stays.
+// Two transactions go, one of them because it depends on the other, and one stays.
 const DROPPED: [Line; 6] = [
     (0, Call::Ask(1), Heard::Entered(0, Told::Accepted(1))),
     (1, Call::Ask(CHAINED), Heard::Entered(1, Told::Accepted(2))),
@@ -67,7 +67,7 @@ const DROPPED: [Line; 6] = [
     (0, Call::Ask(PART), Heard::Entered(4, Told::Synced(3, 0))),
 ];
 
-// A remove of nothing is a change like any other, also of an empty pool.
+// A remove of nothing is a change like any other, even in an empty pool.
 const NOTHING_REMOVED: [Line; 5] = [
     (
         0,
@@ -88,7 +88,7 @@ const NOTHING_REMOVED: [Line; 5] = [
     (1, Call::Seen, Heard::Sees(4, 1, 1)),
 ];
 
-/// How many owners the transactions have that are submitted, all together.
+/// The total number of owners of the submitted transactions.
 pub fn count_owners(commands: &[Command]) -> u64 {
     let mut owners: usize = 0;
     for command in commands {
@@ -99,7 +99,8 @@ pub fn count_owners(commands: &[Command]) -> u64 {
     owners as u64
 }
 
-// How many owners the transactions have before the pool is made and once it is dropped, and whether all was as told.
+// The number of owners of the transactions before the pool is opened and after it is dropped, and whether the table
+// holds.
 fn see_dropped(rt: &impl Wait, samples: &Samples) -> Seen {
     let commands = samples.commands(0, SUBMITS);
     let before = count_owners(commands);
@@ -114,7 +115,7 @@ fn see_dropped(rt: &impl Wait, samples: &Samples) -> Seen {
     ]
 }
 
-/// How many cases hold.
+/// The number of cases that hold.
 pub fn held_tables(rt: &(impl Print + Wait), samples: &Samples) -> io::Result<u64> {
     let played = play(rt, samples, 2, 4, &ANSWERS).seen();
     let answers = count(rt, "places and refusals", Some(played), [0; 6])?;

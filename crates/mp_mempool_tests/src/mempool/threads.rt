@@ -19,8 +19,8 @@ use std::marker::Brand;
 use std::sync::{Arc, Mutex, Wait};
 use std::thread::{Threads, for_each_mut};
 
-// Which samples are submitted: those from `before` to `from` by a caller that tells nobody, and then by two threads those
-// to the middle and those from there.
+// The samples that are submitted. One caller submits those from `before` to `from` without telling the others. Then two
+// threads submit those up to the middle and those after it.
 #[derive(Clone, Copy)]
 struct Part {
     before: usize,
@@ -47,7 +47,7 @@ fn push(rt: &impl Wait, receipts: &Mutex<Receipts>, receipt: Receipt) -> Option<
     receipts.lock(rt).push(receipt).ok()
 }
 
-// Submits all of them, as far as they are accepted.
+// Submits all of them, up to the first that is refused.
 fn submit_some<N: PoolName>(
     rt: &impl Wait,
     mempool: &Mempool<N, Meeting>,
@@ -62,7 +62,7 @@ fn submit_some<N: PoolName>(
     Some(())
 }
 
-// What the caller submits in a thread of its own.
+// The commands of the caller, in a thread of its own.
 fn commands_of<'a>(samples: &'a Samples, part: Part, caller: usize) -> &'a [Command] {
     match caller {
         1 => samples.commands(part.from, part.middle),
@@ -89,7 +89,7 @@ fn submit_own<N: PoolName>(
     );
 }
 
-// The first caller submits, and then each of the others does.
+// The first caller submits, and then both others do.
 fn submit_all<N: PoolName + Send + Sync, R: Threads + Wait + Sync>(
     rt: &R,
     mempool: &Mempool<N, Meeting>,
@@ -111,7 +111,7 @@ fn submit_all<N: PoolName + Send + Sync, R: Threads + Wait + Sync>(
     Some(())
 }
 
-// A pool of three callers.
+// A pool with three callers.
 fn of_name<N: PoolName + Send + Sync, R: Threads + Wait + Sync>(
     rt: &R,
     name: NewName,
@@ -166,7 +166,7 @@ fn is_next(receipt: &Receipt, count: u64) -> bool {
     }
 }
 
-// How many receipts stand at their own place in the list, from 0, with the next ticket.
+// How many receipts are at the index of their place, from 0, with the next ticket.
 fn in_turn(receipts: &[Receipt]) -> u64 {
     let mut count: u64 = 0;
     for receipt in receipts {
@@ -187,7 +187,7 @@ fn entries_of(memory: Memory, receipts: Receipts) -> Option<Vec<Entry, Memory>> 
     Some(entries)
 }
 
-// The last ticket that the audit of a history of three callers comes to, or 0 where it finds a fault.
+// The last ticket after an audit of a history of three callers, or 0 if it finds a fault.
 fn last_ticket(samples: &Samples, entries: &[Entry]) -> u64 {
     match tell(samples, ALL, CONFIG, 3, entries) {
         Told::Legal(_, last) => last,
@@ -195,8 +195,8 @@ fn last_ticket(samples: &Samples, entries: &[Entry]) -> u64 {
     }
 }
 
-// How many receipts there are, how many of them have the next place and the next ticket, and the last ticket that an audit of
-// all entries comes to.
+// The number of receipts, the number of those with the next place and the next ticket, and the last ticket after an
+// audit of all entries.
 fn see(samples: &Samples, mut receipts: Receipts, met: u64) -> Option<Seen> {
     if receipts.sort_by_key(|receipt| receipt.place).is_err() {
         return None;
@@ -206,7 +206,7 @@ fn see(samples: &Samples, mut receipts: Receipts, met: u64) -> Option<Seen> {
     Some([count, in_turn, last_ticket(samples, &entries), met, 0, 0])
 }
 
-// What comes of these submits on a new pool: that, and how many checks of signatures have met.
+// The results of these submits on a new pool: that, and how many checks of signatures have met.
 fn share<R: Threads + Wait + Sync>(rt: &R, samples: &Samples, part: Part) -> Option<Seen> {
     let Ok(flags) = Arc::new(samples.memory, Flags::new()) else {
         return None;
@@ -231,7 +231,7 @@ const ON_LEDGER: Part = Part {
     to: SIGNED + 2,
 };
 
-// Both spend outputs of a transaction in the pool, of which neither caller was told.
+// Both spend outputs of a transaction in the pool, which neither caller knows.
 const ON_POOL: Part = Part {
     before: RIVAL,
     from: RIVAL + 1,
@@ -253,7 +253,7 @@ static ROWS: [(&str, Part, Seen); 3] = [
     ("checks upon the pool meet", ON_POOL, [3, 3, 3, 2, 0, 0]),
 ];
 
-/// How many cases hold.
+/// The number of cases that hold.
 pub fn held_threads<R: Print + Threads + Wait + Sync>(
     rt: &R,
     samples: &Samples,

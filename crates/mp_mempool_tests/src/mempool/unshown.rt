@@ -1,4 +1,4 @@
-//! A version that the board has no memory for: its change is made all the same, and others see it after the next change.
+//! A version for which the board has no memory: its change is made, and others see it after the next change.
 use crate::mempool::calls::Call;
 use crate::mempool::heard::{Heard, MANY};
 use crate::mempool::pools::{LONG, Line, MAX_GROWTHS, Played, play};
@@ -8,24 +8,24 @@ use mp_testing::count;
 use std::io;
 use std::sync::Wait;
 
-// What the second caller asks next, and what the third sees after it.
+// What the second caller does next, and what the third sees after it.
 type Next = [Line; 2];
 
-// A submit that is refused shows the version that waits.
+// A submit that is refused publishes the version that waits.
 const REFUSED: Next = [
     (1, Call::Ask(1), Heard::Refused(Told::AlreadyInPool(1))),
     (2, Call::Snapshot, Heard::Sees(32, 32, MANY)),
 ];
 
-// A submit that is accepted shows the version after it.
+// A submit that is accepted publishes the version after it.
 const ACCEPTED: Next = [
     (1, Call::Ask(0), Heard::Entered(32, Told::Accepted(33))),
     (2, Call::Snapshot, Heard::Sees(33, 33, MANY)),
 ];
 
-// The board has room for 32 versions, of which the opening is one. It makes room for more at the 28th submit, and
-// where that is refused, at the 32nd. These growths of the two submits are refused. Then the first caller sees its
-// change and the third doesn't, until the second caller asks.
+// The board has room for 32 versions, one of which is the opening. It makes room for more at the 28th submit, or at the
+// 32nd if that fails. These allocations of the two submits fail. Then the first caller sees its change and the third
+// doesn't, until the second caller gives a command.
 fn lines(early: u64, late: u64, next: Next) -> [Line; 12] {
     let [asked, seen] = next;
     [
@@ -56,7 +56,7 @@ fn try_growths(rt: &impl Wait, samples: &Samples, early: u64, late: u64, next: N
     play(rt, samples, 3, LONG, &lines(early, late, next))
 }
 
-// Whether the last growth whose refusal is awaited doesn't come: that of the 28th submit, or where it is given, that of the 32nd.
+// Whether allocation `nth` isn't reached: of the 28th submit, or of the 32nd if `early` isn't 0.
 fn is_unmet(rt: &impl Wait, samples: &Samples, early: u64, nth: u64) -> bool {
     if early == 0 {
         let played = try_growths(rt, samples, nth, 1, REFUSED);
@@ -66,8 +66,7 @@ fn is_unmet(rt: &impl Wait, samples: &Samples, early: u64, nth: u64) -> bool {
     matches!(played, Played::Otherwise(7, Heard::Met(false)))
 }
 
-// The number of the last growth of the 28th submit, or where the refusal of that is given, of the 32nd. At 0 there is
-// none.
+// The number of the last allocation of the 28th submit, or of the 32nd if `early` isn't 0. 0 if there is none.
 fn last_growth(rt: &impl Wait, samples: &Samples, early: u64) -> u64 {
     for nth in 1..MAX_GROWTHS {
         if is_unmet(rt, samples, early, nth) {
@@ -77,7 +76,7 @@ fn last_growth(rt: &impl Wait, samples: &Samples, early: u64) -> u64 {
     0
 }
 
-/// How many cases hold: whatever comes next, all is as the lines say where the last growths of both submits are refused.
+/// The number of cases that hold: whatever comes next, the lines hold if the last allocations of both submits fail.
 pub fn held_unshown(rt: &(impl Print + Wait), samples: &Samples) -> io::Result<u64> {
     let early = last_growth(rt, samples, 0);
     let late = last_growth(rt, samples, early);

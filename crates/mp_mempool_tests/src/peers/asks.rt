@@ -10,20 +10,20 @@ use mp_pool_samples::samples::Samples;
 use mp_testing::Seen;
 use std::sync::Wait;
 
-/// What is asked.
+/// A call.
 #[derive(Clone, Copy)]
 pub enum Ask {
-    /// The sample is asked for.
+    /// Gives the command of the sample.
     Change(usize),
-    /// Another peer comes, which has been offered nothing.
+    /// Begins with another peer, which has been offered nothing.
     NewPeer,
-    /// Another peer comes, which goes on after the ticket.
+    /// Begins with another peer, which continues after the ticket.
     PeerAfter(u64),
-    /// At most so many items, and at most so many bytes.
+    /// At most this many items, with at most this many bytes.
     Offer(u64, u64),
-    /// At most so many bytes.
+    /// At most this many bytes.
     Forge(u64),
-    /// The call is tried under each refusal.
+    /// Tries the call with each allocation failing.
     Try(Trial),
 }
 
@@ -46,7 +46,7 @@ fn renew(reader: &mut PeerReader, with: PeerReader) -> Seen {
     [reader.cursor(), 0, 0, 0, 0, 0]
 }
 
-/// What is seen of the answer: of a change it is the place of its entry. None where it is refused.
+/// The answer: for a change, the place of its entry. Returns `None` if it is refused.
 pub fn make<N: PoolName>(
     rt: &impl Wait,
     mempool: &Mempool<N, AcceptsAll>,

@@ -1,4 +1,4 @@
-//! An offer and a block under the refusal of each growth.
+//! An offer and a block with each allocation failing.
 use crate::peers::seen::{owners, see_block, see_offer};
 use mp_history::PoolName;
 use mp_mempool::Pass;
@@ -6,12 +6,12 @@ use mp_peer::PeerReader;
 use mp_pool_samples::samples::Samples;
 use mp_testing::{Call, Seen, under_each_refusal};
 
-/// What is tried.
+/// The call that is tried.
 #[derive(Clone, Copy)]
 pub enum Trial {
-    /// An offer of at most so many items, and at most so many bytes, to a new peer.
+    /// An offer of at most this many items, with at most this many bytes, to a new peer.
     Offer(u64, u64),
-    /// A block of at most so many bytes.
+    /// A block of at most this many bytes.
     Block(u64),
 }
 
@@ -42,8 +42,8 @@ impl<N: PoolName> Call for Trying<'_, N> {
     }
 }
 
-/// What the call answers, with the number of its growths as the last number, if each refusal left the cursor as it was, and the
-/// same call was then answered.
+/// The answer of the call, with the number of its allocations as the last number. Returns `None` unless after each
+/// failure the cursor was as before, and the same call was then answered.
 pub fn try_call<N: PoolName>(samples: &Samples, pass: &Pass<N>, trial: Trial) -> Option<Seen> {
     let trying = Trying {
         samples,

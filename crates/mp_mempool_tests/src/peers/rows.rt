@@ -1,13 +1,13 @@
-//! What is asked in turn, and what is wanted.
+//! The calls in order, with the expected answers.
 use crate::peers::asks::Ask;
 use crate::peers::growths::Trial;
 use mp_pool_samples::samples::{ALL, PART, REMOVE_THIRD};
 use mp_testing::Seen;
 
-/// What an ask is for, the ask, and what is to be seen of its answer.
+/// The purpose of a call, the call, and its expected answer.
 pub type Row = (&'static str, Ask, Seen);
 
-/// Each transaction has 181 bytes, so two have 362, and three have 543.
+/// Each transaction has 181 bytes, so two have 362 and three have 543.
 pub static ROWS: [Row; 45] = [
     ("an empty pool", Ask::Offer(9, 1_000), [0; 6]),
     ("an empty block", Ask::Forge(1_000), [0; 6]),

@@ -1,4 +1,4 @@
-//! What is seen of offers and of blocks, as numbers.
+//! Observed offers and blocks, as numbers.
 use crate::mempool::count_owners;
 use mp_history::PoolName;
 use mp_items::Item;
@@ -10,10 +10,10 @@ use mp_testing::Seen;
 use mp_tx::TxId;
 use mp_versions::Snapshot;
 
-// So many samples are submitted, from the first on: a list of all of them takes more than one growth.
+// The number of samples that are submitted, from the first on: a list of all of them takes more than one allocation.
 const SUBMITTED: usize = 6;
 
-/// How many owners the transactions have, all together.
+/// The total number of the transactions' owners.
 pub fn owners(samples: &Samples) -> u64 {
     count_owners(samples.commands(0, SUBMITTED))
 }
@@ -25,7 +25,7 @@ fn submits(command: &Command, id: &TxId) -> bool {
     }
 }
 
-// The place of the item's transaction among the samples, from 1, or 0.
+// The index of the item's transaction among the samples, from 1, or 0.
 fn place_of(samples: &Samples, item: &Item) -> u64 {
     let id = item.tx.id();
     let commands = samples.commands(0, SUBMITTED);
@@ -35,7 +35,7 @@ fn place_of(samples: &Samples, item: &Item) -> u64 {
     }
 }
 
-// The tickets as the digits of a number, and so the places of the transactions: 1 and 2 are 12.
+// The tickets as the digits of a number, and so the indices of the transactions: 1 and 2 are 12.
 fn digits(samples: &Samples, items: &[Item]) -> (u64, u64) {
     let mut tickets = 0u64;
     let mut places = 0u64;
@@ -46,8 +46,8 @@ fn digits(samples: &Samples, items: &[Item]) -> (u64, u64) {
     (tickets, places)
 }
 
-/// What is offered: the tickets, the transactions, how many owners they have more, and the cursor. None where there was no
-/// memory.
+/// The offer: the tickets, the transactions, how many more owners they have, and the cursor. Returns `None` if an
+/// allocation fails.
 pub fn see_offer<N: PoolName>(
     samples: &Samples,
     reader: &mut PeerReader,
@@ -64,8 +64,8 @@ pub fn see_offer<N: PoolName>(
     Some([tickets, places, shared, reader.cursor(), 0, 0])
 }
 
-/// The block: the tickets, the transactions, how many owners they have more, the bytes, and the entries of the history. None where
-/// there was no memory.
+/// The block: the tickets, the transactions, how many more owners they have, the bytes, and the number of entries of
+/// the history. Returns `None` if an allocation fails.
 pub fn see_block<N: PoolName>(
     samples: &Samples,
     snapshot: &Snapshot<'_, N>,
