@@ -92,10 +92,10 @@ impl Bundle {
     /// entries.
     ///
     /// # Errors
-    /// The fault of the first entry that has one. If this entry has several, the one with the least number:
-    /// `NotRising` if its token isn't greater than the token of the entry before, `ZeroQuantity`, `NameTooLong` if the
-    /// name has more than 32 bytes, and `QuantityRange` if the quantity is -2^63.
-    /// `NoMemory` may be returned instead of any answer.
+    /// The fault of the first entry that has one, and if this entry has several, the one with the least number.
+    /// `NotRising`: its token isn't greater than the token of the entry before. `ZeroQuantity`: the quantity is 0.
+    /// `NameTooLong`: the name has more than 32 bytes. `QuantityRange`: the quantity is -2^63. `NoMemory` may be
+    /// returned instead of any answer.
     pub fn of_entries(memory: Memory, entries: Vec<Given, Memory>) -> Result<Bundle, BundleFault>
         ensures ok { IfOk result (λ b. b ≡ entries_of entries.items) }
         ensures faultless { OnOk result (fault_of (entries_of entries.items) ≡ None) }

@@ -1,5 +1,5 @@
-//! Four threads share one pool. Each submits two transactions, a block is filled from the pool's content, the pool
-//! adopts the ledger state after that block, an audit checks the pool's history, and the pool hands over to a
+//! Four threads share one pool. Each submits two transactions. Then a block is filled from the pool's content, and the
+//! pool adopts the ledger state after that block. An audit checks the pool's history, and the pool hands over to a
 //! successor. The output doesn't depend on the order of the threads.
 #![tactic(auto)]
 

@@ -1,5 +1,6 @@
-//! Reading a pool for peers and for blocks: offers while transactions come and go, limits that let nothing through, the
-//! number of the transactions' owners while an offer or a block exists, and each failing allocation.
+//! Reading a pool for peers and for blocks. The cases are offers while transactions come and go, and limits that let
+//! nothing through. They also count the transactions' owners while an offer or a block exists, and let each allocation
+//! fail.
 ghost use Rattle.std.specs.Prelude.{◌≡◌};
 ghost use Rattle.mp_history.specs.PoolName.{head_of};
 ghost use Rattle.mp_pool_samples.specs.Names.{any};

@@ -94,9 +94,9 @@ impl Call for Calling<'_> {
     }
 }
 
-// The call, its expected result, and the least number of its allocations. The answer to a step is 1 and its ticket, 2
-// and the tickets that were named and those that went with them, or 3 and the tickets that stay and those that don't.
-// Then come the pool's tickets, its bytes and the last ticket.
+// The call, its expected result, and the least number of its allocations. The answer to a submit is 1 and its ticket.
+// To a remove it is 2, the tickets that were named, and those that went with them. To a sync it is 3, the tickets that
+// stay, and those that don't. Then come the pool's tickets, its bytes and the last ticket.
 static ROWS: [(&str, Way, Seen, u64); 5] = [
     ("a pool of three", Way::Play, [123, 543, 3, 3, 0, 0], 6),
     ("a version of a pool", Way::Show, [3, 543, 3, 3, 0, 0], 3),

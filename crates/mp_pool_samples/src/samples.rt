@@ -30,8 +30,8 @@ pub const RIVAL: usize = 136;
 /// All samples before this one are submits.
 pub const SUBMITS: usize = 139;
 
-/// Six commands. The first and the last submit the guarded transaction. Between them are a remove of nothing, and syncs
-/// to guarded ledger states at the ticks 1, 2 and 3, in which the guarded output has 100, 120 and 99 coin.
+/// Six commands. The first and the last submit the guarded transaction. Between them are a remove of nothing and three
+/// syncs, to guarded ledger states at the ticks 1, 2 and 3. There the guarded output has 100, 120 and 99 coin.
 pub const GUARDED: usize = 139;
 
 /// The guarded ledger state at tick 0, in which the guarded output has 100 coin.

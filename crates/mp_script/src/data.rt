@@ -57,9 +57,9 @@ impl Data {
     /// share. The list without items takes no allocation.
     ///
     /// # Errors
-    /// The first fault from the left. For each datum, in reading order: `Truncated` if no byte is left, `TooDeep` if
-    /// its depth would be 17, `BadTag` if its first byte is no tag, and `Truncated` if some of its bytes are missing.
-    /// At the end: `Trailing` if bytes are left. `NoMemory` may be returned instead of a datum.
+    /// The first fault from the left. The checks of each datum, in reading order, are: `Truncated` if no byte is left,
+    /// and `TooDeep` if its depth would be 17. Then `BadTag` if its first byte is no tag, and `Truncated` if some of
+    /// its bytes are missing. At the end: `Trailing` if bytes are left. `NoMemory` may be returned instead of a datum.
     pub fn decode(memory: Memory, bytes: &[u8]) -> Result<Data, DataFault>
         ensures found { IfOk result (λ d. (d ≡ bytes.now) × IsDatum bytes.now) }
         ensures only { (d : Datum) → Spells bytes.now d → IfErr result (λ e. e ≡ faults.NoMemory) }

@@ -52,9 +52,9 @@ impl Script {
     /// share. The one operator that gives true takes no allocation.
     ///
     /// # Errors
-    /// The first fault from the left. For each operator: `BadOperator` if its byte is no operator's, `Truncated` if
-    /// further bytes are missing, `TooLong` if it is the 1,025th, `Underflow` if fewer expressions are on the stack
-    /// than it has operands, and `TooDeep` if its expression is deeper than 64.
+    /// The first fault from the left. The checks of each operator, in this order, are: `BadOperator` if its byte is no
+    /// operator's, and `Truncated` if further bytes are missing. Then `TooLong` if it is the 1,025th, and `Underflow`
+    /// if fewer expressions are on the stack than it has operands. Then `TooDeep` if its expression is deeper than 64.
     /// At the end: `NotOneExpression` if the stack doesn't have exactly one expression. `NoMemory` may be returned
     /// instead of a script.
     pub fn decode(memory: Memory, bytes: &[u8]) -> Result<Script, ScriptFault>

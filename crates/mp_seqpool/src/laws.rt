@@ -23,8 +23,8 @@ pub fn pool_laws()
     ensures signed { (accepts : Accepts) (p : Pool) → IsLawful accepts p → AreSigned accepts p }
 {}
 
-/// If the ledger state has no output at the id of any transaction of the pool, then a remove drops, in addition to the
-/// named transactions, exactly those that spend or read an output of one that goes.
+/// What a remove drops in addition to the named transactions: exactly those that spend or read an output of one that
+/// goes. The ledger state must have no output at the id of any transaction of the pool.
 pub fn dependents()
     ensures { (accepts : Accepts) (p : Pool) (ids : List (List ℕ))
         → IsLawful accepts p → IsApart p → DropsDependents accepts p ids }

@@ -660,7 +660,7 @@ impl SeqPool {
         }
     }
 
-    /// Makes the pool a new one that opens with the same content: no change has been made, there may be at most `limit`
+    /// Makes the pool a new one that opens with the same content. No change has been made, there may be at most `limit`
     /// (1 to 2^32), and the last ticket stays. It takes no memory.
     pub fn renew(&mut self, limit: u64)
         requires least { 1 ≤ limit }
@@ -773,9 +773,9 @@ impl SeqPool {
     }
 
     /// The transactions with greater tickets than this one, oldest first. It begins with a look-up of the ticket. If
-    /// the ticket is between those of the pool and no transaction has it, the look-up takes at most as many steps as
-    /// the difference to the next smaller ticket in the pool, and at most as many as there are transactions with
-    /// greater tickets.
+    /// the ticket is between those of the pool and no transaction has it, the number of steps has two bounds. One is
+    /// the difference to the next smaller ticket in the pool, and the other is the number of transactions with greater
+    /// tickets.
     pub fn contents_after(&self, ticket: u64) -> Iter<'_, ValidatedTx>
         ensures all { ticketed result ≡ after self.now.pool.items ticket }
         ensures runs { ShowsInOrder (shown {T = resync.ValidatedTx}) }

@@ -1,4 +1,4 @@
--- Devices that can be told to fail.
+-- Devices that fail on request.
 use Rattle.std.specs.Prelude.{ℕ, List, ◌++◌, replicate, Option, Some, None, ◌==◌, if◌then◌else◌}
 use Rattle.mp_testing.specs.declared.reader.FailingReader.{FailingReader}
 

@@ -1,4 +1,4 @@
-//! A reader that can be told to fail.
+//! A reader that fails on request.
 ghost use Rattle.std.specs.Prelude.{◌≡◌, ◌≤◌, length, take, replicate};
 
 use std::io;

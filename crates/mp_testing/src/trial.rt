@@ -128,9 +128,9 @@ fn stands(tried: Try, nth: u64, wanted: Seen) -> Result<bool, TrialFault> {
 }
 
 /// Tries the call with each of its allocations failing in turn, each time on a new value. After each failure, the call
-/// has to return that it had no memory, the value has to be as before, and the same call on it has to give the answer
-/// that it gives if nothing fails. An `Err` says what didn't hold. For `NotMade` and `Unasked`, the system itself may
-/// have had no memory. No refusal is armed afterwards.
+/// has to return that it had no memory, and the value has to be as before. Then the same call on it has to give the
+/// answer that it gives if nothing fails. An `Err` says what didn't hold. For `NotMade` and `Unasked`, the system
+/// itself may have had no memory. No refusal is armed afterwards.
 pub fn under_each_refusal<R: Refusals, C: Call>(
     memory: &R,
     call: &C,

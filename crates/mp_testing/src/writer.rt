@@ -1,4 +1,4 @@
-//! A writer that can be told to fail.
+//! A writer that fails on request.
 use std::alloc::Global;
 use std::io;
 use std::io::{ErrorKind, Write};

@@ -140,8 +140,8 @@ impl<T> TicketList<T> {
     }
 
     /// The items with a ticket greater than this one, in order. If the ticket is in the list, or less than the first,
-    /// or not less than the last, it searches at most one bucket. Else it takes at most as many steps as the difference
-    /// to the next smaller ticket in the list, and at most as many as there are items with a greater ticket.
+    /// or not less than the last, it searches at most one bucket. Else the number of steps has two bounds. One is the
+    /// difference to the next smaller ticket in the list, and the other is the number of items with a greater ticket.
     pub fn iter_after(&self, ticket: u64) -> Iter<'_, T>
         ensures all { result ≡ after self.now ticket }
         ensures runs { ShowsInOrder (shown {T = T}) }

@@ -224,10 +224,9 @@ impl Tx {
     /// The transaction of these parts.
     ///
     /// # Errors
-    /// The first in this order: `NotRising` if an input, a reference, a policy script or a signature isn't greater than
-    /// the one before it, `ReferenceSpent` if a reference is also an input, `BadInterval` if the first tick is greater
-    /// than the last, and `TooLarge` if there are more than 256 inputs, references or outputs, or more than 16,384
-    /// bytes.
+    /// The first in this order. `NotRising`: an input, a reference, a policy script or a signature isn't greater than
+    /// the one before it. `ReferenceSpent`: a reference is also an input. `BadInterval`: the first tick is greater than
+    /// the last. `TooLarge`: there are more than 256 inputs, references or outputs, or more than 16,384 bytes.
     /// `NoMemory` may be returned instead of any answer.
     pub fn of_parts(memory: Memory, parts: TxParts) -> Result<Tx, TxFault>
         ensures ok { IfOk result (λ t. t ≡ parts_of parts) }

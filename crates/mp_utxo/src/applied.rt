@@ -41,7 +41,7 @@ pub fn vacate(applied: &mut Vec<Applied, Memory>, place: usize)
     applied[place] = Applied { ticket, tx: None };
 }
 
-/// Whether so many places are vacant that it pays to build a new overlay of the remaining transactions.
+/// Whether enough places are vacant that it pays to build a new overlay of the remaining transactions.
 pub fn is_sparse(vacant: usize, places: usize) -> bool {
     vacant > 64 && vacant > places / 2
 }

@@ -22,7 +22,7 @@ pub enum Heard {
     Last(u64),
     /// The caller has made no entry.
     NoLast,
-    /// Whether the refused allocation has come.
+    /// Whether the refusal has happened.
     Met(bool),
     /// This many passes have seen nothing, and the index of each is its number.
     Fresh(usize),

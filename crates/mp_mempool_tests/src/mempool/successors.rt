@@ -19,7 +19,7 @@ use std::io;
 use std::marker::Brand;
 use std::sync::Wait;
 
-// How the passes of both callers are passed.
+// Which passes the handover gets, and in what order.
 #[derive(Clone, Copy)]
 enum Order {
     Whole,
@@ -73,7 +73,7 @@ const AFTER: [Line; 6] = [
     (0, Call::Ask(2), Heard::Refused(Told::HistoryFull)),
 ];
 
-// Takes out the passes that aren't passed.
+// Takes out the passes that the handover doesn't get.
 fn arrange<N: PoolName>(memory: Memory, passes: &mut Passes<N>, order: Order) -> Passes<N> {
     let mut kept = Vec::new(memory);
     match order {

@@ -19,8 +19,8 @@ use std::marker::Brand;
 use std::sync::{Arc, Mutex, Wait};
 use std::thread::{Threads, for_each_mut};
 
-// The samples that are submitted. One caller submits those from `before` to `from` without telling the others. Then two
-// threads submit those up to the middle and those after it.
+// The samples that are submitted. One caller submits those from `before` to `from` and the others don't learn of them.
+// Then two threads submit those up to the middle and those after it.
 #[derive(Clone, Copy)]
 struct Part {
     before: usize,

@@ -10,8 +10,8 @@ use std::io;
 
 const ONE_CHANGE: Config = Config { limit: 1, last: 0 };
 
-// The callers of the submits, the tickets of the submits and of what goes with the removal, the number of callers,
-// whether the limit is one change, which of the entries are audited, and the expected result.
+// The callers of the submits, and the tickets of the submits and of what goes with the removal. Then the number of
+// callers, whether the limit is one change, which of the entries are audited, and the expected result.
 type Row = (
     &'static str,
     [u32; 2],

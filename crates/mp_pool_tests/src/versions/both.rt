@@ -111,7 +111,7 @@ fn digits(run: Run<'_>) -> u64 {
 }
 
 /// The number of items, their bytes, the last ticket, the version's number, the ledger state's block bytes, and the
-/// tickets as the digits of a number: 1 and 2 are 12, and 0 is none.
+/// tickets. These are the digits of a number: 1 and 2 are 12, and 0 is none.
 pub fn look_at(version: &Version) -> Seen {
     [
         version.len() as u64,

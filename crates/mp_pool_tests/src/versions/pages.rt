@@ -58,7 +58,7 @@ fn submit_openings(memory: Memory, both: &mut Both, first: u16, end: u16) -> Opt
     Some(())
 }
 
-// The openings that are spent, from the first number up to and without the second; then the number of the first chunk
+// The openings that are spent, from the first number up to and without the second. Then the number of the first chunk
 // that isn't full, and the number of its items.
 static ROWS: [(&str, [u16; 2], [u64; 2]); 6] = [
     ("2,047 items", [0, 2_047], [63, 31]),

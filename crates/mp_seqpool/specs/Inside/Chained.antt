@@ -1,4 +1,4 @@
--- A pool's transactions are valid in order, whoever signed them.
+-- A pool's transactions are valid in order, except for their signatures.
 use Rattle.std.specs.Prelude.{true}
 use Rattle.std.specs.FinMap.{get}
 use Rattle.mp_rules.specs.Verifier.{Accepts}
