@@ -48,8 +48,8 @@ pub enum Asked {
     Nothing,
 }
 
-/// A measurement: its name, what runs the steps, whether the pool first has as many transactions as the size says, the
-/// commands, and how many of them are answered.
+/// A measurement: its name, what runs the steps, whether the pool begins with as many transactions as the size says,
+/// the commands, and the number of answers.
 pub type Measurement = (&'static str, Work, bool, Asked, u64);
 
 /// All measurements, in the order in which they are taken.

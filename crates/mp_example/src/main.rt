@@ -136,9 +136,9 @@ fn print_opening<M: PoolName>(
 }
 
 // `N` is the pool's name, a type that keeps the parts of one pool apart from those of another. Each call that opens a
-// pool says in its proof what the name is: a new name, the number of callers, and which signatures the verifier
-// accepts. `main` passes `Brand`, and `proofs/main/Invariants.antt` says these three things of it. `open` passes it for
-// the successor.
+// pool states three things in its proof: the new name, the number of callers, and which signatures the verifier
+// accepts. `main` passes `Brand`, and `proofs/main/Invariants.antt` states these for it. `open` passes it for the
+// successor.
 fn open<N: PoolName + Send + Sync, R: Threads + Wait + Print + Sync>(
     rt: &R,
     memory: Memory,

@@ -1,6 +1,6 @@
-//! Tests the pool that callers share, and reading it for peers, for properties that no contract states: failing
-//! allocations, threads, what is dropped, and answers that were computed by hand. It prints each case that fails, and
-//! the number of cases that hold in each part.
+//! Tests the pool that callers share, and reading it for peers, for properties that no contract states. These are
+//! failing allocations, threads, what is dropped, and answers that were computed by hand. It prints each case that
+//! fails, and the number of cases that hold in each part.
 #![tactic(auto)]
 
 mod mempool;

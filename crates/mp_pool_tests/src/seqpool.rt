@@ -7,7 +7,7 @@ use mp_seqpool::{Played, SeqPool, play};
 use mp_testing::{Seen, count};
 use std::io;
 
-// The answers to the guarded commands, on a pool whose guarded output has 100 coin: the validator reads the bundle of
+// The answers to the guarded commands, on a pool whose guarded output has 100 coin. The validator reads the bundle of
 // the output that it locks.
 static ROWS: [(&str, Told); 6] = [
     (

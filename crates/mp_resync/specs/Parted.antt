@@ -24,8 +24,8 @@ abbrev pub is_lost : LedgerState → LedgerState → Transaction → Bool
 is_lost old new t =
     not (is_timely new.tick t) || list_any (λ i. is_spent_since (get old.utxo) (get new.utxo) i.from) t.inputs
 
--- its interval has the new tick, what it names leads to the same outputs in both, and none of its own outputs is in the
--- new one
+-- its interval has the new tick, its names lead to the same outputs in both, and none of its own outputs is in the new
+-- one
 pub record IsUntouched (old new : LedgerState) (t : Transaction) : Type 0 where
   pub timely : IsTrue (is_timely new.tick t)
   pub inputs : All (λ i. get old.utxo i.from ≡ get new.utxo i.from) t.inputs

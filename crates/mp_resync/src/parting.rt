@@ -95,8 +95,8 @@ fn nothing_parted(memory: Memory) -> Parted
     }
 }
 
-// Adds one more item to the right list, and returns true. Returns false, and adds nothing, if the outputs that the item names
-// don't decide it, if it can't stay but has dependents, or if `most` items are lost already.
+// Adds one more item to the right list, and returns true. Else returns false, and adds nothing. The outputs that the
+// item names don't decide it, or it can't stay but has dependents, or `most` items are lost already.
 fn part_one(
     overlay: &Overlay,
     new: &Ledger,

@@ -20,8 +20,8 @@ paid_to o = record { address = o.address; bundle = o.value }
 abbrev pub referred : Output → Referred
 referred o = record { address = o.address; datum_hash = o.datum_hash; bundle = o.value }
 
--- What every script of a transaction sees: the transaction, the total of all that it spends, what its references lead
--- to, and the hash of the script that runs.
+-- What every script of a transaction sees: the transaction, the total of what it spends, what its references lead to,
+-- and the running script's hash.
 abbrev pub shared_view : Transaction → Resolved → List ℕ → View
 shared_view t r script = record {
   own_hash = sha256 script;

@@ -191,7 +191,7 @@ fn recheck<U: Utxo, V: Verifier>(
 }
 
 /// Whether a transaction with good signatures is valid, as `check` decides. If it was valid when it named the outputs
-/// `before`, and still names them, only the tick and its own outputs are checked: no other rule can fail. Else all
+/// `before`, and still names them, only the tick and its own outputs are checked. No other rule can fail then. Else all
 /// rules except that of signatures are checked again, and scripts run again only if it names other outputs. The
 /// verifier isn't called: the parameter names the verifier of these signatures.
 pub fn stays_valid<U: Utxo, V: Verifier>(

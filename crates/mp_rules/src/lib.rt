@@ -1,5 +1,5 @@
 //! The rules of validity. They decide whether a transaction is valid on the outputs that can be spent, and which rule
-//! fails first (the EUTXO and native-token papers of Chakravarty et al., and CIP-31).
+//! fails first. They follow the EUTXO and native-token papers of Chakravarty et al., and CIP-31.
 #![tactic(auto)]
 
 mod balance;

@@ -164,8 +164,8 @@ impl<T> Chain<T> {
         self.seek_after(ticket)
     }
 
-    // The same. It goes back from the last node, and down from the ticket to the next one that has a node, one step of
-    // each in turn. It stops when either does.
+    // The same. It goes back from the last node, and down from the ticket to the next one with a node. It takes one
+    // step of each in turn. It stops when either does.
     fn seek_after(&self, ticket: u64) -> Option<NodePtr>
         requires chained { IsChained self.now }
         requires rising { IsRising (pairs self.now.nodes.cells) }

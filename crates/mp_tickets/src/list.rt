@@ -12,11 +12,10 @@ const BUCKETS: usize = 1024;
 /// Items in strictly increasing order of their tickets, which are greater than 0. A contract sees the list of tickets
 /// with their items.
 ///
-/// Each item has a node of its own, which links to the one before it, to the one after it, and to the last one before
-/// it in its bucket. A ticket is in the bucket with index ticket modulo the number of buckets, and a look-up searches
-/// only there. If `reserve` is called before each push, there are at least as many buckets as items. There are never
-/// fewer than 1,024.
-/// Only a new list, a new node and `reserve` take memory. A node may have another handle than the list.
+/// Each item has a node of its own. A node links to the one before it, the one after it, and the last one before it in
+/// its bucket. A ticket is in the bucket with index ticket modulo the number of buckets, and a look-up searches only
+/// there. If `reserve` is called before each push, there are at least as many buckets as items. There are never fewer
+/// than 1,024. Only a new list, a new node and `reserve` take memory. A node may have another handle than the list.
 pub struct TicketList<T> {
     chain: Chain<T>,
     memory: Memory,

@@ -19,8 +19,8 @@ pub enum BlockFault {
     /// The first index in what is spent, from 0, whose reference leads to no output or occurs at an earlier index.
     #[error("spent reference {0} leads to no output")]
     Missing(usize),
-    /// The first index in what is made, from 0, whose reference occurs at an earlier index or leads to an output that
-    /// the block doesn't spend.
+    /// The first index in what is made, from 0, whose reference is already taken. It occurs at an earlier index, or
+    /// leads to an output that the block doesn't spend.
     #[error("output {0} has the reference of another one")]
     Repeated(usize),
 }

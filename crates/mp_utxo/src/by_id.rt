@@ -7,7 +7,7 @@ use indexmap::IndexMap;
 use mp_memory::Memory;
 use mp_tx::{OutRef, Salt, TxId};
 
-/// A table whose keys are transaction ids. The key of an id is the reference to its first output: the hash of a
+/// A table whose keys are transaction ids. The key of an id is the reference to its first output. The hash of a
 /// reference depends on the salt, so nobody without it can make ids that collide.
 pub type ById<T> = IndexMap<OutRef, T, Salt, Memory>;
 

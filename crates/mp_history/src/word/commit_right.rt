@@ -99,8 +99,8 @@ impl<N: PoolName> CommitRight<N> {
         )
     }
 
-    /// Appends the entry: an exchange on the right's own word adds the word of the next pen, and one on the history's
-    /// word increments the number of entries.
+    /// Appends the entry. An exchange on the right's own word adds the word of the next pen. One on the history's word
+    /// increments the number of entries.
     pub(crate) fn enter(&mut self, head: &Word<Noted, u64, Law>, entry: &Entry)
         requires head { head.now ≡ head_of N.book N.root }
         requires room { length self.old.entries < 2 ^ 32 }

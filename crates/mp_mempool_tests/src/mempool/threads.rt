@@ -195,8 +195,8 @@ fn last_ticket(samples: &Samples, entries: &[Entry]) -> u64 {
     }
 }
 
-// The number of receipts, the number of those with the next place and the next ticket, and the last ticket after an
-// audit of all entries.
+// The numbers of receipts and of those with the next place and the next ticket, and the last ticket after an audit of
+// all entries.
 fn see(samples: &Samples, mut receipts: Receipts, met: u64) -> Option<Seen> {
     if receipts.sort_by_key(|receipt| receipt.place).is_err() {
         return None;

@@ -95,8 +95,8 @@ fn last_ticket(samples: &Samples, entries: &[Entry]) -> u64 {
     }
 }
 
-// The length of the history and of the last front that a thread saw, the number of entries that got the next place, and
-// the last ticket of an audit.
+// The lengths of the history and of the last front that a thread saw. Then the number of entries that got the next
+// place, and the last ticket of an audit.
 fn see<N: PoolName>(
     samples: &Samples,
     shared: &mut Shared<N>,

@@ -72,8 +72,8 @@ fn more_renewed(both: &Both) -> Option<Seen> {
     more_with(&both.version.renewed(9), &both.version, before)
 }
 
-// A step, its sample, and how many more owners the transactions with the tickets 1, 66, 98 and 129 have after the next
-// version was made.
+// A step, its sample, and how many more owners the next version gives to the transactions with the tickets 1, 66, 98
+// and 129.
 static ROWS: [(&str, usize, Seen); 3] = [
     ("what a submit shares", 129, [0, 0, 0, 1, 0, 0]),
     (
