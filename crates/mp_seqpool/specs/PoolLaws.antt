@@ -41,7 +41,7 @@ module _ (accepts : Accepts) where
   pub record ObeysLaws (p : Pool) (cs : List Command) : Type 0 where
     -- each of them is lawful
     pub lawful : (n : ℕ) → IsLawful (pool_after accepts p (take n cs))
-    -- any two of them, of which the second is no earlier, are as `Lasts` says
+    -- `Lasts` holds for any two of them, the earlier and the later one
     pub lasting : (m n : ℕ) → m ≤ n → Lasts (pool_after accepts p (take m cs)) (pool_after accepts p (take n cs))
     -- whatever command comes there, a ticket that it gives is the next one
     pub next_ticket : (n : ℕ) (c : Command) → GivesNext (pool_after accepts p (take n cs)) c

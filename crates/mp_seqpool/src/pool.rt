@@ -268,7 +268,7 @@ impl SeqPool {
         append_step(self.memory, tx, resolved, self.last + 1)
     }
 
-    /// Prepares to add the transaction with the next ticket, as one change. `before` has earlier results for its
+    /// Prepares to add the transaction with the next ticket, as one change. `checked` has earlier results for its
     /// signatures and scripts, if there are any. Then no signature is checked again, and scripts run again only if the
     /// transaction names other outputs than before.
     ///
