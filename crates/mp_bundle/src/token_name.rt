@@ -43,7 +43,7 @@ impl TokenName {
         len: 0,
     };
 
-    /// The name of these bytes. There are at most 32.
+    /// The name of these bytes, at most 32.
     pub fn of(name: &[u8]) -> TokenName
         requires { length name.now ≤ 32 }
         ensures { result ≡ name.now }

@@ -128,6 +128,9 @@ fn part_one(
 /// doesn't have the new tick, or if an output that it spends has been spent since. No overlay is built, and the only
 /// rules that are checked are the tick and the item's own outputs.
 /// Returns `None` if this doesn't decide an item, or if more than `most` items can't stay.
+///
+/// # Errors
+/// `NoMemory`.
 pub fn part(
     memory: Memory,
     overlay: &Overlay,

@@ -95,6 +95,9 @@ fn handle<V: Verifier>(
 ///
 /// No signature is checked again. If an item names the same outputs as when it was last found valid, only the tick and
 /// its own outputs are checked.
+///
+/// # Errors
+/// `NoMemory`.
 pub fn revalidate<V: Verifier>(
     memory: Memory,
     ledger: &Ledger,

@@ -132,6 +132,9 @@ fn refused_again(
 /// Whether the transaction is valid, as `check` decides, given earlier results for its signatures and scripts. All
 /// other rules are checked again. Scripts run again only if the transaction names other outputs than before. The
 /// verifier isn't called: the parameter names the verifier of these results.
+///
+/// # Errors
+/// As `check`.
 pub fn check_with<U: Utxo, V: Verifier>(
     memory: Memory,
     tx: &Tx,
@@ -194,6 +197,9 @@ fn recheck<U: Utxo, V: Verifier>(
 /// `before`, and still names them, only the tick and its own outputs are checked. No other rule can fail then. Else all
 /// rules except that of signatures are checked again, and scripts run again only if it names other outputs. The
 /// verifier isn't called: the parameter names the verifier of these signatures.
+///
+/// # Errors
+/// `NoMemory`.
 pub fn stays_valid<U: Utxo, V: Verifier>(
     memory: Memory,
     tx: &Tx,

@@ -24,7 +24,7 @@ pub fn pool_laws()
 {}
 
 /// What a remove drops in addition to the named transactions: exactly those that spend or read an output of one that
-/// goes. The ledger state must have no output at the id of any transaction of the pool.
+/// goes. This requires that the ledger state has no output at the id of any transaction of the pool.
 pub fn dependents()
     ensures { (accepts : Accepts) (p : Pool) (ids : List (List ℕ))
         → IsLawful accepts p → IsApart p → DropsDependents accepts p ids }

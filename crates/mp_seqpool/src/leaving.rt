@@ -72,7 +72,7 @@ pub fn take_told(items: &mut TicketList<ValidatedTx>, reply: &Reply) -> u64
     }
 }
 
-/// Takes the transactions with these tickets out of the overlay. They have no other dependents.
+/// Takes the transactions with these tickets out of the overlay. No others depend on them.
 pub fn take_leaves(overlay: &mut Overlay, items: &TicketList<ValidatedTx>, gone: &Tickets)
     requires { HasLeaves overlay.old (ticketed items.now) gone.now }
     ensures { Lacks overlay.old (ticketed items.now) gone.now overlay.new }

@@ -138,7 +138,7 @@ fn take_out_step(
     })
 }
 
-// The step of a sync in which those that go have no other dependents, and the others stay as they are. The reply and
+// The step of a sync in which no others depend on those that go, and the others stay as they are. The reply and
 // the effect have the same tickets.
 fn adopt_step(ledger: &Ledger, parted: Parted) -> Result<Prepared, NoMemory>
     ensures command { IfOk result (λ q. q.command ≡ Sync ledger.now) }
@@ -354,7 +354,7 @@ impl SeqPool {
             .all(|ticket| self.is_leaf_at(*ticket))
     }
 
-    // The step that takes out only the transactions with these ids, if they have no other dependents.
+    // The step that takes out only the transactions with these ids, if no others depend on them.
     fn prepare_leaves(&self, ids: &Arc<Ids, Memory>) -> Result<Option<Prepared>, NoMemory>
         ensures { IfOk result (λ step. IfSome step (TakesNamed self.now.pool (arc_value ids.now))) }
     {
@@ -405,8 +405,8 @@ impl SeqPool {
         })
     }
 
-    // The step that adopts the ledger state, if its changes decide which transactions go, and these have no other
-    // dependents.
+    // The step that adopts the ledger state, if its changes decide which transactions go, and no others depend on
+    // these.
     fn prepare_adoption(&self, ledger: &Ledger) -> Result<Option<Prepared>, NoMemory>
         ensures { IfOk result (λ step. IfSome step (AdoptsParted self.now.pool ledger.now)) }
     {
@@ -447,6 +447,9 @@ impl SeqPool {
 
     /// The tickets of the transactions that a sync to the ledger state would drop. The pool doesn't change. The number
     /// of changes may have reached its limit.
+    ///
+    /// # Errors
+    /// `NoMemory`.
     pub fn dropped_upon<V: Verifier>(
         &self,
         ledger: &Ledger,
@@ -515,7 +518,7 @@ impl SeqPool {
         self.changes += 1;
     }
 
-    // Takes out the transactions with these tickets, which have no other dependents, as the reply says.
+    // Takes out the transactions with these tickets, as the reply says. No others depend on them.
     fn take_leaves_out(&mut self, gone: &Tickets, reply: &Reply)
         requires change { self.old.pool.changes < self.old.pool.limit }
         requires leaves { All (IsLeafAt self.old.pool) gone.now }
@@ -530,8 +533,8 @@ impl SeqPool {
         self.changes += 1;
     }
 
-    // Takes out the transactions with these tickets, which have no other dependents, as the reply says, and puts the
-    // ledger state below the others.
+    // Takes out the transactions with these tickets, as the reply says, and puts the ledger state below the others. No
+    // others depend on them.
     fn adopt(&mut self, ledger: Ledger, gone: &Tickets, reply: &Reply)
         requires change { self.old.pool.changes < self.old.pool.limit }
         requires leaves { All (IsLeafAt self.old.pool) gone.now }
@@ -566,6 +569,9 @@ impl SeqPool {
     }
 
     /// Adds the transaction with the next ticket, as one change.
+    ///
+    /// # Errors
+    /// As `prepare_submit`.
     pub fn submit<V: Verifier>(
         &mut self,
         tx: &Arc<Tx, Memory>,
@@ -587,6 +593,9 @@ impl SeqPool {
     }
 
     /// Takes out the transactions with these ids, and those that aren't valid without them.
+    ///
+    /// # Errors
+    /// As `prepare_remove`.
     pub fn remove<V: Verifier>(
         &mut self,
         ids: &Arc<Ids, Memory>,
@@ -606,6 +615,9 @@ impl SeqPool {
     }
 
     /// Adopts the ledger state, and drops the transactions that aren't valid on it.
+    ///
+    /// # Errors
+    /// As `prepare_sync`.
     pub fn sync<V: Verifier>(&mut self, ledger: &Ledger, verifier: &V) -> Result<Reply, Refusal>
         requires { AreSigned (V.accepts verifier.now) self.old.pool }
         ensures ok { IfOk result (λ reply. answer (V.accepts verifier.now)
@@ -746,7 +758,8 @@ impl SeqPool {
     ghost use Rattle.mp_resync.specs.ValidatedTx.{ticketed};
     ghost use Rattle.mp_seqpool.specs.SlowPool.{bytes_held, free_bytes, ticket_of};
 
-    /// The greatest number of bytes of all transactions: twice the block bytes of the adopted ledger state.
+    /// The capacity in bytes: twice the block bytes of the adopted ledger state. A submit can't exceed it. After a
+    /// sync, the transactions may have more bytes.
     pub fn capacity(&self) -> u64
         ensures twice { result ≡ 2 * self.now.pool.ledger.block_bytes }
         ensures most { result ≤ 2 ^ 40 }

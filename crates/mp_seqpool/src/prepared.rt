@@ -23,7 +23,7 @@ pub enum Effect {
     Keep(Box<Overlay, Memory>, Tickets),
     /// Those with these tickets go, and nothing else.
     TakeOut(Tickets),
-    /// Those with these tickets go, which have no other dependents. The others stay, on this ledger state.
+    /// Those with these tickets go, and no others depend on them. The others stay, on this ledger state.
     Adopt(Ledger, Tickets),
 }
 

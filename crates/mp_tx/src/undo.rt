@@ -184,6 +184,9 @@ impl Undo {
     ghost use Rattle.mp_tx.specs.Undo.{CanUndo, GoesBack, IsWithin, DifferAt, undone};
 
     /// The undo of a block, from the ledger states before and after it. They may differ only at these references.
+    ///
+    /// # Errors
+    /// `NoMemory`.
     pub fn between(
         memory: Memory,
         before: &Ledger,
@@ -211,6 +214,9 @@ impl Undo {
 
     /// The ledger state before the block, given the one after it. That one doesn't change, and shares with the new one
     /// what both have.
+    ///
+    /// # Errors
+    /// `NoMemory`.
     pub fn apply(&self, memory: Memory, after: &Ledger) -> Result<Ledger, NoMemory>
         requires { CanUndo after.now self.now }
         ensures { IfOk result (λ l. l ≡ undone after.now self.now) }

@@ -1,4 +1,4 @@
--- Taking out transactions without other dependents.
+-- Taking out transactions on which no others depend.
 use Rattle.std.specs.Prelude.{◌≡◌, ◌≢◌, ℕ, List, [], map, All, AllPairs, IfSome}
 use Rattle.std.specs.FinMap.{get}
 use Rattle.mp_tx.specs.Transaction.{Transaction}

@@ -22,7 +22,7 @@ pub record IsAdoption (h : Holding) (ledger : LedgerState) (gone : List ℕ) (re
   pub command : Command
   pub prepared : IsPrepared h (record { command = command; reply = reply; effect = Adopt ledger gone })
 
--- the step of a sync that takes out the lost transactions, which have no other dependents, if all others are untouched
+-- the step of a sync that takes out the lost transactions, on which no others depend, if all others are untouched
 pub record AdoptsParted (p : Pool) (ledger : LedgerState) (q : Prepared) : Type 0 where
   pub parted : Parted
   pub are : IsParted p.ledger (transactions p.items) ledger p.items parted
