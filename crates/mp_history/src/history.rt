@@ -69,10 +69,10 @@ fn replay_all<V: Verifier>(
     Ok(())
 }
 
-/// Replays a history of this many callers on a pool that opens on the ledger state. The verifier decides which
-/// signatures are good. An entry is right if its caller is less than `callers`, and its reply is the reference pool's
-/// after the entries before it. A history is legal if all entries are right. Returns the pool after all entries of a
-/// legal history. Else returns the fault of the first bad entry. Its caller is checked before its reply.
+/// Replays a history of `callers` callers on a pool that opens on the ledger state. The verifier decides which
+/// signatures are good. An entry is right if its caller's number is less than `callers`, and its reply is the reference
+/// pool's after the entries before it. A history is legal if all entries are right. Returns the pool after all entries
+/// of a legal history. Else returns the fault of the first bad entry. Its caller is checked before its reply.
 pub fn audit<V: Verifier>(
     memory: Memory,
     config: Config,

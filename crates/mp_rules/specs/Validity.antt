@@ -74,7 +74,7 @@ rule_number PoliciesAccept = 13
 abbrev pub Holds : Accepts → Unspent → ℕ → Transaction → Rule → Type 0
 -- there is an input
 Holds accepts u tick t HasInput = t.inputs ≢ []
--- the tick is neither before the first nor after the last tick at which it is valid
+-- the tick is neither before the first nor after the last tick of its validity interval
 Holds accepts u tick t InInterval = (t.from ≤ tick) × (tick ≤ t.to)
 -- no output has a negative quantity of a token
 Holds accepts u tick t PaysNoDebt = All IsNonnegative t.outputs

@@ -18,7 +18,7 @@ pub enum Invalid {
     NoMemory,
     #[error("the transaction has no input")]
     NoInputs,
-    /// The tick is before the first or after the last tick at which the transaction is valid.
+    /// The tick is before the first or after the last tick of the transaction's validity interval.
     #[error("the tick is outside of the transaction's interval")]
     OutsideInterval,
     /// The index of an output with a negative quantity.

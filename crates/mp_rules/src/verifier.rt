@@ -1,4 +1,4 @@
-//! The decision whether a signature is good.
+//! Verifiers, which decide whether a signature is good.
 
 ghost use Rattle.std.specs.Prelude.{◌≡◌};
 ghost use Rattle.mp_rules.specs.Verifier.{Accepts};

@@ -28,8 +28,8 @@ use std::sync::Arc;
 /// Every step has two parts. A `prepare_` call makes all checks and takes all memory, and doesn't change the pool's
 /// content. `finish` executes the step that it returned. `submit`, `remove` and `sync` do both.
 ///
-/// Tables lead from what its transactions spend and make to their tickets, so that a submit doesn't pass over the pool.
-/// A contract sees the pool's content and the room that was reserved in its tables.
+/// Tables lead from what its transactions spend and make to their tickets, so that a submit doesn't iterate over the
+/// pool. A contract sees the pool's content and the room that was reserved in its tables.
 pub struct SeqPool {
     memory: Memory,
     config: Config,
@@ -767,14 +767,14 @@ impl SeqPool {
         2 * self.overlay.ledger().block_bytes()
     }
 
-    /// The ticket of the transaction with this id, if it is in the pool. It doesn't pass over the pool.
+    /// The ticket of the transaction with this id, if it is in the pool. It doesn't iterate over the pool.
     pub fn ticket_of(&self, id: &TxId) -> Option<u64>
         ensures { result ≡ ticket_of id.now self.now.pool.items }
     {
         self.overlay.ticket_of(id)
     }
 
-    /// The transaction with the ticket, if there is one. It doesn't pass over the pool.
+    /// The transaction with the ticket, if there is one. It doesn't iterate over the pool.
     pub fn get(&self, ticket: u64) -> Option<&Arc<Tx, Memory>>
         ensures { option_map (λ tx. arc_value tx.now) result
             ≡ item_at self.now.pool.items ticket }

@@ -18,7 +18,7 @@ pub record Transaction : Type 0 where
   pub references : List OutRef
   -- what it pays
   pub outputs : List Output
-  -- the first and the last tick at which it is valid
+  -- the first and the last tick of its validity interval
   pub from : ℕ
   pub to : ℕ
   -- what it forges; a negative quantity burns

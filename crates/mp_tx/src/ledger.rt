@@ -28,9 +28,8 @@ pub const MAX_BLOCK_BYTES: u64 = 1 << 39;
 type Entry = (OutRef, Output);
 
 /// A ledger state: a tick, the block bytes, and a finite map from references to outputs. Several owners may share the
-/// map.
-/// A look-up doesn't pass over the outputs. The map is a hash table that depends on a salt. A state that blocks have
-/// changed has a few smaller tables on top.
+/// map. A look-up doesn't iterate over the outputs. The map is a hash table that depends on a salt. A state that blocks
+/// have changed has a few smaller tables on top.
 pub struct Ledger {
     tick: u64,
     block_bytes: u64,

@@ -40,9 +40,9 @@ pub struct TxParts {
     pub references: Vec<OutRef, Memory>,
     /// What it pays.
     pub outputs: Vec<Output, Memory>,
-    /// The first tick at which it is valid.
+    /// The first tick of its validity interval.
     pub from: u64,
-    /// The last tick at which it is valid.
+    /// The last tick of its validity interval.
     pub to: u64,
     /// What it forges. A negative quantity burns.
     pub forge: Bundle,
@@ -327,7 +327,7 @@ impl Tx {
         self.outputs.as_slice()
     }
 
-    /// The first tick at which it is valid.
+    /// The first tick of its validity interval.
     pub fn from(&self) -> u64
         ensures from { result ≡ self.now.from }
         ensures fits { IsTransaction self.now }
@@ -335,7 +335,7 @@ impl Tx {
         self.from
     }
 
-    /// The last tick at which it is valid.
+    /// The last tick of its validity interval.
     pub fn to(&self) -> u64
         ensures to { result ≡ self.now.to }
         ensures fits { IsTransaction self.now }

@@ -32,7 +32,7 @@ fn count_in_pages(pages: &[Page]) -> usize
     count
 }
 
-/// The number of items. It doesn't pass over them.
+/// The number of items. It doesn't iterate over them.
 pub fn count_of(layout: &Layout) -> usize
     requires { length (items_in layout.now) < 2 ^ 64 }
     ensures { result ≡ length (items_in layout.now) }

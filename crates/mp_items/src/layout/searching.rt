@@ -43,7 +43,7 @@ fn pages_have(pages: &[Page], id: &TxId) -> bool
     pages.iter().any(|page| chunks_have(page.as_slice(), id))
 }
 
-/// Whether one of the items is the transaction with this id. It passes over all items.
+/// Whether one of the items is the transaction with this id. It iterates over all items.
 pub fn has(layout: &Layout, id: &TxId) -> bool
     ensures { result ≡ has_id id.now (items_in layout.now) }
 {
