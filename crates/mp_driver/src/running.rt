@@ -54,7 +54,7 @@ fn answer_from<'a, W: Write>(
 /// accepts a signature that is the key followed by the id.
 ///
 /// # Errors
-/// `BadLine` at the first line that isn't one of the language, after the answers to the lines before it. `Write` if a
+/// `BadLine` at the first line that isn't in the language, after the answers to the lines before it. `Write` if a
 /// write fails, after a prefix of the answers. `NoMemory` after the answers to the lines before.
 pub fn answer_text<'a, W: Write>(
     memory: Memory,
@@ -75,7 +75,7 @@ pub fn answer_text<'a, W: Write>(
 /// # Errors
 /// `ReadFault` before anything is written, if a read fails, if there are more than 2^24 bytes, or if 2^25 reads don't
 /// reach the end.
-/// `BadLine` at the first line that isn't one of the language, after the answers to the lines before it.
+/// `BadLine` at the first line that isn't in the language, after the answers to the lines before it.
 /// `WriteFault` if a write fails, after a prefix of the answers. `NoMemory` after the answers to the lines before.
 pub fn run<R: Read, W: Write>(memory: Memory, reader: &mut R, writer: &mut W) -> Result<(), Fault>
     ensures { IfSome (R.remaining reader.old)

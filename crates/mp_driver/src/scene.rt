@@ -209,7 +209,7 @@ impl Scene {
     /// Parses and executes the line, and returns what it writes. A bad line changes nothing.
     ///
     /// # Errors
-    /// `Bad` if the line isn't one of the language, and else the errors of `take`.
+    /// `Bad` if the line isn't in the language, and else the errors of `take`.
     #[tactic(auto, unfolding(crate::specs::Scene::line_step))]
     pub fn read_line<'a>(&mut self, memory: Memory, line: &'a [u8]) -> Result<Text, LineFault<'a>>
         ensures ok { IfOk result (λ text.

@@ -132,7 +132,7 @@ impl Line {
     /// The meaning of the line, without its line feed, given the declared names.
     ///
     /// # Errors
-    /// `Bad` if the line isn't one of the language. It has a byte that isn't printable, more than 4,096 bytes, an
+    /// `Bad` if the line isn't in the language. It has a byte that isn't printable, more than 4,096 bytes, an
     /// unknown first word, or words that break the rules of its form. `NoMemory` may be returned instead of any answer.
     #[tactic(auto, unfolding(crate::specs::Lines::line_of))]
     pub fn parse<'a>(memory: Memory, names: &Names, line: &'a [u8]) -> Result<Line, LineFault<'a>>

@@ -3,8 +3,8 @@
 use crate::reference::OutRef;
 use mp_script::{Data, Script};
 
-/// An input: the output that it spends, the validator and the datum of that output, and the redeemer that the validator
-/// gets.
+/// An input: the output that it spends, the validator and the datum that the output names by their hashes, and the
+/// redeemer that the validator gets.
 #[derive(Debug, Drop)]
 pub struct Input {
     pub from: OutRef,
