@@ -13,6 +13,7 @@ from .plans import KEYS, NAMES, ODD_TOKENS, Hint, Known, NoWords, Plan, Planner,
 from .pool import MOST_FORMER, size_of
 from .rules import Unspent, applied, first_broken
 from .scripts import Own, Paid, View
+from .long import long_line
 from .spoiling import odd_line, spoilt_bytes, spoilt_datum, spoilt_line, spoilt_output, spoilt_script
 from .talk import Talk
 from .transactions import LAST_TICK, NoTransaction, Output, Parts, Ref, Tx, id_of, join, spell, spell_output
@@ -312,6 +313,52 @@ class RandomTalk:
             parts = self.names.tx(self.rng.choice(names)).parts
             signs = [(key, good) for key in KEYS[:3] for good in (True, False) if self.chance(0.3)]
             self.declare(Plan(parts._replace(signatures=[]), signs))
+
+    def say_twins(self) -> None:
+        """Declares a transaction by several names, with signatures that are good or not, and asks what the pool has of it."""
+        plan = self.new_plan(tries=(6,))
+        keys = [key for key, _ in plan.signs] or [self.rng.choice(KEYS)]
+        names = []
+        for good in self.rng.choice([(False, True), (False, True), (True, False), (False, False, True), (True, True)]):
+            try:
+                line = self.bytes_line(plan._replace(signs=[(key, good) for key in keys]))
+            except NoTransaction:
+                return
+            if self.say(line).startswith("tx"):
+                names.append(line.split()[1])
+        if self.chance(0.2):
+            self.rng.shuffle(names)
+        for name in names:
+            self.say(f"submit {name}")
+        for _ in range(self.rng.choice([1, 2, 4, 6])):
+            self.say_of_twins(names or ["nobody"])
+
+    def say_of_twins(self, names: list[str]) -> None:
+        """Says a line that tells transactions by name, or goes by one of these names."""
+        rng = self.rng
+        name = rng.choice(names)
+        before = set(self.names.others)
+        self.say(
+            rng.choice(
+                [
+                    f"forge {MOST}",
+                    f"show {self.names.name_of_tx(self.names.tx(name).id) if name in self.names.others else name}",
+                    "snapshot",
+                    f"show {name}",
+                    f"submit {name}",
+                    f"remove {name}",
+                    f"forget {name}",
+                    f"forget {' '.join(names)}",
+                    f"adopt {self.other_tick()} {name}",
+                    f"back {rng.choice([0, 1])}",
+                ]
+            )
+        )
+        self.forgotten += sorted(before - set(self.names.others))
+
+    def say_long(self) -> None:
+        """Says a line at the greatest length, or far beyond."""
+        self.say(long_line(self.rng, self.new_name("b"), [*self.tx_names(), "nobody"]))
 
     def pinned_plan(self, plan: Plan) -> Plan:
         """Has the transaction carry a script that accepts for what it sees of the transaction."""
@@ -633,6 +680,7 @@ class RandomTalk:
     KINDS: list[tuple[Callable[[RandomTalk], None], float]] = [
         (say_tx, 14),
         (say_again, 1),
+        (say_twins, 0.7),
         (say_bytes, 5),
         (say_submit, 4),
         (say_check, 1),
@@ -654,4 +702,5 @@ class RandomTalk:
         (say_utxo, 0.2),
         (say_setting, 0.2),
         (say_large, 0.15),
+        (say_long, 0.2),
     ]

@@ -39,7 +39,9 @@ from .words import (
 )
 from . import data, scripts
 
-LONGEST_LINE = 4096
+LONGEST_CLEAN = 4096
+# The longest line of the language has an output that fills a transaction: utxo ID#INDEX HEX, with an index of 20 digits.
+LONGEST_LINE = len("utxo ") + 64 + len("#") + 20 + len(" ") + 2 * (MOST_BYTES - 27)
 REFUSALS = (
     "tickets", "already", "full", "no-inputs", "interval", "negative", "missing", "address", "datum", "taken", "no-policy", "unbalanced",
     "signature", "validator", "policy-script", "reference", "adopt", "back",
@@ -131,7 +133,7 @@ class Talk:
         "tick": (0, MOST, 0),
     }
 
-    LONGER = ("bytes", "utxo")  # The first words of lines that may have any length.
+    LONGER = ("bytes", "utxo")  # The first words of lines that may have more than 4,096 bytes.
 
     def __init__(self, verifier: Verifier) -> None:
         self.verifier = verifier
@@ -157,10 +159,10 @@ class Talk:
         return answer
 
     def _answer(self, line: bytes) -> str:
-        if any(not 0x20 <= byte <= 0x7E for byte in line):
+        if len(line) > LONGEST_LINE or any(not 0x20 <= byte <= 0x7E for byte in line):
             raise Bad
         first, *words = line.decode().split() or [""]
-        if len(line) > LONGEST_LINE and first not in self.LONGER:
+        if len(line) > LONGEST_CLEAN and first not in self.LONGER:
             raise Bad
         if not first or first.startswith("#"):
             return "ok"
@@ -256,14 +258,16 @@ class Talk:
     def _forget(self, *words: str) -> str:
         if len(set(words)) < len(words):
             raise Bad
-        gone = 0
-        for word in words:
-            found = self.names.others.get(word)
-            held = self.pool and isinstance(found, Declared) and self.pool.ticket_of(found.tx)
-            if found and not held:
-                del self.names.others[word]
-                gone += 1
-        return f"forgotten {gone}"
+        goes = [word for word in words if word in self.names.others and not self._is_reported(word)]
+        for word in goes:
+            self.names.forget(word)
+        return f"forgotten {len(goes)}"
+
+    def _is_reported(self, word: str) -> bool:
+        """Says whether the pool holds what the name stands for, and tells it by this name."""
+        found = self.names.others[word]
+        held = self.pool and isinstance(found, Declared) and self.pool.ticket_of(found.tx)
+        return bool(held) and self.names.name_of_tx(found.tx.id) == word
 
     def _check(self, word: str) -> str:
         tx = self.names.tx(word)
@@ -271,7 +275,9 @@ class Talk:
 
     def _submit(self, word: str) -> str:
         tx = self.names.tx(word)
-        return f"accepted {self._opened().submit(tx)}"
+        ticket = self._opened().submit(tx)
+        self.names.accept(word)
+        return f"accepted {ticket}"
 
     def _remove(self, *words: str) -> str:
         ids = {self.names.tx(word).id for word in words}

@@ -77,6 +77,7 @@ class Names:
         self.scripts: dict[str, Script] = {"yes": scripts.YES, "no": scripts.NO}
         self.data: dict[str, Datum] = {"unit": data.UNIT}
         self.others: dict[str, Opening | Declared] = {}
+        self.reported: dict[bytes, str] = {}  # By the id, the name by which the pool last accepted the transaction.
 
     def new(self, word: str, names: dict[str, object]) -> str:
         """Gives a word that may be declared among the names."""
@@ -153,8 +154,19 @@ class Names:
         return COIN_POLICY if word == "coin" else self.script(word).hash
 
     def name_of_tx(self, id: bytes) -> str:
-        """Gives the first name that was declared for the id."""
+        """Gives the name by which the pool accepted the transaction, or else the first that was declared for the id."""
+        if id in self.reported:
+            return self.reported[id]
         return next(name for name, one in self.others.items() if isinstance(one, Declared) and one.tx.id == id)
+
+    def accept(self, word: str) -> None:
+        """Notes the name by which the pool accepted a transaction."""
+        self.reported[self.tx(word).id] = word
+
+    def forget(self, word: str) -> None:
+        """Lets the name of an output or a transaction go."""
+        del self.others[word]
+        self.reported = {id: name for id, name in self.reported.items() if name != word}
 
     def name_of_policy(self, policy: bytes) -> str | None:
         """Gives the first name of the policy, if it has one."""

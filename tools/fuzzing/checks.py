@@ -20,6 +20,13 @@ REPORT = re.compile(
 
 Outcome = collections.namedtuple("Outcome", "answers errors status")
 LEGAL = Outcome(b"audit legal\n", b"", 0)
+# What is said of a history that lacks the entry at a place and those behind it.
+SHORT = b"fault: missing entry %d\nthe history ends before this entry\n"
+
+
+def tell_head(workers, entries):
+    """Returns the first line of a history."""
+    return b"workers %d entries %d\n" % (workers, entries)
 
 
 class Finding(Exception):
@@ -172,7 +179,7 @@ class Checker:
         if not numbers:
             return
         self.write("scn", text)
-        self.write("history", b"workers 1\n")
+        self.write("history", b"workers 1 entries 0\n")
         for words in (["race", "--workers", "2", "scn"], ["audit", "scn", "history"]):
             found = self.do(words, text)
             wanted = Outcome(b"", fault_of(min(numbers)), 1)
@@ -206,7 +213,7 @@ class Checker:
         self.expect(found == Outcome(report, b"", 0), f"a race alone ends with {show(found)} and not {report!r}", text)
         changes = [(j, answer) for j, (_, answer) in enumerate(commands) if not answer.startswith((b"refused", b"snapshot"))]
         entries = [b"entry %d 0 %d %s\n" % (place, j, answer) for place, (j, answer) in enumerate(changes)]
-        self.expect(history == b"workers 1\n" + b"".join(entries), "a race alone has another history than a run", text, history)
+        self.expect(history == tell_head(1, len(entries)) + b"".join(entries), "a race alone has another history than a run", text, history)
         self.check_audits(rng, text, history)
 
     def race(self, text, workers):
@@ -250,11 +257,15 @@ class Checker:
         return found
 
     def check_audits(self, rng, text, history):
-        """Audits a race's history and a beginning of it, which are legal, and edited ones."""
+        """Audits a race's history and a beginning of it, which are legal where the first line tells so, and edited ones."""
         lines = [line + b"\n" for line in list_lines(history)]
+        workers = int(lines[0].split()[1])
         for count in {len(lines), rng.randrange(1, len(lines) + 1)}:
             found = self.audit(text, b"".join(lines[:count]))
-            self.expect(found == LEGAL, f"an audit of its first {count} lines ends with {show(found)}", text, history)
+            wanted = LEGAL if count == len(lines) else Outcome(b"", SHORT % (count - 1), 1)
+            self.expect(found == wanted, f"an audit of its first {count} lines ends with {show(found)}", text, history)
+            found = self.audit(text, tell_head(workers, count - 1) + b"".join(lines[1:count]))
+            self.expect(found == LEGAL, f"an audit of its first {count - 1} entries ends with {show(found)}", text, history)
         edited = edit_history(rng, history)
         found = self.audit(text, edited)
         self.expect(found == self.audit(text, edited), "an audit ends otherwise the second time", text, edited)

@@ -89,11 +89,12 @@ not_given (Some t) h = absurd (true≢false (sym h))
 serve_taken : (words : List Text) → level_fault serve [] nothing_held words false [] ≡ [] → IsServe (rows_after serve.rules [] words)
 serve_taken words none = record {
   signatures = known (first_of (codes "signatures") rows)
-      (if_first (codes "signatures") (vp.Names which) refl serve (inr refl, (inl refl, tt)) words none);
+      (if_first (codes "signatures") (vp.Names which) refl serve (inr refl, (inl refl, (inl refl, tt))) words none);
+  salt = if_given (codes "salt") (vp.Unsigned 0 18446744073709551615) refl serve (inl refl, (inr refl, (inl refl, tt))) words none;
   file = not_given (first_of (codes "FILE") rows)
-      (if_first (codes "FILE") never refl serve (inl refl, (inl refl, tt)) words none);
+      (if_first (codes "FILE") never refl serve (inl refl, (inl refl, (inl refl, tt))) words none);
   explain = not_given (one_of (codes "explain") rows)
-      (if_given (codes "explain") never refl serve (inl refl, (inl refl, tt)) words none);
+      (if_given (codes "explain") never refl serve (inl refl, (inl refl, (inl refl, tt))) words none);
 }
   where
     rows : List Row

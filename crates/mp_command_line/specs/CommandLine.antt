@@ -1,6 +1,6 @@
 -- The command lines that the program takes: `keltuvar run [--explain] [FILE]`,
 -- `keltuvar race --workers N [--history FILE] [--svg FILE] [--verify-us MICROSECONDS] [--explain] [FILE]`,
--- `keltuvar audit [--explain] SCENARIO HISTORY`, `keltuvar serve [--signatures WHICH]`, `--help` and `--version`.
+-- `keltuvar audit [--explain] SCENARIO HISTORY`, `keltuvar serve [--signatures WHICH] [--salt N]`, `--help` and `--version`.
 use Rattle.std.specs.Prelude.{◌≡◌, ◌≤◌, ◌⊎◌, ⊤, ℕ, Bool, true, false, List, [], ◌∷◌, map, Option, None, Some, IfSome, codes}
 use Rattle.std.specs.Prelude.{option_and_then, option_map, unwrap_or}
 use Rattle.std.specs.Borrow.{Bor}
@@ -44,6 +44,14 @@ signatures_rule names = record (new_rule (codes "signatures")) {
   parser = Some (Names names);
 }
 
+-- a number of 64 bits
+abbrev pub salt_rule : Rule
+salt_rule = record (new_rule (codes "salt")) {
+  long = Some (codes "salt");
+  value_names = 1;
+  parser = Some (Unsigned 0 18446744073709551615);
+}
+
 -- an option with a file
 abbrev pub output_rule : Text → Rule
 output_rule name = record (new_rule name) { long = Some name; value_names = 1 }
@@ -71,9 +79,9 @@ abbrev pub audit_command : App
 audit_command = with_rule (with_rule (with_rule (new_app (codes "audit"))
     explain_rule) (input_rule (codes "FILE"))) (input_rule (codes "history"))
 
--- `serve`, with one of these names or none
+-- `serve`, with one of these names or none, and a number or none
 abbrev pub serve_command : Bor (List (Bor Text)) → App
-serve_command names = with_rule (new_app (codes "serve")) (signatures_rule names)
+serve_command names = with_rule (with_rule (new_app (codes "serve")) (signatures_rule names)) salt_rule
 
 -- the program but for its commands, of which one has to be named
 abbrev pub bare_program : App
@@ -150,6 +158,10 @@ verify_us_of command = option_map number_of (text_of (codes "verify-us") command
 abbrev pub signatures_of : Option (Text × List Row) → Option Text
 signatures_of = value_of (codes "signatures")
 
+-- what the tables of a conversation are salted with
+abbrev pub salt_of : Option (Text × List Row) → Option ℕ
+salt_of command = option_map number_of (text_of (codes "salt") command)
+
 -- what the text of a flag says
 pub record IsFlag (text : Option Text) (set : Bool) : Type 0 where
   pub none : text ≡ None → set ≡ false
@@ -169,7 +181,7 @@ abbrev pub name_of : Asked → Text
 name_of (Run input) = codes "run"
 name_of (Race input workers wishes) = codes "race"
 name_of (Audit scenario history explains) = codes "audit"
-name_of (Serve accepts_all) = codes "serve"
+name_of (Serve accepts_all salt) = codes "serve"
 
 abbrev pub file_text : Option (Bor Text) → Option Text
 file_text = option_map (λ s. s.now)
@@ -179,13 +191,13 @@ abbrev pub scenario_of : Asked → Option Text
 scenario_of (Run input) = file_text input.file
 scenario_of (Race input workers wishes) = file_text input.file
 scenario_of (Audit scenario history explains) = Some scenario.now
-scenario_of (Serve accepts_all) = None
+scenario_of (Serve accepts_all salt) = None
 
 abbrev pub explains_of : Asked → Bool
 explains_of (Run input) = input.explains
 explains_of (Race input workers wishes) = input.explains
 explains_of (Audit scenario history explains) = explains
-explains_of (Serve accepts_all) = false
+explains_of (Serve accepts_all salt) = false
 
 -- a race is of as many workers as are given, from 1 to 64
 abbrev pub HasWorkers : Option ℕ → Asked → Type 0
@@ -197,7 +209,7 @@ abbrev pub HasHistory : Option Text → Asked → Type 0
 HasHistory given (Run input) = ⊤
 HasHistory given (Race input workers wishes) = file_text wishes.history ≡ given
 HasHistory given (Audit scenario history explains) = Some history.now ≡ given
-HasHistory given (Serve accepts_all) = ⊤
+HasHistory given (Serve accepts_all salt) = ⊤
 
 -- the file for a race's picture is the one that is given, or none
 abbrev pub HasPicture : Option Text → Asked → Type 0
@@ -211,5 +223,10 @@ HasDelay given asked = ⊤
 
 -- a conversation accepts the signatures that are named, or else those of scenarios
 abbrev pub HasSignatures : Option Text → Asked → Type 0
-HasSignatures given (Serve accepts_all) = IsChoice given accepts_all
+HasSignatures given (Serve accepts_all salt) = IsChoice given accepts_all
 HasSignatures given asked = ⊤
+
+-- a conversation has the salt that is given, or none
+abbrev pub HasSalt : Option ℕ → Asked → Type 0
+HasSalt given (Serve accepts_all salt) = salt ≡ given
+HasSalt given asked = ⊤

@@ -8,7 +8,7 @@ ghost use Rattle.clap.specs.Kinds.{FailsBy};
 ghost use Rattle.clap.specs.Words.{first_of, found_of, kind_of, one_of, rows_of};
 ghost use Rattle.clap.specs.Words.{subcommand_rows_of, takes};
 ghost use Rattle.mp_command_line.specs.CommandLine as spec;
-ghost use Rattle.mp_command_line.specs.Inside.Taken.{IsSmall, IsTaken};
+ghost use Rattle.mp_command_line.specs.Inside.Taken.{IsSmall, IsTaken, IsWide};
 
 use crate::program::program;
 use clap::error::ErrorKind;
@@ -40,6 +40,8 @@ pub enum Asked<'a> {
     Serve {
         /// Whether every signature is accepted, since the host has verified them.
         accepts_all: bool,
+        /// What the pool's tables are salted with, or `None` where none is given.
+        salt: Option<u64>,
     },
 }
 
@@ -86,6 +88,8 @@ pub fn parse_words<'a, S: AsStr>(alloc: Global, words: &'a [S]) -> Result<Asked<
         (spec.HasDelay (spec.verify_us_of (spec.met_in (map S.text words.now)))) }
     ensures signatures { IfOk result
         (spec.HasSignatures (spec.signatures_of (spec.met_in (map S.text words.now)))) }
+    ensures salt { IfOk result
+        (spec.HasSalt (spec.salt_of (spec.met_in (map S.text words.now)))) }
     ensures passes { IfErr result (λ e. takes spec.program (map S.text words.now) ≡ true
         → kind_of e ≡ ErrorKind.OutOfMemory) }
 {
@@ -108,6 +112,7 @@ fn read_matches<'a>(matches: &ArgMatches<'a>) -> Asked<'a>
     ensures verify_us { spec.HasDelay (spec.verify_us_of (subcommand_rows_of matches.now)) result }
     ensures signatures { spec.HasSignatures (spec.signatures_of (subcommand_rows_of matches.now))
         result }
+    ensures salt { spec.HasSalt (spec.salt_of (subcommand_rows_of matches.now)) result }
 {
     match matches.subcommand() {
         Some((name, given)) => {
@@ -126,6 +131,7 @@ fn read_matches<'a>(matches: &ArgMatches<'a>) -> Asked<'a>
             } else if name == "serve" {
                 Asked::Serve {
                     accepts_all: accepts_all(given),
+                    salt: wide_number_of(given, "salt"),
                 }
             } else {
                 Asked::Run {
@@ -215,4 +221,11 @@ fn number_of(given: &ArgMatches<'_>, id: &str) -> Option<u32>
     ensures { result ≡ option_map spec.number_of (one_of id.now (rows_of (found_of given.now))) }
 {
     given.get_one::<u32>(id)
+}
+
+fn wide_number_of(given: &ArgMatches<'_>, id: &str) -> Option<u64>
+    requires taken { IsWide (one_of id.now (rows_of (found_of given.now))) }
+    ensures { result ≡ option_map spec.number_of (one_of id.now (rows_of (found_of given.now))) }
+{
+    given.get_one::<u64>(id)
 }

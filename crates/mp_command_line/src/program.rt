@@ -130,7 +130,8 @@ fn serve_command<'a>(alloc: Global, names: &'a [&'a str]) -> Result<Command<'a>,
 {
     let about =
         "Holds a conversation with a pool: answers each line of standard input on standard output";
-    new_command(alloc, "serve", about).arg(signatures_option(alloc, names))
+    let command = new_command(alloc, "serve", about).arg(signatures_option(alloc, names));
+    add_arg(command, salt_option(alloc))
 }
 
 fn new_command<'a>(alloc: Global, name: &'a str, about: &'a str) -> Command<'a>
@@ -178,6 +179,14 @@ fn signatures_option<'a>(alloc: Global, names: &'a [&'a str]) -> Arg<'a>
 {
     let help = "Which signatures to accept: those of scenarios, or all, as checked by the host";
     value_option(alloc, "signatures", "WHICH", help).value_parser(ValueParser::Names(names))
+}
+
+fn salt_option<'a>(alloc: Global) -> Arg<'a>
+    ensures rule { rule_of result ≡ spec.salt_rule }
+    ensures local { result.global ≡ false }
+{
+    let help = "What the pool's tables are salted with; random where it's left out";
+    value_option(alloc, "salt", "N", help).value_parser(value_parser!(u64))
 }
 
 // An option with a value, which help calls by the name `value`.

@@ -77,9 +77,10 @@ impl Scene {
     pub fn new(memory: Memory) -> Result<Scene, NoMemory>
         ensures { IfOk result (λ s. scene_of s ≡ empty_scene) }
     {
+        let settings = Settings::of_scenario();
         Ok(Scene {
-            names: Names::new(memory)?,
-            settings: Settings::of_scenario(),
+            names: Names::new(memory, settings.salt())?,
+            settings,
             cursor: 0,
             stage: Stage::Before(Openings::new(memory)),
         })

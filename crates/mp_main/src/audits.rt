@@ -1,32 +1,55 @@
 //! `keltuvar audit`: whether a history is one of a race over a scenario.
 
-ghost use Rattle.std.specs.Prelude.{◌≤◌};
+ghost use Rattle.std.specs.Prelude.{◌≡◌, ◌≤◌, IfSome};
+ghost use Rattle.std.specs.Process.{exit_status};
+ghost use Rattle.mp_main.specs.Status.{EndsAs};
+ghost use Rattle.mp_main.specs.Legal.{IsAudited};
 
-use crate::ending::{end_audit, end_bad_history, end_bad_line};
-use crate::texts::read_text;
+use crate::ending::{end_audit, end_bad_history, end_fault, end_unread};
+use crate::scenarios::scenario_of;
+use mp_command_line::Input;
 use mp_memory::Memory;
-use mp_race::{History, Scenario, audit_history};
+use mp_race::{Fault, History, Scenario, audit_history};
+use std::fs::File;
+use std::io::{Read, Write};
 use std::process::ExitCode;
+
+/// Audits the history that the reader gives, and says to the writer whether it is legal.
+pub fn audit_over<R: Read, W: Write>(
+    rt: &HostRuntime,
+    memory: Memory,
+    scenario: &Scenario,
+    reader: &mut R,
+    writer: &mut W,
+) -> ExitCode
+    ensures { IfSome (R.remaining reader.old) (λ bytes. EndsAs
+        (IsAudited scenario.now bytes (W.contents writer.old) (W.contents writer.new))
+        (exit_status result)) }
+{
+    match History::read(memory, reader) {
+        Ok(history) => end_audit(rt, audit_history(memory, scenario, &history), writer),
+        Err(fault) => end_bad_history(rt, fault),
+    }
+}
 
 /// Reads the scenario and the history from these files, and says whether the history is legal.
 pub fn audit_files(rt: &HostRuntime, scenario: &str, history: &str, explains: bool) -> ExitCode {
-    let (memory, text) = match read_text(rt, Some(scenario)) {
-        Ok(read) => read,
-        Err(code) => return code,
+    let Ok(memory) = Memory::new(rt.alloc()) else {
+        return end_fault(rt, Fault::NoMemory);
     };
-    match Scenario::parse(memory, &text) {
+    let input = Input {
+        file: Some(scenario),
+        explains,
+    };
+    match scenario_of(rt, memory, input) {
         Ok(scenario) => audit_file(rt, memory, &scenario, history),
-        Err(stop) => end_bad_line(rt, explains, stop),
+        Err(code) => code,
     }
 }
 
 fn audit_file(rt: &HostRuntime, memory: Memory, scenario: &Scenario, path: &str) -> ExitCode {
-    let (_, text) = match read_text(rt, Some(path)) {
-        Ok(read) => read,
-        Err(code) => return code,
-    };
-    match History::parse(memory, &text) {
-        Ok(history) => end_audit(rt, audit_history(memory, scenario, &history)),
-        Err(fault) => end_bad_history(rt, fault),
+    match File::open(rt, path) {
+        Ok(mut history) => audit_over(rt, memory, scenario, &mut history, &mut rt.stdout()),
+        Err(error) => end_unread(rt, path, error),
     }
 }

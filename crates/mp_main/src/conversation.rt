@@ -1,27 +1,58 @@
 //! `keltuvar serve`: a conversation over standard input and output.
 
+ghost use Rattle.std.specs.Prelude.{◌≡◌, IfSome};
+ghost use Rattle.std.specs.Process.{exit_status};
+ghost use Rattle.mp_serve.specs.Served.{Ended};
+ghost use Rattle.mp_serve.specs.Device.{EndsAt};
+ghost use Rattle.mp_serve.specs.Talk.{new_conversation};
+ghost use Rattle.mp_main.specs.Status.{EndsAs};
+
 use crate::ending::end_fault;
+use crate::salt::salt_of;
 use mp_memory::Memory;
-use mp_serve::{Fault, Signatures, serve};
+use mp_serve::{Device, Fault, Signatures, Streams, Turn, serve};
+use mp_tx::Salt;
 use std::io::BufReader;
 use std::process::ExitCode;
 
-/// Answers each line of standard input on standard output, until the input ends: 0, or 1 and the fault's line. Where all signatures are
-/// accepted, whoever writes the lines has verified them.
-pub fn converse(rt: &HostRuntime, accepts_all: bool) -> ExitCode {
+/// Answers each line of the device's input, until that ends.
+pub fn converse_over<D: Device>(
+    rt: &HostRuntime,
+    memory: Memory,
+    signatures: Signatures,
+    salt: Salt,
+    device: &mut D,
+) -> ExitCode
+    requires { D.turn device.old ≡ Turn.Listens }
+    ensures answers { IfSome (D.input device.old) (λ bytes. EndsAs
+        (Ended (new_conversation signatures salt) bytes
+        (D.output device.old) (D.output device.new)) (exit_status result)) }
+    ensures turn { EndsAs (λ ended. EndsAt ended (D.turn device.new)) (exit_status result) }
+{
+    match serve(memory, signatures, salt, device) {
+        Ok(()) => ExitCode::SUCCESS,
+        Err(fault) => end_fault(rt, fault),
+    }
+}
+
+/// Answers each line of standard input on standard output, until the input ends. Where all signatures are accepted, whoever writes the
+/// lines has verified them. The salt is random where none is given.
+pub fn converse(rt: &HostRuntime, accepts_all: bool, salt: Option<u64>) -> ExitCode {
     let signatures = if accepts_all {
         Signatures::Checked
     } else {
         Signatures::OfScenarios
     };
+    let salt = match salt_of(rt, salt) {
+        Ok(salt) => salt,
+        Err(code) => return code,
+    };
     let Ok(memory) = Memory::new(rt.alloc()) else {
         return end_fault(rt, Fault::NoMemory);
     };
-    let Ok(mut reader) = BufReader::new(memory, rt.stdin()) else {
+    let Ok(reader) = BufReader::new(memory, rt.stdin()) else {
         return end_fault(rt, Fault::NoMemory);
     };
-    match serve(memory, signatures, &mut reader, &mut rt.stdout()) {
-        Ok(()) => ExitCode::SUCCESS,
-        Err(fault) => end_fault(rt, fault),
-    }
+    let mut device = Streams::new(reader, rt.stdout());
+    converse_over(rt, memory, signatures, salt, &mut device)
 }

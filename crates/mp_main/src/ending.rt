@@ -1,8 +1,12 @@
 //! How the program ends: what it writes to standard error, and its status.
 
-ghost use Rattle.std.specs.Prelude.{◌≡◌, ◌≢◌, IfErr, IfOk};
+ghost use Rattle.std.specs.Prelude.{◌≡◌, ◌≢◌, ◌≤◌, if◌then◌else◌};
 ghost use Rattle.std.specs.Process.{exit_status};
+ghost use Rattle.std.specs.IoError.{error_kind};
+ghost use Rattle.std.specs.declared.io.ErrorKind.TheVariants as kinds;
 ghost use Rattle.clap.specs.Words.{kind_of};
+ghost use Rattle.mp_main.specs.Status.{status_of, EndsAs};
+ghost use Rattle.mp_main.specs.Legal.{IsSaid};
 
 use clap::Error;
 use clap::error::ErrorKind;
@@ -10,6 +14,7 @@ use mp_driver::Stop;
 use mp_history::AuditFault;
 use mp_names::Reason;
 use mp_race::Fault;
+use mp_text::{WriteFault, write_all};
 use std::process::ExitCode;
 use std::{fmt, io};
 
@@ -32,8 +37,7 @@ fn explain(rt: &HostRuntime, explains: bool, bad_line: Option<(u64, Reason<'_>)>
 
 /// After the answers to a text: 0, or 1 and the fault's line. Where it explains, what is wrong with a bad line stands behind it.
 pub fn end_answers(rt: &HostRuntime, explains: bool, ended: Result<(), Stop<'_>>) -> ExitCode
-    ensures done { IfOk ended.entry (λ _. exit_status result ≡ 0) }
-    ensures fault { IfErr ended.entry (λ _. exit_status result ≡ 1) }
+    ensures { exit_status result ≡ status_of ended.entry }
 {
     match ended {
         Ok(()) => ExitCode::SUCCESS,
@@ -56,7 +60,8 @@ pub fn end_bad_line(rt: &HostRuntime, explains: bool, stop: mp_race::Stop<'_>) -
 
 /// Where a word of the command line is no text: 2, or 1 where there is no memory for it.
 pub fn end_unworded(rt: &HostRuntime, error: io::Error) -> ExitCode
-    ensures { exit_status result ≢ 0 }
+    ensures refused { error_kind error ≢ kinds.OutOfMemory → exit_status result ≡ 2 }
+    ensures memory { error_kind error ≡ kinds.OutOfMemory → exit_status result ≡ 1 }
 {
     let _ = rt.eprintln(format_args!("keltuvar: the command line can't be read: {error}"));
     match error.kind() {
@@ -81,18 +86,36 @@ pub fn end_unwritten(rt: &HostRuntime, name: &str, error: io::Error) -> ExitCode
     ExitCode::FAILURE
 }
 
-/// Where a history isn't read: 1, and the fault's line. Behind it stands what a history's lines are, where one of them is bad.
+/// Where there is no random salt: 1.
+pub fn end_undrawn(rt: &HostRuntime, error: io::Error) -> ExitCode
+    ensures { exit_status result ≡ 1 }
+{
+    let _ = rt.eprintln(format_args!("keltuvar: no salt can be drawn: {error}"));
+    ExitCode::FAILURE
+}
+
+/// Where a history isn't read: 1, and the fault's line. Behind it stands what a history's lines are, where one of them is bad, or that
+/// there are fewer entries than its first line tells.
 pub fn end_bad_history(rt: &HostRuntime, found: Fault) -> ExitCode
     ensures { exit_status result ≡ 1 }
 {
-    let is_bad = matches!(found, Fault::BadLine(_));
+    let wrong = wrong_text(&found);
     let _ = rt.eprintln(found);
-    if is_bad {
-        let _ = rt.eprintln(
-            "of the history: its lines are workers N, and then entry PLACE WORKER COMMAND REPLY",
-        );
+    if let Some(wrong) = wrong {
+        let _ = rt.eprintln(wrong);
     }
     ExitCode::FAILURE
+}
+
+// What is wrong with a history's text.
+fn wrong_text(fault: &Fault) -> Option<&'static str> {
+    match fault {
+        Fault::BadLine(_) => Some(
+            "of the history: its lines are workers N entries M, and then entry PLACE WORKER COMMAND REPLY",
+        ),
+        Fault::MissingEntry(_) => Some("the history ends before this entry"),
+        _ => None,
+    }
 }
 
 // What is wrong at the place that the fault tells.
@@ -109,16 +132,10 @@ fn wrong_there(fault: &Fault) -> Option<&'static str> {
     }
 }
 
-/// After an audit: 0, and that the history is legal, or 1 and the fault's line, with what is wrong at its place.
-pub fn end_audit(rt: &HostRuntime, ended: Result<(), Fault>) -> ExitCode
-    ensures { IfErr ended (λ _. exit_status result ≡ 1) }
+// Where an audit finds a fault: 1, and the fault's line, with what is wrong at its place.
+fn end_fault_there(rt: &HostRuntime, found: Fault) -> ExitCode
+    ensures { exit_status result ≡ 1 }
 {
-    let Err(found) = ended else {
-        return match rt.println("audit legal") {
-            Ok(()) => ExitCode::SUCCESS,
-            Err(_) => end_fault(rt, Fault::WriteFault),
-        };
-    };
     let wrong = wrong_there(&found);
     let _ = rt.eprintln(found);
     if let Some(wrong) = wrong {
@@ -127,21 +144,48 @@ pub fn end_audit(rt: &HostRuntime, ended: Result<(), Fault>) -> ExitCode
     ExitCode::FAILURE
 }
 
-/// After the help or the version: 0, or 1 where it can't be written. After a refused command line: 2.
+/// After an audit: 0, and that the history is legal, or 1 and the fault's line.
+pub fn end_audit<W: io::Write>(
+    rt: &HostRuntime,
+    ended: Result<(), Fault>,
+    writer: &mut W,
+) -> ExitCode
+    ensures { EndsAs (IsSaid (W.contents writer.old) (W.contents writer.new) ended)
+        (exit_status result) }
+{
+    match ended {
+        Ok(()) => match write_all(writer, b"audit legal\n") {
+            Ok(()) => ExitCode::SUCCESS,
+            Err(WriteFault) => end_fault(rt, Fault::WriteFault),
+        },
+        Err(fault) => end_fault_there(rt, fault),
+    }
+}
+
+// After the help or the version: 0, or 1 where it can't be written.
+fn end_help(is_written: bool) -> ExitCode
+    ensures { exit_status result ≡ if is_written then 0 else 1 }
+{
+    if is_written {
+        ExitCode::SUCCESS
+    } else {
+        ExitCode::FAILURE
+    }
+}
+
+/// After the help or the version: 0, or 1 where it can't be written. After a refused command line: 2, or 1 where there was no memory
+/// for it.
 pub fn end_unparsed(rt: &HostRuntime, error: Error) -> ExitCode
     ensures refused { kind_of error ≢ ErrorKind.DisplayHelp
         → kind_of error ≢ ErrorKind.DisplayVersion
         → kind_of error ≢ ErrorKind.OutOfMemory → exit_status result ≡ 2 }
+    ensures memory { kind_of error ≡ ErrorKind.OutOfMemory → exit_status result ≡ 1 }
+    ensures help { kind_of error ≡ ErrorKind.DisplayHelp → exit_status result ≤ 1 }
+    ensures version { kind_of error ≡ ErrorKind.DisplayVersion → exit_status result ≤ 1 }
 {
     let is_written = error.print(rt).is_ok();
     match error.kind() {
-        ErrorKind::DisplayHelp | ErrorKind::DisplayVersion => {
-            if is_written {
-                ExitCode::SUCCESS
-            } else {
-                ExitCode::FAILURE
-            }
-        }
+        ErrorKind::DisplayHelp | ErrorKind::DisplayVersion => end_help(is_written),
         ErrorKind::OutOfMemory => ExitCode::FAILURE,
         _ => ExitCode::from(REFUSED),
     }

@@ -1,17 +1,20 @@
 //! `keltuvar race`: the report, the history and the picture.
 
-ghost use Rattle.std.specs.Prelude.{◌≡◌, ◌≤◌, length};
+ghost use Rattle.std.specs.Prelude.{◌≡◌, ◌≤◌, IfErr};
+ghost use Rattle.std.specs.Process.{exit_status};
+ghost use Rattle.mp_main.specs.Status.{EndsAs};
+ghost use Rattle.mp_main.specs.Told.{IsReported, RaceEnds};
 
-use crate::ending::{end_bad_line, end_fault};
+use crate::ending::end_fault;
+use crate::files::write_history;
+use crate::pictures::write_picture;
+use crate::scenarios::scenario_of;
 use crate::slow::Slow;
-use crate::texts::{read_text, write_file};
 use mp_command_line::{Input, Wishes};
 use mp_history::NewName;
-use mp_memory::{Memory, NoMemory};
-use mp_picture::{Kind, Mark, put_picture};
-use mp_race::{Fault, History, Raced, Scenario, race, text_if_legal};
-use mp_seqpool::Reply;
-use mp_text::MAX_BYTES;
+use mp_memory::Memory;
+use mp_race::{Fault, Raced, Scenario, race};
+use std::io::Write;
 use std::marker::Brand;
 use std::process::ExitCode;
 use std::rt::Clock;
@@ -29,54 +32,85 @@ pub fn race_scenario<R: Threads + Wait + Clock + Sync>(
     requires some { 1 ≤ workers }
     requires most { workers ≤ 64 }
 {
-    let (memory, text) = match read_text(rt, input.file) {
-        Ok(read) => read,
-        Err(code) => return code,
+    let Ok(memory) = Memory::new(rt.alloc()) else {
+        return end_fault(rt, Fault::NoMemory);
     };
-    match Scenario::parse(memory, &text) {
-        Ok(scenario) => race_over(rt, threads, memory, &scenario, workers, wishes),
-        Err(stop) => end_bad_line(rt, input.explains, stop),
+    match scenario_of(rt, memory, input) {
+        Ok(scenario) => {
+            let mut writer = rt.stdout();
+            race_over(rt, threads, memory, &scenario, workers, wishes, &mut writer)
+        }
+        Err(code) => code,
     }
 }
 
-// Has so many workers race over the scenario, by a pool of its own.
-fn race_over<R: Threads + Wait + Clock + Sync>(
+/// Has so many workers race over the scenario, each look at a signature of whom takes as long as is wished. The report goes to the
+/// writer, and to files what else is wished.
+pub fn race_over<R: Threads + Wait + Clock + Sync, W: Write>(
     rt: &HostRuntime,
     threads: &R,
     memory: Memory,
     scenario: &Scenario,
     workers: u32,
     wishes: Wishes<'_>,
+    writer: &mut W,
 ) -> ExitCode
     requires some { 1 ≤ workers }
     requires most { workers ≤ 64 }
+    ensures { EndsAs (RaceEnds workers scenario.now
+        (W.contents writer.old) (W.contents writer.new)) (exit_status result) }
 {
     let gate = Slow {
         clock: threads,
         micros: wishes.verify_us,
     };
+    race_slowly(
+        rt, threads, memory, scenario, workers, wishes, &gate, writer,
+    )
+}
+
+// The same by a pool of its own, with looks that take as long as is wished.
+fn race_slowly<R: Threads + Wait + Clock + Sync, W: Write>(
+    rt: &HostRuntime,
+    threads: &R,
+    memory: Memory,
+    scenario: &Scenario,
+    workers: u32,
+    wishes: Wishes<'_>,
+    gate: &Slow<'_, R>,
+    writer: &mut W,
+) -> ExitCode
+    requires some { 1 ≤ workers }
+    requires most { workers ≤ 64 }
+    requires slow { gate.now.micros ≡ wishes.verify_us }
+    ensures { EndsAs (RaceEnds workers scenario.now
+        (W.contents writer.old) (W.contents writer.new)) (exit_status result) }
+{
     let name = NewName::new();
-    match race::<Brand, R, Slow<'_, R>>(threads, memory, name, scenario, workers, &gate) {
-        Ok(raced) => tell(rt, memory, scenario, wishes, &raced),
+    match race::<Brand, R, Slow<'_, R>>(threads, memory, name, scenario, workers, gate) {
+        Ok(raced) => tell(rt, memory, scenario, wishes, &raced, writer),
         Err(fault) => end_fault(rt, fault),
     }
 }
 
 // Writes what is wished, and the report.
-fn tell(
+fn tell<W: Write>(
     rt: &HostRuntime,
     memory: Memory,
     scenario: &Scenario,
     wishes: Wishes<'_>,
     raced: &Raced,
+    writer: &mut W,
 ) -> ExitCode
     requires some { 1 ≤ raced.now.history.workers }
     requires most { raced.now.history.workers ≤ 64 }
+    ensures { EndsAs (IsReported raced.now.report
+        (W.contents writer.old) (W.contents writer.new)) (exit_status result) }
 {
     if let Err(code) = write_wishes(rt, memory, scenario, wishes, raced) {
         return code;
     }
-    match raced.report.write(memory, &mut rt.stdout()) {
+    match raced.report.write(memory, writer) {
         Ok(()) => ExitCode::SUCCESS,
         Err(fault) => end_fault(rt, fault),
     }
@@ -91,6 +125,7 @@ fn write_wishes(
 ) -> Result<(), ExitCode>
     requires some { 1 ≤ raced.now.history.workers }
     requires most { raced.now.history.workers ≤ 64 }
+    ensures { IfErr result (λ code. exit_status code ≡ 1) }
 {
     if let Some(path) = wishes.history {
         write_history(rt, memory, scenario, &raced.history, path)?;
@@ -99,78 +134,4 @@ fn write_wishes(
         write_picture(rt, memory, raced, path)?;
     }
     Ok(())
-}
-
-// Writes the history, where its audit finds it legal.
-fn write_history(
-    rt: &HostRuntime,
-    memory: Memory,
-    scenario: &Scenario,
-    history: &History,
-    path: &str,
-) -> Result<(), ExitCode>
-    requires some { 1 ≤ history.now.workers }
-    requires most { history.now.workers ≤ 64 }
-{
-    match text_if_legal(memory, scenario, history) {
-        Ok(text) => write_file(rt, path, &text),
-        Err(fault) => Err(end_fault(rt, fault)),
-    }
-}
-
-fn kind_of(reply: &Reply) -> Kind {
-    match reply {
-        Reply::Accepted { .. } => Kind::Accepted,
-        Reply::Removed { .. } => Kind::Removed,
-        Reply::Synced { .. } => Kind::Synced,
-    }
-}
-
-fn put_entries(marks: &mut Vec<Mark, Memory>, history: &History) -> Result<(), NoMemory> {
-    for told in &history.told {
-        marks.push(Mark {
-            worker: told.worker,
-            place: told.place,
-            kind: kind_of(&told.reply),
-        })?;
-    }
-    Ok(())
-}
-
-fn put_refusals(marks: &mut Vec<Mark, Memory>, raced: &Raced) -> Result<(), NoMemory> {
-    for refused in &raced.refused {
-        marks.push(Mark {
-            worker: refused.worker,
-            place: refused.entries,
-            kind: Kind::Refused,
-        })?;
-    }
-    Ok(())
-}
-
-// The picture's text.
-fn picture_of(memory: Memory, raced: &Raced) -> Result<Vec<u8, Memory>, NoMemory> {
-    let mut marks = Vec::new(memory);
-    put_entries(&mut marks, &raced.history)?;
-    put_refusals(&mut marks, raced)?;
-    let mut text = Vec::new(memory);
-    put_picture(
-        &mut text,
-        raced.report.workers,
-        raced.report.entries,
-        &marks,
-    )?;
-    Ok(text)
-}
-
-fn write_picture(
-    rt: &HostRuntime,
-    memory: Memory,
-    raced: &Raced,
-    path: &str,
-) -> Result<(), ExitCode> {
-    match picture_of(memory, raced) {
-        Ok(text) => write_file(rt, path, &text),
-        Err(NoMemory) => Err(end_fault(rt, Fault::NoMemory)),
-    }
 }

@@ -34,7 +34,7 @@ fn wait(clock: &impl Clock, micros: u32) {
 }
 
 impl<C: Clock + Sync> Gate for Slow<'_, C> {
-    fn start(&self, _worker: u32, _task: u32) {}
+    fn start(&self, _worker: u32, _task: u64) {}
 
     fn check(&self, _id: &TxId) {
         if self.micros > 0 {

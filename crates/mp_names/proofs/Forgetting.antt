@@ -1,54 +1,45 @@
--- What is left where names go.
-use Rattle.std.proofs.Common.{◌≡◌, ℕ, ◌+◌, ◌<◌, Bool, true, false, not, cond, List, [], ◌∷◌, ◌++◌, length, take, get_or, nat_eq, Option, Some, None, refl, sym, ap, ◌∙◌}
-use Rattle.std.specs.Prelude.{option_map, is_some}
-use Rattle.std.specs.List.{filter, list_any}
-use Rattle.std.specs.Option.{option_map_or}
-use Rattle.std.specs.Cmp.Lexicographic.{pointwise}
-use Rattle.std.proofs.lemmas.List.{append-nil, length_push}
-use Rattle.std.proofs.lemmas.List.Elements.{filter_more, filter_agree}
+-- Names that go, one by one.
+use Rattle.std.proofs.Common.{◌≡◌, ℕ, ◌+◌, ◌<◌, Bool, true, false, not, cond, List, [], ◌∷◌, ◌++◌, length, take, get_or, refl, sym, ap, ◌∙◌}
+use Rattle.std.specs.Prelude.{filter, ◌||◌}
+use Rattle.std.proofs.lemmas.List.{take_more}
+use Rattle.std.proofs.lemmas.List.Elements.{filter_agree}
 use Rattle.mp_names.specs.declared.names.NamedBinding.{NamedBinding}
-use Rattle.mp_names.specs.Names.{is_among}
-use Rattle.mp_names.specs.Inside.PlaceTable.{Noted, noted_at, Notes, place_of, ArePlaced}
-use Rattle.mp_names.specs.Inside.BindingTable.{left_by}
-use Rattle.mp_names.proofs.Placing.{placed-noted}
+use Rattle.mp_names.specs.Reported.{Reported}
+use Rattle.mp_names.specs.Names.{Names, is_among, reported_left, without_bindings}
+use Rattle.mp_names.specs.Inside.BindingTable.{has_name}
+use Rattle.mp_names.proofs.Reporting.{among-append, among_one, left-left, left-none}
 
-is_some-next : (o : Option ℕ) → is_some (option_map (λ k. k + 1) o) ≡ is_some o
-is_some-next None = refl
-is_some-next (Some k) = refl
+twice : (a b c : Bool) (n : NamedBinding) (ns : List NamedBinding) (test : NamedBinding → Bool) → test n ≡ not b → c ≡ (a || b) → filter test (cond (not a) (n ∷ ns) ns) ≡ cond (not c) (n ∷ filter test ns) (filter test ns)
+twice true b c n ns test is all = ap (λ d. cond (not d) (n ∷ filter test ns) (filter test ns)) (sym all)
+twice false b c n ns test is all = ap (λ d. cond d (n ∷ filter test ns) (filter test ns)) (is ∙ ap not (sym all))
 
-place_more : {X : Type 0} (test : X → Bool) (x : X) (xs : List X) (t : Bool) → test x ≡ t → is_some (place_of test xs) ≡ list_any test xs
-    → is_some (place_of test (x ∷ xs)) ≡ list_any test (x ∷ xs)
-place_more test x xs true is before = rw is refl
-place_more test x xs false is before = rw is (is_some-next (place_of test xs) ∙ before)
+filter-filter : (first second : List (List ℕ)) (ns : List NamedBinding) → filter (λ n. not (is_among second n.name)) (filter (λ n. not (is_among first n.name)) ns) ≡ filter (λ n. not (is_among (first ++ second) n.name)) ns
+filter-filter first second [] = refl
+filter-filter first second (n ∷ ns) =
+    twice (is_among first n.name) (is_among second n.name) (is_among (first ++ second) n.name) n (filter (λ m. not (is_among first m.name)) ns) (λ m. not (is_among second m.name)) refl
+    (among-append first second n.name)
+    ∙ ap (λ l. cond (not (is_among (first ++ second) n.name)) (n ∷ l) l) (filter-filter first second ns)
 
--- there is a place where one passes
-pub is_some-place_of : {X : Type 0} (test : X → Bool) (xs : List X) → is_some (place_of test xs) ≡ list_any test xs
-is_some-place_of test [] = refl
-is_some-place_of test (x ∷ xs) = place_more test x xs (test x) refl (is_some-place_of test xs)
+pub without-without : (names : Names) (first second : List (List ℕ)) → without_bindings (without_bindings names first) second ≡ without_bindings names (first ++ second)
+without-without names first second = λ i. record names { bindings = filter-filter first second names.bindings i; reported = left-left first second names.reported i }
 
--- those are left whose names aren't among these
-pub left_by-placed : {Z : Type 0} (noted : Noted Z) (names : List (List ℕ)) → ArePlaced (pointwise nat_eq) noted names
-    → (bindings : List NamedBinding) → left_by noted bindings ≡ filter (λ n. not (is_among names n.name)) bindings
-left_by-placed noted names placed bindings =
-    filter_agree (λ (n : NamedBinding). not (is_some (noted_at noted n.name))) (λ (n : NamedBinding). not (is_among names n.name))
-    (λ n. ap not (ap is_some (placed n.name) ∙ is_some-place_of (pointwise nat_eq n.name) names)) bindings
+filter-all : (ns : List NamedBinding) → ns ≡ filter (λ n. not (is_among [] n.name)) ns
+filter-all [] = refl
+filter-all (n ∷ ns) = ap (λ l. n ∷ l) (filter-all ns)
 
-module _ {X : Type 0} (test : X → Bool) (xs : List X) (i : ℕ) (x : X) (lt : i < length xs) (here : x ≡ get_or xs i x) where
-  one_more : (b : Bool) → test x ≡ b → filter test (take (i + 1) xs) ≡ filter test (take i xs) ++ cond b (x ∷ []) []
-  one_more b is =
-      filter_more test xs i x lt ∙ ap (λ y. filter test (take i xs) ++ cond (test y) (y ∷ []) []) (sym here)
-      ∙ ap (λ c. filter test (take i xs) ++ cond c (x ∷ []) []) is
+-- none has gone
+pub without-none : (names : Names) → names ≡ without_bindings names []
+without-none names = λ i. record names { bindings = filter-all names.bindings i; reported = left-none names.reported i }
 
-  -- an item that passes is noted behind the others that do
-  pub placed-stays : {Z : Type 0} (has : List ℕ → X → Bool) (old new : Noted Z) (key : Option (List ℕ)) (place : ℕ)
-      → ((q : List ℕ) → has q x ≡ option_map_or (pointwise nat_eq q) key false) → place ≡ length (filter test (take i xs)) → test x ≡ true
-      → Notes old key place new → ArePlaced has old (filter test (take i xs)) → ArePlaced has new (filter test (take (i + 1) xs))
-  placed-stays has old new key place is at stays notes placed =
-      placed-noted has old old new (filter test (take i xs)) (filter test (take (i + 1) xs)) x key place is at (one_more true stays) refl notes placed
+-- one has gone
+pub without-one : (names : Names) (word : List ℕ) (bindings : List NamedBinding) (reported : Reported) → bindings ≡ filter (λ n. not (has_name word n)) names.bindings → reported ≡ reported_left (word ∷ []) names.reported
+    → record names { bindings = bindings; reported = reported } ≡ without_bindings names (word ∷ [])
+without-one names word bindings reported bs rs = λ i.
+    record names { bindings = (bs ∙ filter_agree (λ (n : NamedBinding). not (has_name word n)) (λ (n : NamedBinding). not (is_among (word ∷ []) n.name)) (λ n. ap not (sym (among_one word n.name))) names.bindings) i; reported = rs i }
 
-  pub count-stays : test x ≡ true → length (filter test (take (i + 1) xs)) ≡ length (filter test (take i xs)) + 1
-  count-stays stays = ap length (one_more true stays) ∙ length_push (filter test (take i xs)) x
-
-  -- and one that doesn't changes nothing
-  pub filter-goes : test x ≡ false → filter test (take (i + 1) xs) ≡ filter test (take i xs)
-  filter-goes goes = one_more false goes ∙ append-nil (filter test (take i xs))
+-- and another one
+pub without-more : (names before after : Names) (goes : List (List ℕ)) (i : ℕ) (word : List ℕ) → i < length goes → word ≡ get_or goes i word → before ≡ without_bindings names (take i goes)
+    → after ≡ without_bindings before (word ∷ []) → after ≡ without_bindings names (take (i + 1) goes)
+without-more names before after goes i word lt here so_far gone =
+    gone ∙ ap (λ b. without_bindings b (word ∷ [])) so_far ∙ without-without names (take i goes) (word ∷ [])
+    ∙ ap (without_bindings names) (ap (λ w. take i goes ++ w ∷ []) here ∙ sym (take_more goes i word lt))

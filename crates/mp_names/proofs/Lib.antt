@@ -3,4 +3,8 @@ pub mod Parts
 pub mod Entries
 pub mod Apart
 pub mod Placing
+pub mod Numbering
+pub mod NumberTables
+pub mod Bindings
+pub mod Reporting
 pub mod Forgetting

@@ -4,12 +4,7 @@ use Rattle.std.specs.Prelude.{option_map, option_and_then, slice_get, find}
 use Rattle.std.specs.Option.{option_or, option_map_or}
 use Rattle.std.specs.Map.{lookup}
 use Rattle.std.specs.Cmp.Lexicographic.{pointwise}
-use Rattle.mp_names.specs.declared.names.Binding.{Binding}
-use Rattle.mp_names.specs.declared.names.Binding.TheVariants.{Opening, Made}
-use Rattle.mp_names.specs.declared.names.NamedBinding.{NamedBinding}
-use Rattle.mp_names.specs.Names.{has_id}
 use Rattle.mp_names.specs.Inside.PlaceTable.{Noted, noted_at, Notes, place_of, ArePlaced}
-use Rattle.mp_names.specs.Inside.BindingTable.{has_tx_id, bound_id}
 
 later-or : (o : Option ℕ) (b : Bool) (n : ℕ) → option_map (λ k. k + 1) (option_or o (cond b (Some n) None)) ≡ option_or (option_map (λ k. k + 1) o) (cond b (Some (n + 1)) None)
 later-or None true n = refl
@@ -64,11 +59,3 @@ placed-noted has start old new xs all x key place is at put same notes placed = 
     ∙ ap (λ b. option_or (place_of (has q) xs) (cond b (Some place) None)) (sym (is q))
     ∙ ap (λ n. option_or (place_of (has q) xs) (cond (has q x) (Some n) None)) at
     ∙ sym (place_of-push (has q) xs x) ∙ ap (place_of (has q)) (sym put)
-
--- a transaction is found by its id, and an output by none
-pub has_tx_id-bound_id : (n : NamedBinding) (id : Option (List ℕ)) → id ≡ bound_id n.binding → (q : List ℕ) → has_tx_id q n ≡ option_map_or (pointwise nat_eq q) id false
-has_tx_id-bound_id n id is q = by n.binding ∙ ap (λ o. option_map_or (pointwise nat_eq q) o false) (sym is)
-  where
-    by : (b : Binding) → has_id q b ≡ option_map_or (pointwise nat_eq q) (bound_id b) false
-    by (Opening r p) = refl
-    by (Made t) = refl

@@ -2,4 +2,8 @@ pub mod Name
 pub mod Names
 pub mod DeclaredTx
 pub mod PlaceTable
+pub mod NumberTable
 pub mod BindingTable
+pub mod Reported
+pub mod ScriptTable
+pub mod DatumTable

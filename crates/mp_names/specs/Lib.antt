@@ -1,6 +1,7 @@
 pub mod Splitting
 pub mod Rising
 pub mod DeclaredTx
+pub mod Reported
 pub mod Names
 pub mod Bundles
 pub mod Payments

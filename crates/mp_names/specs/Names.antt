@@ -1,6 +1,9 @@
 -- What the names of a scenario stand for.
 use Rattle.std.specs.Prelude.{ℕ, ◌&&◌, ◌++◌, Bool, false, not, nat_eq, List, [], ◌∷◌, find, filter, codes, is_none, Option, None, Some, option_map, option_and_then, unwrap_or, replicate, if◌then◌else◌}
+use Rattle.std.specs.Option.{option_or, option_map_or}
 use Rattle.std.specs.List.{list_any}
+use Rattle.std.specs.FinMap.{get, insert, retain_keys}
+use Rattle.std.specs.FinMap as finite
 use Rattle.std.specs.Cmp.Lexicographic.{pointwise}
 use Rattle.sha2.specs.Sha256.{sha256}
 use Rattle.mp_text.specs.Names.{is_name}
@@ -11,10 +14,13 @@ use Rattle.mp_names.specs.declared.names.NamedBinding.{NamedBinding}
 use Rattle.mp_names.specs.declared.names.NamedScript.{NamedScript}
 use Rattle.mp_names.specs.declared.names.NamedDatum.{NamedDatum}
 use Rattle.mp_names.specs.DeclaredTx.{DeclaredTx}
+use Rattle.mp_names.specs.Reported.{Reported}
 
 pub record Names : Type 0 where
   -- outputs and transactions share one set of names
   pub bindings : List NamedBinding
+  -- the name under which a transaction is reported, by its id
+  pub reported : Reported
   pub scripts : List NamedScript
   pub datums : List NamedDatum
 
@@ -51,6 +57,7 @@ is_new_datum word names = is_name word && is_none (datum_named word names)
 abbrev pub first_names : Names
 first_names = record {
   bindings = [];
+  reported = finite.empty;
   scripts = record { name = codes "yes"; script = 1 ∷ [] } ∷ record { name = codes "no"; script = 0 ∷ [] } ∷ [];
   datums = record { name = codes "unit"; datum = 3 ∷ 0 ∷ 0 ∷ [] } ∷ [];
 }
@@ -68,9 +75,24 @@ with_datum names named = record names { datums = names.datums ++ named ∷ [] }
 abbrev pub is_among : List (List ℕ) → List ℕ → Bool
 is_among names name = list_any (λ n. pointwise nat_eq name n) names
 
+-- the transactions that are reported under none of these names
+abbrev pub reported_left : List (List ℕ) → Reported → Reported
+reported_left goes reported = retain_keys reported (λ id. not (option_map_or (is_among goes) (get reported id) false))
+
 -- without the outputs and transactions that have these names; the others stay in their order
 abbrev pub without_bindings : Names → List (List ℕ) → Names
-without_bindings names goes = record names { bindings = filter (λ n. not (is_among goes n.name)) names.bindings }
+without_bindings names goes = record names {
+  bindings = filter (λ n. not (is_among goes n.name)) names.bindings;
+  reported = reported_left goes names.reported;
+}
+
+abbrev pub reported_with : Reported → List ℕ → Option DeclaredTx → Reported
+reported_with reported word None = reported
+reported_with reported word (Some t) = insert reported (id_of t.tx) word
+
+-- the transaction that the word stands for, if it stands for one, is reported under it
+abbrev pub with_reported : Names → List ℕ → Names
+with_reported names word = record names { reported = reported_with names.reported word (tx_named word names) }
 
 abbrev pub has_id : List ℕ → Binding → Bool
 has_id id (Opening r p) = false
@@ -79,9 +101,13 @@ has_id id (Made t) = pointwise nat_eq id (id_of t.tx)
 abbrev pub has_hash : List ℕ → List ℕ → Bool
 has_hash hash script = pointwise nat_eq hash (sha256 script)
 
--- the name of the first transaction with this id
+-- the name of the first transaction that was declared with this id, if one was
+abbrev pub first_name_of : List ℕ → Names → Option (List ℕ)
+first_name_of id names = option_map (λ n. n.name) (find (λ n. has_id id n.binding) names.bindings)
+
+-- the name under which the transaction is reported: without one, the first that it was declared with
 abbrev pub name_of : List ℕ → Names → List ℕ
-name_of id names = unwrap_or (option_map (λ n. n.name) (find (λ n. has_id id n.binding) names.bindings)) []
+name_of id names = unwrap_or (option_or (get names.reported id) (first_name_of id names)) []
 
 -- the policy of coin is zeros, and any other is told by the first script with that hash
 abbrev pub policy_name : List ℕ → Names → List ℕ

@@ -3,10 +3,12 @@
 
 mod binding_table;
 mod bundles;
+mod datum_table;
 mod declared_tx;
 mod fault;
 mod names;
 mod new_ledger;
+mod number_table;
 mod numbers;
 mod once;
 mod payment;
@@ -15,7 +17,9 @@ mod place_table;
 mod reason;
 mod references;
 mod repeats;
+mod reported;
 mod rising;
+mod script_table;
 mod settings;
 mod splitting;
 

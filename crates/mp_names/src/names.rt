@@ -1,19 +1,21 @@
 //! What the names of a scenario stand for.
 
-ghost use Rattle.std.specs.Prelude.{◌≡◌, [], ◌∷◌, ◌++◌, find, nat_eq, option_copied, IfOk, OnOk};
-ghost use Rattle.std.specs.Cmp.Lexicographic.{pointwise};
-ghost use Rattle.mp_names.specs.Names.{first_names, has_hash};
+ghost use Rattle.std.specs.Prelude.{◌≡◌, [], ◌∷◌, IfOk, OnOk};
+ghost use Rattle.mp_names.specs.Names.{first_names, reported_left};
+ghost use Rattle.mp_names.specs.Inside.Reported.{AreDeclared};
 
 use crate::binding_table::BindingTable;
+use crate::datum_table::DatumTable;
 use crate::declared_tx::DeclaredTx;
 use crate::payment::Payment;
 use crate::reason::Reason;
+use crate::reported::ReportedNames;
+use crate::script_table::ScriptTable;
 use mp_bundle::{PolicyId, Token};
-use mp_bytes::Hash;
 use mp_memory::{Memory, NoMemory};
 use mp_script::{Data, Script};
 use mp_text::is_name;
-use mp_tx::{OutRef, TxId};
+use mp_tx::{OutRef, Salt, TxId};
 use std::marker::Model;
 
 /// The word for the policy of coin. No script has it for a name.
@@ -114,27 +116,38 @@ impl Drop for NamedDatum {
 /// declared beforehand.
 pub struct Names {
     bindings: BindingTable,
-    scripts: Vec<NamedScript, Memory>,
-    datums: Vec<NamedDatum, Memory>,
+    reported: ReportedNames,
+    scripts: ScriptTable,
+    datums: DatumTable,
+    memory: Memory,
 }
 
 impl Drop for Names {
     fn drop(self) {
         let Names {
             bindings: _,
+            reported: _,
             scripts: _,
             datums: _,
+            memory: _,
         } = self;
     }
 }
 
 impl Model for Names {
+    ghost use Rattle.std.specs.Coded.{codes};
+    ghost use Rattle.std.specs.FinMap as finite;
     ghost use Rattle.mp_names.specs.Names as told;
     ghost use Rattle.mp_names.specs.Inside.Names.{names_of};
+    ghost use Rattle.mp_names.specs.Inside.Reported.{AreDeclared};
 
     ghost Value = { told.Names };
 
+    ghost coded = { Prim.hlevel (codes, finite.code) };
+
     ghost view = { names_of };
+
+    ghost invariant = { λ n. AreDeclared n.bindings n.reported };
 }
 
 fn script_of(memory: Memory, name: &[u8], bytes: &[u8]) -> Result<NamedScript, NoMemory>
@@ -155,71 +168,29 @@ fn datum_of(memory: Memory, name: &[u8], bytes: &[u8]) -> Result<NamedDatum, NoM
     Ok(NamedDatum { name, datum })
 }
 
-fn put_script(
-    scripts: &mut Vec<NamedScript, Memory>,
-    memory: Memory,
-    name: &[u8],
-    bytes: &[u8],
-) -> Result<(), NoMemory>
-    ensures { OnOk result (scripts.new.items
-        ≡ scripts.old.items ++ record { name = name.now; script = bytes.now } ∷ []) }
-{
-    let named = script_of(memory, name, bytes)?;
-    scripts.push(named)?;
-    Ok(())
-}
-
-fn put_datum(
-    datums: &mut Vec<NamedDatum, Memory>,
-    memory: Memory,
-    name: &[u8],
-    bytes: &[u8],
-) -> Result<(), NoMemory>
-    ensures { OnOk result (datums.new.items
-        ≡ datums.old.items ++ record { name = name.now; datum = bytes.now } ∷ []) }
-{
-    let named = datum_of(memory, name, bytes)?;
-    datums.push(named)?;
-    Ok(())
-}
-
-// Puts in what is declared beforehand.
+// Declares what is declared beforehand.
 fn put_first(
-    scripts: &mut Vec<NamedScript, Memory>,
-    datums: &mut Vec<NamedDatum, Memory>,
+    scripts: &mut ScriptTable,
+    datums: &mut DatumTable,
     memory: Memory,
 ) -> Result<(), NoMemory>
-    requires { scripts.old.items ≡ [] × datums.old.items ≡ [] }
-    ensures scripts { OnOk result (scripts.new.items ≡ first_names.scripts) }
-    ensures datums { OnOk result (datums.new.items ≡ first_names.datums) }
+    requires { scripts.old ≡ [] × datums.old ≡ [] }
+    ensures scripts { OnOk result (scripts.new ≡ first_names.scripts) }
+    ensures datums { OnOk result (datums.new ≡ first_names.datums) }
 {
-    put_script(scripts, memory, b"yes", &[0x01])?;
-    put_script(scripts, memory, b"no", &[0x00])?;
-    put_datum(datums, memory, b"unit", &[0x03, 0x00, 0x00])
+    scripts.push(script_of(memory, b"yes", &[0x01])?)?;
+    scripts.push(script_of(memory, b"no", &[0x00])?)?;
+    datums.push(datum_of(memory, b"unit", &[0x03, 0x00, 0x00])?)
 }
 
-fn first_with_hash<'a>(scripts: &'a [NamedScript], hash: &Hash) -> Option<&'a NamedScript>
-    ensures { option_copied result ≡ find (λ n. has_hash hash.now n.script) scripts.now }
+// The transaction that the word stands for is no longer reported under it.
+fn unreport(bindings: &BindingTable, reported: &mut ReportedNames, word: &[u8])
+    requires { AreDeclared bindings.now reported.old }
+    ensures { reported.new ≡ reported_left (word.now ∷ []) reported.old }
 {
-    scripts.iter().find(|named| has_hash(&named.script, hash))
-}
-
-fn has_hash(script: &Script, hash: &Hash) -> bool
-    ensures { result ≡ has_hash hash.now script.now }
-{
-    *hash == *script.hash()
-}
-
-fn script_under<'a>(scripts: &'a [NamedScript], word: &[u8]) -> Option<&'a NamedScript>
-    ensures { option_copied result ≡ find (λ n. pointwise nat_eq word.now n.name) scripts.now }
-{
-    scripts.iter().find(|named| word == named.name.as_bytes())
-}
-
-fn datum_under<'a>(datums: &'a [NamedDatum], word: &[u8]) -> Option<&'a NamedDatum>
-    ensures { option_copied result ≡ find (λ n. pointwise nat_eq word.now n.name) datums.now }
-{
-    datums.iter().find(|named| word == named.name.as_bytes())
+    if let Some(id) = bindings.tx_id(word) {
+        reported.forget(&id, word);
+    }
 }
 
 /// Why a word that isn't new can't be declared: it is no name, or is taken.
@@ -232,21 +203,24 @@ pub fn refused_name(word: &[u8]) -> Reason<'_> {
 }
 
 impl Names {
-    ghost use Rattle.std.specs.Prelude.{◌≡◌, ◌+◌, [], ◌∷◌, ◌++◌, length, IfOk, OnOk, OnErr, option_copied, option_map};
+    ghost use Rattle.std.specs.Prelude.{◌≡◌, ◌+◌, [], ◌∷◌, ◌++◌, length, IfOk, OnOk, OnErr, option_copied, option_map, unwrap_or};
     ghost use Rattle.std.specs.Result.{result_ok};
-    ghost use Rattle.mp_names.specs.Names.{first_names, binding_named, script_named, datum_named, tx_named, is_new_binding, is_new_script, is_new_datum, name_of, policy_name, with_binding, with_script, with_datum, without_bindings};
+    ghost use Rattle.mp_names.specs.Names.{first_names, binding_named, script_named, datum_named, tx_named, is_new_binding, is_new_script, is_new_datum, first_name_of, name_of, policy_name, with_binding, with_script, with_datum, with_reported, without_bindings};
+    ghost use Rattle.mp_tx.specs.Spelling.{id_of};
 
-    /// The names that are declared beforehand.
-    pub fn new(memory: Memory) -> Result<Names, NoMemory>
+    /// The names that are declared beforehand. Where names lie in tables depends on the salt, and no answer does.
+    pub fn new(memory: Memory, salt: Salt) -> Result<Names, NoMemory>
         ensures { IfOk result (λ n. n ≡ first_names) }
     {
-        let mut scripts = Vec::new(memory);
-        let mut datums = Vec::new(memory);
+        let mut scripts = ScriptTable::new(memory, salt);
+        let mut datums = DatumTable::new(memory, salt);
         put_first(&mut scripts, &mut datums, memory)?;
         Ok(Names {
-            bindings: BindingTable::new(memory),
+            bindings: BindingTable::new(memory, salt),
+            reported: ReportedNames::new(memory, salt),
             scripts,
             datums,
+            memory,
         })
     }
 
@@ -256,18 +230,52 @@ impl Names {
             ≡ with_binding self.old (record { name = name; binding = binding })) }
         ensures err { OnErr result (self.new ≡ self.old) }
     {
-        self.bindings.push(NamedBinding { name, binding })
+        self.bindings.push(NamedBinding { name, binding })?;
+        Ok(())
     }
 
-    /// From now on these names stand for no output and no transaction, and may be declared anew. Gives how many went; a name
-    /// that isn't declared counts nothing. It is one pass over all names. After an `Err` the names are as they were.
-    pub fn forget(&mut self, goes: &[Name]) -> Result<usize, NoMemory>
-        ensures ok { OnOk result (self.new ≡ without_bindings self.old goes.now) }
-        ensures count { IfOk result (λ n. n + length self.new.bindings
-            ≡ length self.old.bindings) }
+    // From now on the word stands for no output and no transaction.
+    fn forget_name(&mut self, word: &[u8]) -> usize
+        ensures left { self.new ≡ without_bindings self.old (word.now ∷ []) }
+        ensures count { result + length self.new.bindings ≡ length self.old.bindings }
+    {
+        unreport(&self.bindings, &mut self.reported, word);
+        self.bindings.forget(word)
+    }
+
+    /// From now on these names stand for no output and no transaction, no transaction is reported under them, and they may be
+    /// declared again. Returns how many went; a name that isn't declared counts nothing. The cost depends on these names, and
+    /// not on how many are declared.
+    pub fn forget(&mut self, goes: &[Name]) -> usize
+        ensures left { self.new ≡ without_bindings self.old goes.now }
+        ensures count { result + length self.new.bindings ≡ length self.old.bindings }
+    {
+        let mut count = 0;
+        for name in goes {
+            count += self.forget_name(name.as_bytes());
+        }
+        count
+    }
+
+    // The id of the transaction that the word stands for, if it stands for one.
+    fn tx_id(&self, word: &[u8]) -> Option<TxId>
+        ensures { result ≡ option_map (λ t. id_of t.tx) (tx_named word.now self.now) }
+    {
+        self.bindings.tx_id(word)
+    }
+
+    /// From now on the transaction that the word stands for is reported under it. Nothing changes where it stands for no
+    /// transaction, and after an `Err`.
+    pub fn report(&mut self, word: &[u8]) -> Result<(), NoMemory>
+        ensures ok { OnOk result (self.new ≡ with_reported self.old word.now) }
         ensures err { OnErr result (self.new ≡ self.old) }
     {
-        self.bindings.forget(goes)
+        let Some(id) = self.tx_id(word) else {
+            return Ok(());
+        };
+        let name = Name::of(self.memory, word)?;
+        self.reported.set(id, name)?;
+        Ok(())
     }
 
     /// From now on the name stands for the script. After an `Err` the names are as they were.
@@ -275,8 +283,7 @@ impl Names {
         ensures ok { OnOk result (self.new ≡ with_script self.old named) }
         ensures err { OnErr result (self.new ≡ self.old) }
     {
-        self.scripts.push(named)?;
-        Ok(())
+        self.scripts.push(named)
     }
 
     /// From now on the name stands for the datum. After an `Err` the names are as they were.
@@ -284,17 +291,27 @@ impl Names {
         ensures ok { OnOk result (self.new ≡ with_datum self.old named) }
         ensures err { OnErr result (self.new ≡ self.old) }
     {
-        self.datums.push(named)?;
-        Ok(())
+        self.datums.push(named)
     }
 
-    /// The name that the first transaction with this id was declared with; empty where none was.
-    pub fn name_of(&self, id: &TxId) -> &[u8]
-        ensures { result.now ≡ name_of id.now self.now }
+    // The name of the first transaction that was declared with this id; empty where none was.
+    fn first_name_of(&self, id: &TxId) -> &[u8]
+        ensures { result.now ≡ unwrap_or (first_name_of id.now self.now) [] }
     {
         match self.bindings.get_by_id(id) {
             Some(named) => named.name.as_bytes(),
             None => &[],
+        }
+    }
+
+    /// The name under which the transaction with this id is reported: without one, the first that it was declared with; empty
+    /// where it wasn't declared.
+    pub fn name_of(&self, id: &TxId) -> &[u8]
+        ensures { result.now ≡ name_of id.now self.now }
+    {
+        match self.reported.get(id) {
+            Some(name) => name.as_bytes(),
+            None => self.first_name_of(id),
         }
     }
 
@@ -306,7 +323,7 @@ impl Names {
         if *policy == Token::COIN.policy {
             return COIN;
         }
-        match first_with_hash(&self.scripts, policy) {
+        match self.scripts.get_by_hash(policy) {
             Some(named) => named.name.as_bytes(),
             None => &[],
         }
@@ -324,7 +341,7 @@ impl Names {
     pub fn script<'a>(&self, word: &'a [u8]) -> Result<&Script, Reason<'a>>
         ensures { option_copied (result_ok result) ≡ script_named word.now self.now }
     {
-        match script_under(&self.scripts, word) {
+        match self.scripts.get(word) {
             Some(named) => Ok(&named.script),
             None => Err(Reason::NoScript(word)),
         }
@@ -334,7 +351,7 @@ impl Names {
     pub fn datum<'a>(&self, word: &'a [u8]) -> Result<&Data, Reason<'a>>
         ensures { option_copied (result_ok result) ≡ datum_named word.now self.now }
     {
-        match datum_under(&self.datums, word) {
+        match self.datums.get(word) {
             Some(named) => Ok(&named.datum),
             None => Err(Reason::NoData(word)),
         }

@@ -7,6 +7,8 @@ mod costs;
 mod drops;
 mod handle;
 mod ledger;
+mod lines;
+mod names;
 mod output;
 mod picture;
 mod rows;
@@ -68,8 +70,13 @@ fn try_text(rt: &impl Print, alloc: Global, memory: Memory) -> io::Result<()> {
     tell(rt, "inputs", &text::inputs(memory))?;
     tell(rt, "lengths of inputs", &text::lengths(memory))?;
     tell(rt, "limits of inputs", &text::limits(memory))?;
+    tell(rt, "lengths of lines", &lines::lengths(memory, alloc))?;
+    tell(rt, "limits of lines", &lines::limits(memory, alloc))?;
     tell(rt, "outputs", &output::outputs(alloc))?;
     tell(rt, "lengths of outputs", &output::lengths(alloc))?;
+    tell(rt, "names", &names::stories(memory))?;
+    tell(rt, "growths of names", &names::growths(memory))?;
+    tell(rt, "many names", &names::many(memory))?;
     tell(rt, "pictures", &picture::growths(memory))
 }
 

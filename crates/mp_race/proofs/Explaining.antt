@@ -7,14 +7,16 @@ use Rattle.mp_rules.specs.Verifier.{Accepts}
 use Rattle.mp_seqpool.specs.Pool.{Pool}
 use Rattle.mp_history.specs.Entry.{Entry}
 use Rattle.mp_history.specs.Log.{Log, Begins, IsLegalLog, last_of}
-use Rattle.mp_reader.specs.declared.receipt.Receipt.{Receipt}
 use Rattle.mp_reader.specs.Pass.{Pass}
+use Rattle.mp_race.specs.declared.told.Done.{Done}
+use Rattle.mp_race.specs.declared.ordering.Ordered.{Ordered}
 use Rattle.mp_race.specs.Task.{Task}
 use Rattle.mp_race.specs.Race.{own, dealt, Plays}
-use Rattle.mp_race.specs.Inside.Work.{upto, made, Stands, HasDone, HasReceipts, AreNumbered}
+use Rattle.mp_race.specs.Inside.Work.{upto, made, IsDone, HasDone, HasMade, AreNumbered}
+use Rattle.mp_race.specs.Inside.Ordered.{IsOrdered}
 use Rattle.mp_race.specs.Inside.Gathered.{AreGathered, IsExplained}
 use Rattle.mp_race.proofs.Playing.{own-last, upto-append, begins-trans, plays_on}
-use Rattle.mp_race.proofs.Working.{stand_on}
+use Rattle.mp_race.proofs.Working.{done_on}
 
 module _ (accepts : Accepts) (workers : ℕ) (opening : Pool) (ts : List Task) where
   -- before any worker has come back
@@ -24,18 +26,18 @@ module _ (accepts : Accepts) (workers : ℕ) (opening : Pool) (ts : List Task) w
     legal = legal;
     done = All-nil (HasDone accepts workers opening ts);
     begin = All-nil (λ (p : Pass). Begins p.front log);
-    stand = All-nil (Stands log);
+    changes = All-nil (IsDone ts log);
   }
 
   -- one more worker has come back, and the history goes on
-  pub one_more : (a b : Log) (ps : List Pass) (rs ss : List Receipt) (p : Pass) → Begins a b → Begins p.front b → IsLegalLog accepts workers b
-      → AreGathered accepts workers opening ts a ps rs → HasReceipts accepts workers opening ts p ss → AreGathered accepts workers opening ts b (ps ++ p ∷ []) (rs ++ ss)
-  one_more a b ps rs ss p on seen legal is h = record {
+  pub one_more : (a b : Log) (ps : List Pass) (ds es : List Done) (p : Pass) → Begins a b → Begins p.front b → IsLegalLog accepts workers b
+      → AreGathered accepts workers opening ts a ps ds → HasMade accepts workers opening ts p es → AreGathered accepts workers opening ts b (ps ++ p ∷ []) (ds ++ es)
+  one_more a b ps ds es p on seen legal is h = record {
     opens = sym on.opening ∙ is.opens;
     legal = legal;
     done = All-push (HasDone accepts workers opening ts) ps p is.done h.done;
     begin = All-push (λ (q : Pass). Begins q.front b) ps p (λ k d lt. begins-trans (get_or ps k d).front a b (is.begin k d lt) on) seen;
-    stand = All-append (Stands b) rs ss (stand_on a b rs on is.stand) (stand_on p.front b ss seen h.stand);
+    changes = All-append (IsDone ts b) ds es (done_on ts a b ds on is.changes) (done_on ts p.front b es seen h.changes);
   }
 
   -- the pass of the worker with this number
@@ -82,11 +84,12 @@ module _ (accepts : Accepts) (workers : ℕ) (opening : Pool) (ts : List Task) w
       (subst (λ n. Plays accepts p.front n [] (dealt workers n ts) (made p)) has.number has.done.plays)
       )
 
-  -- where the receipts are all of the history, and each pass knows its caller's last entry
-  pub explained : (log : Log) (ps : List Pass) (rs : List Receipt) (es : List Entry) → AreGathered accepts workers opening ts log ps rs → es ≡ take (length es) log.entries → length log.entries ≤ length es → length ps ≡ workers
-      → AreNumbered es 0 ps → IsExplained accepts opening workers ts es
-  explained log ps rs es is front few number numbered =
-      let same : log.entries ≡ es = sym (front ∙ take_all (length es) log.entries few) in
+  -- where the changes are all of the history, and each pass knows its caller's last entry
+  pub explained : (log : Log) (ps : List Pass) (ds : List Done) (o : Ordered) → AreGathered accepts workers opening ts log ps ds → IsOrdered workers ts log o → length log.entries ≤ length o.entries.items → length ps ≡ workers
+      → AreNumbered o.entries.items 0 ps → IsExplained accepts opening workers ts o
+  explained log ps ds o is ordered few number numbered =
+      let es : List Entry = o.entries.items in
+      let same : log.entries ≡ es = sym (ordered.first ∙ take_all (length es) log.entries few) in
       record {
         log = log;
         entries = same;
@@ -97,4 +100,5 @@ module _ (accepts : Accepts) (workers : ℕ) (opening : Pool) (ts : List Task) w
               let zero_first : 0 + w ≡ w = omega arith in
               played log es w same (subst (HasPass log es) zero_first (pass_of log es 0 ps w (omega (arith, lt, number)) numbered is.done is.begin));
         };
+        told = ordered.told;
       }

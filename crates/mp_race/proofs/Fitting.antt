@@ -49,7 +49,7 @@ module _ (workers : ℕ) (ts : List Task) where
   told_push (u ∷ told) [] t e are is = absurd are
   told_push (u ∷ told) (d ∷ es) t e are is = (are.0, told_push told es t e are.1 is)
 
-  same_length : (told : List Told) (es : List Entry) → AreTold workers ts told es → length es ≡ length told
+  pub same_length : (told : List Told) (es : List Entry) → AreTold workers ts told es → length es ≡ length told
   same_length [] [] are = refl
   same_length [] (d ∷ es) are = absurd are
   same_length (u ∷ told) [] are = absurd are
@@ -114,7 +114,7 @@ module _ (workers : ℕ) (ts : List Task) where
     ended (Audit (audit.StrangeCaller p)) are legal ends =
         let at = (ends.unfit (first_told told (length es) ends.there)).0 in
         bad_at _ p at are legal ends.there
-        (λ d. subst (λ n. IsUndealt workers ts (slice_index_or told (length es) d) ⊎ IsLate (next_of (take n told)) (slice_index_or told (length es) d)) (sym at) (ends.unfit d).1)
+        (λ d. subst (λ n. ((slice_index_or told (length es) d).place ≡ n) × (IsUndealt workers ts (slice_index_or told (length es) d) ⊎ IsLate (next_of (take n told)) (slice_index_or told (length es) d))) (sym at) ((ends.unfit d).1, (ends.unfit d).2))
     ended (MissingEntry p) are legal ends =
         let at = (ends.unfit (first_told told (length es) ends.there)).0 in
         bad_at (λ t. t.place ≢ p) p at are legal ends.there (λ d. subst (λ n. (slice_index_or told (length es) d).place ≢ n) (sym at) (ends.unfit d).1)

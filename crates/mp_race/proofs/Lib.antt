@@ -5,3 +5,7 @@ pub mod Ordered
 pub mod Lines
 pub mod Fresh
 pub mod Fitting
+pub mod Spelling
+pub mod HistoryLines
+pub mod Fronts
+pub mod Refusing

@@ -11,30 +11,41 @@ use Rattle.mp_seqpool.specs.Pool.{Pool}
 use Rattle.mp_seqpool.specs.SlowPool.{answer}
 use Rattle.mp_history.specs.Entry.{Entry}
 use Rattle.mp_history.specs.Log.{Log, Begins, state_after}
-use Rattle.mp_reader.specs.declared.receipt.Receipt.{Receipt}
 use Rattle.mp_reader.specs.Pass.{Pass}
 use Rattle.mp_reader.specs.Seen.{IsSeen, seen, continued}
 use Rattle.mp_mempool.specs.Answers.{IsEntered, IsRefusedAt, AreOthers, with_entry}
+use Rattle.mp_race.specs.declared.told.Done.{Done}
 use Rattle.mp_race.specs.Task.{Task, Change, Read}
 use Rattle.mp_race.specs.Race.{own, dealt, Plays}
-use Rattle.mp_race.specs.Inside.Work.{upto, made, Stands, IsUnused, Does, HasReceipts}
+use Rattle.mp_race.specs.Inside.Work.{upto, made, IsDone, IsUnused, Does, HasMade}
 use Rattle.mp_race.proofs.Playing.{own-append, own-one, own-last, upto-append, begins-refl, begins-more, dealt-append, plays_on, plays_then}
 
 -- what stands at a place stays there where more comes behind
-stands-more : (xs ys : List Entry) (k : ℕ) (e : Entry) → slice_get xs k ≡ Some e → slice_get (xs ++ ys) k ≡ Some e
-stands-more [] ys k e at = absurd (cc (at))
-stands-more (x ∷ xs) ys zero e at = at
-stands-more (x ∷ xs) ys (suc k) e at = stands-more xs ys k e at
+stands-more : {X : Type 0} (xs ys : List X) (k : ℕ) (x : X) → slice_get xs k ≡ Some x → slice_get (xs ++ ys) k ≡ Some x
+stands-more [] ys k x at = absurd (cc (at))
+stands-more (y ∷ xs) ys zero x at = at
+stands-more (y ∷ xs) ys (suc k) x at = stands-more xs ys k x at
 
-stands-last : (xs : List Entry) (e : Entry) → slice_get (xs ++ e ∷ []) (length xs) ≡ Some e
-stands-last [] e = refl
-stands-last (x ∷ xs) e = stands-last xs e
+stands-last : {X : Type 0} (xs : List X) (x : X) → slice_get (xs ++ x ∷ []) (length xs) ≡ Some x
+stands-last [] x = refl
+stands-last (y ∷ xs) x = stands-last xs x
 
--- receipts of a history are receipts of one that goes on
-pub stand_on : (a b : Log) (rs : List Receipt) → Begins a b → All (Stands a) rs → All (Stands b) rs
-stand_on a b rs begins all k d lt =
-    let r : Receipt = get_or rs k d in
-    subst (λ es. slice_get es r.place ≡ Some r.entry) begins.entries.1 (stands-more a.entries begins.entries.0 r.place r.entry (all k d lt))
+-- changes in a history are changes in one that goes on
+pub done_on : (ts : List Task) (a b : Log) (ds : List Done) → Begins a b → All (IsDone ts a) ds → All (IsDone ts b) ds
+done_on ts a b ds begins all k d lt =
+    let x : Done = get_or ds k d in
+    let is : IsDone ts a x = all k d lt in
+    record {
+      asked = is.asked;
+      stands = subst (λ es. slice_get es x.receipt.place ≡ Some x.receipt.entry) begins.entries.1 (stands-more a.entries begins.entries.0 x.receipt.place x.receipt.entry is.stands);
+    }
+
+-- and so where there are more tasks
+done_more : (ts us : List Task) (log : Log) (ds : List Done) → All (IsDone ts log) ds → All (IsDone (ts ++ us) log) ds
+done_more ts us log ds all k d lt =
+    let x : Done = get_or ds k d in
+    let is : IsDone ts log x = all k d lt in
+    record { asked = stands-more ts us x.task (Change x.receipt.entry.command) is.asked; stands = is.stands }
 
 within-more : (o : Option ℕ) (xs ys : List Entry) → IfSome o (λ k. k < length xs) → IfSome o (λ k. k < length (xs ++ ys))
 within-more None xs ys within = tt
@@ -57,28 +68,28 @@ dealt-less workers w ts t others =
 
 module _ (accepts : Accepts) (callers workers : ℕ) (opening : Pool) where
   -- a worker that has no task
-  pub begins : (p : Pass) → IsUnused opening p → HasReceipts accepts workers opening [] p []
+  pub begins : (p : Pass) → IsUnused opening p → HasMade accepts workers opening [] p []
   begins p is = record {
     done = record {
       opens = is.opens;
       within = subst (λ o. IfSome o (λ k. k < length p.front.entries)) (sym is.last) tt;
       plays = sym (ap (λ o. own p.caller (upto o p.front.entries)) is.last);
     };
-    stand = All-nil (Stands p.front);
+    changes = All-nil (IsDone [] p.front);
   }
 
   -- a task of another worker
-  pub skips : (ts : List Task) (t : Task) (p : Pass) (rs : List Receipt) → (length ts % workers == p.caller) ≡ false → HasReceipts accepts workers opening ts p rs → HasReceipts accepts workers opening (ts ++ t ∷ []) p rs
-  skips ts t p rs others h = record {
+  pub skips : (ts : List Task) (t : Task) (p : Pass) (ds : List Done) → (length ts % workers == p.caller) ≡ false → HasMade accepts workers opening ts p ds → HasMade accepts workers opening (ts ++ t ∷ []) p ds
+  skips ts t p ds others h = record {
     done = record {
       opens = h.done.opens;
       within = h.done.within;
       plays = subst (λ us. Plays accepts p.front p.caller [] us (made p)) (sym (dealt-less workers p.caller ts t others)) h.done.plays;
     };
-    stand = h.stand;
+    changes = done_more ts (t ∷ []) p.front ds h.changes;
   }
 
-  module _ (ts : List Task) (p : Pass) (rs : List Receipt) (h : HasReceipts accepts workers opening ts p rs) where
+  module _ (ts : List Task) (p : Pass) (ds : List Done) (h : HasMade accepts workers opening ts p ds) where
     -- what the caller made, once others have entered something
     made_still : (others : List Entry) → AreOthers p others → own p.caller (p.front.entries ++ others) ≡ made p
     made_still others by_others =
@@ -86,7 +97,7 @@ module _ (accepts : Accepts) (callers workers : ℕ) (opening : Pool) where
 
     -- the worker has seen more, and has done a task of its own
     goes_on : (t : Task) (more : List Entry) → (length ts % workers == p.caller) ≡ true → Plays accepts (continued p.front more) p.caller (made p) (t ∷ []) (made p)
-        → HasReceipts accepts workers opening (ts ++ t ∷ []) (seen p more) rs
+        → HasMade accepts workers opening (ts ++ t ∷ []) (seen p more) ds
     goes_on t more its plays =
         let log : Log = continued p.front more in
         let same : made (seen p more) ≡ made p = ap (own p.caller) (upto-append p.last p.front.entries more h.done.within) in
@@ -99,17 +110,17 @@ module _ (accepts : Accepts) (callers workers : ℕ) (opening : Pool) where
                 (plays_on accepts p.front log p.caller [] (dealt workers p.caller ts) (made p) (begins-more p.front more) h.done.plays)
                 (subst (λ end. Plays accepts log p.caller (made p) (t ∷ []) end) (sym same) plays));
           };
-          stand = stand_on p.front log rs (begins-more p.front more) h.stand;
+          changes = done_more ts (t ∷ []) log ds (done_on ts p.front log ds (begins-more p.front more) h.changes);
         }
 
-    reads : (q : Pass) → (length ts % workers == p.caller) ≡ true → IsSeen accepts callers p q → HasReceipts accepts workers opening (ts ++ Read ∷ []) q rs
-    reads q its is = subst (λ x. HasReceipts accepts workers opening (ts ++ Read ∷ []) x rs) (sym is.pass) (goes_on Read is.more its refl)
+    reads : (q : Pass) → (length ts % workers == p.caller) ≡ true → IsSeen accepts callers p q → HasMade accepts workers opening (ts ++ Read ∷ []) q ds
+    reads q its is = subst (λ x. HasMade accepts workers opening (ts ++ Read ∷ []) x ds) (sym is.pass) (goes_on Read is.more its refl)
 
     refused : (c : Command) (q : Pass) (refusal : Refusal) → (length ts % workers == p.caller) ≡ true → IsRefusedAt accepts callers p c refusal q
-        → HasReceipts accepts workers opening (ts ++ Change c ∷ []) q rs
+        → HasMade accepts workers opening (ts ++ Change c ∷ []) q ds
     refused c q refusal its is =
         let log : Log = continued p.front is.others in
-        subst (λ x. HasReceipts accepts workers opening (ts ++ Change c ∷ []) x rs) (sym is.pass) (
+        subst (λ x. HasMade accepts workers opening (ts ++ Change c ∷ []) x ds) (sym is.pass) (
         goes_on (Change c) is.others its (inr (
           record {
             front = log;
@@ -122,11 +133,11 @@ module _ (accepts : Accepts) (callers workers : ℕ) (opening : Pool) where
         ))
         )
 
-    entered : (c : Command) (q : Pass) (r : Receipt) → (length ts % workers == p.caller) ≡ true → IsEntered accepts callers p c r.place r.entry q
-        → HasReceipts accepts workers opening (ts ++ Change c ∷ []) q (rs ++ r ∷ [])
-    entered c q r its is =
+    entered : (c : Command) (q : Pass) (d : Done) → (length ts % workers == p.caller) ≡ true → IsEntered accepts callers p c d.receipt.place d.receipt.entry q
+        → d.task ≡ length ts → HasMade accepts workers opening (ts ++ Change c ∷ []) q (ds ++ d ∷ [])
+    entered c q d its is at =
         let xs : List Entry = p.front.entries ++ is.others in
-        let e : Entry = r.entry in
+        let e : Entry = d.receipt.entry in
         let after : Pass = with_entry p is.others e in
         let log : Log = after.front in
         let begins : Begins p.front log = record { opening = refl; entries = (is.others ++ e ∷ [], sym (append_assoc p.front.entries is.others (e ∷ []))) } in
@@ -134,7 +145,7 @@ module _ (accepts : Accepts) (callers workers : ℕ) (opening : Pool) where
         let whole : take (length xs + 1) (xs ++ e ∷ []) ≡ xs ++ e ∷ [] = take_all (length xs + 1) (xs ++ e ∷ []) (omega (arith, len)) in
         let one : made after ≡ made p ++ e ∷ [] =
         ap (own p.caller) whole ∙ own-append p.caller xs (e ∷ []) ∙ ap (λ l. l ++ own p.caller (e ∷ [])) (made_still is.others is.by_others) ∙ ap (λ l. made p ++ l) (own-one p.caller e is.caller) in
-        subst (λ x. HasReceipts accepts workers opening (ts ++ Change c ∷ []) x (rs ++ r ∷ [])) (sym is.pass) (
+        subst (λ x. HasMade accepts workers opening (ts ++ Change c ∷ []) x (ds ++ d ∷ [])) (sym is.pass) (
         record {
           done = record {
             opens = h.done.opens;
@@ -144,18 +155,21 @@ module _ (accepts : Accepts) (callers workers : ℕ) (opening : Pool) where
                 (plays_on accepts p.front log p.caller [] (dealt workers p.caller ts) (made p) begins h.done.plays)
                 (inl (e, record { by = is.caller; asked = is.asked }, sym one)));
           };
-          stand = All-push (Stands log) rs r (stand_on p.front log rs begins h.stand) (subst (λ n. slice_get (xs ++ e ∷ []) n ≡ Some e) (sym is.at) (stands-last xs e));
+          changes = All-push (IsDone (ts ++ Change c ∷ []) log) ds d (done_more ts (Change c ∷ []) log ds (done_on ts p.front log ds begins h.changes)) (record {
+            asked = subst (λ n. slice_get (ts ++ Change c ∷ []) n ≡ Some (Change e.command)) (sym at) (stands-last ts (Change c) ∙ ap (λ x. Some (Change x)) (sym is.asked));
+            stands = subst (λ n. slice_get (xs ++ e ∷ []) n ≡ Some e) (sym is.at) (stands-last xs e);
+          });
         }
         )
 
     -- a task of the worker's own
-    pub does : (t : Task) (q : Pass) (ss : List Receipt) → (length ts % workers == p.caller) ≡ true → Does accepts callers p rs t q ss → HasReceipts accepts workers opening (ts ++ t ∷ []) q ss
-    does Read q ss its is = subst (HasReceipts accepts workers opening (ts ++ Read ∷ []) q) (sym is.1) (reads q its is.0)
-    does (Change c) q ss its (inl is) = subst (HasReceipts accepts workers opening (ts ++ Change c ∷ []) q) (sym is.2) (entered c q is.0 its is.1)
-    does (Change c) q ss its (inr is) = subst (HasReceipts accepts workers opening (ts ++ Change c ∷ []) q) (sym is.2) (refused c q is.0 its is.1)
+    pub does : (n : ℕ) (t : Task) (q : Pass) (es : List Done) → n ≡ length ts → (length ts % workers == p.caller) ≡ true → Does accepts callers p ds n t q es → HasMade accepts workers opening (ts ++ t ∷ []) q es
+    does n Read q es at its is = subst (HasMade accepts workers opening (ts ++ Read ∷ []) q) (sym is.1) (reads q its is.0)
+    does n (Change c) q es at its (inl is) = subst (HasMade accepts workers opening (ts ++ Change c ∷ []) q) (sym is.3) (entered c q is.0 its is.1 (is.2 ∙ at))
+    does n (Change c) q es at its (inr is) = subst (HasMade accepts workers opening (ts ++ Change c ∷ []) q) (sym is.2) (refused c q is.0 its is.1)
 
   -- a caller stays the same
-  pub same_caller : (p : Pass) (rs : List Receipt) (t : Task) (q : Pass) (ss : List Receipt) → Does accepts callers p rs t q ss → q.caller ≡ p.caller
-  same_caller p rs Read q ss is = ap (λ (x : Pass). x.caller) is.0.pass
-  same_caller p rs (Change c) q ss (inl is) = ap (λ (x : Pass). x.caller) is.1.pass
-  same_caller p rs (Change c) q ss (inr is) = ap (λ (x : Pass). x.caller) is.1.pass
+  pub same_caller : (p : Pass) (ds : List Done) (n : ℕ) (t : Task) (q : Pass) (es : List Done) → Does accepts callers p ds n t q es → q.caller ≡ p.caller
+  same_caller p ds n Read q es is = ap (λ (x : Pass). x.caller) is.0.pass
+  same_caller p ds n (Change c) q es (inl is) = ap (λ (x : Pass). x.caller) is.1.pass
+  same_caller p ds n (Change c) q es (inr is) = ap (λ (x : Pass). x.caller) is.1.pass

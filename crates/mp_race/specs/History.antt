@@ -85,5 +85,5 @@ module _ (accepts : Accepts) (opening : Pool) (workers : ℕ) (ts : List Task) w
   IsFaultOfHistory told (Audit audit.NoMemory) = ⊥
   IsFaultOfHistory told (Audit (WrongReply place)) = IsWrongAt told place
   IsFaultOfHistory told (Audit (StrangeCaller place)) =
-      IsBadAt (λ t. IsUndealt workers ts t ⊎ IsLate (next_of (take place told)) t) told place
+      IsBadAt (λ t. (t.place ≡ place) × (IsUndealt workers ts t ⊎ IsLate (next_of (take place told)) t)) told place
   IsFaultOfHistory told (MissingEntry place) = IsBadAt (λ t. t.place ≢ place) told place

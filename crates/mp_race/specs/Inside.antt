@@ -5,3 +5,7 @@ pub mod Work
 pub mod Gathered
 pub mod Counts
 pub mod Auditing
+pub mod HistoryWords
+pub mod HistoryFront
+pub mod HistoryReading
+pub mod Ordered

@@ -5,6 +5,8 @@ pub mod Fault
 pub mod Race
 pub mod Report
 pub mod History
+pub mod Raced
 pub mod HistoryText
+pub mod HistoryRead
 pub mod ReportText
 pub mod Inside

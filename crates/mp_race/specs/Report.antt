@@ -1,15 +1,12 @@
 -- What is told of a race.
-use Rattle.std.specs.Prelude.{◌≡◌, ℕ, ◌-◌, Bool, true, false, List, length, count_by}
+use Rattle.std.specs.Prelude.{ℕ, ◌-◌, Bool, true, false, List, length, count_by}
 use Rattle.mp_rules.specs.Verifier.{Accepts}
 use Rattle.mp_seqpool.specs.declared.command.Reply.{Reply}
 use Rattle.mp_seqpool.specs.declared.command.Reply.TheVariants.{Accepted, Removed, Synced}
 use Rattle.mp_history.specs.Entry.{Entry}
 use Rattle.mp_history.specs.Log.{Log, state_after}
-use Rattle.mp_mempool.specs.Opening.{fresh_log}
 use Rattle.mp_race.specs.declared.report.Report.{Report}
 use Rattle.mp_race.specs.Task.{Task, Change, Read}
-use Rattle.mp_race.specs.Scenario.{Scenario}
-use Rattle.mp_race.specs.Race.{IsRace}
 
 abbrev pub is_accepted : Reply → Bool
 is_accepted (Accepted ticket) = true
@@ -43,9 +40,3 @@ report_of accepts workers ts log = record {
   entries = length log.entries;
   last = (state_after accepts log).last;
 }
-
--- There is one legal history of the race, and the report is on it.
-pub record IsReportOf (accepts : Accepts) (workers : ℕ) (s : Scenario) (r : Report) : Type 0 where
-  pub log : Log
-  pub race : IsRace accepts (fresh_log s.config s.ledger).opening workers s.tasks log
-  pub report : r ≡ report_of accepts workers s.tasks log

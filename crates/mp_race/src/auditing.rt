@@ -18,10 +18,11 @@ use mp_history::{AuditFault, Entry, audit};
 use mp_memory::{Memory, NoMemory};
 use mp_settings::KeyAndId;
 
-const MAX_WORKERS: usize = 64;
+/// No race has more workers.
+pub const MAX_WORKERS: usize = 64;
 
-// Of each worker, the least command that may come next.
-type Next = [u64; MAX_WORKERS];
+/// Of each worker, the least command that may come next.
+pub type Next = [u64; MAX_WORKERS];
 
 // The entry that is told, where the command is a change that is dealt to the worker.
 fn entry_of(tasks: &[Task], workers: u32, told: &Told) -> Result<Option<Entry>, NoMemory>
@@ -31,7 +32,7 @@ fn entry_of(tasks: &[Task], workers: u32, told: &Told) -> Result<Option<Entry>, 
     ensures none { IfOk result (λ found. IfNone found
         (IsUndealt workers (tasks_of tasks.now) told.now)) }
 {
-    if told.task % workers != told.worker {
+    if told.task % u64::from(workers) != u64::from(told.worker) {
         return Ok(None);
     }
     match tasks.get(told.task as usize) {
@@ -48,13 +49,13 @@ fn entry_of(tasks: &[Task], workers: u32, told: &Told) -> Result<Option<Entry>, 
     }
 }
 
-// Whether the command comes behind its worker's last.
-fn is_in_turn(next: &Next, told: &Told) -> bool
+/// Whether the command comes behind its worker's last.
+pub fn is_in_turn(next: &Next, told: &Told) -> bool
     requires { told.now.worker < 64 }
     ensures turn { result ≡ true → get_or next.now told.now.worker 0 ≤ told.now.task }
     ensures late { result ≡ false → IsLate next.now told.now }
 {
-    next[told.worker as usize] <= u64::from(told.task)
+    next[told.worker as usize] <= told.task
 }
 
 // The entry that is told at this place, where it is one there.
@@ -70,6 +71,7 @@ fn entry_at(
     ensures entry { IfOk result (IsEntryOf workers (tasks_of tasks.now) told.now) }
     ensures place { OnOk result (told.now.place ≡ place) }
     ensures worker { OnOk result (told.now.worker < 64) }
+    ensures within { OnOk result (told.now.task < length tasks.now) }
     ensures turn { OnOk result (get_or next.now told.now.worker 0 ≤ told.now.task) }
     ensures unfit { IfErr result (IsUnfit workers (tasks_of tasks.now) next.now place told.now) }
 {
@@ -112,7 +114,7 @@ fn entries_of(memory: Memory, tasks: &[Task], history: &History) -> Result<Fitti
     for (place, told) in history.told.as_slice().iter().enumerate() {
         match entry_at(tasks, history.workers, &next, place as u64, told) {
             Ok(entry) => {
-                next[told.worker as usize] = u64::from(told.task) + 1;
+                next[told.worker as usize] = told.task + 1;
                 entries.push(entry)?;
             }
             Err(Fault::NoMemory) => return Err(NoMemory),

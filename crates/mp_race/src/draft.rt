@@ -41,9 +41,10 @@ impl Draft {
     pub fn new(memory: Memory) -> Result<Draft, NoMemory>
         ensures { IfOk result (λ d. draft_of d ≡ empty_draft) }
     {
+        let settings = Settings::of_scenario();
         Ok(Draft {
-            names: Names::new(memory)?,
-            settings: Settings::of_scenario(),
+            names: Names::new(memory, settings.salt())?,
+            settings,
             outputs: Openings::new(memory),
             tasks: Vec::new(memory),
         })

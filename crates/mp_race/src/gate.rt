@@ -7,7 +7,7 @@ use mp_tx::{Key, Sig, TxId};
 /// What is told of a race as it runs, by each of its threads. A call may hold a worker back, and changes no answer.
 pub trait Gate: Sync {
     /// The worker is about to do the task with this number, both from 0.
-    fn start(&self, worker: u32, task: u32);
+    fn start(&self, worker: u32, task: u64);
 
     /// A signature of the transaction with this id is about to be looked at.
     fn check(&self, id: &TxId);
@@ -18,7 +18,7 @@ pub trait Gate: Sync {
 pub struct NoGate;
 
 impl Gate for NoGate {
-    fn start(&self, _worker: u32, _task: u32) {}
+    fn start(&self, _worker: u32, _task: u64) {}
 
     fn check(&self, _id: &TxId) {}
 }

@@ -6,11 +6,11 @@ ghost use Rattle.mp_history.specs.Log.{Begins, IsLegalLog};
 ghost use Rattle.mp_race.specs.Task.{Task};
 ghost use Rattle.mp_race.specs.Inside.Gathered.{IsBack, AreGathered};
 
-use crate::told::Notes;
+use crate::told::{Done, Refused};
 use crate::worker::Worker;
 use mp_history::{Front, PoolName};
 use mp_memory::{Memory, NoMemory};
-use mp_mempool::{Pass, Receipt};
+use mp_mempool::Pass;
 
 /// What all workers came back with.
 #[derive(Drop)]
@@ -19,8 +19,8 @@ pub struct Gathered<N: PoolName> {
     pub front: Front<N>,
     /// By their numbers.
     pub passes: Vec<Pass<N>, Memory>,
-    pub receipts: Vec<Receipt, Memory>,
-    pub notes: Notes,
+    pub done: Vec<Done, Memory>,
+    pub refused: Vec<Refused, Memory>,
     /// Whether the pass of each knew each entry of its own that the pool had.
     pub is_sure: bool,
 }
@@ -51,20 +51,20 @@ impl<N: PoolName> Gathered<N> {
     ghost use Rattle.std.specs.Prelude.{◌≡◌, [], true, List, IfOk};
     ghost use Rattle.mp_seqpool.specs.Pool.{Pool};
     ghost use Rattle.mp_race.specs.Task.{Task};
-    ghost use Rattle.mp_race.specs.Inside.Work.{HasReceipts};
+    ghost use Rattle.mp_race.specs.Inside.Work.{HasMade};
     ghost use Rattle.mp_race.specs.Inside.Gathered.{AreGathered};
 
     // Of no worker.
     fn new(memory: Memory, front: Front<N>) -> Gathered<N>
         ensures front { result.front ≡ front }
         ensures passes { result.passes.items ≡ [] }
-        ensures receipts { result.receipts.items ≡ [] }
+        ensures done { result.done.items ≡ [] }
     {
         Gathered {
             front,
             passes: Vec::new(memory),
-            receipts: Vec::new(memory),
-            notes: Notes::new(memory),
+            done: Vec::new(memory),
+            refused: Vec::new(memory),
             is_sure: true,
         }
     }
@@ -75,33 +75,33 @@ impl<N: PoolName> Gathered<N> {
         ensures worker { IfOk result (λ g. g.is_sure ≡ true → worker.is_sure ≡ true) }
         ensures gathered { (opening : Pool) (ts : List Task) → IfOk result (λ g.
             AreGathered N.accepts N.callers opening ts
-            self.front self.passes.items self.receipts.items
-            → HasReceipts N.accepts N.callers opening ts worker.pass worker.receipts.items
+            self.front self.passes.items self.done.items
+            → HasMade N.accepts N.callers opening ts worker.pass worker.done.items
             → AreGathered N.accepts N.callers opening ts
-            g.front g.passes.items g.receipts.items) }
+            g.front g.passes.items g.done.items) }
     {
         let Gathered {
             front,
             mut passes,
-            mut receipts,
-            mut notes,
+            mut done,
+            mut refused,
             is_sure,
         } = self;
         let Worker {
             pass,
-            receipts: mut more,
-            notes: others,
+            done: mut more,
+            refused: mut others,
             is_sure: knows,
         } = worker;
         let front = longer(front, &pass);
-        receipts.append(&mut more)?;
-        notes.append(others)?;
+        done.append(&mut more)?;
+        refused.append(&mut others)?;
         passes.push(pass)?;
         Ok(Gathered {
             front,
             passes,
-            receipts,
-            notes,
+            done,
+            refused,
             is_sure: is_sure && knows,
         })
     }
@@ -120,7 +120,7 @@ pub fn gather<N: PoolName>(
     ensures { (opening : Pool) (ts : List Task) → front.opening ≡ opening
         → All (IsBack N.accepts N.callers opening ts) workers.items
         → IfOk result (λ g. g.is_sure ≡ true → AreGathered N.accepts N.callers opening ts
-        g.front g.passes.items g.receipts.items) }
+        g.front g.passes.items g.done.items) }
 {
     let mut gathered = Gathered::new(memory, front);
     for worker in workers {

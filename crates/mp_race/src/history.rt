@@ -1,13 +1,18 @@
 //! Histories as texts.
 
-ghost use Rattle.std.specs.Prelude.{◌≡◌, ◌++◌, ◌∷◌, [], OnOk, IfNone};
-ghost use Rattle.mp_race.specs.HistoryText.{told_text, lines_text, history_text};
+ghost use Rattle.std.specs.Prelude.{◌≡◌, ◌++◌, ◌<◌, ◌≤◌, length, OnOk, IfOk, IfErr, IfSome, IfNone};
+ghost use Rattle.mp_race.specs.HistoryText.{told_line, told_text, lines_text, head_line, head_text};
+ghost use Rattle.mp_race.specs.HistoryText.{HasNoEntry, HasNoHead, IsFaultOfLines};
+ghost use Rattle.mp_race.specs.Inside.HistoryReading.{IsApart};
 
 use crate::fault::Fault;
-use crate::reading::read_history;
+use crate::input::read_history_text;
+use crate::reading::{read_head, read_told};
 use crate::told::Told;
 use mp_answers::{put_number, put_reply, put_word};
 use mp_memory::{Memory, NoMemory};
+use mp_text::{InputFault, first_line};
+use std::io::Read;
 
 type Text = Vec<u8, Memory>;
 
@@ -28,16 +33,23 @@ impl Drop for History {
     }
 }
 
-// The line of an entry.
-fn put_told(text: &mut Text, told: &Told) -> Result<(), NoMemory>
-    ensures { OnOk result (text.new.items ≡ text.old.items ++ told_text told.now) }
+// The line of an entry but for its end.
+fn put_told_line(text: &mut Text, told: &Told) -> Result<(), NoMemory>
+    ensures { OnOk result (text.new.items ≡ text.old.items ++ told_line told.now) }
 {
     put_word(text, b"entry")?;
     put_number(text, told.place)?;
     put_number(text, u64::from(told.worker))?;
-    put_number(text, u64::from(told.task))?;
+    put_number(text, told.task)?;
     text.push(b' ')?;
     put_reply(text, &told.reply)?;
+    Ok(())
+}
+
+fn put_told(text: &mut Text, told: &Told) -> Result<(), NoMemory>
+    ensures { OnOk result (text.new.items ≡ text.old.items ++ told_text told.now) }
+{
+    put_told_line(text, told)?;
     text.push(b'\n')?;
     Ok(())
 }
@@ -52,47 +64,121 @@ fn put_lines(text: &mut Text, told: &[Told]) -> Result<(), NoMemory>
     Ok(())
 }
 
-// How many line feeds there are.
-fn count_feeds(text: &[u8]) -> u64 {
-    let mut count: u64 = 0;
-    for byte in text {
-        if *byte == b'\n' {
-            count = count.saturating_add(1);
-        }
-    }
-    count
+// The first line.
+fn head_text(memory: Memory, workers: u32, entries: u64) -> Result<Text, NoMemory>
+    ensures { IfOk result (λ text. text.items ≡ head_text workers entries) }
+{
+    let mut text = Vec::new(memory);
+    put_word(&mut text, b"workers")?;
+    put_number(&mut text, u64::from(workers))?;
+    put_word(&mut text, b" entries")?;
+    put_number(&mut text, entries)?;
+    text.push(b'\n')?;
+    Ok(text)
 }
 
-// The number of the first line, from 1, at which the texts differ, where they do.
-fn first_line_apart(text: &[u8], other: &[u8]) -> Option<u64>
-    ensures { IfNone result (text.now ≡ other.now) }
+// What stands behind the front, where the text begins with that.
+fn behind<'a>(text: &'a [u8], front: &[u8]) -> Option<&'a [u8]>
+    ensures some { IfSome result (λ rest. text.now ≡ front.now ++ rest.now) }
+    ensures none { IfNone result (IsApart text.now front.now) }
 {
-    if text == other {
-        return None;
+    text.strip_prefix(front)
+}
+
+// The numbers of the workers and the entries that the text begins with, and what stands behind its first line.
+fn first_head(memory: Memory, text: &[u8]) -> Result<Option<(u32, u64, &[u8])>, NoMemory>
+    ensures some { IfOk result (λ found. IfSome found
+        (λ f. text.now ≡ head_text f.0 f.1 ++ f.2.now)) }
+    ensures least { IfOk result (λ found. IfSome found (λ f. 1 ≤ f.0)) }
+    ensures most { IfOk result (λ found. IfSome found (λ f. f.0 ≤ 64)) }
+    ensures none { IfOk result (λ found. IfNone found (HasNoHead text.now)) }
+{
+    let Some((line, _)) = first_line(text) else {
+        return Ok(None);
+    };
+    let Some((workers, entries)) = read_head(line) else {
+        return Ok(None);
+    };
+    let head = head_text(memory, workers, entries)?;
+    match behind(text, &head) {
+        Some(rest) => Ok(Some((workers, entries, rest))),
+        None => Ok(None),
     }
-    let mut same: usize = 0;
-    for (byte, others) in text.iter().zip(other.iter()) {
-        if byte != others {
-            break;
+}
+
+// The entry whose line the text begins with, and what stands behind that.
+fn first_told(memory: Memory, text: &[u8]) -> Result<Option<(Told, &[u8])>, NoMemory>
+    ensures some { IfOk result (λ found. IfSome found
+        (λ f. text.now ≡ told_text f.0 ++ f.1.now)) }
+    ensures none { IfOk result (λ found. IfNone found (HasNoEntry text.now)) }
+{
+    let Some((line, _)) = first_line(text) else {
+        return Ok(None);
+    };
+    let Some(told) = read_told(memory, line)? else {
+        return Ok(None);
+    };
+    let mut written = Vec::new(memory);
+    put_told(&mut written, &told)?;
+    match behind(text, &written) {
+        Some(rest) => Ok(Some((told, rest))),
+        None => Ok(None),
+    }
+}
+
+// The next entry, where so many are told and there are so many in all.
+fn next_told(
+    memory: Memory,
+    told: u64,
+    entries: u64,
+    text: &[u8],
+) -> Result<Option<(Told, &[u8])>, NoMemory>
+    ensures some { IfOk result (λ found. IfSome found
+        (λ f. text.now ≡ told_text f.0 ++ f.1.now)) }
+    ensures within { IfOk result (λ found. IfSome found (λ _. told < entries)) }
+    ensures none { IfOk result (λ found. IfNone found (told < entries → HasNoEntry text.now)) }
+{
+    if entries <= told {
+        return Ok(None);
+    }
+    first_told(memory, text)
+}
+
+// So many entries, of which the text has a line for each.
+fn read_lines(memory: Memory, entries: u64, text: &[u8]) -> Result<Vec<Told, Memory>, Fault>
+    ensures text { IfOk result (λ told. text.now ≡ lines_text told.items) }
+    ensures number { IfOk result (λ told. length told.items ≡ entries) }
+    ensures fault { IfErr result (IsFaultOfLines entries text.now) }
+{
+    let mut told = Vec::new(memory);
+    let mut rest = text;
+    while !rest.is_empty() {
+        let number = told.len() as u64;
+        match next_told(memory, number, entries, rest)? {
+            Some((entry, after)) => {
+                told.push(entry)?;
+                rest = after;
+            }
+            None => return Err(Fault::BadLine(number + 2)),
         }
-        same = same.saturating_add(1);
     }
-    Some(count_feeds(text.get(..same).unwrap_or(&[])).saturating_add(1))
+    if (told.len() as u64) < entries {
+        return Err(Fault::MissingEntry(told.len() as u64));
+    }
+    Ok(told)
 }
 
 impl History {
-    ghost use Rattle.std.specs.Prelude.{◌≡◌, ◌≤◌, IfOk, IfErr};
-    ghost use Rattle.mp_race.specs.HistoryText.{history_text, IsOfReading};
+    ghost use Rattle.std.specs.Prelude.{◌≡◌, ◌≤◌, IfOk, IfErr, IfSome};
+    ghost use Rattle.mp_race.specs.HistoryText.{history_text, IsFaultOfText};
+    ghost use Rattle.mp_race.specs.HistoryRead.{IsRead};
 
-    /// The text: a line that says how many workers there were, and a line for each entry.
+    /// The text: a line that says how many workers and how many entries there are, and a line for each entry.
     pub fn to_text(&self, memory: Memory) -> Result<Vec<u8, Memory>, NoMemory>
         ensures { IfOk result
             (λ text. text.items ≡ history_text self.now.workers self.now.told.items) }
     {
-        let mut text = Vec::new(memory);
-        put_word(&mut text, b"workers")?;
-        put_number(&mut text, u64::from(self.workers))?;
-        text.push(b'\n')?;
+        let mut text = head_text(memory, self.workers, self.told.len() as u64)?;
         put_lines(&mut text, &self.told)?;
         Ok(text)
     }
@@ -100,18 +186,38 @@ impl History {
     /// The history that has this text.
     ///
     /// # Errors
-    /// `BadLine` with the number of the first line, from 1, that isn't one of a history's text; `NoMemory`.
+    /// `BadLine` with the number of the first line, from 1, that isn't one of a history's text, or is one more than the first line
+    /// tells; `MissingEntry` with the number of the entries where these lines are all, and fewer than the first line tells;
+    /// `NoMemory`.
     pub fn parse(memory: Memory, text: &[u8]) -> Result<History, Fault>
         ensures text { IfOk result (λ h. text.now ≡ history_text h.workers h.told.items) }
         ensures least { IfOk result (λ h. 1 ≤ h.workers) }
         ensures most { IfOk result (λ h. h.workers ≤ 64) }
-        ensures fault { IfErr result IsOfReading }
+        ensures fault { IfErr result (IsFaultOfText text.now) }
     {
-        let history = read_history(memory, text)?;
-        let written = history.to_text(memory)?;
-        match first_line_apart(text, &written) {
-            None => Ok(history),
-            Some(number) => Err(Fault::BadLine(number)),
+        match first_head(memory, text)? {
+            Some((workers, entries, rest)) => Ok(History {
+                workers,
+                told: read_lines(memory, entries, rest)?,
+            }),
+            None => Err(Fault::BadLine(1)),
+        }
+    }
+
+    /// Reads all of the input, and gives the history that has this text.
+    ///
+    /// # Errors
+    /// `ReadFault` where a read fails or there are more than `MAX_HISTORY_BYTES` bytes, and else as `parse`. `NoMemory` may stand in
+    /// place of each answer.
+    pub fn read<R: Read>(memory: Memory, reader: &mut R) -> Result<History, Fault>
+        ensures read { IfSome (R.remaining reader.old) (λ bytes. IsRead bytes result) }
+        ensures least { IfOk result (λ h. 1 ≤ h.workers) }
+        ensures most { IfOk result (λ h. h.workers ≤ 64) }
+    {
+        match read_history_text(memory, reader) {
+            Ok(text) => History::parse(memory, &text),
+            Err(InputFault::NoMemory) => Err(Fault::NoMemory),
+            Err(InputFault::Read) => Err(Fault::ReadFault),
         }
     }
 }

@@ -1,37 +1,122 @@
 //! The history that receipts tell of.
 
-ghost use Rattle.std.specs.Prelude.{◌≡◌, true, length, take, All, IfOk, IfErr};
+ghost use Rattle.std.specs.Prelude.{◌≡◌, ◌<◌, ◌≤◌, ◌%◌, true, List, get_or, All, IfOk, IfErr};
 ghost use Rattle.mp_history.specs.Log.{Log, last_of};
 ghost use Rattle.mp_race.specs.Fault.{IsOfRace};
-ghost use Rattle.mp_race.specs.Inside.Work.{Stands, AreNumbered};
+ghost use Rattle.mp_race.specs.Task.{Task};
+ghost use Rattle.mp_race.specs.Inside.Work.{IsDone, AreNumbered};
+ghost use Rattle.mp_race.specs.Inside.Ordered.{told_of, IsOrdered};
 
+use crate::auditing::{MAX_WORKERS, Next, is_in_turn};
 use crate::fault::Fault;
+use crate::told::{Done, Told};
 use mp_history::{Entry, PoolName};
-use mp_memory::Memory;
-use mp_mempool::{Pass, Receipt};
+use mp_memory::{Memory, NoMemory};
+use mp_mempool::Pass;
 
-/// The entries of the receipts, in the order of their places.
+/// The entries of a history, and what is told of each.
+#[derive(Drop)]
+pub struct Ordered {
+    pub entries: Vec<Entry, Memory>,
+    pub told: Vec<Told, Memory>,
+    pub next: Next,
+}
+
+// What is told of the change.
+fn told_of(done: &Done) -> Result<Told, NoMemory>
+    ensures { IfOk result (λ told. told ≡ told_of done.now) }
+{
+    Ok(Told {
+        place: done.receipt.place,
+        worker: done.receipt.entry.caller,
+        task: done.task,
+        reply: done.receipt.entry.reply.copy()?,
+    })
+}
+
+// Whether the command is dealt to the worker, comes behind its last, and is one of so many.
+fn is_next(next: &Next, workers: u32, tasks: u64, told: &Told) -> bool
+    requires some { 1 ≤ workers }
+    requires most { workers ≤ 64 }
+    ensures dealt { result ≡ true → told.now.task % workers ≡ told.now.worker }
+    ensures worker { result ≡ true → told.now.worker < 64 }
+    ensures turn { result ≡ true → get_or next.now told.now.worker 0 ≤ told.now.task }
+    ensures within { result ≡ true → told.now.task < tasks }
+{
+    if told.task % u64::from(workers) != u64::from(told.worker) {
+        return false;
+    }
+    told.task < tasks && is_in_turn(next, told)
+}
+
+impl Ordered {
+    ghost use Rattle.std.specs.Prelude.{◌≡◌, ◌≤◌, [], List, OnOk, IfErr};
+    ghost use Rattle.mp_history.specs.Log.{Log};
+    ghost use Rattle.mp_race.specs.Task.{Task};
+    ghost use Rattle.mp_race.specs.Fault.{IsOfRace};
+    ghost use Rattle.mp_race.specs.History.{first_next};
+    ghost use Rattle.mp_race.specs.Inside.Work.{IsDone};
+    ghost use Rattle.mp_race.specs.Inside.Ordered.{IsOrdered};
+
+    // Of no entry.
+    fn new(memory: Memory) -> Ordered
+        ensures entries { result.entries.items ≡ [] }
+        ensures told { result.told.items ≡ [] }
+        ensures next { result.next ≡ first_next }
+    {
+        Ordered {
+            entries: Vec::new(memory),
+            told: Vec::new(memory),
+            next: [0; MAX_WORKERS],
+        }
+    }
+
+    // Puts the change last, where it has the next place and its command is one of so many, the next of its worker.
+    fn add(&mut self, workers: u32, tasks: u64, done: Done) -> Result<(), Fault>
+        requires some { 1 ≤ workers }
+        requires most { workers ≤ 64 }
+        ensures ordered { (ts : List Task) (log : Log) → IsDone ts log done
+            → IsOrdered workers ts log self.old → OnOk result (IsOrdered workers ts log self.new) }
+        ensures fault { IfErr result IsOfRace }
+    {
+        let place = self.entries.len() as u64;
+        if done.receipt.place != place {
+            return Err(Fault::MissingEntry(done.receipt.place.min(place)));
+        }
+        let told = told_of(&done)?;
+        if !is_next(&self.next, workers, tasks, &told) {
+            return Err(Fault::MissingEntry(place));
+        }
+        self.next[told.worker as usize] = told.task + 1;
+        self.told.push(told)?;
+        self.entries.push(done.receipt.entry)?;
+        Ok(())
+    }
+}
+
+/// The changes in the order of their places, each of one of so many commands.
 ///
 /// # Errors
-/// `MissingEntry` with the least place below their number of which no receipt tells, or two do; `NoMemory`.
-pub fn history_of(
+/// `MissingEntry` with the least place below their number of which no receipt tells, or two do, or whose command isn't the worker's
+/// next; `NoMemory`.
+pub fn order_done(
     memory: Memory,
-    mut receipts: Vec<Receipt, Memory>,
-) -> Result<Vec<Entry, Memory>, Fault>
-    ensures history { (log : Log) → All (Stands log) receipts.items
-        → IfOk result (λ es. es.items ≡ take (length es.items) log.entries) }
+    workers: u32,
+    tasks: u64,
+    mut done: Vec<Done, Memory>,
+) -> Result<Ordered, Fault>
+    requires some { 1 ≤ workers }
+    requires most { workers ≤ 64 }
+    ensures history { (ts : List Task) (log : Log) → All (IsDone ts log) done.items
+        → IfOk result (IsOrdered workers ts log) }
     ensures fault { IfErr result IsOfRace }
 {
-    receipts.sort_by_key(|receipt| receipt.place)?;
-    let mut entries = Vec::with_capacity(memory, receipts.len())?;
-    for receipt in receipts {
-        let place = entries.len() as u64;
-        if receipt.place != place {
-            return Err(Fault::MissingEntry(receipt.place.min(place)));
-        }
-        entries.push(receipt.entry)?;
+    done.sort_by_key(|change| change.receipt.place)?;
+    let mut ordered = Ordered::new(memory);
+    for change in done {
+        ordered.add(workers, tasks, change)?;
     }
-    Ok(entries)
+    Ok(ordered)
 }
 
 // The place of the caller's last entry.

@@ -8,7 +8,8 @@ ghost use Rattle.mp_mempool.specs.Opening.{fresh_log, fresh_passes};
 ghost use Rattle.mp_settings.specs.Verifier.{is_key_and_id};
 ghost use Rattle.mp_race.specs.Task as told;
 ghost use Rattle.mp_race.specs.Fault.{IsOfRace};
-ghost use Rattle.mp_race.specs.Report.{report_of, IsReportOf};
+ghost use Rattle.mp_race.specs.Report.{report_of};
+ghost use Rattle.mp_race.specs.Raced.{IsRaced};
 ghost use Rattle.mp_race.specs.Inside.Task.{tasks_of};
 ghost use Rattle.mp_race.specs.Inside.Work.{IsUnused};
 ghost use Rattle.mp_race.specs.Inside.Gathered.{IsBack, AreGathered, IsExplained};
@@ -17,11 +18,12 @@ use crate::fault::Fault;
 use crate::gate::{Gate, Watched};
 use crate::gathering::{Gathered, gather};
 use crate::history::History;
-use crate::ordering::{all_know, history_of};
+use crate::ordering::{Ordered, all_know, order_done};
+use crate::refusals::order_refused;
 use crate::report::{Report, count_reads, counts_of};
 use crate::scenario::Scenario;
 use crate::task::Task;
-use crate::told::{Notes, Refused};
+use crate::told::Refused;
 use crate::worker::{Worker, work};
 use mp_history::{AuditFault, Entry, Front, NewName, PoolName, audit};
 use mp_memory::{Memory, NoMemory};
@@ -121,7 +123,7 @@ fn run_workers<N: PoolName + Send + Sync, R: Threads + Wait + Sync, G: Gate>(
     requires most { workers ≤ 64 }
     ensures { IfOk result (λ g. g.is_sure ≡ true → AreGathered N.accepts N.callers
         (fresh_log scenario.now.config scenario.now.ledger).opening scenario.now.tasks
-        g.front g.passes.items g.receipts.items) }
+        g.front g.passes.items g.done.items) }
 {
     let (mempool, passes) = open(rt, memory, name, scenario, workers, gate)?;
     let front = first_front(&passes);
@@ -130,36 +132,39 @@ fn run_workers<N: PoolName + Send + Sync, R: Threads + Wait + Sync, G: Gate>(
     gather(memory, front, done)
 }
 
-// The history that explains what the workers came back with, and what they told.
+// The history that explains what the workers came back with, and what is told of it.
 fn explain<N: PoolName>(
     memory: Memory,
+    tasks: &[Task],
     workers: u32,
     gathered: Gathered<N>,
-) -> Result<(Vec<Entry, Memory>, Notes), Fault>
-    requires { workers ≡ N.callers }
+) -> Result<(Ordered, Vec<Refused, Memory>), Fault>
+    requires number { workers ≡ N.callers }
+    requires some { 1 ≤ workers }
+    requires most { workers ≤ 64 }
     ensures history { (opening : Pool) (ts : List told.Task) → (gathered.is_sure ≡ true
         → AreGathered N.accepts N.callers opening ts
-        gathered.front gathered.passes.items gathered.receipts.items)
-        → IfOk result (λ told. IsExplained N.accepts opening workers ts told.0.items) }
+        gathered.front gathered.passes.items gathered.done.items)
+        → IfOk result (λ found. IsExplained N.accepts opening workers ts found.0) }
     ensures fault { IfErr result IsOfRace }
 {
     let Gathered {
         front,
         passes,
-        receipts,
-        notes,
+        done,
+        refused,
         is_sure,
     } = gathered;
-    let entries = history_of(memory, receipts)?;
-    let number = entries.len() as u64;
+    let ordered = order_done(memory, workers, tasks.len() as u64, done)?;
+    let number = ordered.entries.len() as u64;
     if !is_sure
         || number < front.len()
         || passes.len() != workers as usize
-        || !all_know(&passes, &entries)
+        || !all_know(&passes, &ordered.entries)
     {
         return Err(Fault::MissingEntry(number));
     }
-    Ok((entries, notes))
+    Ok((ordered, refused))
 }
 
 // Audits the history, and gives the last ticket after it.
@@ -230,36 +235,23 @@ fn report_on(
 #[derive(Drop)]
 pub struct Raced {
     pub report: Report,
-    /// What is told of each entry, in the order of their places. No clause says that it is so: `audit_history` looks.
+    /// What is told of each entry, in the order of their places.
     pub history: History,
-    /// What is told of each refusal, in no order.
+    /// What is told of each refusal, in the order of their commands.
     pub refused: Vec<Refused, Memory>,
-}
-
-// What was told, in the order of the places.
-fn in_order(workers: u32, report: Report, notes: Notes) -> Result<Raced, NoMemory>
-    ensures report { IfOk result (λ r. r.report ≡ report) }
-    ensures workers { IfOk result (λ r. r.history.workers ≡ workers) }
-{
-    let Notes { mut told, refused } = notes;
-    told.sort_by_key(|entry| entry.place)?;
-    Ok(Raced {
-        report,
-        history: History { workers, told },
-        refused,
-    })
 }
 
 /// Runs the scenario by so many workers, each in a thread of its own where one can be made, on one pool under the name, and gives
 /// the report, the history and the refusals. Task j, from 0, goes to worker j mod workers. There is one legal history that explains what each change was answered:
 /// each worker's entries in it are the changes dealt to it, each once and in order, but for those that the sequential pool refuses at
-/// a beginning of the history with just the worker's entries before. What snapshots show isn't told. The gate is told of each task
-/// and of each signature that is looked at.
+/// a beginning of the history with just the worker's entries before. The history tells its entries one by one, and the refusals are of
+/// as many changes as have no entry. What snapshots show isn't told. The gate is told of each task and of each signature that is looked
+/// at.
 ///
 /// # Errors
 /// `NoMemory`, where it was wanting for any worker, after all have ended. `MissingEntry` with the least place of the history below
-/// the number of the receipts of which no receipt tells, or two do, and with their number where the pool has another entry. None is
-/// to be met.
+/// the number of the receipts of which no receipt tells, or two do, or whose command isn't its worker's next, and with their number
+/// where the pool has another entry or the refusals are others than so many. None is to be met.
 pub fn race<N: PoolName + Send + Sync, R: Threads + Wait + Sync, G: Gate>(
     rt: &R,
     memory: Memory,
@@ -273,13 +265,18 @@ pub fn race<N: PoolName + Send + Sync, R: Threads + Wait + Sync, G: Gate>(
     requires accepts { N.accepts ≡ is_key_and_id }
     requires some { 1 ≤ workers }
     requires most { workers ≤ 64 }
-    ensures report { IfOk result
-        (λ raced. IsReportOf is_key_and_id workers scenario.now raced.report) }
+    ensures raced { IfOk result (IsRaced is_key_and_id workers scenario.now) }
     ensures workers { IfOk result (λ raced. raced.history.workers ≡ workers) }
     ensures fault { IfErr result IsOfRace }
 {
     let gathered = run_workers::<N, R, G>(rt, memory, name, scenario, workers, gate)?;
-    let (entries, notes) = explain(memory, workers, gathered)?;
-    let report = report_on(memory, scenario, workers, &entries)?;
-    Ok(in_order(workers, report, notes)?)
+    let (ordered, refused) = explain(memory, &scenario.tasks, workers, gathered)?;
+    let report = report_on(memory, scenario, workers, &ordered.entries)?;
+    let refused = order_refused(&scenario.tasks, workers, report.refused, refused)?;
+    let Ordered { told, .. } = ordered;
+    Ok(Raced {
+        report,
+        history: History { workers, told },
+        refused,
+    })
 }

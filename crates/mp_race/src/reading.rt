@@ -1,14 +1,15 @@
 //! What lines seem to tell. What is read here is written again and compared, so nothing is looked at closely.
 
-ghost use Rattle.std.specs.Prelude.{◌≤◌, IfErr, IfOk, IfSome};
-ghost use Rattle.mp_race.specs.HistoryText.{IsOfReading};
+ghost use Rattle.std.specs.Prelude.{◌≡◌, ◌≤◌, IfOk, IfSome, option_map};
+ghost use Rattle.mp_text.specs.Words.{words_of};
+ghost use Rattle.mp_text.specs.Numbers.{number_of};
+ghost use Rattle.mp_race.specs.Inside.HistoryFront.{front_of};
+ghost use Rattle.mp_race.specs.Inside.HistoryWords as told;
 
-use crate::fault::Fault;
-use crate::history::History;
 use crate::told::Told;
 use mp_memory::{Memory, NoMemory};
 use mp_seqpool::Reply;
-use mp_text::{first_line, first_word, number};
+use mp_text::{first_word, number};
 use mp_tickets::Tickets;
 
 // No race has more workers.
@@ -19,28 +20,30 @@ const MAX_WORKERS: u32 = 64;
 struct Front<'a> {
     place: u64,
     worker: u32,
-    task: u32,
+    task: u64,
     kind: &'a [u8],
     rest: &'a [u8],
 }
 
 // The number that the first word writes, and what stands behind it.
-fn first_number(words: &[u8]) -> Option<(u64, &[u8])> {
+fn first_number(words: &[u8]) -> Option<(u64, &[u8])>
+    ensures { option_map (λ f. (f.0, words_of f.1.now)) result ≡ told.number_in (words_of words.now) }
+{
     let (word, rest) = first_word(words)?;
     Some((number(word)?, rest))
 }
 
-fn small_number(words: &[u8]) -> Option<(u32, &[u8])> {
+fn small_number(words: &[u8]) -> Option<(u32, &[u8])>
+    ensures { option_map (λ f. (f.0, words_of f.1.now)) result ≡ told.small_in (words_of words.now) }
+{
     let (number, rest) = first_number(words)?;
     Some((u32::try_from(number).ok()?, rest))
 }
 
-fn front_of(line: &[u8]) -> Option<Front<'_>> {
-    let (_, rest) = first_word(line)?;
-    let (place, rest) = first_number(rest)?;
-    let (worker, rest) = small_number(rest)?;
-    let (task, rest) = small_number(rest)?;
-    let (kind, rest) = first_word(rest)?;
+fn read_kind(place: u64, worker: u32, task: u64, words: &[u8]) -> Option<Front<'_>>
+    ensures { option_map front_of result ≡ told.kind_in place worker task (words_of words.now) }
+{
+    let (kind, rest) = first_word(words)?;
     Some(Front {
         place,
         worker,
@@ -50,31 +53,52 @@ fn front_of(line: &[u8]) -> Option<Front<'_>> {
     })
 }
 
-// The tickets, as long as they rise, up to a word that is none, and what stands behind that.
-fn read_tickets(memory: Memory, words: &[u8]) -> Result<(Tickets, &[u8]), NoMemory> {
+fn read_front(line: &[u8]) -> Option<Front<'_>>
+    ensures { option_map front_of result ≡ told.front_in (words_of line.now) }
+{
+    let (_, rest) = first_word(line)?;
+    let (place, rest) = first_number(rest)?;
+    let (worker, rest) = small_number(rest)?;
+    let (task, rest) = first_number(rest)?;
+    read_kind(place, worker, task, rest)
+}
+
+// The ticket that the word writes, where it is no less than the least.
+fn ticket_of(word: &[u8], least: u128) -> Option<u64>
+    ensures { result ≡ told.ticket_in least word.now }
+{
+    let ticket = number(word)?;
+    if least <= ticket as u128 {
+        Some(ticket)
+    } else {
+        None
+    }
+}
+
+// The tickets, as long as they increase, up to a word that is none, and what stands behind that.
+fn read_tickets(memory: Memory, words: &[u8]) -> Result<(Tickets, &[u8]), NoMemory>
+    ensures { IfOk result
+        (λ found. (found.0, words_of found.1.now) ≡ told.tickets_in 0 (words_of words.now)) }
+{
     let mut tickets = Tickets::new(memory);
     let mut rest = words;
     // Wider than a ticket, since nothing comes after the greatest one.
     let mut least = 0u128;
     while let Some((word, after)) = first_word(rest) {
-        rest = after;
-        let Some(ticket) = number(word) else {
-            break;
+        let Some(ticket) = ticket_of(word, least) else {
+            return Ok((tickets, after));
         };
-        if (ticket as u128) < least {
-            break;
-        }
         tickets.push(ticket)?;
         least = ticket as u128 + 1;
+        rest = after;
     }
     Ok((tickets, rest))
 }
 
-fn read_reply(memory: Memory, kind: &[u8], words: &[u8]) -> Result<Reply, NoMemory> {
-    if kind == b"accepted".as_slice() {
-        let ticket = first_number(words).map_or(0, |found| found.0);
-        return Ok(Reply::Accepted { ticket });
-    }
+fn read_lists(memory: Memory, kind: &[u8], words: &[u8]) -> Result<Reply, NoMemory>
+    ensures { IfOk result
+        (λ reply. reply ≡ told.lists_in kind.now (told.tickets_in 0 (words_of words.now))) }
+{
     let (first, rest) = read_tickets(memory, words)?;
     let (dropped, _) = read_tickets(memory, rest)?;
     if kind == b"removed".as_slice() {
@@ -90,8 +114,21 @@ fn read_reply(memory: Memory, kind: &[u8], words: &[u8]) -> Result<Reply, NoMemo
     }
 }
 
-fn read_told(memory: Memory, line: &[u8]) -> Result<Option<Told>, NoMemory> {
-    let Some(front) = front_of(line) else {
+fn read_reply(memory: Memory, kind: &[u8], words: &[u8]) -> Result<Reply, NoMemory>
+    ensures { IfOk result (λ reply. reply ≡ told.reply_in kind.now (words_of words.now)) }
+{
+    if kind == b"accepted".as_slice() {
+        let ticket = first_number(words).map_or(0, |found| found.0);
+        return Ok(Reply::Accepted { ticket });
+    }
+    read_lists(memory, kind, words)
+}
+
+/// The entry that the line seems to tell.
+pub fn read_told(memory: Memory, line: &[u8]) -> Result<Option<Told>, NoMemory>
+    ensures { IfOk result (λ found. found ≡ told.told_in (words_of line.now)) }
+{
+    let Some(front) = read_front(line) else {
         return Ok(None);
     };
     let reply = read_reply(memory, front.kind, front.rest)?;
@@ -103,48 +140,29 @@ fn read_told(memory: Memory, line: &[u8]) -> Result<Option<Told>, NoMemory> {
     }))
 }
 
-// Reads a line for each entry. The number of the first line is 2.
-fn read_lines(memory: Memory, told: &mut Vec<Told, Memory>, text: &[u8]) -> Result<(), Fault>
-    ensures { IfErr result IsOfReading }
+// The number of workers, where it is one.
+fn if_workers(number: u32) -> Option<u32>
+    ensures { result ≡ told.if_workers number }
 {
-    let mut rest = text;
-    let mut number = 2u64;
-    while let Some((line, after)) = first_line(rest) {
-        let Some(entry) = read_told(memory, line)? else {
-            return Err(Fault::BadLine(number));
-        };
-        told.push(entry)?;
-        rest = after;
-        number = number.saturating_add(1);
-    }
-    Ok(())
+    (1..=MAX_WORKERS).contains(&number).then_some(number)
 }
 
-fn read_workers(line: &[u8]) -> Option<u32>
-    ensures least { IfSome result (λ n. 1 ≤ n) }
-    ensures most { IfSome result (λ n. n ≤ 64) }
+fn read_entries(workers: u32, words: &[u8]) -> Option<(u32, u64)>
+    ensures { result ≡ told.entries_in workers (words_of words.now) }
+{
+    let (_, rest) = first_word(words)?;
+    let (entries, _) = first_number(rest)?;
+    Some((workers, entries))
+}
+
+/// The number of workers, and that of the entries, that the first line seems to tell.
+pub fn read_head(line: &[u8]) -> Option<(u32, u64)>
+    ensures head { result ≡ told.head_in (words_of line.now) }
+    ensures least { IfSome result (λ h. 1 ≤ h.0) }
+    ensures most { IfSome result (λ h. h.0 ≤ 64) }
 {
     let (_, rest) = first_word(line)?;
-    let (workers, _) = small_number(rest)?;
-    (1..=MAX_WORKERS).contains(&workers).then_some(workers)
-}
-
-/// What the text seems to tell.
-///
-/// # Errors
-/// `BadLine` with the number of a line, from 1, that has too few words or another word in place of a number; `NoMemory`.
-pub fn read_history(memory: Memory, text: &[u8]) -> Result<History, Fault>
-    ensures least { IfOk result (λ h. 1 ≤ h.workers) }
-    ensures most { IfOk result (λ h. h.workers ≤ 64) }
-    ensures fault { IfErr result IsOfReading }
-{
-    let Some((line, rest)) = first_line(text) else {
-        return Err(Fault::BadLine(1));
-    };
-    let Some(workers) = read_workers(line) else {
-        return Err(Fault::BadLine(1));
-    };
-    let mut told = Vec::new(memory);
-    read_lines(memory, &mut told, rest)?;
-    Ok(History { workers, told })
+    let (number, rest) = small_number(rest)?;
+    let workers = if_workers(number)?;
+    read_entries(workers, rest)
 }

@@ -8,10 +8,10 @@ ghost use Rattle.mp_race.specs.Inside.Gathered.{IsBack};
 
 use crate::gate::Gate;
 use crate::task::Task;
-use crate::told::{Notes, Refused};
+use crate::told::{Done, Refused};
 use mp_history::PoolName;
 use mp_memory::{Memory, NoMemory};
-use mp_mempool::{Mempool, Pass, Receipt, Refusal};
+use mp_mempool::{Mempool, Pass, Refusal};
 use mp_rules::Verifier;
 use std::sync::Wait;
 
@@ -19,10 +19,10 @@ use std::sync::Wait;
 #[derive(Drop)]
 pub struct Worker<N: PoolName> {
     pub pass: Pass<N>,
-    /// Of its entries, in order.
-    pub receipts: Vec<Receipt, Memory>,
-    /// What is told of its commands.
-    pub notes: Notes,
+    /// The changes that it has made, in order.
+    pub done: Vec<Done, Memory>,
+    /// Its commands that were refused.
+    pub refused: Vec<Refused, Memory>,
     /// Whether its pass knew each entry of its own that the pool had.
     pub is_sure: bool,
 }
@@ -32,13 +32,13 @@ fn do_task<N: PoolName, V: Verifier>(
     rt: &impl Wait,
     mempool: &Mempool<N, V>,
     pass: &mut Pass<N>,
-    receipts: &mut Vec<Receipt, Memory>,
-    notes: &mut Notes,
-    place: u32,
+    done: &mut Vec<Done, Memory>,
+    refused: &mut Vec<Refused, Memory>,
+    number: u64,
     task: &Task,
 ) -> Result<bool, NoMemory>
     ensures { IfOk result (λ sure. sure ≡ true → Does N.accepts N.callers
-        pass.old receipts.old.items (task_of task.now) pass.new receipts.new.items) }
+        pass.old done.old.items number (task_of task.now) pass.new done.new.items) }
 {
     match task {
         Task::Read => {
@@ -47,15 +47,17 @@ fn do_task<N: PoolName, V: Verifier>(
         }
         Task::Change(command) => match mempool.ask(rt, pass, command) {
             Ok(receipt) => {
-                notes.tell(pass.caller(), place, &receipt)?;
-                receipts.push(receipt)?;
+                done.push(Done {
+                    task: number,
+                    receipt,
+                })?;
                 Ok(true)
             }
             Err(Refusal::Pool(mp_seqpool::Refusal::NoMemory)) => Err(NoMemory),
             Err(Refusal::Pool(_)) => {
-                notes.refuse(Refused {
+                refused.push(Refused {
                     worker: pass.caller(),
-                    task: place,
+                    task: number,
                     entries: pass.front().len(),
                 })?;
                 Ok(true)
@@ -80,27 +82,26 @@ pub fn work<N: PoolName, V: Verifier, G: Gate>(
     ensures { (opening : Pool) → IsUnused opening pass
         → IsBack N.accepts workers opening (tasks_of tasks.now) result }
 {
-    let mut receipts = Vec::new(memory);
-    let mut notes = Notes::new(memory);
+    let mut done = Vec::new(memory);
+    let mut refused = Vec::new(memory);
     let number = pass.caller();
     for (place, task) in tasks.iter().enumerate() {
         if place % workers as usize == number as usize {
-            let place = u32::try_from(place).unwrap_or(u32::MAX);
-            gate.start(number, place);
+            gate.start(number, place as u64);
             let is_sure = do_task(
                 rt,
                 mempool,
                 &mut pass,
-                &mut receipts,
-                &mut notes,
-                place,
+                &mut done,
+                &mut refused,
+                place as u64,
                 task,
             )?;
             if !is_sure {
                 return Ok(Worker {
                     pass,
-                    receipts,
-                    notes,
+                    done,
+                    refused,
                     is_sure,
                 });
             }
@@ -108,8 +109,8 @@ pub fn work<N: PoolName, V: Verifier, G: Gate>(
     }
     Ok(Worker {
         pass,
-        receipts,
-        notes,
+        done,
+        refused,
         is_sure: true,
     })
 }

@@ -44,7 +44,7 @@ fn retell(memory: Memory, scenario: &Scenario, raced: &Raced) -> Result<bool, Fa
     requires most { raced.now.history.workers ≤ 64 }
 {
     let text = text_if_legal(memory, scenario, &raced.history)?;
-    let history = History::parse(memory, &text)?;
+    let history = History::read(memory, &mut text.as_slice())?;
     audit_history(memory, scenario, &history)?;
     Ok(
         history.told.len() as u64 == raced.report.entries

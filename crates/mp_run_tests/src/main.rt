@@ -5,9 +5,11 @@
 
 mod cases;
 mod devices;
+mod long;
 mod meeting;
 mod reports;
 mod runs;
+mod serving;
 mod talks;
 mod texts;
 
@@ -25,8 +27,10 @@ fn check_all<R: Print + Threads + Wait + Sync>(
     println!(rt; "runs {}", runs::held(rt, memory, alloc)?)?;
     println!(rt; "talks {}", talks::held(rt, memory, alloc)?)?;
     println!(rt; "reports {}", reports::held(rt, memory)?)?;
+    println!(rt; "long {}", long::held(rt, memory)?)?;
     println!(rt; "meetings {}", meeting::held(rt, memory)?)?;
     println!(rt; "devices {}", devices::held(rt, memory, alloc)?)?;
+    println!(rt; "serving {}", serving::held(rt, memory, alloc)?)?;
     println!(rt; "texts {}", texts::held(rt, alloc)?)?;
     Ok(())
 }

@@ -64,7 +64,7 @@ impl MeetGate {
 }
 
 impl Gate for MeetGate {
-    fn start(&self, _worker: u32, task: u32) {
+    fn start(&self, _worker: u32, task: u64) {
         if self.waits == Waits::Starts && task < 2 {
             self.meet();
         }

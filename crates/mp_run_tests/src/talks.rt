@@ -4,6 +4,7 @@ use mp_memory::{Memory, NoMemory};
 use mp_names::LineFault;
 use mp_serve::{Conversation, Signatures};
 use mp_testing::{MAX_GROWTHS, count};
+use mp_tx::Salt;
 use std::alloc::Global;
 use std::io;
 
@@ -107,15 +108,38 @@ const BLOCKS: Talk = Talk {
         refused back 1\nkept 2 dropped\naccepted 3\nforgotten 1\nbad\nstats 2 362 438 3 5 adopt 1 back 1\n",
 };
 
-const TALKS: [Talk; 3] = [CHANGES, READS, BLOCKS];
+// Of one id a spoilt signature, and two names for the bytes that the pool accepts by the second.
+const REPORTS: Talk = Talk {
+    name: "reports in a conversation at refused growths",
+    lines: &[
+        b"out g0 100",
+        b"tx a in=g0 out=100 badsign=7",
+        b"tx b in=g0 out=100 sign=7",
+        b"tx c in=g0 out=100 sign=7",
+        b"submit a",
+        b"submit b",
+        b"forge 1000",
+        b"adopt 1 a",
+        b"forget a b c",
+        b"show c",
+        b"adopt 1 b",
+        b"back 1",
+        b"forget b",
+        b"stats",
+    ],
+    answers: b"ok\nok\nok\nok\nrefused signature 7\naccepted 1\nblock 1 277 1:b\nrefused adopt b signature 7\nforgotten 2\nbad\n\
+        kept dropped 1\nkept dropped\nforgotten 1\nstats 0 0 1000000 1 3 signature 1 adopt 1\n",
+};
+
+const TALKS: [Talk; 4] = [CHANGES, READS, BLOCKS, REPORTS];
 
 // Any of these conversations makes at least so many growths.
 const FEWEST: u64 = 20;
 
 fn begin(memory: Memory) -> Result<Conversation, NoMemory> {
-    match Conversation::new(memory, Signatures::OfScenarios) {
+    match Conversation::new(memory, Signatures::OfScenarios, Salt::new(7)) {
         Ok(conversation) => Ok(conversation),
-        Err(_) => Conversation::new(memory, Signatures::OfScenarios),
+        Err(_) => Conversation::new(memory, Signatures::OfScenarios, Salt::new(7)),
     }
 }
 

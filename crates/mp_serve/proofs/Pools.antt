@@ -2,13 +2,16 @@
 use Rattle.std.proofs.Common.{◌≡◌, ℕ, ◌<◌, ◌≤◌, ◌^◌, Bool, true, false, cond, refl, sym, ap, subst, ◌∙◌, arith}
 use Rattle.std.specs.Prelude.{nat_le, is_ok, List, Result, Ok, Err, OnOk, OnErr}
 use Rattle.std.proofs.lemmas.Bool.Decides.{nat_tests}
+use Rattle.mp_tx.specs.Transaction.{Transaction}
+use Rattle.mp_tx.specs.Ledger.{LedgerState}
 use Rattle.mp_rules.specs.Verifier.{Accepts}
 use Rattle.mp_seqpool.specs.declared.refusal.Refusal.{Refusal}
+use Rattle.mp_seqpool.specs.declared.refusal.Refusal.TheVariants as refusals
 use Rattle.mp_seqpool.specs.Command.{Command, Submit, Remove, Sync}
 use Rattle.mp_seqpool.specs.Config.{renewed}
 use Rattle.mp_seqpool.specs.Pool.{Pool}
 use Rattle.mp_seqpool.specs.PoolLaws.{IsLawful}
-use Rattle.mp_seqpool.specs.SlowPool.{answer, done, next}
+use Rattle.mp_seqpool.specs.SlowPool.{reply_synced, answer, done, next}
 use Rattle.mp_seqpool.proofs.Histories.{lawful-next, lawful-renewed, next-refused}
 use Rattle.mp_serve.specs.Request.{counted_anew}
 use Rattle.mp_serve.specs.Inside.Pool.{IsReady}
@@ -20,13 +23,12 @@ under changes limit lt = grind (arith, nat_tests)
 pub not_anew : (p : Pool) → p.changes < p.limit → counted_anew p ≡ p
 not_anew p lt = ap (λ b. cond b (renewed p.limit p) p) (under p.changes p.limit lt)
 
-pub on_ok : {X E : Type 0} (r : Result X E) (P : Type 0) → P → OnOk r P
-on_ok (Ok x) P p = p
-on_ok (Err e) P p = tt
-
-pub on_err : {X E : Type 0} (r : Result X E) (P : Type 0) → P → OnErr r P
-on_err (Ok x) P p = tt
-on_err (Err e) P p = p
+ledger-anew : (p : Pool) → (counted_anew p).ledger ≡ p.ledger
+ledger-anew p = by (nat_le p.limit p.changes)
+  where
+    by : (b : Bool) → (cond b (renewed p.limit p) p).ledger ≡ p.ledger
+    by true = refl
+    by false = refl
 
 module _ (accepts : Accepts) where
   limit-done : (p : Pool) (c : Command) → (done accepts p c).limit ≡ p.limit
@@ -68,3 +70,41 @@ module _ (accepts : Accepts) where
   -- a command that is refused changes nothing
   pub refused_same : (p : Pool) (c : Command) (f : Refusal) → p.changes < p.limit → answer accepts p c ≡ Err f → p ≡ counted_anew (next accepts p c)
   refused_same p c f lt is = sym (ap counted_anew (next-refused accepts p c f is) ∙ not_anew p lt)
+
+  -- a submit and a remove leave the ledger state
+  ledger-submit : (p : Pool) (t : Transaction) → (next accepts p (Submit t)).ledger ≡ p.ledger
+  unfolding next
+  ledger-submit p t = by (is_ok (answer accepts p (Submit t)))
+    where
+      by : (b : Bool) → (cond b (done accepts p (Submit t)) p).ledger ≡ p.ledger
+      by true = refl
+      by false = refl
+
+  ledger-remove : (p : Pool) (ids : List (List ℕ)) → (next accepts p (Remove ids)).ledger ≡ p.ledger
+  unfolding next
+  ledger-remove p ids = by (is_ok (answer accepts p (Remove ids)))
+    where
+      by : (b : Bool) → (cond b (done accepts p (Remove ids)) p).ledger ≡ p.ledger
+      by true = refl
+      by false = refl
+
+  pub ledger-submitted : (p : Pool) (t : Transaction) → (counted_anew (next accepts p (Submit t))).ledger ≡ p.ledger
+  ledger-submitted p t = ledger-anew (next accepts p (Submit t)) ∙ ledger-submit p t
+
+  pub ledger-removed : (p : Pool) (ids : List (List ℕ)) → (counted_anew (next accepts p (Remove ids))).ledger ≡ p.ledger
+  ledger-removed p ids = ledger-anew (next accepts p (Remove ids)) ∙ ledger-remove p ids
+
+  -- a sync that may be made leads to its ledger state
+  ledger-sync : (p : Pool) (l : LedgerState) → p.changes < p.limit → (next accepts p (Sync l)).ledger ≡ l
+  unfolding next answer
+  ledger-sync p l lt =
+      ap (λ b. (cond (is_ok (cond b (Err refusals.HistoryFull) (Ok (reply_synced accepts l p)))) (done accepts p (Sync l)) p).ledger) (under p.changes p.limit lt)
+
+  pub ledger-synced : (p : Pool) (l : LedgerState) → p.changes < p.limit → (counted_anew (next accepts p (Sync l))).ledger ≡ l
+  ledger-synced p l lt = ledger-anew (next accepts p (Sync l)) ∙ ledger-sync p l lt
+
+  -- whether it did so or had no memory for it
+  pub same_either : {X E : Type 0} (r : Result X E) (old new : Pool) (c : Command) → (counted_anew (next accepts old c)).ledger ≡ old.ledger
+      → OnOk r (new ≡ counted_anew (next accepts old c)) → OnErr r (new ≡ old) → new.ledger ≡ old.ledger
+  same_either (Ok x) old new c same done kept = ap (λ p. p.ledger) done ∙ same
+  same_either (Err e) old new c same done kept = ap (λ p. p.ledger) kept

@@ -1,5 +1,5 @@
 -- What a line of a conversation asks, in view of what was declared before it.
-use Rattle.std.specs.Prelude.{ℕ, nat_eq, List, [], ◌∷◌, ◌++◌, codes, Option, None, Some, option_map, option_and_then, if◌then◌else◌}
+use Rattle.std.specs.Prelude.{ℕ, ◌+◌, ◌-◌, ◌*◌, nat_eq, nat_lt, List, [], ◌∷◌, ◌++◌, length, codes, Option, None, Some, option_map, option_and_then, if◌then◌else◌}
 use Rattle.std.specs.Cmp.Lexicographic.{pointwise}
 use Rattle.mp_text.specs.Lines.{is_clean}
 use Rattle.mp_text.specs.Numbers.{number_of}
@@ -24,6 +24,8 @@ pub data Ask : Type 0 where
   Does : Line → Ask
   -- to read a transaction from these bytes, for the name
   Reads : List ℕ → List ℕ → Ask
+  -- to take the transaction in, and to report it under the name from then on
+  Submits : List ℕ → Transaction → Ask
   -- the bytes of the transaction
   Shows : Transaction → Ask
   -- what its submit would be answered
@@ -45,6 +47,13 @@ bytes_by names words = if is_new_binding words.0 names then option_map (Reads wo
 
 abbrev pub bytes_ask : Names → List (List ℕ) → Option Ask
 bytes_ask names words = option_and_then (bytes_by names) (two_words words)
+
+abbrev pub submit_by : Names → List ℕ → Option Ask
+submit_by names word = option_map (λ t. Submits word t.tx) (tx_named word names)
+
+-- submit TX
+abbrev pub submit_ask : Names → List (List ℕ) → Option Ask
+submit_ask names words = option_and_then (submit_by names) (one_word words)
 
 -- the transaction that is the line's one word
 abbrev pub one_tx : Names → List (List ℕ) → Option Transaction
@@ -95,10 +104,11 @@ ledger_ask names line word words =
     else if pointwise nat_eq word (codes "forget") then forget_ask words
     else option_map Does (line_of names line)
 
--- by the first word: show TX, check TX, stats, and else those
+-- by the first word: bytes, submit, show TX, check TX, stats, and else those
 abbrev pub clean_ask : Names → List ℕ → List ℕ → List (List ℕ) → Option Ask
 clean_ask names line word words =
     if pointwise nat_eq word (codes "bytes") then bytes_ask names words
+    else if pointwise nat_eq word (codes "submit") then submit_ask names words
     else if pointwise nat_eq word (codes "show") then option_map Shows (one_tx names words)
     else if pointwise nat_eq word (codes "check") then option_map Checks (one_tx names words)
     else if pointwise nat_eq word (codes "stats") then option_map (λ u. Counts) (no_word words)
@@ -119,6 +129,14 @@ abbrev pub long_ask : Names → List (List ℕ) → Option Ask
 long_ask names [] = None
 long_ask names (word ∷ words) = hex_ask names word words
 
--- what the line asks, if it is one of the language
+abbrev pub ask_within : Names → List ℕ → Option Ask
+ask_within names line = if is_clean line then words_ask names line (words_of line) else long_ask names (words_of line)
+
+-- The longest line is `utxo ID#INDEX HEX` of an output as large as a transaction of 16,384 bytes can have, in which 27 stand around
+-- it. An index has at most 20 digits.
+abbrev pub longest : ℕ
+longest = 5 + 64 + 1 + 20 + 1 + 2 * (16384 - 27)
+
+-- what the line asks, if it is one of the language, which no longer one is
 unfoldable pub ask_of : Names → List ℕ → Option Ask
-ask_of names line = if is_clean line then words_ask names line (words_of line) else long_ask names (words_of line)
+ask_of names line = if nat_lt longest (length line) then None else ask_within names line

@@ -5,4 +5,5 @@ pub mod Block
 pub mod Pool
 pub mod ServedPool
 pub mod Extended
-pub mod Stage
+pub mod Former
+pub mod Answer

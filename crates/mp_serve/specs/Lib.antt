@@ -5,5 +5,6 @@ pub mod Refused
 pub mod ServedPool
 pub mod Request
 pub mod Talk
+pub mod Device
 pub mod Served
 pub mod Inside

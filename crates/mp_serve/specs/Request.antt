@@ -13,7 +13,7 @@ use Rattle.mp_seqpool.specs.Command as commands
 use Rattle.mp_seqpool.specs.Config.{renewed}
 use Rattle.mp_seqpool.specs.Pool.{Pool}
 use Rattle.mp_seqpool.specs.SlowPool.{is_at_limit, answer, next}
-use Rattle.mp_names.specs.Names.{Names}
+use Rattle.mp_names.specs.Names.{Names, with_reported}
 use Rattle.mp_lines.specs.declared.query.Query.{Query}
 use Rattle.mp_answers.specs.AnswerText.{answer_text}
 use Rattle.mp_answers.specs.QueryText.{query_text, for_text, cursor_after}
@@ -29,8 +29,10 @@ pub record Block : Type 0 where
   pub txs : List Transaction
 
 pub data Request : Type 0 where
-  -- to do what is asked
-  Do : Command → Request
+  -- to take the transaction in
+  Submit : Transaction → Request
+  -- to take out those with these ids
+  Remove : List (List ℕ) → Request
   -- to adopt the ledger state
   Adopt : LedgerState → Request
   -- to adopt the ledger state after the block
@@ -63,6 +65,11 @@ obeyed p c = counted_anew (next (accepted_by p.signatures) p.pool c)
 -- what is answered to a command
 abbrev pub answer_to : ServedPool → Command → Result Reply Refusal
 answer_to p c = answer (accepted_by p.signatures) p.pool c
+
+-- a transaction that is accepted is reported under the name from then on
+abbrev pub reported_if : Names → List ℕ → Result Reply Refusal → Names
+reported_if names name (Ok reply) = with_reported names name
+reported_if names name (Err refusal) = names
 
 abbrev pub answered : Names → ServedPool → Command → List ℕ
 answered names p c = answer_text names (answer_to p c)
@@ -107,8 +114,12 @@ abbrev pub go_back : Names → ℕ → ServedPool → ℕ → Option LedgerState
 go_back names cursor p count None = refused_with (one_back_more p.refused) cursor p (back_refused_text (length p.former))
 go_back names cursor p count (Some l) = adopt names cursor p l (take (length p.former - count) p.former)
 
+abbrev pub do_command : Names → ℕ → ServedPool → Command → Response
+do_command names cursor p c = record { served = after_command p c; cursor = cursor; text = answered names p c }
+
 abbrev pub respond : Names → ℕ → ServedPool → Request → Response
-respond names cursor p (Do c) = record { served = after_command p c; cursor = cursor; text = answered names p c }
+respond names cursor p (Submit t) = do_command names cursor p (commands.Submit t)
+respond names cursor p (Remove ids) = do_command names cursor p (commands.Remove ids)
 respond names cursor p (Adopt l) = go_on names cursor p l
 respond names cursor p (Extend block) =
     extend names cursor p block.txs (apply_block (accepted_by p.signatures) p.pool.ledger block.tick block.block_bytes block.txs)

@@ -1,14 +1,12 @@
 -- What is answered to lines, each in its turn.
-use Rattle.std.specs.Prelude.{◌≡◌, ℕ, ◌+◌, ◌⊎◌, List, [], ◌∷◌, ◌++◌, take, Option, None, Some, Result, Ok, Err}
+use Rattle.std.specs.Prelude.{◌≡◌, ℕ, ◌+◌, ◌-◌, ◌^◌, ◌⊎◌, List, [], ◌∷◌, ◌++◌, take, Option, None, Some, Result, Ok, Err}
 use Rattle.std.specs.Io.KnownBytes.{Appends, Keeps}
 use Rattle.mp_text.specs.Lines.{lines_of}
-use Rattle.mp_text.specs.Output.{AppendsFront}
 use Rattle.mp_serve.specs.Texts.{no_memory_text, bad_text}
-use Rattle.mp_serve.specs.declared.signatures.Signatures.{Signatures}
 use Rattle.mp_serve.specs.declared.conversation.Conversation.{Conversation}
-use Rattle.mp_serve.specs.Talk.{Step, new_conversation, line_step}
+use Rattle.mp_serve.specs.Talk.{Step, line_step}
 use Rattle.mp_serve.specs.declared.fault.Fault.{Fault}
-use Rattle.mp_serve.specs.declared.fault.Fault.TheVariants.{NoMemory, ReadFault, WriteFault}
+use Rattle.mp_serve.specs.declared.fault.Fault.TheVariants.{NoMemory, ReadFault, WriteFault, ManyLines}
 
 -- as the line asks; a bad one is told with its number and why, and nothing has changed
 abbrev pub IsTold : ℕ → Conversation → Step → List ℕ → Conversation → Type 0
@@ -26,18 +24,24 @@ AreAnswers n t (line ∷ lines) text u =
     (first rest : List ℕ) × (v : Conversation) × (text ≡ first ++ rest) × IsAnswer n t line first v × AreAnswers (n + 1) v lines rest u
 
 -- these lines were answered from the first on
-abbrev pub WereAnswered : Signatures → Option (List ℕ) → Option (List ℕ) → List (List ℕ) → Type 0
-WereAnswered signatures old new lines =
-    (text : List ℕ) × (t : Conversation) × AreAnswers 1 (new_conversation signatures) lines text t × Appends old new text
+abbrev pub WereAnswered : Conversation → Option (List ℕ) → Option (List ℕ) → List (List ℕ) → Type 0
+WereAnswered start old new lines =
+    (text : List ℕ) × (t : Conversation) × AreAnswers 1 start lines text t × Appends old new text
 
--- some first lines were answered, and of the answer to the next a front was written
-abbrev pub WasCut : Signatures → Option (List ℕ) → Option (List ℕ) → List (List ℕ) → Type 0
-WasCut signatures old new lines =
-    (k : ℕ) × (text : List ℕ) × (t : Conversation) × AreAnswers 1 (new_conversation signatures) (take k lines) text t × AppendsFront old new text
+-- a front of these bytes was written, and perhaps all
+abbrev pub AppendsUpTo : Option (List ℕ) → Option (List ℕ) → List ℕ → Type 0
+AppendsUpTo old new bytes = (taken : ℕ) × Appends old new (take taken bytes)
+
+-- some first lines were answered, and of the answer to the last of them perhaps not all was written
+abbrev pub WasCut : Conversation → Option (List ℕ) → Option (List ℕ) → List (List ℕ) → Type 0
+WasCut start old new lines =
+    (k : ℕ) × (text : List ℕ) × (t : Conversation) × AreAnswers 1 start (take k lines) text t × AppendsUpTo old new text
 
 -- how a conversation ends: at the end of the input, where a device fails, or before it begins
-abbrev pub Ended : Signatures → List ℕ → Option (List ℕ) → Option (List ℕ) → Result (Unit {0}) Fault → Type 0
-Ended signatures bytes old new (Ok u) = WereAnswered signatures old new (lines_of bytes)
-Ended signatures bytes old new (Err WriteFault) = WasCut signatures old new (lines_of bytes)
-Ended signatures bytes old new (Err ReadFault) = (k : ℕ) × WereAnswered signatures old new (take k (lines_of bytes))
-Ended signatures bytes old new (Err NoMemory) = Keeps old new
+abbrev pub Ended : Conversation → List ℕ → Option (List ℕ) → Option (List ℕ) → Result (Unit {0}) Fault → Type 0
+Ended start bytes old new (Ok u) = WereAnswered start old new (lines_of bytes)
+Ended start bytes old new (Err WriteFault) = WasCut start old new (lines_of bytes)
+Ended start bytes old new (Err ReadFault) = (k : ℕ) × WereAnswered start old new (take k (lines_of bytes))
+Ended start bytes old new (Err ManyLines) =
+    (k : ℕ) × (k ≡ 2 ^ 64 - 2) × WereAnswered start old new (take k (lines_of bytes))
+Ended start bytes old new (Err NoMemory) = Keeps old new

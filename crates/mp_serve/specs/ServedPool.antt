@@ -23,7 +23,7 @@ pub record ServedPool : Type 0 where
   pub refused : Counts
 
 -- the last 2,160
-abbrev pub latest : List LedgerState → List LedgerState
+abbrev pub latest : {X : Type 0} → List X → List X
 latest states = drop (length states - 2160) states
 
 -- the ledger state of so many ago, if that is kept

@@ -1,7 +1,8 @@
 -- What a line makes of what a conversation has come to: its names, its settings, the peer's cursor, and the pool, or what that is to
 -- open with.
-use Rattle.std.specs.Prelude.{ℕ, ◌+◌, ◌^◌, nat_lt, Bool, not, true, false, List, [], ◌∷◌, filter, length, Option, Some, None, is_some, is_none, option_map, option_and_then, unwrap_or, if◌then◌else◌, Result, Ok, Err}
+use Rattle.std.specs.Prelude.{ℕ, ◌+◌, ◌^◌, ◌&&◌, nat_eq, nat_lt, Bool, not, true, false, List, [], ◌∷◌, filter, length, Option, Some, None, is_some, is_none, option_map, option_and_then, unwrap_or, if◌then◌else◌, Result, Ok, Err}
 use Rattle.std.specs.FinMap.{get}
+use Rattle.std.specs.Cmp.Lexicographic.{pointwise}
 use Rattle.mp_tx.specs.declared.reference.OutRef.{OutRef}
 use Rattle.mp_tx.specs.declared.output.Output.{Output}
 use Rattle.mp_tx.specs.Transaction.{Transaction}
@@ -16,30 +17,36 @@ use Rattle.mp_names.specs.declared.names.Binding.{Binding}
 use Rattle.mp_names.specs.declared.names.Binding.TheVariants.{Opening, Made}
 use Rattle.mp_names.specs.declared.payment.Payment.{Payment}
 use Rattle.mp_names.specs.declared.settings.Setting.{Setting}
-use Rattle.mp_names.specs.Names.{Names, first_names, binding_named, with_binding, with_script, with_datum, without_bindings}
+use Rattle.mp_names.specs.Names.{Names, first_names, binding_named, with_binding, with_script, with_datum, without_bindings, name_of}
 use Rattle.mp_names.specs.Payments.{output_of}
 use Rattle.mp_names.specs.References.{opening_ref}
 use Rattle.mp_lines.specs.Lines.{Line, Blank, Sets, Script, Data, Out, Tx, Submit, Remove, Sync, For, Asks}
 use Rattle.mp_settings.specs.declared.settings.Settings.{Settings}
-use Rattle.mp_settings.specs.Settings.{scenario_settings, with_setting, block_bytes_of, limit_of, last_of, tick_of, salt_of}
+use Rattle.mp_settings.specs.Settings.{no_settings, with_setting, block_bytes_of, limit_of, last_of, tick_of}
 use Rattle.mp_settings.specs.Ledgers.{ledger_at}
 use Rattle.mp_serve.specs.declared.signatures.Signatures.{Signatures}
 use Rattle.mp_serve.specs.declared.beginning.Beginning.{Beginning}
 use Rattle.mp_serve.specs.declared.conversation.Stage.{Stage}
 use Rattle.mp_serve.specs.declared.conversation.Stage.TheVariants.{Before, Open}
 use Rattle.mp_serve.specs.declared.conversation.Conversation.{Conversation}
-use Rattle.mp_serve.specs.Ask.{Ask, NewBlock, Does, Reads, Shows, Checks, Counts, Holds, Extends, Returns, Forgets, ask_of}
+use Rattle.mp_serve.specs.Ask.{Ask, NewBlock, Does, Reads, Submits, Shows, Checks, Counts, Holds, Extends, Returns, Forgets, ask_of}
 use Rattle.mp_serve.specs.Refused.{none_counted}
 use Rattle.mp_serve.specs.ServedPool.{ServedPool}
-use Rattle.mp_serve.specs.Request.{Block, Request, Response, Do, Adopt, Extend, Return, Read, Try, Check, Count, respond}
+use Rattle.mp_serve.specs.Request.{Block, Request, Response, Adopt, Extend, Return, Read, Try, Check, Count, respond, answer_to, reported_if}
+use Rattle.mp_serve.specs.Request as requests
 use Rattle.mp_serve.specs.Texts.{ok_text, bytes_text, show_text, forgotten_text}
 
 -- before the first line
-abbrev pub begun : Signatures → Beginning
-begun signatures = record { signatures = signatures; outs = 0; ledger = ledger_of (salt_of scenario_settings) 0 500000 [] }
+abbrev pub begun : Signatures → ℕ → Beginning
+begun signatures salt = record { signatures = signatures; outs = 0; ledger = ledger_of salt 0 500000 [] }
 
-abbrev pub new_conversation : Signatures → Conversation
-new_conversation signatures = record { names = first_names; settings = scenario_settings; cursor = 0; stage = Before (begun signatures) }
+abbrev pub new_conversation : Signatures → ℕ → Conversation
+new_conversation signatures salt = record {
+  names = first_names;
+  settings = no_settings salt;
+  cursor = 0;
+  stage = Before (begun signatures salt);
+}
 
 -- the state after a line, and what is answered
 abbrev pub Step : Type 0
@@ -67,6 +74,17 @@ with_response c r = (record c { cursor = r.cursor; stage = Open r.served }, r.te
 -- the pool responds
 abbrev pub ask : Conversation → Request → Conversation × List ℕ
 ask c request = with_response c (respond c.names c.cursor (served_at c.settings c.stage) request)
+
+-- it takes the transaction in if it can, and what it accepts is reported under the name from then on
+abbrev pub submit : Conversation → List ℕ → Transaction → Conversation × List ℕ
+submit c name t =
+    with_response
+    (record c { names = reported_if c.names name (answer_to (served_at c.settings c.stage) (commands.Submit t)) })
+    (respond c.names c.cursor (served_at c.settings c.stage) (requests.Submit t))
+
+-- the same under the name that its id has
+abbrev pub submit_again : Conversation → Transaction → Conversation × List ℕ
+submit_again c t = submit c (name_of (id_of t) c.names) t
 
 -- ---- settings, outputs and names
 
@@ -110,20 +128,24 @@ abbrev pub is_held : Stage → List ℕ → Bool
 is_held (Before b) id = false
 is_held (Open p) id = is_some (ticket_of id p.pool.items)
 
+-- whether the pool holds the transaction with this id, which is reported under this name
+abbrev pub is_reported : Names → Stage → List ℕ → List ℕ → Bool
+is_reported names stage name id = is_held stage id && pointwise nat_eq name (name_of id names)
+
 -- whether the name of what is bound, if anything is, may be forgotten
-abbrev pub may_go : Stage → Option Binding → Bool
-may_go stage None = false
-may_go stage (Some (Opening r p)) = true
-may_go stage (Some (Made d)) = not (is_held stage (id_of d.tx))
+abbrev pub may_go : Names → Stage → List ℕ → Option Binding → Bool
+may_go names stage name None = false
+may_go names stage name (Some (Opening r p)) = true
+may_go names stage name (Some (Made d)) = not (is_reported names stage name (id_of d.tx))
 
 -- those of the names that may be forgotten
 abbrev pub names_to_go : Names → Stage → List (List ℕ) → List (List ℕ)
-names_to_go names stage listed = filter (λ name. may_go stage (binding_named name names)) listed
+names_to_go names stage listed = filter (λ name. may_go names stage name (binding_named name names)) listed
 
 abbrev pub without : Conversation → List (List ℕ) → Conversation × List ℕ
 without c goes = (with_names c (without_bindings c.names goes), forgotten_text (length goes))
 
--- the names are let go, but those of transactions that the pool holds
+-- the names are let go, but those under which transactions of the pool are reported
 abbrev pub forget : Conversation → List (List ℕ) → Conversation × List ℕ
 forget c names = without c (names_to_go c.names c.stage names)
 
@@ -149,8 +171,8 @@ does c (Script named) = Some (declare c (with_script c.names named))
 does c (Data named) = Some (declare c (with_datum c.names named))
 does c (Out name p) = output_at c name p c.stage
 does c (Tx name d) = Some (declare c (with_binding c.names (record { name = name; binding = Made d })))
-does c (Submit t) = Some (ask c (Do (commands.Submit t)))
-does c (Remove ids) = Some (ask c (Do (commands.Remove ids)))
+does c (Submit t) = Some (submit_again c t)
+does c (Remove ids) = Some (ask c (requests.Remove ids))
 does c (Sync l) = Some (ask c (Adopt (ledger_at c.settings l)))
 does c (For l) = Some (ask c (Try (ledger_at c.settings l)))
 does c (Asks query) = Some (ask c (Read query))
@@ -162,6 +184,7 @@ block_at g b = record { tick = b.tick; block_bytes = unwrap_or b.block_bytes (bl
 abbrev pub take : Conversation → Ask → Step
 take c (Does line) = does c line
 take c (Reads name bytes) = Some (read c name (transaction_of bytes))
+take c (Submits name t) = Some (submit c name t)
 take c (Shows t) = Some (c, show_text t)
 take c (Checks t) = Some (ask c (Check t))
 take c Counts = Some (ask c Count)

@@ -1,13 +1,15 @@
 //! The ledger states that a pool adopts one after the other, and goes back to.
 
-ghost use Rattle.std.specs.Prelude.{◌≡◌, ◌≤◌, ◌-◌, [], ◌∷◌, ◌++◌, length, take, IfOk, OnOk, OnErr};
+ghost use Rattle.std.specs.Prelude.{◌≡◌, ◌≤◌, ◌-◌, [], ◌∷◌, ◌++◌, length, take, drop, IfOk, OnOk, OnErr};
 ghost use Rattle.mp_seqpool.specs.Command.{Sync};
 ghost use Rattle.mp_seqpool.specs.SlowPool.{answer, next};
 ghost use Rattle.mp_answers.specs.AnswerText.{answer_text};
-ghost use Rattle.mp_serve.specs.ServedPool.{accepted_by, latest, state_back};
+ghost use Rattle.mp_serve.specs.ServedPool.{accepted_by, latest};
 ghost use Rattle.mp_serve.specs.Request.{counted_anew};
+ghost use Rattle.mp_serve.specs.Inside.Former.{LeadsBack, CanAllGoBack, states_of, earliest};
 ghost use Rattle.mp_serve.specs.Inside.Pool.{IsReady};
 
+use crate::former::{Former, Formers, earliest};
 use crate::obeying::obey;
 use crate::signatures::Signatures;
 use crate::texts::Text;
@@ -16,93 +18,87 @@ use mp_names::Names;
 use mp_seqpool::{Command, SeqPool};
 use mp_tx::Ledger;
 
-/// Ledger states, the oldest first.
-pub type States = Vec<Ledger, Memory>;
-
 // So many former ledger states are kept.
 const MAX_FORMER: usize = 2160;
 
 // Lets the oldest go where there is one too many.
-fn keep_latest(states: &mut States)
-    requires { length states.old.items ≤ 2161 }
-    ensures latest { states.new.items ≡ latest states.old.items }
-    ensures few { length states.new.items ≤ 2160 }
+fn keep_latest(formers: &mut Formers)
+    requires { length formers.old.items ≤ 2161 }
+    ensures latest { formers.new.items ≡ latest formers.old.items }
+    ensures few { length formers.new.items ≤ 2160 }
 {
-    if states.len() > MAX_FORMER {
-        let _ = states.remove(0);
+    if formers.len() > MAX_FORMER {
+        let _ = formers.remove(0);
     }
 }
 
-/// Has the pool adopt a new ledger state. The one that it had is put behind the former ones.
+/// Has the pool adopt a new ledger state, from which there is a way back to the one that it had.
 pub fn go_on(
     memory: Memory,
     names: &Names,
     signatures: Signatures,
     pool: &mut SeqPool,
-    former: &mut States,
+    formers: &mut Formers,
     ledger: Ledger,
+    former: Former,
 ) -> Result<Text, NoMemory>
     requires ready { IsReady (accepted_by signatures) pool.old.pool }
-    requires few { length former.old.items ≤ 2160 }
+    requires few { length formers.old.items ≤ 2160 }
+    requires can { CanAllGoBack formers.old.items pool.old.pool.ledger }
+    requires before { LeadsBack ledger former pool.old.pool.ledger }
     ensures pool { OnOk result (pool.new.pool
         ≡ counted_anew (next (accepted_by signatures) pool.old.pool (Sync ledger))) }
-    ensures former { OnOk result
-        (former.new.items ≡ latest (former.old.items ++ pool.old.pool.ledger ∷ [])) }
+    ensures formers { OnOk result (states_of formers.new.items pool.new.pool.ledger
+        ≡ latest (states_of formers.old.items pool.old.pool.ledger ++ pool.old.pool.ledger ∷ [])) }
     ensures text { IfOk result (λ text. text.items
         ≡ answer_text names.now (answer (accepted_by signatures) pool.old.pool (Sync ledger))) }
     ensures err { OnErr result
-        ((pool.new.pool ≡ pool.old.pool) × (former.new.items ≡ former.old.items)) }
+        ((pool.new.pool ≡ pool.old.pool) × (formers.new.items ≡ formers.old.items)) }
     ensures ready { IsReady (accepted_by signatures) pool.new.pool }
-    ensures few { length former.new.items ≤ 2160 }
+    ensures few { length formers.new.items ≤ 2160 }
+    ensures can { CanAllGoBack formers.new.items pool.new.pool.ledger }
 {
-    former.push(pool.ledger().share()?)?;
+    formers.push(former)?;
     match obey(memory, names, signatures, pool, &Command::Sync(ledger)) {
         Ok((text, _)) => {
-            keep_latest(former);
+            keep_latest(formers);
             Ok(text)
         }
         Err(NoMemory) => {
-            let _ = former.pop();
+            let _ = formers.pop();
             Err(NoMemory)
         }
     }
 }
 
-/// The ledger state of so many ago, where it is kept.
-pub fn state_back(former: &[Ledger], now: &Ledger, count: usize) -> Result<Option<Ledger>, NoMemory>
-    ensures { IfOk result (λ l. l ≡ state_back former.now now.now count) }
-{
-    if count > former.len() {
-        return Ok(None);
-    }
-    match former.get(former.len() - count) {
-        Some(ledger) => Ok(Some(ledger.share()?)),
-        None => Ok(Some(now.share()?)),
-    }
-}
-
-/// Has the pool adopt the ledger state of so many ago. The former ones before it stay.
+/// Has the pool adopt the ledger state of so many ago. Those before it stay.
 pub fn go_back(
     memory: Memory,
     names: &Names,
     signatures: Signatures,
     pool: &mut SeqPool,
-    former: &mut States,
-    count: usize,
-    ledger: Ledger,
+    formers: &mut Formers,
+    left: usize,
 ) -> Result<Text, NoMemory>
-    requires { IsReady (accepted_by signatures) pool.old.pool }
+    requires ready { IsReady (accepted_by signatures) pool.old.pool }
+    requires left { left ≤ length formers.old.items }
+    requires can { CanAllGoBack formers.old.items pool.old.pool.ledger }
     ensures pool { OnOk result (pool.new.pool
-        ≡ counted_anew (next (accepted_by signatures) pool.old.pool (Sync ledger))) }
-    ensures former { OnOk result
-        (former.new.items ≡ take (length former.old.items - count) former.old.items) }
-    ensures text { IfOk result (λ text. text.items
-        ≡ answer_text names.now (answer (accepted_by signatures) pool.old.pool (Sync ledger))) }
+        ≡ counted_anew (next (accepted_by signatures) pool.old.pool
+        (Sync (earliest (drop left formers.old.items) pool.old.pool.ledger)))) }
+    ensures formers { OnOk result (states_of formers.new.items pool.new.pool.ledger
+        ≡ take left (states_of formers.old.items pool.old.pool.ledger)) }
+    ensures text { IfOk result (λ text. text.items ≡ answer_text names.now
+        (answer (accepted_by signatures) pool.old.pool
+        (Sync (earliest (drop left formers.old.items) pool.old.pool.ledger)))) }
     ensures err { OnErr result
-        ((pool.new.pool ≡ pool.old.pool) × (former.new.items ≡ former.old.items)) }
+        ((pool.new.pool ≡ pool.old.pool) × (formers.new.items ≡ formers.old.items)) }
     ensures ready { IsReady (accepted_by signatures) pool.new.pool }
+    ensures few { length formers.new.items ≤ length formers.old.items }
+    ensures can { CanAllGoBack formers.new.items pool.new.pool.ledger }
 {
+    let ledger = earliest(memory, &formers[left..], pool.ledger())?;
     let (text, _) = obey(memory, names, signatures, pool, &Command::Sync(ledger))?;
-    former.truncate(former.len().saturating_sub(count));
+    formers.truncate(left);
     Ok(text)
 }

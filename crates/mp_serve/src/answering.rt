@@ -1,28 +1,27 @@
 //! The answer to a line, and what writes it.
 
-ghost use Rattle.std.specs.Prelude.{OnOk, OnErr, unwrap_or, option_map};
+ghost use Rattle.std.specs.Prelude.{◌≡◌, ◌≢◌, ◌<◌, ℕ, List, length, OnOk, OnErr};
 ghost use Rattle.std.specs.Io.KnownBytes.{Appends};
-ghost use Rattle.mp_text.specs.Output.{AppendsFront};
-ghost use Rattle.mp_serve.specs.Texts.{no_memory_text};
-ghost use Rattle.mp_serve.specs.Served.{IsAnswer};
+ghost use Rattle.mp_serve.specs.Ask.{longest};
+ghost use Rattle.mp_text.specs.LineInput.{IsLine, first_line};
+ghost use Rattle.mp_serve.specs.Inside.Answer.{text_in};
+ghost use Rattle.mp_serve.specs.Served.{IsAnswer, AppendsUpTo};
 
 use crate::conversation::Conversation;
+use crate::device::{Device, Turn};
 use crate::texts::{NO_MEMORY, Text, bad_line};
 use mp_memory::Memory;
-use mp_names::LineFault;
-use mp_text::{WriteFault, write_all};
-use std::io::Write;
+use mp_names::{LineFault, Reason};
+use mp_text::{LineRead, WriteFault};
 
-/// The answer to the line with this number, or none where memory was wanting.
-pub fn answer(
+// The answer to the line with this number, or none where there is no memory.
+fn answer_line(
     conversation: &mut Conversation,
     memory: Memory,
     number: u64,
     line: &[u8],
 ) -> Option<Text>
-    ensures { IsAnswer number conversation.old line.now
-        (unwrap_or (option_map (λ text. text.items) result) no_memory_text)
-        conversation.new }
+    ensures { IsAnswer number conversation.old line.now (text_in result) conversation.new }
 {
     match conversation.hear(memory, line) {
         Ok(text) => Some(text),
@@ -31,15 +30,56 @@ pub fn answer(
     }
 }
 
-/// Writes the answer, or that memory was wanting.
-pub fn write_answer<W: Write>(writer: &mut W, answer: &Option<Text>) -> Result<(), WriteFault>
-    ensures ok { OnOk result (Appends (W.contents writer.old) (W.contents writer.new)
-        (unwrap_or (option_map (λ text. text.items) answer.now) no_memory_text)) }
-    ensures err { OnErr result (AppendsFront (W.contents writer.old) (W.contents writer.new)
-        (unwrap_or (option_map (λ text. text.items) answer.now) no_memory_text)) }
+// The answer to a line that is too long.
+#[tactic(auto, unfolding(crate::specs::Talk::line_step, crate::specs::Ask::ask_of))]
+fn answer_long(conversation: &Conversation, memory: Memory, number: u64) -> Option<Text>
+    ensures { (line : List ℕ) → longest < length line
+        → IsAnswer number conversation.now line (text_in result) conversation.now }
+{
+    bad_line(memory, number, Reason::LongLine).ok()
+}
+
+/// The answer to what was read of the line with this number, or none where there is no memory.
+pub fn answer(
+    conversation: &mut Conversation,
+    memory: Memory,
+    number: u64,
+    found: LineRead,
+    kept: &[u8],
+) -> Option<Text>
+    requires { found ≢ LineRead.End }
+    ensures { (bytes : List ℕ) → IsLine longest bytes found kept.now → IsAnswer number
+        conversation.old (first_line bytes) (text_in result) conversation.new }
+{
+    match found {
+        LineRead::Whole => answer_line(conversation, memory, number, kept),
+        LineRead::TooLong => answer_long(conversation, memory, number),
+        LineRead::Lost => None,
+        LineRead::End => unreachable!(),
+    }
+}
+
+// The text of the answer, or that there is no memory.
+fn text_in(answer: &Option<Text>) -> &[u8]
+    ensures { result.now ≡ text_in answer.now }
 {
     match answer {
-        Some(text) => write_all(writer, text),
-        None => write_all(writer, NO_MEMORY),
+        Some(text) => text,
+        None => NO_MEMORY,
     }
+}
+
+/// Writes the answer, or that there is no memory, and hands it on.
+pub fn tell<D: Device>(device: &mut D, answer: &Option<Text>) -> Result<(), WriteFault>
+    requires { D.turn device.old ≡ Turn.Owes }
+    ensures ok { OnOk result (Appends (D.output device.old) (D.output device.new)
+        (text_in answer.now)) }
+    ensures err { OnErr result (AppendsUpTo (D.output device.old) (D.output device.new)
+        (text_in answer.now)) }
+    ensures turn { OnOk result (D.turn device.new ≡ Turn.Listens) }
+    ensures failed { OnErr result (D.turn device.new ≡ Turn.Failed) }
+    ensures input { D.input device.new ≡ D.input device.old }
+{
+    device.write(text_in(answer))?;
+    device.flush()
 }

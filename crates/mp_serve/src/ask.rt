@@ -7,18 +7,18 @@ ghost use Rattle.mp_lines.specs.Lines.{line_of};
 ghost use Rattle.mp_lines.specs.Inside.LedgerHead.{to_head};
 ghost use Rattle.mp_names.specs.Fault.{Gives, IsBad};
 ghost use Rattle.mp_names.specs.Names.{is_among};
-ghost use Rattle.mp_serve.specs.Ask.{Does, Shows, Checks, Forgets, bytes_by, bytes_ask, one_tx, utxo_by, utxo_ask, put_txs, block_behind, adopt_ask, back_ask, put_names, forget_ask, ledger_ask, clean_ask, words_ask, hex_ask, long_ask};
+ghost use Rattle.mp_serve.specs.Ask.{Does, Shows, Checks, Forgets, bytes_by, bytes_ask, submit_by, submit_ask, one_tx, utxo_by, utxo_ask, put_txs, block_behind, adopt_ask, back_ask, put_names, forget_ask, ledger_ask, clean_ask, words_ask, hex_ask, long_ask, ask_within};
 ghost use Rattle.mp_serve.specs.Inside.Ask.{to_ask};
 
 use crate::block::{NewBlock, Txs};
-use crate::output::{output_in, ref_in};
+use crate::output::{AROUND_BYTES, output_in, ref_in};
 use mp_lines::{
     Form, LedgerHead, Line, bytes_of, no_word, one_word, read_head, two_words, unclean,
 };
 use mp_memory::Memory;
 use mp_names::{LineFault, Name, Names, Reason, any_number, refused_name};
 use mp_text::{first_word, is_clean};
-use mp_tx::{OutRef, Output, Tx};
+use mp_tx::{MAX_BYTES, OutRef, Output, Tx};
 use std::sync::Arc;
 
 /// What a line asks.
@@ -28,6 +28,8 @@ pub enum Ask {
     Does(Line),
     /// To read a transaction from these bytes, for the name.
     Reads(Name, Vec<u8, Memory>),
+    /// To take the transaction in, and to report it under the name from then on.
+    Submits(Name, Arc<Tx, Memory>),
     /// The bytes of the transaction.
     Shows(Arc<Tx, Memory>),
     /// What its submit would be answered.
@@ -47,6 +49,11 @@ pub enum Ask {
 const BYTES: Form = Form {
     word: b"bytes",
     text: b"bytes NAME HEX",
+};
+
+const SUBMIT: Form = Form {
+    word: b"submit",
+    text: b"submit TX",
 };
 
 const SHOW: Form = Form {
@@ -105,6 +112,22 @@ fn bytes_ask<'a>(memory: Memory, names: &Names, words: &'a [u8]) -> Result<Ask, 
 {
     let (name, digits) = two_words(BYTES.text, words)?;
     bytes_by(memory, names, name, digits)
+}
+
+fn submit_by<'a>(memory: Memory, names: &Names, word: &'a [u8]) -> Result<Ask, LineFault<'a>>
+    ensures { Gives to_ask (submit_by names.now word.now) result }
+{
+    let declared = names.tx(word)?;
+    let tx = Arc::try_clone(declared.tx())?;
+    Ok(Ask::Submits(Name::of(memory, word)?, tx))
+}
+
+// submit TX
+fn submit_ask<'a>(memory: Memory, names: &Names, words: &'a [u8]) -> Result<Ask, LineFault<'a>>
+    ensures { Gives to_ask (submit_ask names.now (words_of words.now)) result }
+{
+    let word = one_word(SUBMIT.text, words)?;
+    submit_by(memory, names, word)
 }
 
 // The transaction that is the one word of a line of this form.
@@ -287,6 +310,8 @@ fn clean_ask<'a>(
 {
     if word == BYTES.word {
         bytes_ask(memory, names, words)
+    } else if word == SUBMIT.word {
+        submit_ask(memory, names, words)
     } else if word == SHOW.word {
         show_ask(names, words)
     } else if word == CHECK.word {
@@ -340,6 +365,21 @@ fn long_ask<'a>(memory: Memory, names: &Names, line: &'a [u8]) -> Result<Ask, Li
     }
 }
 
+/// The most bytes of a line: those of `utxo`, a reference and an output that fills the largest transaction, of which this stands between
+/// blanks and around the digits: the word, the id, the sign, 20 digits of an index, two blanks.
+pub const MAX_LINE_BYTES: usize = 4 + 64 + 1 + 20 + 2 + 2 * (MAX_BYTES - AROUND_BYTES);
+
+// What the line asks, if it isn't too long.
+fn ask_within<'a>(memory: Memory, names: &Names, line: &'a [u8]) -> Result<Ask, LineFault<'a>>
+    ensures { Gives to_ask (ask_within names.now line.now) result }
+{
+    if is_clean(line) {
+        words_ask(memory, names, line)
+    } else {
+        long_ask(memory, names, line)
+    }
+}
+
 impl Ask {
     ghost use Rattle.mp_names.specs.Fault.{Gives};
     ghost use Rattle.mp_serve.specs.Ask.{ask_of};
@@ -353,10 +393,9 @@ impl Ask {
     pub fn parse<'a>(memory: Memory, names: &Names, line: &'a [u8]) -> Result<Ask, LineFault<'a>>
         ensures { Gives to_ask (ask_of names.now line.now) result }
     {
-        if is_clean(line) {
-            words_ask(memory, names, line)
-        } else {
-            long_ask(memory, names, line)
+        if line.len() > MAX_LINE_BYTES {
+            return Err(LineFault::Bad(Reason::LongLine));
         }
+        ask_within(memory, names, line)
     }
 }

@@ -1,10 +1,10 @@
 //! What a conversation has come to, line by line.
 
-ghost use Rattle.std.specs.Prelude.{◌≡◌, IfOk};
-ghost use Rattle.mp_seqpool.specs.Command.{Remove};
-ghost use Rattle.mp_seqpool.specs.Inside.Command.{command_of};
+ghost use Rattle.std.specs.Prelude.{◌≡◌, IfOk, OnOk, OnErr};
+ghost use Rattle.std.specs.Arc.{arc_value};
+ghost use Rattle.mp_seqpool.specs.Command.{Submit};
 ghost use Rattle.mp_serve.specs.Talk.{opened};
-ghost use Rattle.mp_serve.specs.Request.{respond};
+ghost use Rattle.mp_serve.specs.Request.{Remove, after_command, answer_to, answered, reported_if, respond};
 ghost use Rattle.mp_serve.specs.Inside.Request.{to_request};
 
 use crate::ask::Ask;
@@ -21,9 +21,9 @@ use mp_names::{
     Binding, DeclaredTx, LineFault, Name, NamedDatum, NamedScript, Names, NewLedger, Payment,
     Reason, Setting,
 };
-use mp_seqpool::{Command, Ids};
+use mp_seqpool::Ids;
 use mp_settings::{Settings, ledger_at, make_ledger};
-use mp_tx::{OutRef, Output, Tx, TxFault, TxId};
+use mp_tx::{OutRef, Output, Salt, Tx, TxFault, TxId};
 use std::sync::Arc;
 
 /// How far a conversation is.
@@ -76,10 +76,32 @@ fn open_for(
     Ok((pool, response))
 }
 
-fn remove_command(memory: Memory, ids: Vec<TxId, Memory>) -> Result<Command, NoMemory>
-    ensures { IfOk result (λ c. command_of c ≡ Remove ids.items) }
+// Opens the pool, which takes the transaction in if it can.
+fn open_with(
+    memory: Memory,
+    names: &mut Names,
+    settings: &Settings,
+    beginning: &Beginning,
+    name: &Name,
+    tx: &Arc<Tx, Memory>,
+) -> Result<(ServedPool, Text), NoMemory>
+    ensures served { IfOk result (λ r. r.0
+        ≡ after_command (opened settings.now beginning.now) (Submit (arc_value tx.now))) }
+    ensures names { OnOk result (names.new ≡ reported_if names.old name.now
+        (answer_to (opened settings.now beginning.now) (Submit (arc_value tx.now)))) }
+    ensures text { IfOk result (λ r. r.1.items
+        ≡ answered names.old (opened settings.now beginning.now) (Submit (arc_value tx.now))) }
+    ensures err { OnErr result (names.new ≡ names.old) }
 {
-    Ok(Command::Remove(Arc::new(memory, Ids::of(ids))?))
+    let mut pool = ServedPool::open(memory, settings, beginning)?;
+    let text = pool.submit(memory, names, name, tx)?;
+    Ok((pool, text))
+}
+
+fn remove_request(memory: Memory, ids: Vec<TxId, Memory>) -> Result<Request, NoMemory>
+    ensures { IfOk result (λ r. to_request r ≡ Remove ids.items) }
+{
+    Ok(Request::Remove(Arc::new(memory, Ids::of(ids))?))
 }
 
 impl Conversation {
@@ -90,25 +112,20 @@ impl Conversation {
     ghost use Rattle.mp_names.specs.declared.names.Binding.TheVariants.{Made};
     ghost use Rattle.mp_names.specs.Names.{with_binding, with_script, with_datum};
     ghost use Rattle.mp_settings.specs.Ledgers.{ledger_at};
-    ghost use Rattle.mp_serve.specs.Request.{Do, Adopt, Try};
-    ghost use Rattle.mp_serve.specs.Talk.{new_conversation, ask, declare, set_at, output_at, hold_at, does, read, forget, take, line_step};
+    ghost use Rattle.std.specs.Arc.{arc_value};
+    ghost use Rattle.mp_serve.specs.Request.{Remove, Adopt, Try};
+    ghost use Rattle.mp_serve.specs.Talk.{new_conversation, ask, submit, submit_again, declare, set_at, output_at, hold_at, does, read, forget, take, line_step};
     ghost use Rattle.mp_serve.specs.Inside.Ask.{to_ask};
     ghost use Rattle.mp_serve.specs.Inside.Request.{to_request};
 
     /// Before the first line.
-    pub fn new(memory: Memory, signatures: Signatures) -> Result<Conversation, NoMemory>
-        ensures { IfOk result (λ c. c ≡ new_conversation signatures) }
+    pub fn new(memory: Memory, signatures: Signatures, salt: Salt) -> Result<Conversation, NoMemory>
+        ensures { IfOk result (λ c. c ≡ new_conversation signatures salt) }
     {
-        let settings = Settings::of_scenario();
-        let ledger = make_ledger(
-            memory,
-            settings.salt(),
-            0,
-            settings.block_bytes(),
-            Vec::new(memory),
-        )?;
+        let settings = Settings::new(salt);
+        let ledger = make_ledger(memory, salt, 0, settings.block_bytes(), Vec::new(memory))?;
         Ok(Conversation {
-            names: Names::new(memory)?,
+            names: Names::new(memory, salt)?,
             settings,
             cursor: 0,
             stage: Stage::Before(Beginning {
@@ -142,6 +159,44 @@ impl Conversation {
         };
         self.cursor = cursor;
         Ok(text)
+    }
+
+    // The pool, which opens with the first request, takes the transaction in if it can, and it is reported under the name then.
+    fn submit(
+        &mut self,
+        memory: Memory,
+        name: &Name,
+        tx: &Arc<Tx, Memory>,
+    ) -> Result<Text, NoMemory>
+        ensures ok { IfOk result (λ text. submit self.old name.now (arc_value tx.now)
+            ≡ (self.new, text.items)) }
+        ensures err { OnErr result (self.new ≡ self.old) }
+    {
+        match &mut self.stage {
+            Stage::Open(pool) => pool.submit(memory, &mut self.names, name, tx),
+            Stage::Before(beginning) => {
+                let (pool, text) = open_with(
+                    memory,
+                    &mut self.names,
+                    &self.settings,
+                    beginning,
+                    name,
+                    tx,
+                )?;
+                self.stage = Stage::Open(pool);
+                Ok(text)
+            }
+        }
+    }
+
+    // The same under the name that its id has.
+    fn submit_again(&mut self, memory: Memory, tx: &Arc<Tx, Memory>) -> Result<Text, NoMemory>
+        ensures ok { IfOk result (λ text. submit_again self.old (arc_value tx.now)
+            ≡ (self.new, text.items)) }
+        ensures err { OnErr result (self.new ≡ self.old) }
+    {
+        let name = Name::of(memory, self.names.name_of(tx.id()))?;
+        self.submit(memory, &name, tx)
     }
 
     // A setting stands before the first request.
@@ -238,12 +293,12 @@ impl Conversation {
     }
 
     fn remove(&mut self, memory: Memory, ids: Vec<TxId, Memory>) -> Result<Text, NoMemory>
-        ensures ok { IfOk result (λ text. ask self.old (Do (Remove ids.items))
+        ensures ok { IfOk result (λ text. ask self.old (Remove ids.items)
             ≡ (self.new, text.items)) }
         ensures err { OnErr result (self.new ≡ self.old) }
     {
-        let command = remove_command(memory, ids)?;
-        self.ask(memory, &Request::Do(command))
+        let request = remove_request(memory, ids)?;
+        self.ask(memory, &request)
     }
 
     fn sync(&mut self, memory: Memory, ledger: NewLedger) -> Result<Text, NoMemory>
@@ -278,7 +333,7 @@ impl Conversation {
             Line::Data(named) => Ok(self.name_datum(memory, named)?),
             Line::Out(name, payment) => self.put_out(memory, name, payment),
             Line::Tx(name, declared) => Ok(self.name_tx(memory, name, declared)?),
-            Line::Submit(tx) => Ok(self.ask(memory, &Request::Do(Command::Submit(tx)))?),
+            Line::Submit(tx) => Ok(self.submit_again(memory, &tx)?),
             Line::Remove(ids) => Ok(self.remove(memory, ids)?),
             Line::Sync(ledger) => Ok(self.sync(memory, ledger)?),
             Line::For(ledger) => Ok(self.try_ledger(memory, ledger)?),
@@ -312,7 +367,7 @@ impl Conversation {
     {
         let goes = names_to_go(memory, &self.names, &self.stage, listed)?;
         let text = forgotten_line(memory, goes.len() as u64)?;
-        let _ = self.names.forget(&goes)?;
+        let _ = self.names.forget(&goes);
         Ok(text)
     }
 
@@ -331,6 +386,7 @@ impl Conversation {
         match ask {
             Ask::Does(line) => self.does(memory, line),
             Ask::Reads(name, bytes) => Ok(self.read(memory, name, &bytes)?),
+            Ask::Submits(name, tx) => Ok(self.submit(memory, &name, &tx)?),
             Ask::Shows(tx) => Ok(show_line(memory, &tx)?),
             Ask::Checks(tx) => Ok(self.ask(memory, &Request::Check(tx))?),
             Ask::Counts => Ok(self.ask(memory, &Request::Count)?),

@@ -16,8 +16,8 @@ use mp_tx::Ledger;
 /// What a block comes to.
 #[derive(Drop)]
 pub enum Extended {
-    /// The ledger state after it.
-    To(Ledger),
+    /// The ledger state after it, and what leads back.
+    To(AppliedBlock),
     /// The line that tells which transaction isn't valid after those before it.
     Refused(Text),
 }
@@ -30,7 +30,7 @@ pub fn extend(
     ledger: &Ledger,
     block: &Block,
 ) -> Result<Extended, NoMemory>
-    ensures { IfOk result (IsExtended names.now block.now.txs
+    ensures { IfOk result (IsExtended names.now ledger.now block.now.txs
         (apply_block (accepted_by signatures) ledger.now block.now.tick block.now.block_bytes
         block.now.txs)) }
 {
@@ -42,7 +42,7 @@ pub fn extend(
         block.txs(),
         &signatures,
     ) {
-        Ok(AppliedBlock { ledger, undo: _ }) => Ok(Extended::To(ledger)),
+        Ok(applied) => Ok(Extended::To(applied)),
         Err(refusal) => match refusal {
             BlockRefusal::NoMemory => Err(NoMemory),
             BlockRefusal::BadBlockBytes => unreachable!(),

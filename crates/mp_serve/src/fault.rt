@@ -9,6 +9,8 @@ pub enum Fault {
     NoMemory,
     ReadFault,
     WriteFault,
+    /// 2^64 - 2 lines were answered.
+    ManyLines,
 }
 
 impl fmt::Display for Fault {
@@ -17,6 +19,7 @@ impl fmt::Display for Fault {
             Fault::NoMemory => "fault: no memory",
             Fault::ReadFault => "fault: read",
             Fault::WriteFault => "fault: write",
+            Fault::ManyLines => "fault: lines",
         })
     }
 }

@@ -2,7 +2,7 @@
 
 ghost use Rattle.std.specs.Prelude.{◌≡◌, ◌++◌, [], ◌∷◌, if◌then◌else◌, IfOk, OnOk};
 ghost use Rattle.mp_names.specs.Names.{binding_named};
-ghost use Rattle.mp_serve.specs.Talk.{is_held, may_go, names_to_go};
+ghost use Rattle.mp_serve.specs.Talk.{is_held, is_reported, may_go, names_to_go};
 
 use crate::conversation::Stage;
 use mp_memory::{Memory, NoMemory};
@@ -18,13 +18,23 @@ fn is_held(stage: &Stage, id: &TxId) -> bool
     }
 }
 
+// Whether the pool holds the transaction with this id, which is reported under this name.
+fn is_reported(names: &Names, stage: &Stage, name: &[u8], id: &TxId) -> bool
+    ensures { result ≡ is_reported names.now stage.now name.now id.now }
+{
+    is_held(stage, id) && name == names.name_of(id)
+}
+
 fn may_go(names: &Names, stage: &Stage, name: &Name) -> bool
-    ensures { result ≡ may_go stage.now (binding_named name.now names.now) }
+    ensures { result
+        ≡ may_go names.now stage.now name.now (binding_named name.now names.now) }
 {
     match names.binding(name.as_bytes()) {
         None => false,
         Some(Binding::Opening(_, _)) => true,
-        Some(Binding::Made(declared)) => !is_held(stage, declared.tx().id()),
+        Some(Binding::Made(declared)) => {
+            !is_reported(names, stage, name.as_bytes(), declared.tx().id())
+        }
     }
 }
 
@@ -35,7 +45,8 @@ fn put_if_it_goes(
     name: Name,
 ) -> Result<(), NoMemory>
     ensures { OnOk result (goes.new.items ≡ goes.old.items
-        ++ (if may_go stage.now (binding_named name names.now) then name ∷ [] else [])) }
+        ++ (if may_go names.now stage.now name (binding_named name names.now)
+        then name ∷ [] else [])) }
 {
     if may_go(names, stage, &name) {
         goes.push(name)?;

@@ -1,4 +1,4 @@
-//! A conversation with a pool, line by line: from a reader to a writer, each line answered at once.
+//! A conversation with a pool, line by line: each line answered before the next is read.
 #![tactic(auto)]
 
 mod adopting;
@@ -7,9 +7,11 @@ mod ask;
 mod beginning;
 mod block;
 mod conversation;
+mod device;
 mod extending;
 mod fault;
 mod forgetting;
+mod former;
 mod obeying;
 mod output;
 mod pool;
@@ -19,7 +21,9 @@ mod serving;
 mod signatures;
 mod texts;
 
+pub use ask::MAX_LINE_BYTES;
 pub use conversation::Conversation;
+pub use device::{Device, Streams, Turn};
 pub use fault::Fault;
 pub use serving::serve;
 pub use signatures::Signatures;

@@ -3,21 +3,21 @@
 ghost use Rattle.std.specs.Prelude.{◌≡◌, ◌≤◌, ◌^◌, Some, Err, IfOk, IfErr, OnOk, OnErr};
 ghost use Rattle.std.specs.Result.{result_err};
 ghost use Rattle.std.specs.Arc.{arc_value};
-ghost use Rattle.mp_seqpool.specs.Command.{Submit};
+ghost use Rattle.mp_seqpool.specs.Command.{Submit, Remove};
 ghost use Rattle.mp_seqpool.specs.Inside.Command.{command_of};
 ghost use Rattle.mp_seqpool.specs.Prepared.{Prepares};
 ghost use Rattle.mp_seqpool.specs.SlowPool.{answer, next, AreSigned, IsRefused};
 ghost use Rattle.mp_answers.specs.AnswerText.{answer_text};
 ghost use Rattle.mp_serve.specs.ServedPool.{accepted_by};
-ghost use Rattle.mp_serve.specs.Request.{counted_anew};
+ghost use Rattle.mp_serve.specs.Request.{counted_anew, reported_if};
 ghost use Rattle.mp_serve.specs.Inside.Pool.{IsReady};
 
 use crate::signatures::Signatures;
 use crate::texts::Text;
 use mp_answers::{answer_line, reply_line};
 use mp_memory::{Memory, NoMemory};
-use mp_names::Names;
-use mp_seqpool::{Command, Prepared, Refusal, SeqPool};
+use mp_names::{Name, Names};
+use mp_seqpool::{Command, Ids, Prepared, Refusal, SeqPool};
 use mp_tx::Tx;
 use std::sync::Arc;
 
@@ -113,6 +113,93 @@ pub fn obey(
     ensures ready { IsReady (accepted_by signatures) pool.new.pool }
 {
     carry_out(memory, names, signatures, pool, command)
+}
+
+// Takes the transaction in. The line is there, and the name noted, before it is done, so that there is nothing to undo.
+fn take_in(
+    memory: Memory,
+    names: &mut Names,
+    name: &Name,
+    signatures: Signatures,
+    pool: &mut SeqPool,
+    tx: &Arc<Tx, Memory>,
+) -> Result<Answered, NoMemory>
+    requires { IsReady (accepted_by signatures) pool.old.pool }
+    ensures pool { OnOk result (pool.new.pool
+        ≡ counted_anew (next (accepted_by signatures) pool.old.pool (Submit (arc_value tx.now)))) }
+    ensures names { OnOk result (names.new ≡ reported_if names.old name.now
+        (answer (accepted_by signatures) pool.old.pool (Submit (arc_value tx.now)))) }
+    ensures text { IfOk result (λ r. r.0.items ≡ answer_text names.old
+        (answer (accepted_by signatures) pool.old.pool (Submit (arc_value tx.now)))) }
+    ensures refusal { IfOk result (λ r. r.1
+        ≡ result_err (answer (accepted_by signatures) pool.old.pool (Submit (arc_value tx.now)))) }
+    ensures err { OnErr result (pool.new.pool ≡ pool.old.pool) }
+    ensures kept { OnErr result (names.new ≡ names.old) }
+{
+    match pool.prepare_submit(tx, None, &signatures) {
+        Ok(prepared) => {
+            let text = reply_line(memory, prepared.reply())?;
+            names.report(name.as_bytes())?;
+            let _ = pool.finish(prepared);
+            count_anew(pool);
+            Ok((text, None))
+        }
+        Err(refusal) => match refusal {
+            Refusal::NoMemory => Err(NoMemory),
+            other => refused(memory, names, &other),
+        },
+    }
+}
+
+/// Takes the transaction in, and reports it under the name from then on, if it is accepted. Gives the line of the answer, and why it was
+/// refused, if it was. After an `Err` nothing has changed.
+pub fn submit(
+    memory: Memory,
+    names: &mut Names,
+    name: &Name,
+    signatures: Signatures,
+    pool: &mut SeqPool,
+    tx: &Arc<Tx, Memory>,
+) -> Result<Answered, NoMemory>
+    requires { IsReady (accepted_by signatures) pool.old.pool }
+    ensures pool { OnOk result (pool.new.pool
+        ≡ counted_anew (next (accepted_by signatures) pool.old.pool (Submit (arc_value tx.now)))) }
+    ensures names { OnOk result (names.new ≡ reported_if names.old name.now
+        (answer (accepted_by signatures) pool.old.pool (Submit (arc_value tx.now)))) }
+    ensures text { IfOk result (λ r. r.0.items ≡ answer_text names.old
+        (answer (accepted_by signatures) pool.old.pool (Submit (arc_value tx.now)))) }
+    ensures refusal { IfOk result (λ r. r.1
+        ≡ result_err (answer (accepted_by signatures) pool.old.pool (Submit (arc_value tx.now)))) }
+    ensures err { OnErr result (pool.new.pool ≡ pool.old.pool) }
+    ensures kept { OnErr result (names.new ≡ names.old) }
+    ensures ready { IsReady (accepted_by signatures) pool.new.pool }
+    ensures ledger { pool.new.pool.ledger ≡ pool.old.pool.ledger }
+{
+    take_in(memory, names, name, signatures, pool, tx)
+}
+
+/// Takes out the transactions with these ids. Gives the line of the answer, and why it was refused, if it was. After an `Err` nothing has
+/// changed.
+pub fn remove(
+    memory: Memory,
+    names: &Names,
+    signatures: Signatures,
+    pool: &mut SeqPool,
+    ids: &Arc<Ids, Memory>,
+) -> Result<Answered, NoMemory>
+    requires { IsReady (accepted_by signatures) pool.old.pool }
+    ensures pool { OnOk result (pool.new.pool
+        ≡ counted_anew (next (accepted_by signatures) pool.old.pool (Remove (arc_value ids.now)))) }
+    ensures text { IfOk result (λ r. r.0.items ≡ answer_text names.now
+        (answer (accepted_by signatures) pool.old.pool (Remove (arc_value ids.now)))) }
+    ensures refusal { IfOk result (λ r. r.1
+        ≡ result_err (answer (accepted_by signatures) pool.old.pool (Remove (arc_value ids.now)))) }
+    ensures err { OnErr result (pool.new.pool ≡ pool.old.pool) }
+    ensures ready { IsReady (accepted_by signatures) pool.new.pool }
+    ensures ledger { pool.new.pool.ledger ≡ pool.old.pool.ledger }
+{
+    let command = Command::Remove(Arc::try_clone(ids)?);
+    obey(memory, names, signatures, pool, &command)
 }
 
 /// What the submit would be answered.

@@ -17,6 +17,9 @@ const BEHIND: [u8; 22] = [
     0, 0, 0, 0, 0, 0, 0, 0, 255, 255, 255, 255, 255, 255, 255, 255, 0, 0, 0, 0, 0, 0,
 ];
 
+/// How many bytes stand around those of an output in a transaction that has nothing else.
+pub const AROUND_BYTES: usize = 27;
+
 const MAX_INDEX: u64 = (1 << 16) - 1;
 
 fn around(memory: Memory, bytes: &[u8]) -> Result<Vec<u8, Memory>, NoMemory>

@@ -1,28 +1,31 @@
 //! The pool of a conversation.
 
-use crate::adopting::{States, go_back, go_on, state_back};
+use crate::adopting::{go_back, go_on};
 use crate::beginning::{Beginning, at_tick};
 use crate::block::Block;
 use crate::extending::{Extended, extend};
-use crate::obeying::{check, obey};
+use crate::former::{Former, Formers};
+use crate::obeying::{check, remove, submit};
 use crate::refused::{Counts, count_if_refused, count_one, none_counted};
 use crate::request::Request;
 use crate::signatures::Signatures;
 use crate::texts::{Text, back_refused_line, stats_line};
 use mp_answers::{kept_line, query_line};
+use mp_block::AppliedBlock;
 use mp_memory::{Memory, NoMemory};
-use mp_names::Names;
-use mp_seqpool::{Command, Config, SeqPool};
+use mp_names::{Name, Names};
+use mp_seqpool::{Config, Ids, SeqPool};
 use mp_settings::Settings;
-use mp_tx::TxId;
+use mp_tx::{Ledger, Tx, TxId};
 use std::marker::Model;
+use std::sync::Arc;
 
-/// The pool of a conversation, which one thread has, with the ledger states that it had before, at most 2,160. When it has made as
+/// The pool of a conversation, which one thread has, with what leads back to the ledger states that it had before, at most 2,160. When it has made as
 /// many changes as it may, it counts them anew, so that it goes on for as long as it is asked; its last ticket stays.
 pub struct ServedPool {
     pool: SeqPool,
     signatures: Signatures,
-    former: States,
+    former: Formers,
     refused: Counts,
 }
 
@@ -46,20 +49,20 @@ impl Model for ServedPool {
 
     ghost coded = { Prim.hlevel (codes, finite.code) };
 
-    ghost use Rattle.mp_serve.specs.Inside.Pool.{IsServed};
-    ghost use Rattle.mp_serve.specs.Inside.ServedPool.{served_of};
+    ghost use Rattle.mp_serve.specs.Inside.ServedPool.{served_of, IsServed};
 
     ghost view = { served_of };
 
-    ghost invariant = { λ p. IsServed (served_of p) };
+    ghost invariant = { IsServed };
 }
 
 impl ServedPool {
     ghost use Rattle.std.specs.Prelude.{◌≡◌, ℕ, IfOk, OnOk, OnErr, is_some};
     ghost use Rattle.mp_seqpool.specs.SlowPool.{ticket_of};
     ghost use Rattle.mp_serve.specs.Talk.{opened};
-    ghost use Rattle.mp_seqpool.specs.Inside.Command.{command_of};
-    ghost use Rattle.mp_serve.specs.Request.{Extend, Return, after_command, answered, respond};
+    ghost use Rattle.std.specs.Arc.{arc_value};
+    ghost use Rattle.mp_seqpool.specs.Command.{Submit, Remove};
+    ghost use Rattle.mp_serve.specs.Request.{Adopt, Extend, Return, after_command, answer_to, answered, reported_if, respond};
     ghost use Rattle.mp_serve.specs.Inside.Request.{to_request};
 
     /// The empty pool upon the opening outputs, which stay as they are.
@@ -91,17 +94,67 @@ impl ServedPool {
         self.pool.ticket_of(id).is_some()
     }
 
-    // Does what is asked. A refusal is counted.
-    fn obey(&mut self, memory: Memory, names: &Names, command: &Command) -> Result<Text, NoMemory>
+    /// Takes the transaction in, and reports it under the name from then on, if it is accepted. A refusal is counted.
+    ///
+    /// # Errors
+    /// `NoMemory`, and then nothing has changed.
+    pub fn submit(
+        &mut self,
+        memory: Memory,
+        names: &mut Names,
+        name: &Name,
+        tx: &Arc<Tx, Memory>,
+    ) -> Result<Text, NoMemory>
         ensures served { OnOk result
-            (self.new ≡ after_command self.old (command_of command.now)) }
+            (self.new ≡ after_command self.old (Submit (arc_value tx.now))) }
+        ensures names { OnOk result (names.new
+            ≡ reported_if names.old name.now (answer_to self.old (Submit (arc_value tx.now)))) }
         ensures text { IfOk result (λ text.
-            text.items ≡ answered names.now self.old (command_of command.now)) }
+            text.items ≡ answered names.old self.old (Submit (arc_value tx.now))) }
         ensures err { OnErr result (self.new ≡ self.old) }
+        ensures kept { OnErr result (names.new ≡ names.old) }
     {
-        let (text, refusal) = obey(memory, names, self.signatures, &mut self.pool, command)?;
+        let pool = &mut self.pool;
+        let (text, refusal) = submit(memory, names, name, self.signatures, pool, tx)?;
         count_if_refused(&mut self.refused, &refusal);
         Ok(text)
+    }
+
+    // Takes out the transactions with these ids. A refusal is counted.
+    fn remove(
+        &mut self,
+        memory: Memory,
+        names: &Names,
+        ids: &Arc<Ids, Memory>,
+    ) -> Result<Text, NoMemory>
+        ensures served { OnOk result
+            (self.new ≡ after_command self.old (Remove (arc_value ids.now))) }
+        ensures text { IfOk result (λ text.
+            text.items ≡ answered names.now self.old (Remove (arc_value ids.now))) }
+        ensures err { OnErr result (self.new ≡ self.old) }
+    {
+        let (text, refusal) = remove(memory, names, self.signatures, &mut self.pool, ids)?;
+        count_if_refused(&mut self.refused, &refusal);
+        Ok(text)
+    }
+
+    // The new ledger state. The one that it had is kept whole.
+    fn adopt(&mut self, memory: Memory, names: &Names, ledger: &Ledger) -> Result<Text, NoMemory>
+        ensures ok { IfOk result (λ text. (cursor : ℕ)
+            → respond names.now cursor self.old (Adopt ledger.now)
+            ≡ record { served = self.new; cursor = cursor; text = text.items }) }
+        ensures err { OnErr result (self.new ≡ self.old) }
+    {
+        let former = Former::Whole(self.pool.ledger().share()?);
+        go_on(
+            memory,
+            names,
+            self.signatures,
+            &mut self.pool,
+            &mut self.former,
+            ledger.share()?,
+            former,
+        )
     }
 
     // The ledger state after the block, or which of its transactions isn't valid after those before it.
@@ -118,7 +171,8 @@ impl ServedPool {
     {
         let signatures = self.signatures;
         match extend(memory, names, signatures, self.pool.ledger(), block)? {
-            Extended::To(ledger) => {
+            Extended::To(applied) => {
+                let AppliedBlock { ledger, undo } = applied;
                 go_on(
                     memory,
                     names,
@@ -126,6 +180,7 @@ impl ServedPool {
                     &mut self.pool,
                     &mut self.former,
                     ledger,
+                    Former::Block(undo),
                 )
             }
             Extended::Refused(text) => {
@@ -143,22 +198,20 @@ impl ServedPool {
         ensures err { OnErr result (self.new ≡ self.old) }
     {
         let count = count as usize;
-        match state_back(&self.former, self.pool.ledger(), count)? {
-            Some(ledger) => go_back(
-                memory,
-                names,
-                self.signatures,
-                &mut self.pool,
-                &mut self.former,
-                count,
-                ledger,
-            ),
-            None => {
-                let text = back_refused_line(memory, self.former.len() as u64)?;
-                count_one(&mut self.refused.backs);
-                Ok(text)
-            }
+        let kept = self.former.len();
+        if count > kept {
+            let text = back_refused_line(memory, kept as u64)?;
+            count_one(&mut self.refused.backs);
+            return Ok(text);
         }
+        go_back(
+            memory,
+            names,
+            self.signatures,
+            &mut self.pool,
+            &mut self.former,
+            kept - count,
+        )
     }
 
     /// Responds, and gives the line and where the peer's cursor is then.
@@ -179,18 +232,8 @@ impl ServedPool {
     {
         let signatures = self.signatures;
         let text = match request {
-            Request::Do(command) => self.obey(memory, names, command)?,
-            Request::Adopt(ledger) => {
-                let ledger = ledger.share()?;
-                go_on(
-                    memory,
-                    names,
-                    signatures,
-                    &mut self.pool,
-                    &mut self.former,
-                    ledger,
-                )?
-            }
+            Request::Remove(ids) => self.remove(memory, names, ids)?,
+            Request::Adopt(ledger) => self.adopt(memory, names, ledger)?,
             Request::Extend(block) => self.adopt_block(memory, names, block)?,
             Request::Return(count) => self.return_by(memory, names, *count)?,
             Request::Read(query) => {

@@ -3,15 +3,15 @@
 use crate::block::Block;
 use mp_lines::Query;
 use mp_memory::Memory;
-use mp_seqpool::Command;
+use mp_seqpool::Ids;
 use mp_tx::{Ledger, Tx};
 use std::sync::Arc;
 
 /// What is asked of the pool.
 #[derive(Drop)]
 pub enum Request {
-    /// To do what is asked.
-    Do(Command),
+    /// To take out those with these ids.
+    Remove(Arc<Ids, Memory>),
     /// To adopt the ledger state.
     Adopt(Ledger),
     /// To adopt the ledger state after the block.

@@ -1,77 +1,70 @@
-//! A conversation, from a reader to a writer.
+//! A conversation over a device.
 
 ghost use Rattle.std.specs.Prelude.{◌≡◌, IfSome};
+ghost use Rattle.mp_serve.specs.Device.{EndsAt};
 ghost use Rattle.mp_serve.specs.Served.{Ended};
 ghost use Rattle.mp_serve.specs.Talk.{new_conversation};
-ghost use Rattle.mp_serve.specs.Inside.Stage.{signatures_of};
-ghost use Rattle.std.specs.Io.BufRead.{strip_last};
 
-use crate::answering::{answer, write_answer};
+use crate::answering::{answer, tell};
+use crate::ask::MAX_LINE_BYTES;
 use crate::conversation::Conversation;
+use crate::device::{Device, Turn};
 use crate::fault::Fault;
 use crate::signatures::Signatures;
 use mp_memory::Memory;
-use std::io::{BufRead, Write};
-
-const LINE_FEED: u8 = b'\n';
-
-// The line without its line feed, if it has one.
-fn without_feed(line: &[u8]) -> &[u8]
-    ensures { result.now ≡ strip_last 10 line.now }
-{
-    match line.split_last() {
-        Some((last, front)) if *last == LINE_FEED => front,
-        _ => line,
-    }
-}
+use mp_text::LineRead;
+use mp_tx::Salt;
 
 // Answers each line that is left. The line is where it is read to.
-fn answer_all<R: BufRead, W: Write>(
+fn answer_all<D: Device>(
     memory: Memory,
     conversation: &mut Conversation,
     line: &mut Vec<u8, Memory>,
-    reader: &mut R,
-    writer: &mut W,
+    device: &mut D,
 ) -> Result<(), Fault>
-    requires { conversation.old ≡ new_conversation (signatures_of conversation.old.stage) }
-    ensures { IfSome (R.remaining reader.old)
-        (λ bytes. Ended (signatures_of conversation.old.stage) bytes
-        (W.contents writer.old) (W.contents writer.new) result) }
+    requires { D.turn device.old ≡ Turn.Listens }
+    ensures answers { IfSome (D.input device.old)
+        (λ bytes. Ended conversation.old bytes
+        (D.output device.old) (D.output device.new) result) }
+    ensures turn { EndsAt result (D.turn device.new) }
 {
     for number in 1..u64::MAX {
-        line.clear();
-        match reader.read_until(LINE_FEED, line) {
-            Ok(0) => return Ok(()),
-            Ok(_) => {}
+        let found = match device.read_line(line, MAX_LINE_BYTES) {
+            Ok(LineRead::End) => return Ok(()),
+            Ok(found) => found,
             Err(_) => return Err(Fault::ReadFault),
-        }
-        let answer = answer(conversation, memory, number, without_feed(line));
-        match write_answer(writer, &answer) {
+        };
+        let answer = answer(conversation, memory, number, found, line);
+        match tell(device, &answer) {
             Ok(()) => {}
             Err(_) => return Err(Fault::WriteFault),
         }
     }
-    Err(Fault::ReadFault)
+    Err(Fault::ManyLines)
 }
 
-/// Answers each line of the input as it comes, until the input ends. The line after it is read once its answer is written.
+/// Answers each line of the input as it comes, until the input ends. The line after it is read once its answer is written and handed
+/// on. A line that is too long, or for which there is no memory, is answered so. The salt is the host's to pick at random and to keep
+/// secret; no answer depends on it.
 ///
 /// # Errors
-/// `ReadFault` where a read fails; `WriteFault` where a write does, with a front of an answer written; `NoMemory` before the first
-/// line. Want of memory at a line is its answer.
-pub fn serve<R: BufRead, W: Write>(
+/// `ReadFault` and `WriteFault` where the device fails; `NoMemory` before the first line; `ManyLines` after 2^64 - 2 lines.
+pub fn serve<D: Device>(
     memory: Memory,
     signatures: Signatures,
-    reader: &mut R,
-    writer: &mut W,
+    salt: Salt,
+    device: &mut D,
 ) -> Result<(), Fault>
-    ensures { IfSome (R.remaining reader.old)
-        (λ bytes. Ended signatures bytes (W.contents writer.old) (W.contents writer.new) result) }
+    requires { D.turn device.old ≡ Turn.Listens }
+    ensures answers { IfSome (D.input device.old) (λ bytes.
+        Ended (new_conversation signatures salt) bytes
+        (D.output device.old) (D.output device.new) result) }
+    ensures turn { EndsAt result (D.turn device.new) }
 {
-    match Conversation::new(memory, signatures) {
+    match Conversation::new(memory, signatures, salt) {
         Ok(mut conversation) => {
             let mut line = Vec::new(memory);
-            answer_all(memory, &mut conversation, &mut line, reader, writer)
+            answer_all(memory, &mut conversation, &mut line, device)
         }
         Err(_) => Err(Fault::NoMemory),
     }

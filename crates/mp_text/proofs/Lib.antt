@@ -6,3 +6,4 @@ pub mod FirstWord
 pub mod NameTest
 pub mod Ranges
 pub mod Written
+pub mod LineInput

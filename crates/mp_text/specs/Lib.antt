@@ -3,3 +3,5 @@ pub mod Names
 pub mod Numbers
 pub mod Output
 pub mod Words
+pub mod LineInput
+pub mod Inside

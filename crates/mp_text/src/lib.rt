@@ -2,6 +2,7 @@
 #![tactic(auto)]
 
 mod input;
+mod line_input;
 mod lines;
 mod names;
 mod numbers;
@@ -10,6 +11,7 @@ mod scan;
 mod words;
 
 pub use input::{InputFault, MAX_BYTES, MAX_READS, read_all};
+pub use line_input::{LineRead, ReadFault, read_line};
 pub use lines::{MAX_LINE_BYTES, first_line, is_clean};
 pub use names::{are_letters_or_digits, is_name};
 pub use numbers::{number, quantity};

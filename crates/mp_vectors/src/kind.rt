@@ -3,7 +3,8 @@
 use crate::answer::{is_number, is_told};
 use crate::wrong::Result;
 use crate::{
-    bundle, datum, datum_ref, decode, faults, ledger, script, sum, text, transaction, value,
+    bundle, datum, datum_ref, decode, faults, ledger, script, signature, sum, text, transaction,
+    value,
 };
 use mp_memory::Memory;
 use mp_text::{is_name, number, quantity};
@@ -25,11 +26,12 @@ pub enum Kind {
     Quantity,
     Text,
     Fault,
+    Signature,
 }
 
 impl Kind {
     /// Each of them, in the order in which they are checked.
-    pub const ALL: [Kind; 14] = [
+    pub const ALL: [Kind; 15] = [
         Kind::Datum,
         Kind::DatumRef,
         Kind::Script,
@@ -44,6 +46,7 @@ impl Kind {
         Kind::Quantity,
         Kind::Text,
         Kind::Fault,
+        Kind::Signature,
     ];
 
     /// The name of its file.
@@ -63,6 +66,7 @@ impl Kind {
             Kind::Quantity => "quantity.txt",
             Kind::Text => "text.txt",
             Kind::Fault => "fault.txt",
+            Kind::Signature => "signature.txt",
         }
     }
 
@@ -70,7 +74,7 @@ impl Kind {
     pub fn takes_memory(self) -> bool {
         match self {
             Kind::Datum | Kind::Script | Kind::Bundle | Kind::Sum => true,
-            Kind::Transaction | Kind::Decode | Kind::Ledger => true,
+            Kind::Transaction | Kind::Decode | Kind::Ledger | Kind::Signature => true,
             Kind::DatumRef | Kind::Value | Kind::Text | Kind::Fault => false,
             Kind::Name | Kind::Number | Kind::Quantity => false,
         }
@@ -93,6 +97,7 @@ impl Kind {
             Kind::Quantity => is_number(quantity(given.as_bytes()), wanted),
             Kind::Text => text::holds(memory, given, wanted),
             Kind::Fault => faults::holds(memory, given, wanted),
+            Kind::Signature => signature::holds(memory, given, wanted),
         }
     }
 }

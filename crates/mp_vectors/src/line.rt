@@ -2,7 +2,7 @@
 
 use crate::kind::Kind;
 use crate::wrong::{Result, Wrong};
-use crate::{decode, refusals, spoilt};
+use crate::{decode, refusals, signature, spoilt};
 use mp_memory::Memory;
 
 /// What a line says is given, and what it says that comes to. A blank line and a comment say nothing.
@@ -33,13 +33,14 @@ fn each_held(memory: Memory, kind: Kind, words: &str, wanted: &str) -> Result<u6
     Ok(cases)
 }
 
-/// How many cases a line has, where all hold: one, or as many as there are words after `each`, bytes after `prefixes`, or ways
-/// to spoil the bytes after `spoilt`.
+/// How many cases a line has, where all hold: one, or as many as there are words after `each`, bytes after `prefixes`, ways to
+/// spoil the bytes after `spoilt`, or bits after `flips`.
 pub fn held(memory: Memory, kind: Kind, given: &str, wanted: &str) -> Result<u64> {
     match given.split_once(' ') {
         Some(("each", words)) => each_held(memory, kind, words, wanted),
         Some(("prefixes", words)) => decode::prefixes_held(memory, words, wanted),
         Some(("spoilt", words)) => spoilt::held(memory, words, wanted),
+        Some(("flips", words)) => signature::flips_held(memory, words, wanted),
         _ => {
             check_case(memory, kind, given, wanted)?;
             Ok(1)

@@ -18,6 +18,7 @@ mod references;
 mod refusals;
 mod scene;
 mod script;
+mod signature;
 mod spoilt;
 mod sum;
 mod text;

@@ -8,6 +8,10 @@ use Rattle.mp_command_line.specs.CommandLine.{IsSignatures}
 abbrev pub IsSmall : Option Text → Type 0
 IsSmall text = IfSome text (IsUnsignedIn 0 4294967295)
 
+-- the same, that a `u64` holds
+abbrev pub IsWide : Option Text → Type 0
+IsWide text = IfSome text (IsUnsignedIn 0 18446744073709551615)
+
 -- a number of workers from 1 to 64, and a number of microseconds up to 1,000,000 or none
 pub record IsRace (rows : List Row) : Type 0 where
   pub workers : IsSomeAnd (one_of (codes "workers") rows) (IsUnsignedIn 1 64)
@@ -18,9 +22,10 @@ pub record IsAudit (rows : List Row) : Type 0 where
   pub scenario : is_some (first_of (codes "FILE") rows) ≡ true
   pub history : is_some (first_of (codes "history") rows) ≡ true
 
--- the name of the signatures or none, no file and no flag
+-- the name of the signatures or none, a salt or none, no file and no flag
 pub record IsServe (rows : List Row) : Type 0 where
   pub signatures : IfSome (first_of (codes "signatures") rows) IsSignatures
+  pub salt : IsWide (one_of (codes "salt") rows)
   pub file : first_of (codes "FILE") rows ≡ None
   pub explain : one_of (codes "explain") rows ≡ None
 

@@ -19,7 +19,7 @@ IsUnfit workers ts next place t ReadFault = ⊥
 IsUnfit workers ts next place t WriteFault = ⊥
 IsUnfit workers ts next place t (Audit audit.NoMemory) = ⊥
 IsUnfit workers ts next place t (Audit (audit.WrongReply p)) = ⊥
-IsUnfit workers ts next place t (Audit (audit.StrangeCaller p)) = (p ≡ place) × (IsUndealt workers ts t ⊎ IsLate next t)
+IsUnfit workers ts next place t (Audit (audit.StrangeCaller p)) = (p ≡ place) × (t.place ≡ place) × (IsUndealt workers ts t ⊎ IsLate next t)
 IsUnfit workers ts next place t (MissingEntry p) = (p ≡ place) × (t.place ≢ place)
 
 -- What is told at this place is no entry there, and why.

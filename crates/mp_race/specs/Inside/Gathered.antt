@@ -3,31 +3,33 @@ use Rattle.std.specs.Prelude.{◌≡◌, ℕ, true, List, All, Result, Ok, Err}
 use Rattle.mp_memory.specs.declared.no_memory.NoMemory.{NoMemory}
 use Rattle.mp_rules.specs.Verifier.{Accepts}
 use Rattle.mp_seqpool.specs.Pool.{Pool}
-use Rattle.mp_history.specs.Entry.{Entry}
 use Rattle.mp_history.specs.Log.{Log, Begins, IsLegalLog}
-use Rattle.mp_reader.specs.declared.receipt.Receipt.{Receipt}
+use Rattle.mp_race.specs.declared.told.Done.{Done}
+use Rattle.mp_race.specs.declared.ordering.Ordered.{Ordered}
 use Rattle.mp_reader.specs.Pass.{Pass}
 use Rattle.mp_race.specs.Task.{Task}
 use Rattle.mp_race.specs.Race.{IsRace}
+use Rattle.mp_race.specs.History.{AreEntriesOf}
 use Rattle.mp_race.specs.declared.worker.Worker.{Worker}
-use Rattle.mp_race.specs.Inside.Work.{Stands, HasDone, HasReceipts}
+use Rattle.mp_race.specs.Inside.Work.{IsDone, HasDone, HasMade}
 
 module _ (accepts : Accepts) (workers : ℕ) (opening : Pool) (ts : List Task) where
-  -- Where a worker comes back that was sure of its entries, it has done its tasks and has their receipts.
+  -- Where a worker comes back that was sure of its entries, it has done its tasks and has made these changes.
   abbrev pub IsBack : {N : Type 0} → Result (Worker N) NoMemory → Type 0
-  IsBack (Ok w) = w.is_sure ≡ true → HasReceipts accepts workers opening ts w.pass w.receipts.items
+  IsBack (Ok w) = w.is_sure ≡ true → HasMade accepts workers opening ts w.pass w.done.items
   IsBack (Err error) = Unit {0}
 
-  -- Each of these workers has done what was dealt to it, and has seen a beginning of this history, of which the receipts are.
-  pub record AreGathered (log : Log) (ps : List Pass) (rs : List Receipt) : Type 0 where
+  -- Each of these workers has done what was dealt to it, and has seen a beginning of this history, in which the changes stand.
+  pub record AreGathered (log : Log) (ps : List Pass) (ds : List Done) : Type 0 where
     pub opens : log.opening ≡ opening
     pub legal : IsLegalLog accepts workers log
     pub done : All (HasDone accepts workers opening ts) ps
     pub begin : All (λ p. Begins p.front log) ps
-    pub stand : All (Stands log) rs
+    pub changes : All (IsDone ts log) ds
 
--- there is a history of the race, and these are its entries
-pub record IsExplained (accepts : Accepts) (opening : Pool) (workers : ℕ) (ts : List Task) (es : List Entry) : Type 0 where
+-- There is a history of the race, and these are its entries, of each of which is told.
+pub record IsExplained (accepts : Accepts) (opening : Pool) (workers : ℕ) (ts : List Task) (o : Ordered) : Type 0 where
   pub log : Log
-  pub entries : log.entries ≡ es
+  pub entries : log.entries ≡ o.entries.items
   pub race : IsRace accepts opening workers ts log
+  pub told : AreEntriesOf workers ts o.told.items o.entries.items

@@ -5,7 +5,7 @@ use Rattle.mp_lines.specs.Inside.Line.{to_line}
 use Rattle.mp_serve.specs.declared.ask.Ask as code
 use Rattle.mp_serve.specs.declared.ask.Ask.TheVariants as asks
 use Rattle.mp_serve.specs.declared.block.NewBlock as blocks
-use Rattle.mp_serve.specs.Ask.{Ask, NewBlock, Does, Reads, Shows, Checks, Counts, Holds, Extends, Returns, Forgets}
+use Rattle.mp_serve.specs.Ask.{Ask, NewBlock, Does, Reads, Submits, Shows, Checks, Counts, Holds, Extends, Returns, Forgets}
 
 abbrev pub to_block : blocks.NewBlock → NewBlock
 to_block b = record { tick = b.tick; block_bytes = b.block_bytes; txs = map arc_value b.txs.items }
@@ -13,6 +13,7 @@ to_block b = record { tick = b.tick; block_bytes = b.block_bytes; txs = map arc_
 abbrev pub to_ask : code.Ask → Ask
 to_ask (asks.Does line) = Does (to_line line)
 to_ask (asks.Reads name bytes) = Reads name bytes.items
+to_ask (asks.Submits name tx) = Submits name (arc_value tx)
 to_ask (asks.Shows tx) = Shows (arc_value tx)
 to_ask (asks.Checks tx) = Checks (arc_value tx)
 to_ask asks.Counts = Counts

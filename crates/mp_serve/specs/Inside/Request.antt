@@ -1,12 +1,11 @@
 -- What a request of the code says.
 use Rattle.std.specs.Arc.{arc_value}
-use Rattle.mp_seqpool.specs.Inside.Command.{command_of}
 use Rattle.mp_serve.specs.declared.request.Request as code
 use Rattle.mp_serve.specs.declared.request.Request.TheVariants as requests
-use Rattle.mp_serve.specs.Request.{Request, Do, Adopt, Extend, Return, Read, Try, Check, Count}
+use Rattle.mp_serve.specs.Request.{Request, Remove, Adopt, Extend, Return, Read, Try, Check, Count}
 
 abbrev pub to_request : code.Request → Request
-to_request (requests.Do command) = Do (command_of command)
+to_request (requests.Remove ids) = Remove (arc_value ids)
 to_request (requests.Adopt ledger) = Adopt ledger
 to_request (requests.Extend block) = Extend block
 to_request (requests.Return count) = Return count

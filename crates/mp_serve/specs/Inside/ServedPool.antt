@@ -1,6 +1,15 @@
--- What a served pool is seen as.
+-- What a served pool is seen as, and what it keeps.
+use Rattle.std.specs.Prelude.{◌≤◌, length}
 use Rattle.mp_serve.specs.declared.pool.ServedPool.TheInside.{Inside}
-use Rattle.mp_serve.specs.ServedPool.{ServedPool}
+use Rattle.mp_serve.specs.ServedPool.{ServedPool, accepted_by}
+use Rattle.mp_serve.specs.Inside.Pool.{IsReady}
+use Rattle.mp_serve.specs.Inside.Former.{states_of, CanAllGoBack}
 
 abbrev pub served_of : Inside → ServedPool
-served_of p = record { pool = p.pool.pool; signatures = p.signatures; former = p.former.items; refused = p.refused }
+served_of p = record { pool = p.pool.pool; signatures = p.signatures; former = states_of p.former.items p.pool.pool.ledger; refused = p.refused }
+
+-- it may make a change, and go back to each of its former ledger states, of which there are at most 2,160
+pub record IsServed (p : Inside) : Type 0 where
+  pub ready : IsReady (accepted_by p.signatures) p.pool.pool
+  pub few : length p.former.items ≤ 2160
+  pub can : CanAllGoBack p.former.items p.pool.pool.ledger

@@ -29,6 +29,7 @@ returns-in-Ok g c =
       picture = subst (λ m. spec.HasPicture (spec.picture_of m) asked) met c.read_matches.ensures.picture;
       verify_us = subst (λ m. spec.HasDelay (spec.verify_us_of m) asked) met c.read_matches.ensures.verify_us;
       signatures = subst (λ m. spec.HasSignatures (spec.signatures_of m) asked) met c.read_matches.ensures.signatures;
+      salt = subst (λ m. spec.HasSalt (spec.salt_of m) asked) met c.read_matches.ensures.salt;
       passes = tt;
     }
 

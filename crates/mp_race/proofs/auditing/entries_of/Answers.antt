@@ -1,4 +1,4 @@
-use Rattle.std.proofs.Common.{◌≡◌, ℕ, ◌+◌, ◌<◌, List, [], ◌∷◌, ◌++◌, length, take, get_or, set, ◌≤◌, rules, sym, ap, subst, ◌∙◌, arith}
+use Rattle.std.proofs.Common.{◌≡◌, ℕ, ◌+◌, ◌<◌, List, [], ◌∷◌, ◌++◌, length, take, get_or, ◌≤◌, sym, ap, subst, ◌∙◌, arith}
 use Rattle.std.specs.Prelude.{slice_index_or}
 use Rattle.std.proofs.lemmas.List.{take_more, length-take-le, length-append}
 use Rattle.std.proofs.lemmas.List.Elements.{at_read}
@@ -40,13 +40,12 @@ loop-place-preserved c =
     let is : t ≡ slice_index_or told k t = subst (λ (l : List Told). t ≡ slice_index_or l k t) same c.told-item.is in
     let more : take (k + 1) told ≡ take k told ++ t ∷ [] = take_more told k t there ∙ ap (λ x. take k told ++ x ∷ []) (sym is) in
     let at : t.place ≡ length (take k told) = c.in-Ok.ensures.place ∙ sym (length-take-le k told (omega (arith, there))) in
-    let task : c.from.result ≡ t.task = search rules in
     let turn = subst (λ l. get_or l t.worker 0 ≤ t.task) c.loop-place.invariant.2 c.in-Ok.ensures.turn in
     let pushed = c.in_ok-push-in-Ok.ensures.items in (
       subst (λ es. AreEntriesOf workers ts (take (k + 1) told) es) (sym pushed)
           (subst (λ l. AreEntriesOf workers ts l (c.loop-place.entries.items ++ e ∷ [])) (sym more) (one_more workers ts (take k told) c.loop-place.entries.items t e c.loop-place.invariant.0 c.in-Ok.ensures.entry at turn)),
       ap length pushed ∙ pushed_length c.loop-place.entries.items e ∙ ap (λ n. n + 1) c.loop-place.invariant.1,
-      ap (λ n. set c.loop-place.next t.worker (n + 1)) task ∙ ap (λ l. next_after l t) c.loop-place.invariant.2 ∙ sym (fold-append next_after first_next (take k told) (t ∷ [])) ∙ sym (ap next_of more),
+      ap (λ l. next_after l t) c.loop-place.invariant.2 ∙ sym (fold-append next_after first_next (take k told) (t ∷ [])) ∙ sym (ap next_of more),
     )
   where
     pushed_length : (es : List Entry) (e : Entry) → length (es ++ e ∷ []) ≡ length es + 1

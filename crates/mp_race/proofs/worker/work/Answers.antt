@@ -5,7 +5,7 @@ use Rattle.mp_history.proofs.Law.{eqb-refl}
 use Rattle.mp_reader.specs.Pass.{Pass}
 use Rattle.mp_race.specs.declared.task.Task.{Task}
 use Rattle.mp_race.specs.Inside.Task.{task_of, tasks_of}
-use Rattle.mp_race.specs.Inside.Work.{HasReceipts}
+use Rattle.mp_race.specs.Inside.Work.{HasMade}
 use Rattle.mp_race.proofs.Ordered.{apart}
 use Rattle.mp_race.proofs.Working.{does, skips, same_caller}
 use Rattle.mp_race.proofs.worker.work.Goals as goal
@@ -20,7 +20,7 @@ loop-place-preserved g c = λ opening unused.
     let k : ℕ = c.loop-place.place in
     let d : Task = c.index-tasks-place.result in
     let p = c.loop-place.pass in
-    let rs = c.loop-place.receipts.items in
+    let ds = c.loop-place.done.items in
     let before = tasks_of (take k ts) in
     let h = c.loop-place.invariant opening unused in
     let more : take (k + 1) ts ≡ take k ts ++ d ∷ [] = take_more ts k d c.loop-place-test.true ∙ ap (λ x. take k ts ++ x ∷ []) (sym c.index-tasks-place.is) in
@@ -31,21 +31,21 @@ loop-place-preserved g c = λ opening unused.
           let its : (length before % workers == p.caller) ≡ true =
           subst (λ n. (n % workers == p.caller) ≡ true) (sym len) (subst (λ n. (k % workers == n) ≡ true) (w.if-place-workers.true ∙ sym h.1) (eqb-refl (k % workers))) in
           let did = w.in_ok-is_sure.ensures w.if-not-is_sure.false in
-          let after : HasReceipts accepts workers opening (before ++ task_of d ∷ []) w.do_task.new.pass w.do_task.new.receipts.items =
-          does accepts callers workers opening before p rs h.0 (task_of d) w.do_task.new.pass w.do_task.new.receipts.items its did in (
-            subst (λ l. HasReceipts accepts workers opening l c.if-place-workers.pass c.if-place-workers.receipts.items) (sym tasks_more) (
-                subst (λ q. HasReceipts accepts workers opening (before ++ task_of d ∷ []) q c.if-place-workers.receipts.items) (sym w.pass-is)
-                (subst (λ ss. HasReceipts accepts workers opening (before ++ task_of d ∷ []) w.do_task.new.pass ss.items) (sym w.receipts-is) after)
+          let after : HasMade accepts workers opening (before ++ task_of d ∷ []) w.do_task.new.pass w.do_task.new.done.items =
+          does accepts callers workers opening before p ds h.0 k (task_of d) w.do_task.new.pass w.do_task.new.done.items (sym len) its did in (
+            subst (λ l. HasMade accepts workers opening l c.if-place-workers.pass c.if-place-workers.done.items) (sym tasks_more) (
+                subst (λ q. HasMade accepts workers opening (before ++ task_of d ∷ []) q c.if-place-workers.done.items) (sym w.pass-is)
+                (subst (λ ss. HasMade accepts workers opening (before ++ task_of d ∷ []) w.do_task.new.pass ss.items) (sym w.done-is) after)
                 ),
-            ap (λ (q : Pass). q.caller) w.pass-is ∙ same_caller accepts callers workers opening p rs (task_of d) w.do_task.new.pass w.do_task.new.receipts.items did ∙ h.1,
+            ap (λ (q : Pass). q.caller) w.pass-is ∙ same_caller accepts callers workers opening p ds k (task_of d) w.do_task.new.pass w.do_task.new.done.items did ∙ h.1,
           )
       | else-place-workers w ↦
           let others : (length before % workers == p.caller) ≡ false =
           subst (λ n. (n % workers == p.caller) ≡ false) (sym len) (apart (k % workers) p.caller (λ same. w.if-place-workers.false (sym same ∙ h.1))) in
-          let after : HasReceipts accepts workers opening (before ++ task_of d ∷ []) p rs = skips accepts callers workers opening before (task_of d) p rs others h.0 in (
-            subst (λ l. HasReceipts accepts workers opening l c.if-place-workers.pass c.if-place-workers.receipts.items) (sym tasks_more) (
-                subst (λ q. HasReceipts accepts workers opening (before ++ task_of d ∷ []) q c.if-place-workers.receipts.items) (sym w.pass-is)
-                (subst (λ ss. HasReceipts accepts workers opening (before ++ task_of d ∷ []) p ss.items) (sym w.receipts-is) after)
+          let after : HasMade accepts workers opening (before ++ task_of d ∷ []) p ds = skips accepts callers workers opening before (task_of d) p ds others h.0 in (
+            subst (λ l. HasMade accepts workers opening l c.if-place-workers.pass c.if-place-workers.done.items) (sym tasks_more) (
+                subst (λ q. HasMade accepts workers opening (before ++ task_of d ∷ []) q c.if-place-workers.done.items) (sym w.pass-is)
+                (subst (λ ss. HasMade accepts workers opening (before ++ task_of d ∷ []) p ss.items) (sym w.done-is) after)
                 ),
             ap (λ (q : Pass). q.caller) w.pass-is ∙ h.1,
           )
@@ -54,5 +54,5 @@ loop-place-preserved g c = λ opening unused.
 pub returns : goal.returns
 returns g c = λ opening unused sure.
     let ts : List Task = c.args.tasks.now in
-    subst (λ l. HasReceipts g.N.PoolName.accepts c.args.workers opening (tasks_of l) c.loop-place.pass c.loop-place.receipts.items)
+    subst (λ l. HasMade g.N.PoolName.accepts c.args.workers opening (tasks_of l) c.loop-place.pass c.loop-place.done.items)
     (take_all c.loop-place.place ts c.loop-place-test.false) (c.loop-place.invariant opening unused).0

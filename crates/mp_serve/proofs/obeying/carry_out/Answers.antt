@@ -5,7 +5,8 @@ use Rattle.mp_seqpool.specs.Inside.Command.{command_of}
 use Rattle.mp_seqpool.proofs.Histories.{signed, told}
 use Rattle.mp_answers.specs.AnswerText.{answer_text}
 use Rattle.mp_serve.specs.ServedPool.{accepted_by}
-use Rattle.mp_serve.proofs.Pools.{on_ok, on_err, refused_same}
+use Rattle.mp_serve.proofs.Answers.{on_ok, on_err}
+use Rattle.mp_serve.proofs.Pools.{refused_same}
 use Rattle.mp_serve.proofs.obeying.carry_out.Goals as goal
 
 pub prepare-requires : goal.prepare-requires

@@ -1,50 +1,49 @@
-use Rattle.std.proofs.Common.{◌≡◌, ℕ, List, length, ◌++◌, ap, subst, ◌∙◌, rules}
-use Rattle.std.specs.Prelude.{Option, IfSome, option_map, unwrap_or}
-use Rattle.std.specs.Io.BufRead.{take_through, strip_last}
-use Rattle.mp_serve.specs.Texts.{no_memory_text}
+use Rattle.std.proofs.Common.{◌≡◌, ℕ, List, sym, subst, ap, ◌∙◌, rules, arith}
+use Rattle.std.specs.Prelude.{Option, IfSome, Ok, Err}
+use Rattle.std.specs.Io.BufRead.{DropsThrough}
+use Rattle.std.specs.Io.KnownBytes.{Appends}
+use Rattle.mp_text.specs.declared.line_input.LineRead.{LineRead}
+use Rattle.mp_text.specs.declared.line_input.LineRead.TheVariants.{End}
+use Rattle.mp_text.specs.LineInput.{IsLine}
 use Rattle.mp_serve.specs.declared.conversation.Conversation.{Conversation}
-use Rattle.mp_serve.specs.Served.{IsAnswer}
-use Rattle.mp_serve.specs.Inside.Stage.{signatures_of}
-use Rattle.mp_serve.proofs.Progress.{ends, fails, stands-more, stands-cut}
+use Rattle.mp_serve.specs.declared.fault.Fault.TheVariants.{ReadFault}
+use Rattle.mp_serve.specs.Inside.Answer.{text_in}
+use Rattle.mp_serve.specs.Served.{AppendsUpTo, Ended}
+use Rattle.mp_serve.proofs.Progress.{fails, ends_counting, stands-more, stands-cut}
 use Rattle.mp_serve.proofs.serving.answer_all.Goals as goal
 
-pub returns-in-Ok-eq0 : goal.returns-in-Ok-eq0
-returns-in-Ok-eq0 g c =
-    ends (signatures_of c.args.conversation.now.stage) (g.W.Write.contents c.args.writer.now) (g.W.Write.contents c.loop-number.writer) c.loop-number.conversation
-    c.loop-number.number (g.R.Read.remaining c.args.reader.now) (g.R.Read.remaining c.loop-number.reader) c.loop-number.invariant (search rules)
+pub returns-in-Err-clause-answers : goal.returns-in-Err-clause-answers
+returns-in-Err-clause-answers g c =
+    subst (λ o. IfSome (g.D.Device.input c.args.device.now) (λ bytes. Ended c.args.conversation.now bytes (g.D.Device.output c.args.device.now) o (Err ReadFault))) (sym c.in-Err.ensures.output)
+    (fails c.args.conversation.now (g.D.Device.output c.args.device.now) (g.D.Device.output c.loop-number.device) c.loop-number.conversation c.loop-number.number (g.D.Device.input c.args.device.now) (g.D.Device.input c.loop-number.device) c.loop-number.invariant.0)
 
-pub returns-in-Err : goal.returns-in-Err
-returns-in-Err g c =
-    fails (signatures_of c.args.conversation.now.stage) (g.W.Write.contents c.args.writer.now) (g.W.Write.contents c.loop-number.writer) c.loop-number.conversation c.loop-number.number
-    (g.R.Read.remaining c.args.reader.now) (g.R.Read.remaining c.loop-number.reader) c.loop-number.invariant
+pub returns-clause-answers : goal.returns-clause-answers
+returns-clause-answers g c =
+    ends_counting c.args.conversation.now (g.D.Device.output c.args.device.now) (g.D.Device.output c.loop-number.device) c.loop-number.conversation c.loop-number.number (g.D.Device.input c.args.device.now) (g.D.Device.input c.loop-number.device) c.loop-number.invariant.0
+    (search rules)
 
-pub returns : goal.returns
-returns g c =
-    fails (signatures_of c.args.conversation.now.stage) (g.W.Write.contents c.args.writer.now) (g.W.Write.contents c.loop-number.writer) c.loop-number.conversation c.loop-number.number
-    (g.R.Read.remaining c.args.reader.now) (g.R.Read.remaining c.loop-number.reader) c.loop-number.invariant
-
-pub returns-in-Err-write_answer : goal.returns-in-Err-write_answer
-returns-in-Err-write_answer g c =
-    let s : Conversation = c.loop-number.conversation in
-    let u : Conversation = c.answer-answer.new.conversation in
-    let left : Option (List ℕ) = g.R.Read.remaining c.loop-number.reader in
-    let buffer : List ℕ = c.read_until.new.buf.items in
-    let text : List ℕ = unwrap_or (option_map (λ text. text.items) c.answer-answer.result) no_memory_text in
-    let some : length buffer ≡ 0 → ⊥ = λ z. search rules in
-    stands-cut (signatures_of c.args.conversation.now.stage) (g.W.Write.contents c.args.writer.now) (g.W.Write.contents c.loop-number.writer) s c.loop-number.number left (g.R.Read.remaining c.read_until.new.self) (g.W.Write.contents c.write_answer.new.writer) u buffer text
-    (subst (λ l. IfSome left (λ xs. buffer ≡ l ++ take_through 10 xs)) c.clear.ensures.items c.in-Ok.ensures.bytes) c.in-Ok.ensures.rest some
-    (subst (λ l. IsAnswer c.loop-number.number s l text u) (c.without_feed.ensures ∙ ap (strip_last 10) c.deref.ensures.value) c.answer-answer.ensures)
-    (g.R.Read.remaining c.args.reader.now) c.loop-number.invariant c.in-Err-write_answer.ensures.err
+pub returns-in-Err-tell : goal.returns-in-Err-tell
+returns-in-Err-tell g c =
+    let left : Option (List ℕ) = g.D.Device.input c.loop-number.device in
+    let answer : List ℕ = text_in c.answer-answer.result in
+    let other : c.in-Ok.found ≡ End → ⊥ = λ e. search rules in
+    record {
+      answers = stands-cut c.args.conversation.now (g.D.Device.output c.args.device.now) (g.D.Device.output c.loop-number.device) c.loop-number.conversation c.loop-number.number
+          left (g.D.Device.input c.read_line.new.self) (g.D.Device.output c.tell.new.device) c.answer-answer.new.conversation _ c.in-Ok.found c.deref.result.now answer other c.in-Ok.ensures.rest
+          (subst (λ k. IfSome left (λ bytes. IsLine _ bytes c.in-Ok.found k)) (sym c.deref.ensures.value) c.in-Ok.ensures.line) c.answer-answer.ensures (g.D.Device.input c.args.device.now) c.loop-number.invariant.0
+          (subst (λ o. AppendsUpTo o (g.D.Device.output c.tell.new.device) answer) c.in-Ok.ensures.output c.in-Err-tell.ensures.err);
+      turn = c.in-Err-tell.ensures.failed;
+    }
 
 pub loop-number-preserved : goal.loop-number-preserved
 loop-number-preserved g c =
-    let s : Conversation = c.loop-number.conversation in
-    let u : Conversation = c.answer-answer.new.conversation in
-    let left : Option (List ℕ) = g.R.Read.remaining c.loop-number.reader in
-    let buffer : List ℕ = c.read_until.new.buf.items in
-    let text : List ℕ = unwrap_or (option_map (λ text. text.items) c.answer-answer.result) no_memory_text in
-    let some : length buffer ≡ 0 → ⊥ = λ z. search rules in
-    stands-more (signatures_of c.args.conversation.now.stage) (g.W.Write.contents c.args.writer.now) (g.W.Write.contents c.loop-number.writer) s c.loop-number.number left (g.R.Read.remaining c.read_until.new.self) (g.W.Write.contents c.write_answer.new.writer) u buffer text
-    (subst (λ l. IfSome left (λ xs. buffer ≡ l ++ take_through 10 xs)) c.clear.ensures.items c.in-Ok.ensures.bytes) c.in-Ok.ensures.rest some
-    (subst (λ l. IsAnswer c.loop-number.number s l text u) (c.without_feed.ensures ∙ ap (strip_last 10) c.deref.ensures.value) c.answer-answer.ensures)
-    (g.R.Read.remaining c.args.reader.now) c.loop-number.invariant c.in-Ok-write_answer.ensures.ok
+    let left : Option (List ℕ) = g.D.Device.input c.loop-number.device in
+    let answer : List ℕ = text_in c.answer-answer.result in
+    let other : c.in-Ok.found ≡ End → ⊥ = λ e. search rules in (
+      stands-more c.args.conversation.now (g.D.Device.output c.args.device.now) (g.D.Device.output c.loop-number.device) c.loop-number.conversation c.loop-number.number left
+          (g.D.Device.input c.tell.new.device) (g.D.Device.output c.tell.new.device) c.answer-answer.new.conversation _ c.in-Ok.found c.deref.result.now answer other
+          (subst (λ o. DropsThrough left o 10) (sym c.in-Ok-tell.ensures.input) c.in-Ok.ensures.rest)
+          (subst (λ k. IfSome left (λ bytes. IsLine _ bytes c.in-Ok.found k)) (sym c.deref.ensures.value) c.in-Ok.ensures.line) c.answer-answer.ensures (g.D.Device.input c.args.device.now) c.loop-number.invariant.0
+          (subst (λ o. Appends o (g.D.Device.output c.tell.new.device) answer) c.in-Ok.ensures.output c.in-Ok-tell.ensures.ok),
+      c.in-Ok-tell.ensures.turn,
+    )

@@ -1,16 +1,37 @@
-use Rattle.std.proofs.Common.{◌≡◌, ◌++◌, ◌∷◌, [], Some, refl, ap, ◌∙◌, length, rules}
-use Rattle.std.specs.Vec.{vec_len}
-use Rattle.mp_names.specs.Inside.BindingTable.{has_name, has_tx_id, bound_id}
-use Rattle.mp_names.proofs.Placing.{placed-noted, has_tx_id-bound_id}
+use Rattle.std.proofs.Common.{◌≡◌, ℕ, List, ◌∷◌, [], ◌++◌, Some, sym, ap, subst, ◌∙◌}
+use Rattle.std.specs.Map.{values_of}
+use Rattle.mp_names.specs.declared.names.NamedBinding.{NamedBinding}
+use Rattle.mp_names.specs.Inside.NumberTable.{Takes}
+use Rattle.mp_names.specs.Inside.BindingTable.{bound_id}
+use Rattle.mp_names.proofs.Numbering.{insert-push, values-push}
+use Rattle.mp_names.proofs.NumberTables.{put-taken}
+use Rattle.mp_names.proofs.Bindings.{next_is_new, next_is_new_id, numbered-push, numbered-same}
 use Rattle.mp_names.proofs.binding_table.BindingTable.push.Goals as goal
 
-pub invariant_of-self-2 : goal.invariant_of-self-2
-invariant_of-self-2 c =
-    let named = c.args.named in
-    let same = c.reserve.ensures.items in
-    let len : vec_len c.reserve.new.self ≡ length c.reserve.new.self.items = Prim.search rules in
-    let place = c.len-place.ensures ∙ len ∙ ap length same in
-    let put = c.push_reserved.ensures.items ∙ ap (λ bs. bs ++ named ∷ []) same in (
-      placed-noted has_name _ _ _ _ _ named (Some named.name) _ (λ q. refl) place put refl c.in_ok-note_keys.ensures.names c.self.invariant.0,
-      placed-noted has_tx_id _ _ _ _ _ named (bound_id named.binding) _ (has_tx_id-bound_id named _ refl) place put refl c.in_ok-note_keys.ensures.ids c.self.invariant.1,
-    )
+pub put_keys-requires : goal.put_keys-requires
+put_keys-requires c = next_is_new c.self.inside.bindings.entries c.self.inside.next c.self.inside.numbers.names.entries c.self.inside.numbers.ids.entries c.self.invariant
+
+pub invariant_of-self-in-Ok : goal.invariant_of-self-in-Ok
+invariant_of-self-in-Ok c =
+    let es = c.self.inside.bindings.entries in
+    numbered-push es c.self.inside.next c.self.inside.numbers.names.entries c.self.inside.numbers.ids.entries c.self.invariant c.args.named c.insert.new.self.entries _ _
+    (c.in-Ok.ensures.entries ∙ insert-push 0 es c.self.inside.next c.args.named c.self.invariant.between) c.in_ok-put_keys.ensures.names c.in_ok-put_keys.ensures.ids
+
+pub returns-in-Ok-clause-ok : goal.returns-in-Ok-clause-ok
+returns-in-Ok-clause-ok c =
+    let es = c.self.inside.bindings.entries in
+    ap values_of (c.in-Ok.ensures.entries ∙ insert-push 0 es c.self.inside.next c.args.named c.self.invariant.between)
+    ∙ values-push es (c.self.inside.next, c.args.named) ∙ ap (λ l. l ++ c.args.named ∷ []) c.self.view_is
+
+pub invariant_of-self-in-Err : goal.invariant_of-self-in-Err
+invariant_of-self-in-Err c =
+    let es = c.self.inside.bindings.entries in
+    let next : ℕ = c.self.inside.next in
+    let names = c.self.inside.numbers.names.entries in
+    let ids = c.self.inside.numbers.ids.entries in
+    let back : c.in-Err.refused.value.1 ≡ c.args.named = ap (λ (p : ℕ × NamedBinding). p.1) c.in-Err.ensures.value_returned in
+    numbered-same es next names ids c.self.invariant c.insert.new.self.entries _ _ c.in-Err.ensures.err
+    (put-taken names _ _ (Some c.args.named.name) next (next_is_new es next names ids c.self.invariant) c.in_ok-put_keys.ensures.names
+    (subst (λ n. Takes _ (Some n.name) next _) back c.take_keys.ensures.names))
+    (put-taken ids _ _ (bound_id c.args.named.binding) next (next_is_new_id es next names ids c.self.invariant) c.in_ok-put_keys.ensures.ids
+    (subst (λ n. Takes _ (bound_id n.binding) next _) back c.take_keys.ensures.ids))

@@ -10,10 +10,10 @@ returns-clause-gathered g c = λ opening ts is h.
     let a = c.args.self.front in
     let b = c.longer-front.result in
     let ps = c.args.self.passes.items in
-    let rs = c.args.self.receipts.items in
+    let ds = c.args.self.done.items in
     let p = c.args.worker.pass in
-    let ss = c.args.worker.receipts.items in
+    let es = c.args.worker.done.items in
     subst (λ l. AreGathered accepts callers opening ts b l c.append.new.self.items) (sym c.in_ok-push.ensures.items) (
     subst (λ l. AreGathered accepts callers opening ts b (ps ++ p ∷ []) l) (sym c.in_ok-append.ensures.items)
-    (one_more accepts callers opening ts a b ps rs ss p c.longer-front.ensures.this c.longer-front.ensures.that (c.longer-front.ensures.legal is.legal) is h)
+    (one_more accepts callers opening ts a b ps ds es p c.longer-front.ensures.this c.longer-front.ensures.that (c.longer-front.ensures.legal is.legal) is h)
     )

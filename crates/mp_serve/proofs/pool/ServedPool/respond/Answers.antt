@@ -3,4 +3,4 @@ use Rattle.mp_serve.specs.ServedPool.{accepted_by}
 use Rattle.mp_serve.proofs.pool.ServedPool.respond.Goals as goal
 
 pub kept_line-requires : goal.kept_line-requires
-kept_line-requires c = signed (accepted_by c.self.inside.signatures) c.self.inside.pool.pool c.self.invariant.0.lawful
+kept_line-requires c = signed (accepted_by c.self.inside.signatures) c.self.inside.pool.pool c.self.invariant.ready.lawful

@@ -1,0 +1,5 @@
+pub mod Bytes
+pub mod Chain
+pub mod Limbs
+pub mod Powers
+pub mod Tables

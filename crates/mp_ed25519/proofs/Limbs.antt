@@ -1,0 +1,25 @@
+-- Carries, and what products have at 2 ^ 255 and above.
+use Rattle.std.proofs.Common.{◌≡◌, ℕ, ◌+◌, ◌*◌, ◌/◌, ◌%◌, ◌^◌, arith}
+use Rattle.mp_ed25519.specs.Field.{prime}
+use Rattle.mp_ed25519.specs.Inside.Limbs.{value}
+
+-- the part of a product from 2 ^ 255 on
+abbrev pub high : (a1 a2 a3 a4 b1 b2 b3 b4 : ℕ) → ℕ
+high a1 a2 a3 a4 b1 b2 b3 b4 =
+    (a4 * b1 + a3 * b2 + a2 * b3 + a1 * b4)
+    + 2 ^ 51 * (a4 * b2 + a3 * b3 + a2 * b4)
+    + 2 ^ 102 * (a4 * b3 + a3 * b4)
+    + 2 ^ 153 * (a4 * b4)
+
+-- numbers that differ by a multiple of the prime are one element
+pub same_element : (x y k : ℕ) → x + prime * k ≡ y → x % prime ≡ y % prime
+same_element x y k h = omega arith
+
+abbrev pub limb : ℕ
+limb = 2251799813685248
+
+pub value-carried : (c0 c1 c2 c3 c4 d1 d2 d3 d4 k e0 : ℕ)
+    → d1 ≡ c1 + c0 / limb → d2 ≡ c2 + d1 / limb → d3 ≡ c3 + d2 / limb → d4 ≡ c4 + d3 / limb
+    → k ≡ d4 / limb → e0 ≡ c0 % limb + 19 * k
+    → value (e0 % limb) (d1 % limb + e0 / limb) (d2 % limb) (d3 % limb) (d4 % limb) % prime ≡ value c0 c1 c2 c3 c4 % prime
+value-carried c0 c1 c2 c3 c4 d1 d2 d3 d4 k e0 h1 h2 h3 h4 hk he = same_element _ _ k (omega arith)

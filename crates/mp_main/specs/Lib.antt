@@ -1,0 +1,5 @@
+pub mod Status
+pub mod Legal
+pub mod Told
+pub mod Picture
+pub mod Salt

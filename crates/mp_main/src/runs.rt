@@ -1,0 +1,48 @@
+//! `keltuvar run`: the answers to a scenario.
+
+ghost use Rattle.std.specs.Prelude.{IfSome};
+ghost use Rattle.std.specs.Process.{exit_status};
+ghost use Rattle.mp_driver.specs.Ending.{Ended};
+ghost use Rattle.mp_main.specs.Status.{EndsAs};
+
+use crate::ending::{end_answers, end_fault, end_unread};
+use mp_command_line::Input;
+use mp_driver::{Fault, answer_text};
+use mp_memory::Memory;
+use mp_text::{InputFault, read_all};
+use std::fs::File;
+use std::io::{Read, Write};
+use std::process::ExitCode;
+
+/// Runs the scenario that the reader gives, and writes its answers to the writer.
+pub fn run_over<R: Read, W: Write>(
+    rt: &HostRuntime,
+    memory: Memory,
+    explains: bool,
+    reader: &mut R,
+    writer: &mut W,
+) -> ExitCode
+    ensures { IfSome (R.remaining reader.old) (λ bytes. EndsAs
+        (Ended bytes (W.contents writer.old) (W.contents writer.new)) (exit_status result)) }
+{
+    match read_all(memory, reader) {
+        Ok(text) => end_answers(rt, explains, answer_text(memory, &text, writer)),
+        Err(InputFault::NoMemory) => end_fault(rt, Fault::NoMemory),
+        Err(InputFault::Read) => end_fault(rt, Fault::ReadFault),
+    }
+}
+
+/// Runs a scenario, and writes its answers to standard output.
+pub fn run_scenario(rt: &HostRuntime, input: Input<'_>) -> ExitCode {
+    let Ok(memory) = Memory::new(rt.alloc()) else {
+        return end_fault(rt, Fault::NoMemory);
+    };
+    let explains = input.explains;
+    match input.file {
+        None => run_over(rt, memory, explains, &mut rt.stdin(), &mut rt.stdout()),
+        Some(path) => match File::open(rt, path) {
+            Ok(mut scenario) => run_over(rt, memory, explains, &mut scenario, &mut rt.stdout()),
+            Err(error) => end_unread(rt, path, error),
+        },
+    }
+}

@@ -1,0 +1,19 @@
+-- What it is to change names under which transactions are reported.
+use Rattle.std.specs.Prelude.{◌≡◌, ℕ, Bool, true, false, nat_eq, List, Option, Some, find, option_map, if◌then◌else◌}
+use Rattle.std.specs.Option.{option_map_or}
+use Rattle.std.specs.Cmp.Lexicographic.{pointwise}
+use Rattle.std.specs.FinMap.{get, remove}
+use Rattle.mp_names.specs.declared.names.NamedBinding.{NamedBinding}
+use Rattle.mp_names.specs.Reported.{Reported}
+use Rattle.mp_names.specs.Names.{bound_tx}
+use Rattle.mp_names.specs.Inside.BindingTable.{has_name, has_tx_id}
+
+-- without the name of this id, if that is the word
+abbrev pub unreported : Reported → List ℕ → List ℕ → Reported
+unreported reported id word =
+    if option_map_or (pointwise nat_eq word) (get reported id) false then remove reported id else reported
+
+-- each is reported under a name that it is declared with
+abbrev pub AreDeclared : List NamedBinding → Reported → Type 0
+AreDeclared bindings reported =
+    (id word : List ℕ) → get reported id ≡ Some word → option_map_or (has_tx_id id) (find (has_name word) bindings) false ≡ true

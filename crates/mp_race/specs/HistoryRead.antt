@@ -1,0 +1,16 @@
+-- How a history is read.
+use Rattle.std.specs.Prelude.{◌≡◌, ℕ, List, Result, Ok, Err}
+use Rattle.mp_race.specs.declared.history.History.{History}
+use Rattle.mp_race.specs.declared.fault.Fault.{Fault}
+use Rattle.mp_race.specs.declared.fault.Fault.TheVariants.{NoMemory, BadLine, ReadFault, WriteFault, Audit, MissingEntry}
+use Rattle.mp_race.specs.HistoryText.{history_text, IsFaultOfText}
+
+-- the history that has this text, or why it is none of a history; a read may fail
+abbrev pub IsRead : List ℕ → Result History Fault → Type 0
+IsRead bytes (Ok h) = bytes ≡ history_text h.workers h.told.items
+IsRead bytes (Err ReadFault) = Unit {0}
+IsRead bytes (Err NoMemory) = Unit {0}
+IsRead bytes (Err WriteFault) = ⊥
+IsRead bytes (Err (BadLine line)) = IsFaultOfText bytes (BadLine line)
+IsRead bytes (Err (Audit fault)) = ⊥
+IsRead bytes (Err (MissingEntry place)) = IsFaultOfText bytes (MissingEntry place)

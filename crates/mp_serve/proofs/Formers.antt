@@ -1,0 +1,91 @@
+-- Ledger states by what is kept of them.
+use Rattle.std.proofs.Common.{◌≡◌, ℕ, zero, suc, ◌-◌, ◌≤◌, List, [], ◌∷◌, ◌++◌, length, take, drop, refl, sym, ap, subst, ◌∙◌, arith}
+use Rattle.std.specs.Prelude.{Option, Some, slice_get}
+use Rattle.mp_tx.specs.Ledger.{LedgerState}
+use Rattle.mp_serve.specs.declared.former.Former.{Former}
+use Rattle.mp_serve.specs.declared.former.Former.TheVariants.{Block, Whole}
+use Rattle.mp_serve.specs.ServedPool.{latest}
+use Rattle.mp_serve.specs.Inside.Former.{state_before, CanGoBack, LeadsBack, earliest, states_of, CanAllGoBack}
+
+pub can_back : (now : LedgerState) (f : Former) (before : LedgerState) → LeadsBack now f before → CanGoBack now f
+can_back now (Block undo) before leads = leads.can
+can_back now (Whole ledger) before leads = tt
+
+pub is_back : (now : LedgerState) (f : Former) (before : LedgerState) → LeadsBack now f before → state_before now f ≡ before
+is_back now (Block undo) before leads = leads.back
+is_back now (Whole ledger) before leads = leads
+
+pub earliest-append : (fs gs : List Former) (now : LedgerState) → earliest (fs ++ gs) now ≡ earliest fs (earliest gs now)
+earliest-append [] gs now = refl
+earliest-append (f ∷ fs) gs now = ap (λ l. state_before l f) (earliest-append fs gs now)
+
+pub states-append : (fs gs : List Former) (now : LedgerState) → states_of (fs ++ gs) now ≡ states_of fs (earliest gs now) ++ states_of gs now
+states-append [] gs now = refl
+states-append (f ∷ fs) gs now =
+    ap (λ l. state_before l f ∷ states_of (fs ++ gs) now) (earliest-append fs gs now)
+    ∙ ap (λ ls. earliest (f ∷ fs) (earliest gs now) ∷ ls) (states-append fs gs now)
+
+pub length-states : (fs : List Former) (now : LedgerState) → length (states_of fs now) ≡ length fs
+length-states [] now = refl
+length-states (f ∷ fs) now = ap suc (length-states fs now)
+
+pub states-drop : (n : ℕ) (fs : List Former) (now : LedgerState) → states_of (drop n fs) now ≡ drop n (states_of fs now)
+states-drop zero fs now = refl
+states-drop (suc n) [] now = refl
+states-drop (suc n) (f ∷ fs) now = states-drop n fs now
+
+pub earliest-take : (n : ℕ) (fs : List Former) (now : LedgerState) → earliest (take n fs) (earliest (drop n fs) now) ≡ earliest fs now
+earliest-take zero fs now = refl
+earliest-take (suc n) [] now = refl
+earliest-take (suc n) (f ∷ fs) now = ap (λ l. state_before l f) (earliest-take n fs now)
+
+-- those before one of them
+pub states-take : (n : ℕ) (fs : List Former) (now : LedgerState) → states_of (take n fs) (earliest (drop n fs) now) ≡ take n (states_of fs now)
+states-take zero fs now = refl
+states-take (suc n) [] now = refl
+states-take (suc n) (f ∷ fs) now =
+    ap (λ l. state_before l f ∷ states_of (take n fs) (earliest (drop n fs) now)) (earliest-take n fs now)
+    ∙ ap (λ ls. earliest (f ∷ fs) now ∷ ls) (states-take n fs now)
+
+-- the one at a place, of which the last is that to which they lead
+pub state-at : (n : ℕ) (fs : List Former) (now : LedgerState) → n ≤ length fs → slice_get (states_of fs now ++ now ∷ []) n ≡ Some (earliest (drop n fs) now)
+state-at zero [] now le = refl
+state-at zero (f ∷ fs) now le = refl
+state-at (suc n) [] now le = absurd (omega (arith, le))
+state-at (suc n) (f ∷ fs) now le = state-at n fs now (omega (arith, le))
+
+-- one more that leads back to that to which the others lead
+pub can-push : (fs : List Former) (f : Former) (new old : LedgerState) → CanAllGoBack fs old → LeadsBack new f old → CanAllGoBack (fs ++ f ∷ []) new
+can-push [] f new old can leads = (can_back new f old leads, tt)
+can-push (g ∷ fs) f new old can leads =
+    let same : earliest (fs ++ f ∷ []) new ≡ earliest fs old = earliest-append fs (f ∷ []) new ∙ ap (earliest fs) (is_back new f old leads) in
+    (subst (λ l. CanGoBack l g) (sym same) can.0, can-push fs f new old can.1 leads)
+
+pub states-push : (fs : List Former) (f : Former) (new old : LedgerState) → LeadsBack new f old → states_of (fs ++ f ∷ []) new ≡ states_of fs old ++ old ∷ []
+states-push fs f new old leads = states-append fs (f ∷ []) new ∙ ap (λ l. states_of fs l ++ l ∷ []) (is_back new f old leads)
+
+pub can-drop : (n : ℕ) (fs : List Former) (now : LedgerState) → CanAllGoBack fs now → CanAllGoBack (drop n fs) now
+can-drop zero fs now can = can
+can-drop (suc n) [] now can = can
+can-drop (suc n) (f ∷ fs) now can = can-drop n fs now can.1
+
+-- of a list that ends so, the last leads back, and then the others do
+pub can-last : (fs : List Former) (f : Former) (now : LedgerState) → CanAllGoBack (fs ++ f ∷ []) now → CanGoBack now f × CanAllGoBack fs (state_before now f)
+can-last [] f now can = (can.0, tt)
+can-last (g ∷ fs) f now can =
+    let rest = can-last fs f now can.1 in
+    (rest.0, (subst (λ l. CanGoBack l g) (earliest-append fs (f ∷ []) now) can.0, rest.1))
+
+pub can-take : (n : ℕ) (fs : List Former) (now : LedgerState) → CanAllGoBack fs now → CanAllGoBack (take n fs) (earliest (drop n fs) now)
+can-take zero fs now can = tt
+can-take (suc n) [] now can = tt
+can-take (suc n) (f ∷ fs) now can = (subst (λ l. CanGoBack l f) (sym (earliest-take n fs now)) can.0, can-take n fs now can.1)
+
+-- with one more, but for the oldest where there are too many
+pub states-latest : (fs : List Former) (f : Former) (new old : LedgerState) → LeadsBack new f old
+    → states_of (latest (fs ++ f ∷ [])) new ≡ latest (states_of fs old ++ old ∷ [])
+states-latest fs f new old leads =
+    let all : List Former = fs ++ f ∷ [] in
+    states-drop (length all - 2160) all new
+    ∙ ap (λ n. drop (n - 2160) (states_of all new)) (sym (length-states all new))
+    ∙ ap latest (states-push fs f new old leads)

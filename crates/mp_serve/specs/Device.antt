@@ -1,0 +1,22 @@
+-- What a conversation is held over: lines come in, and their answers go out.
+use Rattle.std.specs.Prelude.{◌≡◌, Result, Ok, Err}
+use Rattle.mp_serve.specs.declared.device.Turn.{Turn}
+use Rattle.mp_serve.specs.declared.device.Turn.TheVariants.{Listens, Owes, Failed}
+use Rattle.mp_text.specs.declared.line_input.LineRead.{LineRead}
+use Rattle.mp_text.specs.declared.line_input.LineRead.TheVariants.{End}
+use Rattle.mp_serve.specs.declared.fault.Fault.{Fault}
+use Rattle.mp_serve.specs.declared.fault.Fault.TheVariants as faults
+
+-- a line that was read is to be answered
+abbrev pub turn_after : LineRead → Turn
+turn_after End = Listens
+turn_after found = Owes
+
+-- A conversation ends where the input does, and all is answered and handed on; else only where the device fails, but for no memory
+-- before the first line and lines that can't be counted any more.
+abbrev pub EndsAt : Result (Unit {0}) Fault → Turn → Type 0
+EndsAt (Ok u) turn = turn ≡ Listens
+EndsAt (Err faults.NoMemory) turn = turn ≡ Listens
+EndsAt (Err faults.ManyLines) turn = turn ≡ Listens
+EndsAt (Err faults.ReadFault) turn = turn ≡ Failed
+EndsAt (Err faults.WriteFault) turn = turn ≡ Failed
