@@ -14,7 +14,7 @@ _keltuvar_offer_files() {
 _keltuvar() {
   local cur=${COMP_WORDS[COMP_CWORD]} option=${COMP_WORDS[COMP_CWORD - 1]}
   COMPREPLY=()
-  # bash splits --option=value into three words.
+  # An option, an equals sign and a value are three words to bash.
   if [[ $cur == = ]]; then
     cur=
   elif [[ $option == = ]]; then
