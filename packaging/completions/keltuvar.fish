@@ -1,0 +1,22 @@
+# Completes the command line of keltuvar in fish.
+
+set -l commands run race audit serve
+
+complete -c keltuvar -f
+complete -c keltuvar -s h -l help -d 'Write help'
+complete -c keltuvar -n "not __fish_seen_subcommand_from $commands" -s V -l version -d 'Write the version'
+complete -c keltuvar -n "not __fish_seen_subcommand_from $commands" -a run -d 'Run a scenario and write its answers'
+complete -c keltuvar -n "not __fish_seen_subcommand_from $commands" -a race -d 'Deal a scenario to workers that race for one pool'
+complete -c keltuvar -n "not __fish_seen_subcommand_from $commands" -a audit -d 'Report whether a history is legal over a scenario'
+complete -c keltuvar -n "not __fish_seen_subcommand_from $commands" -a serve -d 'Hold a conversation with a pool'
+
+complete -c keltuvar -n '__fish_seen_subcommand_from run race audit' -F
+complete -c keltuvar -n '__fish_seen_subcommand_from run race audit' -l explain -d 'Report what is wrong with a bad line'
+
+complete -c keltuvar -n '__fish_seen_subcommand_from race' -l workers -x -d 'How many workers race, from 1 to 64'
+complete -c keltuvar -n '__fish_seen_subcommand_from race' -l history -r -F -d 'Also write the history of the race'
+complete -c keltuvar -n '__fish_seen_subcommand_from race' -l svg -r -F -d 'Also write a picture of the race'
+complete -c keltuvar -n '__fish_seen_subcommand_from race' -l verify-us -x -d 'How many microseconds each check of a signature takes'
+
+complete -c keltuvar -n '__fish_seen_subcommand_from serve' -l signatures -x -a 'scenarios checked' -d 'Which signatures to accept'
+complete -c keltuvar -n '__fish_seen_subcommand_from serve' -l salt -x -d "A number that salts the pool's tables"
