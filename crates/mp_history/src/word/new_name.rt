@@ -1,5 +1,5 @@
 //! Names that no pool has yet.
-ghost use Rattle.std.specs.Prelude.{◌≡◌, true};
+ghost use Rattle.std.specs.Prelude.{◌≡◌};
 ghost use Rattle.logbook.specs.Pages.{may_make};
 ghost use Rattle.mp_history.specs.PoolName.{head_of};
 
@@ -48,9 +48,7 @@ pub(crate) fn add_cell(own: &Word<Noted, u64, Law>, seen: &Seen<Noted, u64, Law>
 
 impl NewName {
     /// A name that no other pool has. It takes no memory.
-    pub fn new() -> NewName
-        ensures { result.tracked ≡ true }
-    {
+    pub fn new() -> NewName {
         let (seen, mut first, _second) = Seen::open(Start::alone(), 0, 0);
         let own = Word::tracked(0, &mut first);
         let pen = add_cell(&own, &seen);
