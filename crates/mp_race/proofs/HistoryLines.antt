@@ -16,10 +16,6 @@ use Rattle.mp_race.specs.Inside.HistoryReading.{IsApart}
 use Rattle.mp_race.specs.Inside.HistoryWords.{Words, number_in, small_in, ticket_in, and_others, tickets_in, first_or_zero, lists_in, reply_in, kind_in, numbers_in, front_in, told_of_front, told_in, entries_in, if_workers, workers_in, head_in, Front}
 use Rattle.mp_race.proofs.Spelling.{IsPlain, IsPlainWord, ArePlain, spaced, words-front, words-spaced, IsUnbroken, lines-front, unbroken-line, plain-decimal, number-decimal}
 
--- the tickets so far, and then these
-abbrev pub with_tickets : List ℕ → List ℕ × Words → List ℕ × Words
-with_tickets done found = (done ++ found.0, found.1)
-
 -- Numbers and tickets.
 
 number_in-decimal : (n : ℕ) (words : Words) → n < 2 ^ 64 → number_in (decimal n ∷ words) ≡ Some (n, words)
