@@ -11,7 +11,7 @@ use Rattle.mp_seqpool.specs.declared.command.Reply.{Reply}
 use Rattle.mp_seqpool.specs.declared.command.Reply.TheVariants.{Accepted, Removed, Synced}
 use Rattle.mp_answers.specs.AnswerText.{number_text, tickets_text, reply_text}
 use Rattle.mp_race.specs.declared.told.Told.{Told}
-use Rattle.mp_race.specs.HistoryText.{head_line, head_text, told_line, told_text, AreTickets, HasTickets, IsTellable, HasNoEntry, HasNoHead}
+use Rattle.mp_race.specs.HistoryText.{head_line, head_text, told_line, told_text, lines_text, AreTickets, HasTickets, IsTellable, HasNoEntry, HasNoHead}
 use Rattle.mp_race.specs.Inside.HistoryReading.{IsApart}
 use Rattle.mp_race.specs.Inside.HistoryWords.{Words, number_in, small_in, ticket_in, and_others, tickets_in, first_or_zero, lists_in, reply_in, kind_in, numbers_in, front_in, told_of_front, told_in, entries_in, if_workers, workers_in, head_in, Front}
 use Rattle.mp_race.proofs.Spelling.{IsPlain, IsPlainWord, ArePlain, spaced, words-front, words-spaced, IsUnbroken, lines-front, unbroken-line, plain-decimal, number-decimal}
@@ -166,6 +166,16 @@ no_entry-other text line others t lines told apart = λ u rest is begins.
     let some = first-told text line others u rest lines is begins in
     let same : u ≡ t = Prim.cc in
     apart rest (subst (λ (v : Told). text ≡ told_text v ++ rest) same begins)
+
+-- The lines of entries.
+
+lines-push : (told : List Told) (t : Told) → lines_text (told ++ t ∷ []) ≡ lines_text told ++ told_text t
+lines-push told t = flat_map-append told_text told (t ∷ []) ∙ ap (λ l. lines_text told ++ l) (append-nil (told_text t))
+
+-- one more line is read
+pub reads-more : (text : List ℕ) (told : List Told) (t : Told) (rest after : List ℕ) → text ≡ lines_text told ++ rest → rest ≡ told_text t ++ after → text ≡ lines_text (told ++ t ∷ []) ++ after
+reads-more text told t rest after reads begins =
+    reads ∙ ap (λ l. lines_text told ++ l) begins ∙ sym (append_assoc (lines_text told) (told_text t) after) ∙ ap (λ l. l ++ after) (sym (lines-push told t))
 
 -- The first line of a history.
 

@@ -3,7 +3,7 @@ use Rattle.std.proofs.Common.{◌≡◌, ℕ, ◌+◌, ◌^◌, ◌<◌, ◌≤�
 use Rattle.std.specs.Prelude.{Option, IfSome, option_and_then}
 use Rattle.std.proofs.lemmas.Bool.Decides.{nat_tests}
 use Rattle.mp_text.specs.Numbers.{are_digits, value_of_digits, number_of, if_below}
-use Rattle.mp_seqpool.specs.declared.command.Reply.{Reply}
+use Rattle.mp_seqpool.specs.declared.command.Reply.TheVariants.{Accepted, Removed, Synced}
 use Rattle.mp_race.specs.declared.told.Told.{Told}
 use Rattle.mp_race.specs.HistoryText.{AreTickets, HasTickets, IsTellable}
 use Rattle.mp_race.specs.Inside.HistoryWords.{Words, number_in, small_in, ticket_in, and_others, tickets_in, first_or_zero, is_word, lists_in, reply_in, kind_in, numbers_in, front_in, told_of_front, told_in, Front}
@@ -20,22 +20,27 @@ number-fits word = elim (are_digits 20 word) as (λ t. IfSome (cond t (if_below 
   | false ↦ tt
 ]
 
--- the number that a word writes, and what stands behind it
-number_in-fits : (words : Words) → IfSome (number_in words) (λ f. f.0 < 2 ^ 64)
-number_in-fits [] = tt
-number_in-fits (word ∷ words) = elim (number_of word) as (λ o. IfSome o (λ n. n < 2 ^ 64) → IfSome (option_map (λ n. (n, words)) o) (λ f. f.0 < 2 ^ 64)) [
-  | None ↦ λ is. tt
-  | Some n ↦ λ is. is
-] (number-fits word)
+-- what holds of what is found holds of what comes of it
+after : {X Y : Type 0} (P : X → Type 0) (Q : Y → Type 0) (f : X → Option Y) (o : Option X) → IfSome o P → ((x : X) → P x → IfSome (f x) Q) → IfSome (option_and_then f o) Q
+after P Q f None is then = tt
+after P Q f (Some x) is then = then x is
 
-small_in-fits : (words : Words) → IfSome (small_in words) (λ f. f.0 < 2 ^ 32)
-small_in-fits words = elim (number_in words) as (λ o. IfSome (option_and_then (λ f. option_map (λ n. (n, f.1)) (if_below (2 ^ 32) f.0)) o) (λ f. f.0 < 2 ^ 32)) [
-  | None ↦ tt
-  | Some f ↦ elim (if_below (2 ^ 32) f.0) as (λ o. IfSome o (λ n. n < 2 ^ 32) → IfSome (option_map (λ n. (n, f.1)) o) (λ g. g.0 < 2 ^ 32)) [
-    | None ↦ λ is. tt
-    | Some n ↦ λ is. is
-  ] (below-fits (2 ^ 32) f.0)
-]
+mapped : {X Y : Type 0} (P : X → Type 0) (Q : Y → Type 0) (f : X → Y) (o : Option X) → IfSome o P → ((x : X) → P x → Q (f x)) → IfSome (option_map f o) Q
+mapped P Q f None is then = tt
+mapped P Q f (Some x) is then = then x is
+
+-- the number that a word writes, and what stands behind it
+abbrev IsNarrow : ℕ → ℕ × Words → Type 0
+IsNarrow bound found = found.0 < bound
+
+number_in-fits : (words : Words) → IfSome (number_in words) (IsNarrow (2 ^ 64))
+number_in-fits [] = tt
+number_in-fits (word ∷ words) = mapped (λ n. n < 2 ^ 64) (IsNarrow (2 ^ 64)) (λ n. (n, words)) (number_of word) (number-fits word) (λ n is. is)
+
+small_in-fits : (words : Words) → IfSome (small_in words) (IsNarrow (2 ^ 32))
+small_in-fits words =
+    after (IsNarrow (2 ^ 64)) (IsNarrow (2 ^ 32)) (λ f. option_map (λ n. (n, f.1)) (if_below (2 ^ 32) f.0)) (number_in words) (number_in-fits words)
+    (λ f is. mapped (λ n. n < 2 ^ 32) (IsNarrow (2 ^ 32)) (λ n. (n, f.1)) (if_below (2 ^ 32) f.0) (below-fits (2 ^ 32) f.0) (λ n small. small))
 
 ticket-fits : (least : ℕ) (word : List ℕ) → IfSome (ticket_in least word) (λ n. (least ≤ n) × (n < 2 ^ 64))
 ticket-fits least word = elim (number_of word) as (λ o. IfSome o (λ n. n < 2 ^ 64) → IfSome (option_and_then (λ n. cond (nat_le least n) (Some n) None) o) (λ n. (least ≤ n) × (n < 2 ^ 64))) [
@@ -54,22 +59,22 @@ tickets-fit least (word ∷ words) = elim (ticket_in least word) as (λ o. IfSom
 ] (ticket-fits least word)
 
 zero-fits : (words : Words) → first_or_zero (number_in words) < 2 ^ 64
-zero-fits words = elim (number_in words) as (λ o. IfSome o (λ f. f.0 < 2 ^ 64) → first_or_zero o < 2 ^ 64) [
+zero-fits words = elim (number_in words) as (λ o. IfSome o (IsNarrow (2 ^ 64)) → first_or_zero o < 2 ^ 64) [
   | None ↦ λ is. omega arith
   | Some f ↦ λ is. is
 ] (number_in-fits words)
 
 lists-fit : (kind : List ℕ) (words : Words) → HasTickets (lists_in kind (tickets_in 0 words))
 lists-fit kind words =
-    let first = tickets-fit 0 words in
-    let second = tickets-fit 0 (tickets_in 0 words).1 in
-    elim (is_word kind (codes "removed")) as (λ t. HasTickets (cond t _ _)) [
-      | true ↦ (first, second)
-      | false ↦ (first, second)
+    let first : List ℕ × Words = tickets_in 0 words in
+    let second : List ℕ × Words = tickets_in 0 first.1 in
+    elim (is_word kind (codes "removed")) as (λ t. HasTickets (cond t (Removed first.0 second.0) (Synced first.0 second.0))) [
+      | true ↦ (tickets-fit 0 words, tickets-fit 0 first.1)
+      | false ↦ (tickets-fit 0 words, tickets-fit 0 first.1)
     ]
 
 reply-fits : (kind : List ℕ) (words : Words) → HasTickets (reply_in kind words)
-reply-fits kind words = elim (is_word kind (codes "accepted")) as (λ t. HasTickets (cond t _ (lists_in kind (tickets_in 0 words)))) [
+reply-fits kind words = elim (is_word kind (codes "accepted")) as (λ t. HasTickets (cond t (Accepted (first_or_zero (number_in words))) (lists_in kind (tickets_in 0 words)))) [
   | true ↦ zero-fits words
   | false ↦ lists-fit kind words
 ]
@@ -84,16 +89,11 @@ kind_in-fits : (place worker task : ℕ) (words : Words) → place < 2 ^ 64 → 
 kind_in-fits place worker task [] p w t = tt
 kind_in-fits place worker task (kind ∷ words) p w t = record { place = p; worker = w; task = t }
 
--- what holds of what is found holds of what comes of it
-after : {X Y : Type 0} (P : X → Type 0) (Q : Y → Type 0) (f : X → Option Y) (o : Option X) → IfSome o P → ((x : X) → P x → IfSome (f x) Q) → IfSome (option_and_then f o) Q
-after P Q f None is then = tt
-after P Q f (Some x) is then = then x is
-
 numbers_in-fit : (words : Words) → IfSome (numbers_in words) Fits
 numbers_in-fit words =
-    after (λ (p : ℕ × Words). p.0 < 2 ^ 64) Fits _ (number_in words) (number_in-fits words) (λ p is.
-        after (λ (w : ℕ × Words). w.0 < 2 ^ 32) Fits _ (small_in p.1) (small_in-fits p.1) (λ w small.
-            after (λ (t : ℕ × Words). t.0 < 2 ^ 64) Fits _ (number_in w.1) (number_in-fits w.1) (λ t fits. kind_in-fits p.0 w.0 t.0 t.1 is small fits)))
+    after (IsNarrow (2 ^ 64)) Fits _ (number_in words) (number_in-fits words) (λ p is.
+        after (IsNarrow (2 ^ 32)) Fits _ (small_in p.1) (small_in-fits p.1) (λ w small.
+            after (IsNarrow (2 ^ 64)) Fits _ (number_in w.1) (number_in-fits w.1) (λ t fits. kind_in-fits p.0 w.0 t.0 t.1 is small fits)))
 
 front_in-fits : (words : Words) → IfSome (front_in words) Fits
 front_in-fits [] = tt

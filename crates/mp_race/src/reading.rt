@@ -3,7 +3,6 @@
 ghost use Rattle.std.specs.Prelude.{◌≡◌, ◌≤◌, IfOk, IfSome, option_map};
 ghost use Rattle.mp_text.specs.Words.{words_of};
 ghost use Rattle.mp_text.specs.Numbers.{number_of};
-ghost use Rattle.mp_race.specs.HistoryText.{IsTellable};
 ghost use Rattle.mp_race.specs.Inside.HistoryFront.{front_of};
 ghost use Rattle.mp_race.specs.Inside.HistoryWords as told;
 
@@ -127,8 +126,7 @@ fn read_reply(memory: Memory, kind: &[u8], words: &[u8]) -> Result<Reply, NoMemo
 
 /// The entry that the line seems to tell.
 pub fn read_told(memory: Memory, line: &[u8]) -> Result<Option<Told>, NoMemory>
-    ensures told { IfOk result (λ found. found ≡ told.told_in (words_of line.now)) }
-    ensures tellable { IfOk result (λ found. IfSome found IsTellable) }
+    ensures { IfOk result (λ found. found ≡ told.told_in (words_of line.now)) }
 {
     let Some(front) = read_front(line) else {
         return Ok(None);
