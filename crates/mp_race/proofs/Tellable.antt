@@ -1,10 +1,9 @@
 -- What the words of a line tell is as wide as it may be.
-use Rattle.std.proofs.Common.{◌≡◌, ℕ, ◌+◌, ◌^◌, ◌<◌, ◌≤◌, Bool, true, false, cond, List, [], ◌∷◌, refl, sym, ap, subst, ◌∙◌, arith, Some, None, codes, nat_lt, nat_le, option_map}
+use Rattle.std.proofs.Common.{◌≡◌, ℕ, ◌+◌, ◌^◌, ◌<◌, ◌≤◌, true, false, cond, List, [], ◌∷◌, refl, arith, Some, None, codes, nat_lt, nat_le, option_map}
 use Rattle.std.specs.Prelude.{Option, IfSome, option_and_then}
 use Rattle.std.proofs.lemmas.Bool.Decides.{nat_tests}
 use Rattle.mp_text.specs.Numbers.{are_digits, value_of_digits, number_of, if_below}
 use Rattle.mp_seqpool.specs.declared.command.Reply.TheVariants.{Accepted, Removed, Synced}
-use Rattle.mp_race.specs.declared.told.Told.{Told}
 use Rattle.mp_race.specs.HistoryText.{AreTickets, HasTickets, IsTellable}
 use Rattle.mp_race.specs.Inside.HistoryWords.{Words, number_in, small_in, ticket_in, and_others, tickets_in, first_or_zero, is_word, lists_in, reply_in, kind_in, numbers_in, front_in, told_of_front, told_in, Front}
 
@@ -92,8 +91,8 @@ kind_in-fits place worker task (kind ∷ words) p w t = record { place = p; work
 numbers_in-fit : (words : Words) → IfSome (numbers_in words) Fits
 numbers_in-fit words =
     after (IsNarrow (2 ^ 64)) Fits _ (number_in words) (number_in-fits words) (λ p is.
-        after (IsNarrow (2 ^ 32)) Fits _ (small_in p.1) (small_in-fits p.1) (λ w small.
-            after (IsNarrow (2 ^ 64)) Fits _ (number_in w.1) (number_in-fits w.1) (λ t fits. kind_in-fits p.0 w.0 t.0 t.1 is small fits)))
+    after (IsNarrow (2 ^ 32)) Fits _ (small_in p.1) (small_in-fits p.1) (λ w small.
+    after (IsNarrow (2 ^ 64)) Fits _ (number_in w.1) (number_in-fits w.1) (λ t fits. kind_in-fits p.0 w.0 t.0 t.1 is small fits)))
 
 front_in-fits : (words : Words) → IfSome (front_in words) Fits
 front_in-fits [] = tt

@@ -1,10 +1,9 @@
-use Rattle.std.proofs.Common.{◌≡◌, sym, ap, subst, ◌∙◌}
+use Rattle.std.proofs.Common.{sym, subst, ◌∙◌}
 use Rattle.std.specs.Prelude.{All}
 use Rattle.std.proofs.lemmas.List.Sorted.{All-permutation}
 use Rattle.mp_seqpool.specs.Pool.{Pool}
 use Rattle.mp_history.specs.Log.{IsLegal}
 use Rattle.mp_mempool.specs.Opening.{fresh_log}
-use Rattle.mp_race.specs.Scenario.{Scenario}
 use Rattle.mp_race.specs.Race.{IsRace}
 use Rattle.mp_race.specs.History.{AreEntriesOf}
 use Rattle.mp_race.specs.Refusals.{IsRefusal, IsUntold}

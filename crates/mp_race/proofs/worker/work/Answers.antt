@@ -36,9 +36,9 @@ loop-place-preserved g c = λ opening unused.
           does accepts callers workers opening before p ds rs h.0 k (task_of d) w.do_task.new.pass w.do_task.new.done.items w.do_task.new.refused.items (sym len) its did in (
             subst (λ l. HasMade accepts workers opening l c.if-place-workers.pass c.if-place-workers.done.items c.if-place-workers.refused.items) (sym tasks_more) (
                 subst (λ q. HasMade accepts workers opening (before ++ task_of d ∷ []) q c.if-place-workers.done.items c.if-place-workers.refused.items) (sym w.pass-is) (
-                    subst (λ es. HasMade accepts workers opening (before ++ task_of d ∷ []) w.do_task.new.pass es.items c.if-place-workers.refused.items) (sym w.done-is)
-                    (subst (λ ss. HasMade accepts workers opening (before ++ task_of d ∷ []) w.do_task.new.pass w.do_task.new.done.items ss.items) (sym w.refused-is) after)
-                    )
+                subst (λ es. HasMade accepts workers opening (before ++ task_of d ∷ []) w.do_task.new.pass es.items c.if-place-workers.refused.items) (sym w.done-is)
+                (subst (λ ss. HasMade accepts workers opening (before ++ task_of d ∷ []) w.do_task.new.pass w.do_task.new.done.items ss.items) (sym w.refused-is) after)
+                )
                 ),
             ap (λ (q : Pass). q.caller) w.pass-is ∙ same_caller accepts callers workers opening p ds rs k (task_of d) w.do_task.new.pass w.do_task.new.done.items w.do_task.new.refused.items did ∙ h.1,
           )
@@ -48,9 +48,9 @@ loop-place-preserved g c = λ opening unused.
           let after : HasMade accepts workers opening (before ++ task_of d ∷ []) p ds rs = skips accepts callers workers opening before (task_of d) p ds rs others h.0 in (
             subst (λ l. HasMade accepts workers opening l c.if-place-workers.pass c.if-place-workers.done.items c.if-place-workers.refused.items) (sym tasks_more) (
                 subst (λ q. HasMade accepts workers opening (before ++ task_of d ∷ []) q c.if-place-workers.done.items c.if-place-workers.refused.items) (sym w.pass-is) (
-                    subst (λ es. HasMade accepts workers opening (before ++ task_of d ∷ []) p es.items c.if-place-workers.refused.items) (sym w.done-is)
-                    (subst (λ ss. HasMade accepts workers opening (before ++ task_of d ∷ []) p ds ss.items) (sym w.refused-is) after)
-                    )
+                subst (λ es. HasMade accepts workers opening (before ++ task_of d ∷ []) p es.items c.if-place-workers.refused.items) (sym w.done-is)
+                (subst (λ ss. HasMade accepts workers opening (before ++ task_of d ∷ []) p ds ss.items) (sym w.refused-is) after)
+                )
                 ),
             ap (λ (q : Pass). q.caller) w.pass-is ∙ h.1,
           )

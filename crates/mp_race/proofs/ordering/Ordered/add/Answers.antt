@@ -1,4 +1,4 @@
-use Rattle.std.proofs.Common.{◌≡◌, ◌≤◌, ◌%◌, List, [], ◌∷◌, ◌++◌, length, get_or, ap, subst, ◌∙◌, rules}
+use Rattle.std.proofs.Common.{◌≡◌, ◌≤◌, ◌%◌, [], ◌∷◌, ◌++◌, length, get_or, ap, subst, ◌∙◌, rules}
 use Rattle.mp_race.specs.declared.told.Done.{Done}
 use Rattle.mp_race.specs.declared.told.Told.{Told}
 use Rattle.mp_race.specs.History.{next_after}
