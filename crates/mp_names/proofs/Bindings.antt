@@ -1,5 +1,5 @@
 -- Bindings under numbers, with a table of these for names and one for ids.
-use Rattle.std.proofs.Common.{◌≡◌, ℕ, ◌+◌, ◌<◌, Bool, true, false, not, cond, List, [], ◌∷◌, ◌++◌, length, nat_eq, Option, Some, None, refl, sym, ap, subst, ◌∙◌, arith, true≢false}
+use Rattle.std.proofs.Common.{◌≡◌, ℕ, ◌+◌, Bool, true, false, not, cond, List, [], ◌∷◌, ◌++◌, length, nat_eq, Option, Some, None, refl, sym, ap, subst, ◌∙◌, arith, true≢false}
 use Rattle.std.specs.Prelude.{option_and_then, slice_get, find, filter, is_some}
 use Rattle.std.specs.Option.{option_map_or}
 use Rattle.std.specs.Cmp.Lexicographic.{pointwise}
@@ -9,8 +9,8 @@ use Rattle.mp_names.specs.declared.names.NamedBinding.{NamedBinding}
 use Rattle.mp_names.specs.Names.{has_id}
 use Rattle.mp_names.specs.Inside.NumberTable.{Numbered, numbers_at, without_number, is_key, Puts, Takes, AreSame, IsNew}
 use Rattle.mp_names.specs.Inside.BindingTable.{has_name, has_tx_id, bound_id, numbers_of, AreNumbered, without_first}
-use Rattle.mp_names.proofs.Numbering.{at, without, between-push, between-without, numbers-push, numbers-without, lacks_next, find-first}
-use Rattle.mp_names.proofs.NumberTables.{put-taken}
+use Rattle.std.specs.Map.{values_of}
+use Rattle.mp_names.proofs.Numbering.{at, without, between-push, between-without, numbers-push, numbers-without, lacks_next, find-first, first-none, values-without}
 
 -- a transaction is found by its id, and an output by none
 pub id_key : (n : NamedBinding) (q : List ℕ) → is_key (bound_id n.binding) q ≡ has_tx_id q n
@@ -60,6 +60,30 @@ module _ {Z : Type 0} (es : List (ℕ × NamedBinding)) (next : ℕ) (names ids 
         ∙ sym (numbers-without (has_tx_id q) 0 es next number n numbered.between found);
   })
 
+  -- what the first number under a name leads to
+  first-at : (word : List ℕ) (all : List NamedBinding) (first : Option ℕ) → values_of es ≡ all → first ≡ slice_get (numbers_at names word) 0 → find (has_name word) all ≡ option_and_then (at es) first
+  first-at word all first view is =
+      ap (find (has_name word)) (sym view) ∙ find-first (has_name word) 0 es next numbered.between
+      ∙ ap (λ ns. option_and_then (at es) (slice_get ns 0)) (sym (numbered.names word)) ∙ ap (option_and_then (at es)) (sym is)
+
+  pub first-found : (word : List ℕ) (all : List NamedBinding) (number : ℕ) (n : NamedBinding) → values_of es ≡ all → Some number ≡ slice_get (numbers_at names word) 0 → at es number ≡ Some n
+      → true ≡ is_some (find (has_name word) all)
+  first-found word all number n view is here = sym (ap is_some (first-at word all (Some number) view is ∙ here))
+
+  pub first-left : (word : List ℕ) (all : List NamedBinding) (new_es : List (ℕ × NamedBinding)) (number : ℕ) → values_of es ≡ all → Some number ≡ slice_get (numbers_at names word) 0 → new_es ≡ without es number
+      → values_of new_es ≡ without_first (has_name word) all
+  first-left word all new_es number view is gone =
+      ap values_of gone
+      ∙ values-without (has_name word) 0 es next number numbered.between (ap (λ ns. slice_get ns 0) (sym (numbered.names word)) ∙ sym is)
+      ∙ ap (without_first (has_name word)) view
+
+  -- no number leads to a binding
+  pub none-found : (word : List ℕ) (all : List NamedBinding) (first : Option ℕ) → values_of es ≡ all → first ≡ slice_get (numbers_at names word) 0 → option_and_then (at es) first ≡ None → false ≡ is_some (find (has_name word) all)
+  none-found word all first view is none = sym (ap is_some (first-at word all first view is ∙ none))
+
+  pub none-left : (word : List ℕ) (all : List NamedBinding) (first : Option ℕ) → values_of es ≡ all → first ≡ slice_get (numbers_at names word) 0 → option_and_then (at es) first ≡ None → all ≡ without_first (has_name word) all
+  none-left word all first view is none = first-none (has_name word) all (first-at word all first view is ∙ none)
+
 -- ---- without those with a name, one by one
 
 is_none_is : (o : Option NamedBinding) → is_some o ≡ false → o ≡ None
@@ -82,6 +106,10 @@ none_left false b xs ys o e more = ap (λ l. b ∷ l) (more e)
 pub filter-none : (test : NamedBinding → Bool) (xs : List NamedBinding) → is_some (find test xs) ≡ false → filter (λ n. not (test n)) xs ≡ xs
 filter-none test [] e = refl
 filter-none test (x ∷ xs) e = none_left (test x) x xs (filter (λ n. not (test n)) xs) (find test xs) e (filter-none test xs)
+
+-- where none passes, the last step leaves all
+pub forgotten : (test : NamedBinding → Bool) (old new : List NamedBinding) → is_some (find test old) ≡ false → new ≡ without_first test old → new ≡ filter (λ n. not (test n)) old
+forgotten test old new none is = is ∙ sym (first-none test old (is_none_is (find test old) none)) ∙ sym (filter-none test old none)
 
 one_less : (t : Bool) (b : NamedBinding) (xs ys : List NamedBinding) (o : Option NamedBinding) → is_some (cond t (Some b) o) ≡ true → (is_some o ≡ true → length ys + 1 ≡ length xs) → length (cond t xs (b ∷ ys)) + 1 ≡ length (b ∷ xs)
 one_less true b xs ys o e more = omega arith

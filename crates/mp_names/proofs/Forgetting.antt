@@ -1,8 +1,9 @@
 -- Names that go, one by one.
-use Rattle.std.proofs.Common.{◌≡◌, ℕ, ◌+◌, ◌<◌, Bool, true, false, not, cond, List, [], ◌∷◌, ◌++◌, length, take, get_or, refl, sym, ap, ◌∙◌}
+use Rattle.std.proofs.Common.{◌≡◌, ℕ, ◌+◌, ◌<◌, Bool, true, false, not, cond, List, [], ◌∷◌, ◌++◌, length, take, get_or, refl, sym, ap, ◌∙◌, arith, ◌≤◌}
 use Rattle.std.specs.Prelude.{filter, ◌||◌}
 use Rattle.std.proofs.lemmas.List.{take_more}
 use Rattle.std.proofs.lemmas.List.Elements.{filter_agree}
+use Rattle.std.proofs.lemmas.List.Filters.{length-filter_both}
 use Rattle.mp_names.specs.declared.names.NamedBinding.{NamedBinding}
 use Rattle.mp_names.specs.Reported.{Reported}
 use Rattle.mp_names.specs.Names.{Names, is_among, reported_left, without_bindings}
@@ -43,3 +44,8 @@ pub without-more : (names before after : Names) (goes : List (List ℕ)) (i : �
 without-more names before after goes i word lt here so_far gone =
     gone ∙ ap (λ b. without_bindings b (word ∷ [])) so_far ∙ without-without names (take i goes) (word ∷ [])
     ∙ ap (without_bindings names) (ap (λ w. take i goes ++ w ∷ []) here ∙ sym (take_more goes i word lt))
+
+pub without-shorter : (names after : Names) (goes : List (List ℕ)) → after ≡ without_bindings names goes → length after.bindings ≤ length names.bindings
+without-shorter names after goes is =
+    let left = ap (λ (n : Names). length n.bindings) is in
+    let both = length-filter_both (λ (n : NamedBinding). not (is_among goes n.name)) (λ (n : NamedBinding). not (not (is_among goes n.name))) (λ n. refl) names.bindings in omega (arith, left, both)

@@ -1,6 +1,6 @@
 -- Items under strictly increasing numbers.
 use Rattle.std.proofs.Common.{◌≡◌, ℕ, ◌+◌, ◌<◌, ◌≤◌, Bool, true, false, not, cond, List, [], ◌∷◌, ◌++◌, nat_eq, Option, Some, None, refl, sym, ap, ◌∙◌, arith}
-use Rattle.std.specs.Prelude.{option_and_then, slice_get, find, is_some}
+use Rattle.std.specs.Prelude.{option_and_then, slice_get, find}
 use Rattle.std.specs.Ordering.{nat_cmp, is_eq, match_ordering}
 use Rattle.std.specs.declared.cmp.Ordering.TheVariants.{Greater}
 use Rattle.std.specs.Cmp.{tied_itself, nat_cmp_total}
@@ -189,6 +189,21 @@ module _ {X : Type 0} where
   values-all test [] is = refl
   values-all test (e ∷ es) is = none_gone (test e.1) e (numbers_of test es) (values_of es) (without_first test (values_of es)) is (values-all test es)
 
+  same_item : (x y : X) → Some x ≡ Some y → x ≡ y
+  same_item x y e = Prim.cc
+
+  no_item : (x : X) → None ≡ Some x → ⊥
+  no_item x e = Prim.cc
+
+  none_first : (t : Bool) (x : X) (xs ys : List X) (o : Option X) → cond t (Some x) o ≡ None → (o ≡ None → xs ≡ ys) → x ∷ xs ≡ cond t xs (x ∷ ys)
+  none_first true x xs ys o here more = absurd (no_item x (sym here))
+  none_first false x xs ys o later more = ap (λ l. x ∷ l) (more later)
+
+  -- the same of a list
+  pub first-none : (test : X → Bool) (xs : List X) → find test xs ≡ None → xs ≡ without_first test xs
+  first-none test [] is = refl
+  first-none test (x ∷ xs) is = none_first (test x) x xs (without_first test xs) (find test xs) is (first-none test xs)
+
   between_gone : (t : Bool) (least : ℕ) (e : ℕ × X) (es rest : List (ℕ × X)) (next : ℕ) → AreBetween least (e ∷ es) next → AreBetween (e.0 + 1) rest next → AreBetween least (cond t es (e ∷ rest)) next
   between_gone true least e es rest next b more = between-lower least (e.0 + 1) es next (omega (arith, b.0)) b.1
   between_gone false least e es rest next b more = (b.0, more)
@@ -196,12 +211,6 @@ module _ {X : Type 0} where
   pub between-without : (least : ℕ) (es : List (ℕ × X)) (next n : ℕ) → AreBetween least es next → AreBetween least (without es n) next
   between-without least [] next n b = b
   between-without least (e ∷ es) next n b = between_gone (is_eq (nat_cmp n e.0)) least e es (without es n) next b (between-without (e.0 + 1) es next n b.1)
-
-  same_item : (x y : X) → Some x ≡ Some y → x ≡ y
-  same_item x y e = Prim.cc
-
-  no_item : (x : X) → None ≡ Some x → ⊥
-  no_item x e = Prim.cc
 
   numbers_gone : (test : X → Bool) (t : Bool) (e : ℕ × X) (es : List (ℕ × X)) (n : ℕ) (x : X) → is_eq (nat_cmp n e.0) ≡ t → cond t (Some e.1) (at es n) ≡ Some x
       → without_number e.0 (numbers_of test es) ≡ numbers_of test es

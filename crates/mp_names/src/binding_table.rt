@@ -118,7 +118,7 @@ fn binding_at(
 }
 
 impl BindingTable {
-    ghost use Rattle.std.specs.Prelude.{◌≡◌, ◌+◌, [], ◌∷◌, ◌++◌, length, find, filter, not, is_some, option_and_then, option_copied, OnOk, OnErr};
+    ghost use Rattle.std.specs.Prelude.{◌≡◌, [], ◌∷◌, ◌++◌, length, find, filter, not, is_some, option_and_then, option_copied, OnOk, OnErr};
     ghost use Rattle.mp_names.specs.Inside.BindingTable.{has_name, has_tx_id, without_first};
 
     /// No binding.
@@ -200,15 +200,17 @@ impl BindingTable {
         }
     }
 
-    /// Takes out the bindings with this name; the others stay in their order. Returns how many went.
-    pub fn forget(&mut self, word: &[u8]) -> usize
-        ensures left { self.new ≡ filter (λ n. not (has_name word.now n)) self.old }
-        ensures count { result + length self.new ≡ length self.old }
+    /// How many there are.
+    pub fn len(&self) -> usize
+        ensures { result ≡ length self.now }
     {
-        let mut count = 0;
-        while self.take_first(word) {
-            count += 1;
-        }
-        count
+        self.bindings.len()
+    }
+
+    /// Takes out the bindings with this name; the others stay in their order.
+    pub fn forget(&mut self, word: &[u8])
+        ensures { self.new ≡ filter (λ n. not (has_name word.now n)) self.old }
+    {
+        while self.take_first(word) {}
     }
 }

@@ -234,13 +234,18 @@ impl Names {
         Ok(())
     }
 
+    fn binding_count(&self) -> usize
+        ensures { result ≡ length self.now.bindings }
+    {
+        self.bindings.len()
+    }
+
     // From now on the word stands for no output and no transaction.
-    fn forget_name(&mut self, word: &[u8]) -> usize
-        ensures left { self.new ≡ without_bindings self.old (word.now ∷ []) }
-        ensures count { result + length self.new.bindings ≡ length self.old.bindings }
+    fn forget_name(&mut self, word: &[u8])
+        ensures { self.new ≡ without_bindings self.old (word.now ∷ []) }
     {
         unreport(&self.bindings, &mut self.reported, word);
-        self.bindings.forget(word)
+        self.bindings.forget(word);
     }
 
     /// From now on these names stand for no output and no transaction, no transaction is reported under them, and they may be
@@ -250,11 +255,11 @@ impl Names {
         ensures left { self.new ≡ without_bindings self.old goes.now }
         ensures count { result + length self.new.bindings ≡ length self.old.bindings }
     {
-        let mut count = 0;
+        let before = self.binding_count();
         for name in goes {
-            count += self.forget_name(name.as_bytes());
+            self.forget_name(name.as_bytes());
         }
-        count
+        before - self.binding_count()
     }
 
     // The id of the transaction that the word stands for, if it stands for one.

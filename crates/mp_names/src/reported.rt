@@ -1,6 +1,7 @@
 //! The names under which transactions are reported.
 
 ghost use Rattle.std.specs.Prelude.{◌≡◌};
+ghost use Rattle.mp_names.specs.Inside.Reported.{Removes};
 
 use crate::names::Name;
 use indexmap::IndexMap;
@@ -29,6 +30,12 @@ impl Model for ReportedNames {
     ghost coded = { Prim.hlevel (codes, finite.code) };
 
     ghost view = { λ r. finite.from_entries r.names.entries };
+}
+
+fn remove_name(names: &mut IndexMap<TxId, Name, Salt, Memory>, id: &TxId)
+    ensures { Removes names.old.entries id.now names.new.entries }
+{
+    let _ = names.swap_remove(id);
 }
 
 impl ReportedNames {
@@ -78,7 +85,7 @@ impl ReportedNames {
         ensures { self.new ≡ unreported self.old id.now word.now }
     {
         if self.is_under(id, word) {
-            let _ = self.names.swap_remove(id);
+            remove_name(&mut self.names, id);
         }
     }
 }

@@ -1,12 +1,17 @@
 -- What it is to change names under which transactions are reported.
-use Rattle.std.specs.Prelude.{◌≡◌, ℕ, Bool, true, false, nat_eq, List, Option, Some, find, option_map, if◌then◌else◌}
+use Rattle.std.specs.Prelude.{◌≡◌, ℕ, true, false, nat_eq, List, None, Some, find, if◌then◌else◌}
 use Rattle.std.specs.Option.{option_map_or}
 use Rattle.std.specs.Cmp.Lexicographic.{pointwise}
+use Rattle.std.specs.Map.{lookup}
 use Rattle.std.specs.FinMap.{get, remove}
 use Rattle.mp_names.specs.declared.names.NamedBinding.{NamedBinding}
 use Rattle.mp_names.specs.Reported.{Reported}
-use Rattle.mp_names.specs.Names.{bound_tx}
 use Rattle.mp_names.specs.Inside.BindingTable.{has_name, has_tx_id}
+
+-- the id has no entry, and each other one has what it had
+abbrev pub Removes : {X : Type 0} → List (List ℕ × X) → List ℕ → List (List ℕ × X) → Type 0
+Removes old id new =
+    (q : List ℕ) → lookup (pointwise nat_eq q) new ≡ (if pointwise nat_eq id q then None else lookup (pointwise nat_eq q) old)
 
 -- without the name of this id, if that is the word
 abbrev pub unreported : Reported → List ℕ → List ℕ → Reported

@@ -1,4 +1,4 @@
-use Rattle.std.proofs.Common.{◌≡◌, List, ℕ, [], ◌∷◌, ◌++◌, Some, sym, ap, ◌∙◌, rules}
+use Rattle.std.proofs.Common.{◌≡◌, List, ℕ, [], ◌∷◌, ◌++◌, Some, ap, ◌∙◌, rules}
 use Rattle.mp_names.specs.Inside.NumberTable.{numbers_at}
 use Rattle.mp_names.proofs.NumberTables.{numbers_in, numbers_after, puts_after, same_after, on_err}
 use Rattle.mp_names.proofs.number_table.put.Goals as goal

@@ -1,4 +1,4 @@
-use Rattle.std.proofs.Common.{◌≡◌, List, ℕ, [], ◌∷◌, Some, None, sym, ap, ◌∙◌, rules}
+use Rattle.std.proofs.Common.{◌≡◌, List, ℕ, [], Some, None, sym, ap, ◌∙◌, rules}
 use Rattle.mp_names.specs.Inside.NumberTable.{numbers_at, without_number}
 use Rattle.mp_names.proofs.NumberTables.{numbers_in, numbers_after, takes_after, twice_after}
 use Rattle.mp_names.proofs.number_table.take.Goals as goal

@@ -1,4 +1,4 @@
-use Rattle.std.proofs.Common.{◌≡◌, ℕ, List, ◌∷◌, [], ◌++◌, Some, sym, ap, subst, ◌∙◌}
+use Rattle.std.proofs.Common.{◌≡◌, ℕ, ◌∷◌, [], ◌++◌, Some, ap, subst, ◌∙◌}
 use Rattle.std.specs.Map.{values_of}
 use Rattle.mp_names.specs.declared.names.NamedBinding.{NamedBinding}
 use Rattle.mp_names.specs.Inside.NumberTable.{Takes}
@@ -29,9 +29,11 @@ invariant_of-self-in-Err c =
     let next : ℕ = c.self.inside.next in
     let names = c.self.inside.numbers.names.entries in
     let ids = c.self.inside.numbers.ids.entries in
+    let put = c.put_keys.new.numbers in
+    let left = c.take_keys.new.numbers in
     let back : c.in-Err.refused.value.1 ≡ c.args.named = ap (λ (p : ℕ × NamedBinding). p.1) c.in-Err.ensures.value_returned in
-    numbered-same es next names ids c.self.invariant c.insert.new.self.entries _ _ c.in-Err.ensures.err
-    (put-taken names _ _ (Some c.args.named.name) next (next_is_new es next names ids c.self.invariant) c.in_ok-put_keys.ensures.names
-    (subst (λ n. Takes _ (Some n.name) next _) back c.take_keys.ensures.names))
-    (put-taken ids _ _ (bound_id c.args.named.binding) next (next_is_new_id es next names ids c.self.invariant) c.in_ok-put_keys.ensures.ids
-    (subst (λ n. Takes _ (bound_id n.binding) next _) back c.take_keys.ensures.ids))
+    numbered-same es next names ids c.self.invariant c.insert.new.self.entries left.names.entries left.ids.entries c.in-Err.ensures.err
+    (put-taken names put.names.entries left.names.entries (Some c.args.named.name) next (next_is_new es next names ids c.self.invariant) c.in_ok-put_keys.ensures.names
+    (subst (λ n. Takes put.names.entries (Some n.name) next left.names.entries) back c.take_keys.ensures.names))
+    (put-taken ids put.ids.entries left.ids.entries (bound_id c.args.named.binding) next (next_is_new_id es next names ids c.self.invariant) c.in_ok-put_keys.ensures.ids
+    (subst (λ n. Takes put.ids.entries (bound_id n.binding) next left.ids.entries) back c.take_keys.ensures.ids))

@@ -1,4 +1,4 @@
-use Rattle.std.proofs.Common.{subst, sym, ◌∷◌, [], ◌++◌}
+use Rattle.std.proofs.Common.{subst, sym}
 use Rattle.mp_names.specs.Inside.Reported.{AreDeclared}
 use Rattle.mp_names.proofs.Reporting.{declared-push}
 use Rattle.mp_names.proofs.names.Names.declare.Goals as goal

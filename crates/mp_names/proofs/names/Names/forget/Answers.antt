@@ -1,21 +1,28 @@
-use Rattle.std.proofs.Common.{◌≡◌, ℕ, ◌+◌, List, ◌∷◌, [], take, refl, arith, ap, ◌∙◌}
+use Rattle.std.proofs.Common.{List, ℕ, ◌∷◌, [], take, ap, ◌∙◌, arith}
 use Rattle.std.proofs.lemmas.List.{take_all}
 use Rattle.mp_names.specs.Names.{without_bindings}
-use Rattle.mp_names.proofs.Forgetting.{without-none, without-more}
+use Rattle.mp_names.proofs.Forgetting.{without-none, without-more, without-shorter}
 use Rattle.mp_names.proofs.names.Names.forget.Goals as goal
 
 pub loop-name-init : goal.loop-name-init
-loop-name-init c = record { left = without-none c.args.self.now; count = refl }
+loop-name-init c = without-none c.args.self.now
 
 pub loop-name-preserved : goal.loop-name-preserved
 loop-name-preserved c =
     let goes : List (List ℕ) = c.args.goes.now in
     let word : List ℕ = c.name-item.result in
-    record {
-      left = without-more c.args.self.now c.loop-name.self c.forget_name.new.self goes c.loop-name.name-index word c.loop-name-test.true c.name-item.is c.loop-name.invariant.left
-          (c.forget_name.ensures.left ∙ ap (λ w. without_bindings c.loop-name.self (w ∷ [])) c.as_bytes.ensures);
-      count = omega (arith, c.forget_name.ensures.count, c.loop-name.invariant.count);
-    }
+    without-more c.args.self.now c.loop-name.self c.forget_name.new.self goes c.loop-name.name-index word c.loop-name-test.true c.name-item.is c.loop-name.invariant
+    (c.forget_name.ensures ∙ ap (λ w. without_bindings c.loop-name.self (w ∷ [])) c.as_bytes.ensures)
 
 pub returns-clause-left : goal.returns-clause-left
-returns-clause-left c = c.loop-name.invariant.left ∙ ap (without_bindings c.args.self.now) (take_all c.loop-name.name-index c.args.goes.now c.loop-name-test.false)
+returns-clause-left c = c.loop-name.invariant ∙ ap (without_bindings c.args.self.now) (take_all c.loop-name.name-index c.args.goes.now c.loop-name-test.false)
+
+pub overflow_sub-result : goal.overflow_sub-result
+overflow_sub-result c =
+    let shorter = without-shorter c.args.self.now c.loop-name.self (take c.loop-name.name-index c.args.goes.now) c.loop-name.invariant in
+    omega (arith, shorter, c.binding_count-before.ensures, c.binding_count.ensures)
+
+pub returns-clause-count : goal.returns-clause-count
+returns-clause-count c =
+    let shorter = without-shorter c.args.self.now c.loop-name.self (take c.loop-name.name-index c.args.goes.now) c.loop-name.invariant in
+    omega (arith, shorter, c.binding_count-before.ensures, c.binding_count.ensures)

@@ -1,10 +1,7 @@
-use Rattle.std.proofs.Common.{◌≡◌, ◌+◌, length, take}
+use Rattle.std.proofs.Common.{◌≡◌, take}
 use Rattle.mp_names.specs.Names.{without_bindings}
 use Rattle.mp_names.proofs.names.Names.forget.Given as goal
 
 -- the names so far are gone
 abbrev pub invariant-loop-name : goal.invariant-loop-name
-invariant-loop-name l = record {
-  left : l.self ≡ without_bindings l.fn.self (take l.name-index l.goes);
-  count : l.count + length l.self.bindings ≡ length l.fn.self.bindings;
-}
+invariant-loop-name l = l.self ≡ without_bindings l.fn.self (take l.name-index l.goes)
