@@ -1,5 +1,5 @@
 -- The receipts of all workers explain what each was answered.
-use Rattle.std.proofs.Common.{◌≡◌, ℕ, zero, suc, ◌+◌, ◌<◌, ◌≤◌, List, [], ◌∷◌, ◌++◌, length, take, get_or, sym, ap, subst, ◌∙◌, arith}
+use Rattle.std.proofs.Common.{◌≡◌, ℕ, zero, suc, ◌+◌, ◌<◌, ◌≤◌, List, [], ◌∷◌, ◌++◌, length, get_or, sym, ap, subst, ◌∙◌, arith}
 use Rattle.std.specs.Prelude.{All}
 use Rattle.std.proofs.lemmas.List.{take_all}
 use Rattle.std.proofs.lemmas.List.Elements.{All-head, All-tail, All-push, All-append, All-nil}
@@ -9,35 +9,39 @@ use Rattle.mp_history.specs.Entry.{Entry}
 use Rattle.mp_history.specs.Log.{Log, Begins, IsLegalLog, last_of}
 use Rattle.mp_reader.specs.Pass.{Pass}
 use Rattle.mp_race.specs.declared.told.Done.{Done}
+use Rattle.mp_race.specs.declared.told.Refused.{Refused}
 use Rattle.mp_race.specs.declared.ordering.Ordered.{Ordered}
 use Rattle.mp_race.specs.Task.{Task}
 use Rattle.mp_race.specs.Race.{own, dealt, Plays}
+use Rattle.mp_race.specs.Refusals.{IsRefusal}
 use Rattle.mp_race.specs.Inside.Work.{upto, made, IsDone, HasDone, HasMade, AreNumbered}
 use Rattle.mp_race.specs.Inside.Ordered.{IsOrdered}
 use Rattle.mp_race.specs.Inside.Gathered.{AreGathered, IsExplained}
 use Rattle.mp_race.proofs.Playing.{own-last, upto-append, begins-trans, plays_on}
-use Rattle.mp_race.proofs.Working.{done_on}
+use Rattle.mp_race.proofs.Working.{done_on, refused_on}
 
 module _ (accepts : Accepts) (workers : ℕ) (opening : Pool) (ts : List Task) where
   -- before any worker has come back
-  pub nobody : (log : Log) → log.opening ≡ opening → IsLegalLog accepts workers log → AreGathered accepts workers opening ts log [] []
+  pub nobody : (log : Log) → log.opening ≡ opening → IsLegalLog accepts workers log → AreGathered accepts workers opening ts log [] [] []
   nobody log is legal = record {
     opens = is;
     legal = legal;
     done = All-nil (HasDone accepts workers opening ts);
     begin = All-nil (λ (p : Pass). Begins p.front log);
     changes = All-nil (IsDone ts log);
+    refusals = All-nil (IsRefusal accepts workers ts log);
   }
 
   -- one more worker has come back, and the history goes on
-  pub one_more : (a b : Log) (ps : List Pass) (ds es : List Done) (p : Pass) → Begins a b → Begins p.front b → IsLegalLog accepts workers b
-      → AreGathered accepts workers opening ts a ps ds → HasMade accepts workers opening ts p es → AreGathered accepts workers opening ts b (ps ++ p ∷ []) (ds ++ es)
-  one_more a b ps ds es p on seen legal is h = record {
+  pub one_more : (a b : Log) (ps : List Pass) (ds es : List Done) (rs ss : List Refused) (p : Pass) → Begins a b → Begins p.front b → IsLegalLog accepts workers b
+      → AreGathered accepts workers opening ts a ps ds rs → HasMade accepts workers opening ts p es ss → AreGathered accepts workers opening ts b (ps ++ p ∷ []) (ds ++ es) (rs ++ ss)
+  one_more a b ps ds es rs ss p on seen legal is h = record {
     opens = sym on.opening ∙ is.opens;
     legal = legal;
     done = All-push (HasDone accepts workers opening ts) ps p is.done h.done;
     begin = All-push (λ (q : Pass). Begins q.front b) ps p (λ k d lt. begins-trans (get_or ps k d).front a b (is.begin k d lt) on) seen;
     changes = All-append (IsDone ts b) ds es (done_on ts a b ds on is.changes) (done_on ts p.front b es seen h.changes);
+    refusals = All-append (IsRefusal accepts workers ts b) rs ss (refused_on accepts workers ts a b rs on is.refusals) (refused_on accepts workers ts p.front b ss seen h.refusals);
   }
 
   -- the pass of the worker with this number
@@ -85,9 +89,9 @@ module _ (accepts : Accepts) (workers : ℕ) (opening : Pool) (ts : List Task) w
       )
 
   -- where the changes are all of the history, and each pass knows its caller's last entry
-  pub explained : (log : Log) (ps : List Pass) (ds : List Done) (o : Ordered) → AreGathered accepts workers opening ts log ps ds → IsOrdered workers ts log o → length log.entries ≤ length o.entries.items → length ps ≡ workers
-      → AreNumbered o.entries.items 0 ps → IsExplained accepts opening workers ts o
-  explained log ps ds o is ordered few number numbered =
+  pub explained : (log : Log) (ps : List Pass) (ds : List Done) (rs : List Refused) (o : Ordered) → AreGathered accepts workers opening ts log ps ds rs → IsOrdered workers ts log o
+      → length log.entries ≤ length o.entries.items → length ps ≡ workers → AreNumbered o.entries.items 0 ps → IsExplained accepts opening workers ts o rs
+  explained log ps ds rs o is ordered few number numbered =
       let es : List Entry = o.entries.items in
       let same : log.entries ≡ es = sym (ordered.first ∙ take_all (length es) log.entries few) in
       record {
@@ -101,4 +105,5 @@ module _ (accepts : Accepts) (workers : ℕ) (opening : Pool) (ts : List Task) w
               played log es w same (subst (HasPass log es) zero_first (pass_of log es 0 ps w (omega (arith, lt, number)) numbered is.done is.begin));
         };
         told = ordered.told;
+        refusals = is.refusals;
       }

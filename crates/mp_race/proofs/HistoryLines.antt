@@ -1,24 +1,20 @@
 -- The words of a written line tell what was written.
-use Rattle.std.proofs.Common.{◌≡◌, ℕ, ◌+◌, ◌^◌, ◌<◌, ◌≤◌, true, Bool, List, [], ◌∷◌, ◌++◌, refl, sym, ap, ap₂, subst, ◌∙◌, arith, decimal, Some, None, codes, append_assoc, append-nil, map, flat_map, nat_lt, nat_le}
+use Rattle.std.proofs.Common.{◌≡◌, ℕ, ◌+◌, ◌^◌, ◌<◌, ◌≤◌, true, List, [], ◌∷◌, ◌++◌, refl, sym, ap, ap₂, subst, ◌∙◌, arith, decimal, Some, None, codes, append_assoc, append-nil, map, nat_lt, nat_le}
 use Rattle.std.specs.Prelude.{option_and_then, option_map}
 use Rattle.std.specs.List.{list_all}
 use Rattle.std.proofs.lemmas.List.Concat.{flat_map-append}
 use Rattle.std.proofs.lemmas.Bool.Decides.{nat_tests, Decides-and, Decides-ltb}
 use Rattle.mp_text.specs.Lines.{lines_of}
 use Rattle.mp_text.specs.Words.{words_of}
-use Rattle.mp_text.specs.Numbers.{number_of, if_below}
+use Rattle.mp_text.specs.Numbers.{if_below}
 use Rattle.mp_seqpool.specs.declared.command.Reply.{Reply}
 use Rattle.mp_seqpool.specs.declared.command.Reply.TheVariants.{Accepted, Removed, Synced}
 use Rattle.mp_answers.specs.AnswerText.{number_text, tickets_text, reply_text}
 use Rattle.mp_race.specs.declared.told.Told.{Told}
-use Rattle.mp_race.specs.HistoryText.{head_line, head_text, told_line, told_text, AreTickets, HasTickets, IsTellable, HasNoEntry, HasNoHead}
+use Rattle.mp_race.specs.HistoryText.{head_line, head_text, told_line, told_text, lines_text, AreTickets, HasTickets, IsTellable, HasNoEntry, HasNoHead}
 use Rattle.mp_race.specs.Inside.HistoryReading.{IsApart}
-use Rattle.mp_race.specs.Inside.HistoryWords.{Words, number_in, small_in, ticket_in, and_others, tickets_in, first_or_zero, lists_in, reply_in, kind_in, numbers_in, front_in, told_of_front, told_in, entries_in, if_workers, workers_in, head_in, Front}
-use Rattle.mp_race.proofs.Spelling.{IsPlain, IsPlainWord, ArePlain, spaced, words-front, words-spaced, IsUnbroken, lines-front, unbroken-line, plain-decimal, number-decimal}
-
--- the tickets so far, and then these
-abbrev pub with_tickets : List ℕ → List ℕ × Words → List ℕ × Words
-with_tickets done found = (done ++ found.0, found.1)
+use Rattle.mp_race.specs.Inside.HistoryWords.{Words, number_in, small_in, ticket_in, and_others, tickets_in, first_or_zero, lists_in, reply_in, kind_in, front_in, told_of_front, told_in, entries_in, if_workers, head_in}
+use Rattle.mp_race.proofs.Spelling.{IsPlain, ArePlain, spaced, words-front, words-spaced, IsUnbroken, lines-front, unbroken-line, plain-decimal, number-decimal}
 
 -- Numbers and tickets.
 
@@ -83,8 +79,8 @@ spaced-tickets (ticket ∷ tickets) = ap (λ text. number_text ticket ++ text) (
 spaced-lists : (word : List ℕ) (first dropped : List ℕ) → spaced (word ∷ lists_words first dropped) ≡ 32 ∷ (word ++ tickets_text first ++ codes " dropped" ++ tickets_text dropped)
 spaced-lists word first dropped =
     let parts : spaced (lists_words first dropped) ≡ tickets_text first ++ (codes " dropped" ++ tickets_text dropped) =
-        flat_map-append (λ w. 32 ∷ w) (map decimal first) (codes "dropped" ∷ map decimal dropped)
-        ∙ ap₂ (λ a b. a ++ (codes " dropped" ++ b)) (spaced-tickets first) (spaced-tickets dropped) in
+    flat_map-append (λ w. 32 ∷ w) (map decimal first) (codes "dropped" ∷ map decimal dropped)
+    ∙ ap₂ (λ a b. a ++ (codes " dropped" ++ b)) (spaced-tickets first) (spaced-tickets dropped) in
     ap (λ text. 32 ∷ (word ++ text)) parts ∙ ap (λ text. 32 ∷ text) (simp append_assoc)
 
 spaced-reply : (r : Reply) → spaced (kind_of r ∷ behind_kind r) ≡ 32 ∷ reply_text r
@@ -170,6 +166,16 @@ no_entry-other text line others t lines told apart = λ u rest is begins.
     let some = first-told text line others u rest lines is begins in
     let same : u ≡ t = Prim.cc in
     apart rest (subst (λ (v : Told). text ≡ told_text v ++ rest) same begins)
+
+-- The lines of entries.
+
+lines-push : (told : List Told) (t : Told) → lines_text (told ++ t ∷ []) ≡ lines_text told ++ told_text t
+lines-push told t = flat_map-append told_text told (t ∷ []) ∙ ap (λ l. lines_text told ++ l) (append-nil (told_text t))
+
+-- one more line is read
+pub reads-more : (text : List ℕ) (told : List Told) (t : Told) (rest after : List ℕ) → text ≡ lines_text told ++ rest → rest ≡ told_text t ++ after → text ≡ lines_text (told ++ t ∷ []) ++ after
+reads-more text told t rest after reads begins =
+    reads ∙ ap (λ l. lines_text told ++ l) begins ∙ sym (append_assoc (lines_text told) (told_text t) after) ∙ ap (λ l. l ++ after) (sym (lines-push told t))
 
 -- The first line of a history.
 

@@ -7,5 +7,7 @@ pub mod Fresh
 pub mod Fitting
 pub mod Spelling
 pub mod HistoryLines
+pub mod Tellable
+pub mod TicketsRead
 pub mod Fronts
 pub mod Refusing

@@ -1,15 +1,14 @@
 -- A line that is written reads as its words.
-use Rattle.std.proofs.Common.{◌≡◌, ◌≢◌, ℕ, zero, suc, ◌+◌, ◌^◌, ◌<◌, ◌≤◌, ◌==◌, cond, true, false, List, [], ◌∷◌, ◌++◌, length, take, drop, refl, sym, ap, subst, ◌∙◌, arith, rules, flat_map, decimal, Some, None, codes, append_assoc, eqb-true, map, nat_lt, nat_le}
+use Rattle.std.proofs.Common.{◌≡◌, ◌≢◌, ℕ, suc, ◌+◌, ◌^◌, ◌<◌, ◌≤◌, ◌==◌, true, false, List, [], ◌∷◌, ◌++◌, length, take, drop, refl, ap, ◌∙◌, arith, rules, flat_map, decimal, Some, eqb-true, nat_lt, nat_le}
 use Rattle.std.proofs.lemmas.Bool.Decides.{nat_tests}
-use Rattle.std.specs.List.{position_or_len, onto_first, list_all}
-use Rattle.std.specs.Int.{IsInRange}
+use Rattle.std.specs.List.{onto_first, list_all}
 use Rattle.std.specs.Char.{is_ascii_digit}
 use Rattle.std.specs.Str.Parse.{AllDigits}
 use Rattle.std.proofs.lemmas.Str.Parse.{IsNumeralModel, numerals_by_weight, tells_digits}
-use Rattle.std.proofs.lemmas.Fmt.{decimal_is_IsNumeral, decimal_nonempty, length-decimal-le, digits_decimal, digits_value-decimal}
+use Rattle.std.proofs.lemmas.Fmt.{decimal_nonempty, length-decimal-le, digits_decimal, digits_value-decimal}
 use Rattle.mp_text.specs.Lines.{lines_of}
 use Rattle.mp_text.specs.Words.{words_of}
-use Rattle.mp_text.specs.Numbers.{value_of_digits, are_digits, if_below, number_of}
+use Rattle.mp_text.specs.Numbers.{value_of_digits, number_of}
 use Rattle.mp_text.proofs.Ranges.{range-Decides}
 use Rattle.mp_text.proofs.FirstWord.{end_of, words_of-cut}
 

@@ -1,5 +1,5 @@
 -- The text of a history.
-use Rattle.std.specs.Prelude.{◌≡◌, ℕ, ◌+◌, ◌^◌, ◌<◌, ◌≤◌, List, [], ◌∷◌, ◌++◌, codes, flat_map, length, ◌⊎◌}
+use Rattle.std.specs.Prelude.{◌≡◌, ℕ, ◌+◌, ◌^◌, ◌<◌, ◌≤◌, List, [], ◌∷◌, ◌++◌, codes, flat_map, length, All, ◌⊎◌}
 use Rattle.mp_seqpool.specs.declared.command.Reply.{Reply}
 use Rattle.mp_seqpool.specs.declared.command.Reply.TheVariants.{Accepted, Removed, Synced}
 use Rattle.mp_answers.specs.AnswerText.{number_text, reply_text}
@@ -62,6 +62,8 @@ HasNoHead text =
 -- Behind the first line, which tells so many entries, this line of the text is the first that is none of an entry, or is one too many.
 pub record IsBadLine (entries : ℕ) (text : List ℕ) (line : ℕ) : Type 0 where
   pub told : List Told
+  pub tellable : All IsTellable told
+  pub within : length told ≤ entries
   pub rest : List ℕ
   pub reads : text ≡ lines_text told ++ rest
   pub number : line ≡ length told + 2
@@ -71,6 +73,7 @@ pub record IsBadLine (entries : ℕ) (text : List ℕ) (line : ℕ) : Type 0 whe
 -- Behind the first line, which tells so many entries, the lines of the first ones are all that there is, and no more.
 pub record IsCut (entries : ℕ) (text : List ℕ) (place : ℕ) : Type 0 where
   pub told : List Told
+  pub tellable : All IsTellable told
   pub reads : text ≡ lines_text told
   pub number : place ≡ length told
   pub fewer : length told < entries

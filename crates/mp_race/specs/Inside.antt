@@ -9,3 +9,4 @@ pub mod HistoryWords
 pub mod HistoryFront
 pub mod HistoryReading
 pub mod Ordered
+pub mod Marks

@@ -5,6 +5,7 @@ pub mod Fault
 pub mod Race
 pub mod Report
 pub mod History
+pub mod Refusals
 pub mod Raced
 pub mod HistoryText
 pub mod HistoryRead

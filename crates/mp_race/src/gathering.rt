@@ -59,6 +59,7 @@ impl<N: PoolName> Gathered<N> {
         ensures front { result.front ≡ front }
         ensures passes { result.passes.items ≡ [] }
         ensures done { result.done.items ≡ [] }
+        ensures refused { result.refused.items ≡ [] }
     {
         Gathered {
             front,
@@ -75,10 +76,11 @@ impl<N: PoolName> Gathered<N> {
         ensures worker { IfOk result (λ g. g.is_sure ≡ true → worker.is_sure ≡ true) }
         ensures gathered { (opening : Pool) (ts : List Task) → IfOk result (λ g.
             AreGathered N.accepts N.callers opening ts
-            self.front self.passes.items self.done.items
-            → HasMade N.accepts N.callers opening ts worker.pass worker.done.items
+            self.front self.passes.items self.done.items self.refused.items
+            → HasMade N.accepts N.callers opening ts
+            worker.pass worker.done.items worker.refused.items
             → AreGathered N.accepts N.callers opening ts
-            g.front g.passes.items g.done.items) }
+            g.front g.passes.items g.done.items g.refused.items) }
     {
         let Gathered {
             front,
@@ -120,7 +122,7 @@ pub fn gather<N: PoolName>(
     ensures { (opening : Pool) (ts : List Task) → front.opening ≡ opening
         → All (IsBack N.accepts N.callers opening ts) workers.items
         → IfOk result (λ g. g.is_sure ≡ true → AreGathered N.accepts N.callers opening ts
-        g.front g.passes.items g.done.items) }
+        g.front g.passes.items g.done.items g.refused.items) }
 {
     let mut gathered = Gathered::new(memory, front);
     for worker in workers {

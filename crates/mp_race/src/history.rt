@@ -2,7 +2,7 @@
 
 ghost use Rattle.std.specs.Prelude.{◌≡◌, ◌++◌, ◌<◌, ◌≤◌, length, OnOk, IfOk, IfErr, IfSome, IfNone};
 ghost use Rattle.mp_race.specs.HistoryText.{told_line, told_text, lines_text, head_line, head_text};
-ghost use Rattle.mp_race.specs.HistoryText.{HasNoEntry, HasNoHead, IsFaultOfLines};
+ghost use Rattle.mp_race.specs.HistoryText.{IsTellable, HasNoEntry, HasNoHead, IsFaultOfLines};
 ghost use Rattle.mp_race.specs.Inside.HistoryReading.{IsApart};
 
 use crate::fault::Fault;
@@ -110,6 +110,7 @@ fn first_head(memory: Memory, text: &[u8]) -> Result<Option<(u32, u64, &[u8])>, 
 fn first_told(memory: Memory, text: &[u8]) -> Result<Option<(Told, &[u8])>, NoMemory>
     ensures some { IfOk result (λ found. IfSome found
         (λ f. text.now ≡ told_text f.0 ++ f.1.now)) }
+    ensures tellable { IfOk result (λ found. IfSome found (λ f. IsTellable f.0)) }
     ensures none { IfOk result (λ found. IfNone found (HasNoEntry text.now)) }
 {
     let Some((line, _)) = first_line(text) else {
@@ -135,6 +136,7 @@ fn next_told(
 ) -> Result<Option<(Told, &[u8])>, NoMemory>
     ensures some { IfOk result (λ found. IfSome found
         (λ f. text.now ≡ told_text f.0 ++ f.1.now)) }
+    ensures tellable { IfOk result (λ found. IfSome found (λ f. IsTellable f.0)) }
     ensures within { IfOk result (λ found. IfSome found (λ _. told < entries)) }
     ensures none { IfOk result (λ found. IfNone found (told < entries → HasNoEntry text.now)) }
 {

@@ -123,7 +123,7 @@ fn run_workers<N: PoolName + Send + Sync, R: Threads + Wait + Sync, G: Gate>(
     requires most { workers ≤ 64 }
     ensures { IfOk result (λ g. g.is_sure ≡ true → AreGathered N.accepts N.callers
         (fresh_log scenario.now.config scenario.now.ledger).opening scenario.now.tasks
-        g.front g.passes.items g.done.items) }
+        g.front g.passes.items g.done.items g.refused.items) }
 {
     let (mempool, passes) = open(rt, memory, name, scenario, workers, gate)?;
     let front = first_front(&passes);
@@ -144,8 +144,9 @@ fn explain<N: PoolName>(
     requires most { workers ≤ 64 }
     ensures history { (opening : Pool) (ts : List told.Task) → (gathered.is_sure ≡ true
         → AreGathered N.accepts N.callers opening ts
-        gathered.front gathered.passes.items gathered.done.items)
-        → IfOk result (λ found. IsExplained N.accepts opening workers ts found.0) }
+        gathered.front gathered.passes.items gathered.done.items gathered.refused.items)
+        → IfOk result (λ found. IsExplained N.accepts opening workers ts
+        found.0 found.1.items) }
     ensures fault { IfErr result IsOfRace }
 {
     let Gathered {
@@ -242,16 +243,16 @@ pub struct Raced {
 }
 
 /// Runs the scenario by so many workers, each in a thread of its own where one can be made, on one pool under the name, and gives
-/// the report, the history and the refusals. Task j, from 0, goes to worker j mod workers. There is one legal history that explains what each change was answered:
-/// each worker's entries in it are the changes dealt to it, each once and in order, but for those that the sequential pool refuses at
-/// a beginning of the history with just the worker's entries before. The history tells its entries one by one, and the refusals are of
-/// as many changes as have no entry. What snapshots show isn't told. The gate is told of each task and of each signature that is looked
-/// at.
+/// the report, the history and the refusals. Task j, from 0, goes to worker j mod workers. There is one legal history that explains
+/// what each change was answered: each worker's entries in it are the changes dealt to it, each once and in order, but for those that
+/// the sequential pool refuses at a beginning of the history with just the worker's entries before. The history tells its entries one
+/// by one. The refusals are of the other changes, each once, and each tells after how many entries the sequential pool refuses it.
+/// What snapshots show isn't told. The gate is told of each task and of each signature that is looked at.
 ///
 /// # Errors
 /// `NoMemory`, where it was wanting for any worker, after all have ended. `MissingEntry` with the least place of the history below
 /// the number of the receipts of which no receipt tells, or two do, or whose command isn't its worker's next, and with their number
-/// where the pool has another entry or the refusals are others than so many. None is to be met.
+/// where the pool has another entry or the refusals are others than the changes that have no entry. None is to be met.
 pub fn race<N: PoolName + Send + Sync, R: Threads + Wait + Sync, G: Gate>(
     rt: &R,
     memory: Memory,
@@ -272,8 +273,9 @@ pub fn race<N: PoolName + Send + Sync, R: Threads + Wait + Sync, G: Gate>(
     let gathered = run_workers::<N, R, G>(rt, memory, name, scenario, workers, gate)?;
     let (ordered, refused) = explain(memory, &scenario.tasks, workers, gathered)?;
     let report = report_on(memory, scenario, workers, &ordered.entries)?;
-    let refused = order_refused(&scenario.tasks, workers, report.refused, refused)?;
     let Ordered { told, .. } = ordered;
+    let tasks = scenario.tasks.len();
+    let refused = order_refused(memory, tasks, &told, report.refused, refused)?;
     Ok(Raced {
         report,
         history: History { workers, told },

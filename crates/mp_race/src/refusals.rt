@@ -1,35 +1,45 @@
 //! What is told of refusals.
 
-ghost use Rattle.std.specs.Prelude.{◌≡◌, ◌<◌, ◌≤◌, true, length, IfOk, IfErr};
+ghost use Rattle.std.specs.Prelude.{◌≡◌, ◌<◌, true, false, length, get_or, All, IfOk, IfErr};
+ghost use Rattle.std.specs.List.Sorted.{IsPermutation};
 ghost use Rattle.mp_race.specs.Fault.{IsOfRace};
-ghost use Rattle.mp_race.specs.Raced.{IsRefusal, AreRefusals};
-ghost use Rattle.mp_race.specs.Inside.Task.{tasks_of};
+ghost use Rattle.mp_race.specs.Refusals.{AreInOrder, IsUntold};
+ghost use Rattle.mp_race.specs.Inside.Marks.{IsMarked, IsUnmarked};
 
 use crate::fault::Fault;
-use crate::task::Task;
-use crate::told::Refused;
-use mp_memory::Memory;
+use crate::told::{Refused, Told};
+use mp_memory::{Memory, NoMemory};
 
-// Whether the command is a change that is dealt to the worker.
-fn is_refusal(tasks: &[Task], workers: u32, refused: &Refused) -> bool
-    requires { 1 ≤ workers }
-    ensures refusal { result ≡ true → IsRefusal workers (tasks_of tasks.now) refused.now }
-    ensures within { result ≡ true → refused.now.task < length tasks.now }
+// Of so many commands, those of which an entry is told.
+fn marks_of(memory: Memory, tasks: usize, told: &[Told]) -> Result<Vec<bool, Memory>, NoMemory>
+    ensures { IfOk result (λ marks. All (λ t. IsMarked marks.items t.task) told.now) }
 {
-    if refused.task % u64::from(workers) != u64::from(refused.worker) {
-        return false;
+    let mut marks = vec![in memory; false; tasks]?;
+    for entry in told {
+        let task = entry.task as usize;
+        if task < marks.len() {
+            marks[task] = true;
+        }
     }
-    matches!(tasks.get(refused.task as usize), Some(Task::Change(_)))
+    Ok(marks)
 }
 
-// Whether each is of a change that is dealt to its worker, and their commands increase.
-fn are_refusals(tasks: &[Task], workers: u32, refused: &[Refused]) -> bool
-    requires { 1 ≤ workers }
-    ensures { result ≡ true → AreRefusals workers (tasks_of tasks.now) 0 refused.now }
+fn is_unmarked(marks: &[bool], task: u64) -> bool
+    ensures unmarked { result ≡ true → IsUnmarked marks.now task }
+    ensures within { result ≡ true → task < length marks.now }
+{
+    let place = task as usize;
+    place < marks.len() && !marks[place]
+}
+
+// Whether the commands increase, and none is marked.
+fn are_others(marks: &[bool], refused: &[Refused]) -> bool
+    ensures order { result ≡ true → AreInOrder 0 refused.now }
+    ensures unmarked { result ≡ true → All (λ r. IsUnmarked marks.now r.task) refused.now }
 {
     let mut least = 0;
     for refusal in refused {
-        if refusal.task < least || !is_refusal(tasks, workers, refusal) {
+        if refusal.task < least || !is_unmarked(marks, refusal.task) {
             return false;
         }
         least = refusal.task + 1;
@@ -37,26 +47,28 @@ fn are_refusals(tasks: &[Task], workers: u32, refused: &[Refused]) -> bool
     true
 }
 
-/// So many refusals, in the order of their commands.
+/// So many refusals, in the order of their commands, which are among so many and of which no entry is told.
 ///
 /// # Errors
-/// `MissingEntry` with that number where there are others, or two of one command, or one that isn't of a change that is dealt to its
-/// worker; `NoMemory`.
+/// `MissingEntry` with the number of entries where there are others, or two of one command, or one of a command of which an entry is
+/// told; `NoMemory`.
 pub fn order_refused(
-    tasks: &[Task],
-    workers: u32,
+    memory: Memory,
+    tasks: usize,
+    told: &[Told],
     number: u64,
     mut refused: Vec<Refused, Memory>,
 ) -> Result<Vec<Refused, Memory>, Fault>
-    requires { 1 ≤ workers }
     ensures number { IfOk result (λ found. length found.items ≡ number) }
-    ensures refusals { IfOk result
-        (λ found. AreRefusals workers (tasks_of tasks.now) 0 found.items) }
+    ensures same { IfOk result (λ found. IsPermutation refused.items found.items) }
+    ensures order { IfOk result (λ found. AreInOrder 0 found.items) }
+    ensures others { IfOk result (λ found. All (IsUntold told.now) found.items) }
     ensures fault { IfErr result IsOfRace }
 {
     refused.sort_by_key(|refusal| refusal.task)?;
-    if refused.len() as u64 != number || !are_refusals(tasks, workers, &refused) {
-        return Err(Fault::MissingEntry(number));
+    let marks = marks_of(memory, tasks, told)?;
+    if refused.len() as u64 != number || !are_others(&marks, &refused) {
+        return Err(Fault::MissingEntry(told.len() as u64));
     }
     Ok(refused)
 }

@@ -38,7 +38,8 @@ fn do_task<N: PoolName, V: Verifier>(
     task: &Task,
 ) -> Result<bool, NoMemory>
     ensures { IfOk result (λ sure. sure ≡ true → Does N.accepts N.callers
-        pass.old done.old.items number (task_of task.now) pass.new done.new.items) }
+        pass.old done.old.items refused.old.items number (task_of task.now)
+        pass.new done.new.items refused.new.items) }
 {
     match task {
         Task::Read => {

@@ -1,10 +1,12 @@
 -- Ledger states by what is kept of them.
-use Rattle.std.proofs.Common.{◌≡◌, ℕ, zero, suc, ◌-◌, ◌≤◌, List, [], ◌∷◌, ◌++◌, length, take, drop, refl, sym, ap, subst, ◌∙◌, arith}
-use Rattle.std.specs.Prelude.{Option, Some, slice_get}
+use Rattle.std.proofs.Common.{◌≡◌, ℕ, zero, suc, ◌-◌, ◌<◌, ◌≤◌, true, false, cond, List, [], ◌∷◌, ◌++◌, length, take, drop, refl, sym, ap, subst, ◌∙◌, arith}
+use Rattle.std.specs.Prelude.{Option, None, Some, slice_get, nat_le}
+use Rattle.std.proofs.lemmas.Bool.Decides.{nat_tests}
+use Rattle.std.proofs.lemmas.List.{take_all, length-drop}
 use Rattle.mp_tx.specs.Ledger.{LedgerState}
 use Rattle.mp_serve.specs.declared.former.Former.{Former}
 use Rattle.mp_serve.specs.declared.former.Former.TheVariants.{Block, Whole}
-use Rattle.mp_serve.specs.ServedPool.{latest}
+use Rattle.mp_serve.specs.ServedPool.{latest, state_back}
 use Rattle.mp_serve.specs.Inside.Former.{state_before, CanGoBack, LeadsBack, earliest, states_of, CanAllGoBack}
 
 pub can_back : (now : LedgerState) (f : Former) (before : LedgerState) → LeadsBack now f before → CanGoBack now f
@@ -89,3 +91,46 @@ states-latest fs f new old leads =
     states-drop (length all - 2160) all new
     ∙ ap (λ n. drop (n - 2160) (states_of all new)) (sym (length-states all new))
     ∙ ap latest (states-push fs f new old leads)
+
+pub can-latest : (fs : List Former) (f : Former) (new old : LedgerState) → CanAllGoBack fs old → LeadsBack new f old → CanAllGoBack (latest (fs ++ f ∷ [])) new
+can-latest fs f new old can leads = can-drop (length (fs ++ f ∷ []) - 2160) (fs ++ f ∷ []) new (can-push fs f new old can leads)
+
+-- ---- those behind the first ones, as a slice of all
+
+all-behind : (n : ℕ) (fs : List Former) → take (length fs - n) (drop n fs) ≡ drop n fs
+all-behind n fs = let same : length (drop n fs) ≡ length fs - n = length-drop n fs in take_all (length fs - n) (drop n fs) (omega (arith, same))
+
+pub earliest-behind : (n : ℕ) (fs slice : List Former) (now l : LedgerState) → slice ≡ fs → l ≡ now
+    → earliest (take (length slice - n) (drop n slice)) l ≡ earliest (drop n fs) now
+earliest-behind n fs slice now l is same =
+    ap (λ (gs : List Former). earliest (take (length gs - n) (drop n gs)) l) is ∙ ap (λ (gs : List Former). earliest gs l) (all-behind n fs) ∙ ap (earliest (drop n fs)) same
+
+pub can-behind : (n : ℕ) (fs slice : List Former) (now l : LedgerState) → slice ≡ fs → l ≡ now → CanAllGoBack fs now
+    → CanAllGoBack (take (length slice - n) (drop n slice)) l
+can-behind n fs slice now l is same can =
+    subst (λ (gs : List Former). CanAllGoBack (take (length gs - n) (drop n gs)) l) (sym is)
+    (subst (λ (gs : List Former). CanAllGoBack gs l) (sym (all-behind n fs)) (subst (CanAllGoBack (drop n fs)) (sym same) (can-drop n fs now can)))
+
+-- ---- the ledger state of so many ago
+
+within : (count n : ℕ) → count ≤ n → nat_le count n ≡ true
+within count n le = grind (arith, nat_tests)
+
+beyond : (count n : ℕ) → n < count → nat_le count n ≡ false
+beyond count n lt = grind (arith, nat_tests)
+
+place : (n count : ℕ) → count ≤ n → n - count ≤ n
+place n count le = omega arith
+
+pub state-kept : (fs : List Former) (now : LedgerState) (count : ℕ) → count ≤ length fs
+    → state_back (states_of fs now) now count ≡ Some (earliest (drop (length fs - count) fs) now)
+state-kept fs now count le =
+    let states : List LedgerState = states_of fs now in
+    ap (λ b. cond b (slice_get (states ++ now ∷ []) (length states - count)) None) (within count (length states) (subst (λ n. count ≤ n) (sym (length-states fs now)) le))
+    ∙ ap (λ n. slice_get (states ++ now ∷ []) (n - count)) (length-states fs now)
+    ∙ state-at (length fs - count) fs now (place (length fs) count le)
+
+pub state-lost : (fs : List Former) (now : LedgerState) (count : ℕ) → length fs < count → state_back (states_of fs now) now count ≡ None
+state-lost fs now count lt =
+    let states : List LedgerState = states_of fs now in
+    ap (λ b. cond b (slice_get (states ++ now ∷ []) (length states - count)) None) (beyond count (length states) (subst (λ n. n < count) (sym (length-states fs now)) lt))

@@ -4,3 +4,4 @@ pub mod Counts
 pub mod Lines
 pub mod Answers
 pub mod Progress
+pub mod Backs

@@ -85,6 +85,11 @@ some_line limit [] TooLong kept other line none = omega (arith, line)
 some_line limit (x ∷ xs) TooLong kept other line none = Prim.cc
 some_line limit bytes Lost kept other line none = line none
 
+-- where none was read there was nothing
+pub no_line : (left : Option (List ℕ)) (limit : ℕ) (found : LineRead) (kept : List ℕ) → found ≡ End → IfSome left (λ bytes. IsLine limit bytes found kept) → IsAtEnd left
+no_line None limit found kept is line = tt
+no_line (Some bytes) limit found kept is line = subst (λ f. IsLine limit bytes f kept) is line
+
 -- The lines that were read from known bytes were answered, and those of the bytes that are left weren't read.
 abbrev pub Stands : Conversation → Option (List ℕ) → Option (List ℕ) → Option (List ℕ) → Option (List ℕ) → Conversation → ℕ → Type 0
 Stands g all left old now s n =

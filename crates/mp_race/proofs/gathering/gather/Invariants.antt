@@ -12,4 +12,4 @@ invariant-loop-worker g l =
     let callers = g.N.PoolName.callers in
     (opening : Pool) (ts : List Task) → l.fn.front.opening ≡ opening
     → All (IsBack accepts callers opening ts) l.fn.workers.items
-    → l.gathered.is_sure ≡ true → AreGathered accepts callers opening ts l.gathered.front l.gathered.passes.items l.gathered.receipts.items
+    → l.gathered.is_sure ≡ true → AreGathered accepts callers opening ts l.gathered.front l.gathered.passes.items l.gathered.done.items l.gathered.refused.items

@@ -20,5 +20,5 @@ returns-clause-history g c = λ opening ts given.
     let numbered : AreNumbered es 0 ps =
     subst (λ l. AreNumbered l 0 ps) c.deref-else-len-workers.ensures.value (subst (AreNumbered c.deref-else-len-workers.result.now 0) c.deref.ensures.value (c.all_know.ensures c.if-not-all_know.false)) in
     let ordered = subst (λ n. IsOrdered n ts log o) c.requires.number (c.in_ok-ordered.ensures.history ts log is.changes) in
-    subst (λ n. IsExplained accepts opening n ts o) (sym c.requires.number)
-    (explained accepts callers opening ts log ps c.args.gathered.done.items o is ordered few number numbered)
+    subst (λ n. IsExplained accepts opening n ts o c.args.gathered.refused.items) (sym c.requires.number)
+    (explained accepts callers opening ts log ps c.args.gathered.done.items c.args.gathered.refused.items o is ordered few number numbered)

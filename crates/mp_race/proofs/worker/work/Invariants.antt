@@ -8,4 +8,4 @@ use Rattle.mp_race.proofs.worker.work.Given as goal
 abbrev pub invariant-loop-place : goal.invariant-loop-place
 invariant-loop-place g l =
     (opening : Pool) → IsUnused opening l.fn.pass
-    → HasMade g.N.PoolName.accepts l.workers opening (tasks_of (take l.place l.tasks)) l.pass l.done.items × (l.pass.caller ≡ l.number)
+    → HasMade g.N.PoolName.accepts l.workers opening (tasks_of (take l.place l.tasks)) l.pass l.done.items l.refused.items × (l.pass.caller ≡ l.number)

@@ -9,7 +9,7 @@ use Rattle.mp_serve.specs.declared.conversation.Conversation.{Conversation}
 use Rattle.mp_serve.specs.declared.fault.Fault.TheVariants.{ReadFault}
 use Rattle.mp_serve.specs.Inside.Answer.{text_in}
 use Rattle.mp_serve.specs.Served.{AppendsUpTo, Ended}
-use Rattle.mp_serve.proofs.Progress.{fails, ends_counting, stands-more, stands-cut}
+use Rattle.mp_serve.proofs.Progress.{no_line, ends, fails, ends_counting, stands-more, stands-cut}
 use Rattle.mp_serve.proofs.serving.answer_all.Goals as goal
 
 pub returns-in-Err-clause-answers : goal.returns-in-Err-clause-answers
@@ -47,3 +47,9 @@ loop-number-preserved g c =
           (subst (λ o. Appends o (g.D.Device.output c.tell.new.device) answer) c.in-Ok.ensures.output c.in-Ok-tell.ensures.ok),
       c.in-Ok-tell.ensures.turn,
     )
+
+pub returns-in-Ok-End-clause-answers : goal.returns-in-Ok-End-clause-answers
+returns-in-Ok-End-clause-answers g c =
+    subst (λ o. IfSome (g.D.Device.input c.args.device.now) (λ bytes. Ended c.args.conversation.now bytes (g.D.Device.output c.args.device.now) o (Ok tt))) (sym c.in-Ok-End.ensures.output)
+    (ends c.args.conversation.now (g.D.Device.output c.args.device.now) (g.D.Device.output c.loop-number.device) c.loop-number.conversation c.loop-number.number (g.D.Device.input c.args.device.now) (g.D.Device.input c.loop-number.device) c.loop-number.invariant.0
+    (no_line (g.D.Device.input c.loop-number.device) _ c.in-Ok-End.field-0 _ c.in-Ok-End.field-0-is c.in-Ok-End.ensures.line))

@@ -13,7 +13,11 @@ returns-clause-gathered g c = λ opening ts is h.
     let ds = c.args.self.done.items in
     let p = c.args.worker.pass in
     let es = c.args.worker.done.items in
-    subst (λ l. AreGathered accepts callers opening ts b l c.append.new.self.items) (sym c.in_ok-push.ensures.items) (
-    subst (λ l. AreGathered accepts callers opening ts b (ps ++ p ∷ []) l) (sym c.in_ok-append.ensures.items)
-    (one_more accepts callers opening ts a b ps ds es p c.longer-front.ensures.this c.longer-front.ensures.that (c.longer-front.ensures.legal is.legal) is h)
+    let rs = c.args.self.refused.items in
+    let ss = c.args.worker.refused.items in
+    subst (λ l. AreGathered accepts callers opening ts b l c.append.new.self.items c.append-2.new.self.items) (sym c.in_ok-push.ensures.items) (
+    subst (λ l. AreGathered accepts callers opening ts b (ps ++ p ∷ []) l c.append-2.new.self.items) (sym c.in_ok-append.ensures.items) (
+    subst (AreGathered accepts callers opening ts b (ps ++ p ∷ []) (ds ++ es)) (sym c.in_ok-append-2.ensures.items)
+    (one_more accepts callers opening ts a b ps ds es rs ss p c.longer-front.ensures.this c.longer-front.ensures.that (c.longer-front.ensures.legal is.legal) is h)
+    )
     )
