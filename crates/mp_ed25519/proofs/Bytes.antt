@@ -2,7 +2,7 @@
 use Rattle.std.proofs.Common.{◌≡◌, ℕ, ◌+◌, ◌*◌, ◌/◌, ◌%◌, ◌^◌, ◌<◌, ◌≤◌, List, [], ◌∷◌, ◌++◌, length, take, drop, get_or, arith, zero, suc, refl, ap, ◌∙◌, sym}
 use Rattle.std.proofs.Math.ListN.{drop_of_length-le}
 use Rattle.std.proofs.Math.Seq.{drop-cons}
-use Rattle.std.proofs.lemmas.List.{drop-drop, length-drop}
+use Rattle.std.proofs.lemmas.List.{append-nil, drop-drop, length-drop}
 use Rattle.std.proofs.Math.Nat.{pow-suc}
 use Rattle.std.specs.Int.{to_le_bytes, w64}
 use Rattle.mp_ed25519.specs.Ed25519.{bytes_of, little}
@@ -105,3 +105,32 @@ to_le_bytes-bytes_of n =
     let e6 : n / 256 ^ 6 % 256 ≡ n / 256 / 256 / 256 / 256 / 256 / 256 % 256 = omega arith in
     let e7 : n / 256 ^ 7 % 256 ≡ n / 256 / 256 / 256 / 256 / 256 / 256 / 256 % 256 = omega arith in
     rw (e1, e2, e3, e4, e5, e6, e7) refl
+
+-- the eight bytes of a word, read one by one before others
+word-read : (l r : List ℕ) (n : ℕ) → l ≡ to_le_bytes w64 n →
+    get_or l 0 0 ∷ get_or l 1 0 ∷ get_or l 2 0 ∷ get_or l 3 0
+    ∷ get_or l 4 0 ∷ get_or l 5 0 ∷ get_or l 6 0 ∷ get_or l 7 0 ∷ r ≡ bytes_of 8 n ++ r
+word-read l r n e =
+    ap (λ (m : List ℕ). get_or m 0 0 ∷ get_or m 1 0 ∷ get_or m 2 0 ∷ get_or m 3 0
+    ∷ get_or m 4 0 ∷ get_or m 5 0 ∷ get_or m 6 0 ∷ get_or m 7 0 ∷ r) e
+    ∙ ap (λ (m : List ℕ). m ++ r) (to_le_bytes-bytes_of n)
+
+-- four words, read byte by byte
+pub bytes_of-read : (k l m o : List ℕ) (a b c d : ℕ)
+    → k ≡ to_le_bytes w64 a → l ≡ to_le_bytes w64 b → m ≡ to_le_bytes w64 c → o ≡ to_le_bytes w64 d
+    → a < 2 ^ 64 → b < 2 ^ 64 → c < 2 ^ 64 →
+    get_or k 0 0 ∷ get_or k 1 0 ∷ get_or k 2 0 ∷ get_or k 3 0
+    ∷ get_or k 4 0 ∷ get_or k 5 0 ∷ get_or k 6 0 ∷ get_or k 7 0
+    ∷ get_or l 0 0 ∷ get_or l 1 0 ∷ get_or l 2 0 ∷ get_or l 3 0
+    ∷ get_or l 4 0 ∷ get_or l 5 0 ∷ get_or l 6 0 ∷ get_or l 7 0
+    ∷ get_or m 0 0 ∷ get_or m 1 0 ∷ get_or m 2 0 ∷ get_or m 3 0
+    ∷ get_or m 4 0 ∷ get_or m 5 0 ∷ get_or m 6 0 ∷ get_or m 7 0
+    ∷ get_or o 0 0 ∷ get_or o 1 0 ∷ get_or o 2 0 ∷ get_or o 3 0
+    ∷ get_or o 4 0 ∷ get_or o 5 0 ∷ get_or o 6 0 ∷ get_or o 7 0 ∷ []
+    ≡ bytes_of 32 (a + 2 ^ 64 * b + 2 ^ 128 * c + 2 ^ 192 * d)
+bytes_of-read k l m o a b c d ek el em eo ha hb hc =
+    word-read k _ a ek
+    ∙ ap (λ r. bytes_of 8 a ++ r) (word-read l _ b el
+    ∙ ap (λ r. bytes_of 8 b ++ r) (word-read m _ c em
+    ∙ ap (λ r. bytes_of 8 c ++ r) (word-read o [] d eo ∙ append-nil (bytes_of 8 d))))
+    ∙ bytes_of-words a b c d ha hb hc

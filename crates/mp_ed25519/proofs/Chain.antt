@@ -1,5 +1,5 @@
 -- The sum that a signature is compared with.
-use Rattle.std.proofs.Common.{◌≡◌, ℕ, ◌+◌, ◌*◌, ◌/◌, ◌%◌, List, [], ◌∷◌, length, arith, zero, suc, refl, subst}
+use Rattle.std.proofs.Common.{◌≡◌, ℕ, ◌+◌, ◌*◌, ◌/◌, ◌%◌, [], ◌∷◌, length, arith, zero, suc, refl, subst}
 use Rattle.mp_ed25519.specs.Chain.{IsSum, CombinedIsSum, nothing, one_b, one_a, both, double}
 use Rattle.mp_ed25519.specs.Curve.{Point, combined, multiple, shifted_sum}
 use Rattle.mp_ed25519.specs.Ed25519.{little}

@@ -18,8 +18,9 @@ same_element x y k h = omega arith
 abbrev pub limb : ℕ
 limb = 2251799813685248
 
-pub value-carried : (c0 c1 c2 c3 c4 d1 d2 d3 d4 k e0 : ℕ)
-    → d1 ≡ c1 + c0 / limb → d2 ≡ c2 + d1 / limb → d3 ≡ c3 + d2 / limb → d4 ≡ c4 + d3 / limb
-    → k ≡ d4 / limb → e0 ≡ c0 % limb + 19 * k
-    → value (e0 % limb) (d1 % limb + e0 / limb) (d2 % limb) (d3 % limb) (d4 % limb) % prime ≡ value c0 c1 c2 c3 c4 % prime
-value-carried c0 c1 c2 c3 c4 d1 d2 d3 d4 k e0 h1 h2 h3 h4 hk he = same_element _ _ k (omega arith)
+-- each limb hands what it has above its 51 bits to the next, and the last one to the first
+pub value-carried : (c0 c1 c2 c3 c4 r0 r1 r2 r3 r4 : ℕ)
+    → r0 ≡ c0 % limb + 19 * (c4 / limb) → r1 ≡ c1 % limb + c0 / limb → r2 ≡ c2 % limb + c1 / limb
+    → r3 ≡ c3 % limb + c2 / limb → r4 ≡ c4 % limb + c3 / limb
+    → value r0 r1 r2 r3 r4 % prime ≡ value c0 c1 c2 c3 c4 % prime
+value-carried c0 c1 c2 c3 c4 r0 r1 r2 r3 r4 h0 h1 h2 h3 h4 = same_element _ _ (c4 / limb) (omega arith)

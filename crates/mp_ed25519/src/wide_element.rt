@@ -16,8 +16,8 @@ pub struct WideElement {
     pub l2: u128,
     pub l3: u128,
     pub l4: u128,
-    ghost room: { (l0 < 2 ^ 120) × (l1 < 2 ^ 120) × (l2 < 2 ^ 120) × (l3 < 2 ^ 120)
-        × (l4 < 5 * 2 ^ 108) },
+    ghost room: { (l0 < 77 * 2 ^ 108) × (l1 < 77 * 2 ^ 108) × (l2 < 77 * 2 ^ 108)
+        × (l3 < 77 * 2 ^ 108) × (l4 < 5 * 2 ^ 108) },
 }
 
 // The product of two limbs. Its second bound shows that no sum of such products overflows.
@@ -67,23 +67,31 @@ impl WideElement {
         }
     }
 
+    /// The element with limbs of some 51 bits. Twice each limb hands what it has above them to the next, and all
+    /// limbs do so at once, which is faster than one after the other.
     #[inline(always)]
     pub fn carried(self) -> FieldElement
         ensures tight { AreWithin tight result }
         ensures element { element result ≡ wide_value self % prime }
     {
-        let d1 = self.l1 + self.l0 / WIDE_LIMB;
-        let d2 = self.l2 + d1 / WIDE_LIMB;
-        let d3 = self.l3 + d2 / WIDE_LIMB;
-        let d4 = self.l4 + d3 / WIDE_LIMB;
-        let over = (d4 / WIDE_LIMB) as u64;
-        let e0 = (self.l0 % WIDE_LIMB) as u64 + 19 * over;
+        let (h0, h1, h2, h3, h4) = (
+            (self.l0 / WIDE_LIMB) as u64,
+            (self.l1 / WIDE_LIMB) as u64,
+            (self.l2 / WIDE_LIMB) as u64,
+            (self.l3 / WIDE_LIMB) as u64,
+            (self.l4 / WIDE_LIMB) as u64,
+        );
+        let r0 = (self.l0 % WIDE_LIMB) as u64 + 19 * h4;
+        let r1 = (self.l1 % WIDE_LIMB) as u64 + h0;
+        let r2 = (self.l2 % WIDE_LIMB) as u64 + h1;
+        let r3 = (self.l3 % WIDE_LIMB) as u64 + h2;
+        let r4 = (self.l4 % WIDE_LIMB) as u64 + h3;
         FieldElement {
-            l0: e0 % LIMB,
-            l1: (d1 % WIDE_LIMB) as u64 + e0 / LIMB,
-            l2: (d2 % WIDE_LIMB) as u64,
-            l3: (d3 % WIDE_LIMB) as u64,
-            l4: (d4 % WIDE_LIMB) as u64,
+            l0: r0 % LIMB + 19 * (r4 / LIMB),
+            l1: r1 % LIMB + r0 / LIMB,
+            l2: r2 % LIMB + r1 / LIMB,
+            l3: r3 % LIMB + r2 / LIMB,
+            l4: r4 % LIMB + r3 / LIMB,
         }
     }
 }

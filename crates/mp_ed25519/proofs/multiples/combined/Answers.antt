@@ -1,9 +1,8 @@
-use Rattle.std.proofs.Common.{arith, ap, ◌≡◌, ◌≤◌, ◌∙◌, ◌-◌, ◌/◌, ◌%◌, sym, subst, List, ℕ, [], ◌∷◌, drop, length, get_or}
+use Rattle.std.proofs.Common.{arith, ap, ◌≡◌, ◌≤◌, ◌<◌, ◌∙◌, ◌-◌, ◌/◌, ◌%◌, sym, subst, List, ℕ, [], ◌∷◌, drop, length, get_or}
 use Rattle.std.proofs.Math.ListN.{drop_of_length-le}
-use Rattle.mp_ed25519.specs.declared.point.CachedPoint.{CachedPoint}
 use Rattle.mp_ed25519.specs.declared.point.ProjectivePoint.{ProjectivePoint}
 use Rattle.mp_ed25519.specs.Curve.{Point, combined, multiple, shifted_sum, sum}
-use Rattle.mp_ed25519.specs.Inside.Points.{IsCached, IsProjective, completed, point}
+use Rattle.mp_ed25519.specs.Inside.Points.{IsProjective, completed, point}
 use Rattle.mp_ed25519.proofs.Bytes.{drop-more}
 use Rattle.mp_ed25519.proofs.multiples.combined.Goals as goal
 
@@ -16,7 +15,7 @@ loop-i-init c = λ b a hb ha.
     let k = drop 32 c.args.k.now in
     let all : length c.args.s.now ≤ 32 = omega arith in
     let none : drop 32 c.args.s.now ≡ [] = drop_of_length-le c.args.s.now all in
-    of_equal _ _ _ c.projective-sum.ensures (c.neutral.ensures ∙ sym (ap (λ (l : List ℕ). combined b a l k) none))
+    of_equal c.projective-sum.result _ _ c.projective-sum.ensures (c.neutral.ensures ∙ sym (ap (λ (l : List ℕ). combined b a l k) none))
 
 pub loop-i-preserved : goal.loop-i-preserved
 unfolding combined
@@ -33,12 +32,11 @@ loop-i-preserved c = λ b a hb ha.
     c.shifted_sum-in-loop-i.ensures _ a c.projective-high.ensures ha in
     let found = c.index-long-s in
     let less : s < 256 = omega arith in
-    let cached : IsCached (get_or c.args.long.now s found.result) (multiple b s) =
-    subst (λ (x : CachedPoint). IsCached x (multiple b s)) found.is (hb s less found.result found.is) in
-    let added : completed c.add.result ≡ sum (point c.extended-low.result) (multiple b s) = c.add.ensures (multiple b s) cached in
+    let added : completed c.add.result ≡ sum (point c.extended-low.result) (multiple b s) =
+    c.add.ensures (multiple b s) (hb s less found.result found.is) in
     let ds = drop-more ss (i - 1) i (omega arith) (omega arith) in
     let dk = drop-more ks (i - 1) i (omega arith) (omega arith) in
     let split = ap (λ (l : List ℕ). combined b a l (drop (i - 1) ks)) ds ∙ ap (combined b a (s ∷ drop i ss)) dk in
-    of_equal _ _ _ c.projective-sum-in-loop-i.ensures
+    of_equal c.projective-sum-in-loop-i.result _ _ c.projective-sum-in-loop-i.ensures
     (added ∙ ap (λ (x : Point). sum x (multiple b s))
     (c.extended-low.ensures ∙ low ∙ ap (λ (x : Point). shifted_sum x a (k % 16)) high) ∙ sym split)

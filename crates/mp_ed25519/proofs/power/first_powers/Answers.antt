@@ -1,4 +1,4 @@
-use Rattle.std.proofs.Common.{◌≡◌, ◌∙◌, ℕ, ◌+◌, ◌-◌, ◌*◌, ◌^◌}
+use Rattle.std.proofs.Common.{◌≡◌, ◌∙◌, ◌-◌, ◌*◌, ◌^◌}
 use Rattle.mp_ed25519.specs.Field.{pow}
 use Rattle.mp_ed25519.specs.Inside.Limbs.{element}
 use Rattle.mp_ed25519.proofs.Powers.{first_power, times}

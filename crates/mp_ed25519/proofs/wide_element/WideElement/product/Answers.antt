@@ -1,4 +1,4 @@
-use Rattle.std.proofs.Common.{arith, ◌∙◌, ◌+◌, ◌*◌}
+use Rattle.std.proofs.Common.{arith, ◌∙◌, ◌*◌}
 use Rattle.std.proofs.lemmas.Nat.{mul-mod}
 use Rattle.mp_ed25519.specs.Field.{prime, mul}
 use Rattle.mp_ed25519.specs.Inside.Limbs.{element, value_of}
