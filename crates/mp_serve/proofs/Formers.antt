@@ -95,7 +95,7 @@ states-latest fs f new old leads =
 pub can-latest : (fs : List Former) (f : Former) (new old : LedgerState) → CanAllGoBack fs old → LeadsBack new f old → CanAllGoBack (latest (fs ++ f ∷ [])) new
 can-latest fs f new old can leads = can-drop (length (fs ++ f ∷ []) - 2160) (fs ++ f ∷ []) new (can-push fs f new old can leads)
 
--- ---- those behind the first ones, as a slice of all
+-- ---- those after the first ones, as a slice of all
 
 all-behind : (n : ℕ) (fs : List Former) → take (length fs - n) (drop n fs) ≡ drop n fs
 all-behind n fs = let same : length (drop n fs) ≡ length fs - n = length-drop n fs in take_all (length fs - n) (drop n fs) (omega (arith, same))

@@ -19,7 +19,7 @@ use Rattle.mp_serve.specs.Inside.Pool.{IsReady}
 under : (changes limit : ℕ) → changes < limit → nat_le limit changes ≡ false
 under changes limit lt = grind (arith, nat_tests)
 
--- where one more change may be made, nothing is counted anew
+-- where one more change may be made, they aren't counted from 0
 pub not_anew : (p : Pool) → p.changes < p.limit → counted_anew p ≡ p
 not_anew p lt = ap (λ b. cond b (renewed p.limit p) p) (under p.changes p.limit lt)
 

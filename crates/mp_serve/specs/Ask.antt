@@ -13,7 +13,7 @@ use Rattle.mp_lines.specs.Ledgers.{LedgerHead, head_of}
 use Rattle.mp_lines.specs.Lines.{Line, bytes_of, line_of}
 use Rattle.mp_serve.specs.Output.{output_in, ref_in}
 
--- a block's transactions, with the tick, and the bytes of a block where the line tells them
+-- a block's transactions, with the tick, and the bytes of a block where the line gives them
 pub record NewBlock : Type 0 where
   pub tick : ℕ
   pub block_bytes : Option ℕ
@@ -66,7 +66,7 @@ utxo_by words = option_and_then (λ r. option_map (Holds r) (option_and_then out
 abbrev pub utxo_ask : List (List ℕ) → Option Ask
 utxo_ask words = option_and_then utxo_by (two_words words)
 
--- the transactions named, behind these
+-- the transactions named, after these
 abbrev pub put_txs : Names → List Transaction → List (List ℕ) → Option (List Transaction)
 put_txs names txs [] = Some txs
 put_txs names txs (word ∷ words) = option_and_then (λ t. put_txs names (txs ++ t.tx ∷ []) words) (tx_named word names)
@@ -85,7 +85,7 @@ adopt_ask names words = option_and_then (block_behind names) (head_of words)
 abbrev pub back_ask : List (List ℕ) → Option Ask
 back_ask words = option_map Returns (option_and_then number_of (one_word words))
 
--- the names, behind these, of which none stands twice
+-- the names, after these, of which none may occur twice
 abbrev pub put_names : List (List ℕ) → List (List ℕ) → Option (List (List ℕ))
 put_names names [] = Some names
 put_names names (word ∷ words) = if is_among names word then None else put_names (names ++ word ∷ []) words
@@ -132,8 +132,8 @@ long_ask names (word ∷ words) = hex_ask names word words
 abbrev pub ask_within : Names → List ℕ → Option Ask
 ask_within names line = if is_clean line then words_ask names line (words_of line) else long_ask names (words_of line)
 
--- The longest line is `utxo ID#INDEX HEX` of an output as large as a transaction of 16,384 bytes can have, in which 27 stand around
--- it. An index has at most 20 digits.
+-- The longest line is `utxo ID#INDEX HEX` of an output as large as a transaction of 16,384 bytes can have, with 27 bytes around it.
+-- An index has at most 20 digits.
 abbrev pub longest : ℕ
 longest = 5 + 64 + 1 + 20 + 1 + 2 * (16384 - 27)
 

@@ -17,7 +17,7 @@ abbrev pub has_nothing_else : Transaction → Bool
 has_nothing_else t =
     (length t.inputs == 0) && nat_eq t.from 0 && nat_eq t.to (2 ^ 64 - 1) && (length t.forge == 0) && (length t.scripts == 0) && (length t.signatures == 0)
 
--- its first output, if nothing else stands in it
+-- its first output, if it has nothing else
 abbrev pub sole_output : Transaction → Option Output
 sole_output t = if has_nothing_else t then slice_get t.outputs 0 else None
 
@@ -35,7 +35,7 @@ id_in bytes = if length bytes == 32 then Some bytes else None
 abbrev pub ref_with : List ℕ → ℕ → OutRef
 ref_with id index = record { id = id; index = index }
 
--- 64 digits, and the index behind the sign; 35 is the number sign
+-- 64 digits, and the index after the sign; 35 is the number sign
 abbrev pub ref_by : List ℕ → Option (List ℕ) → Option OutRef
 ref_by digits None = None
 ref_by digits (Some index) =

@@ -22,7 +22,7 @@ abbrev pub counted_if : Counts → Option Refusal → Counts
 counted_if c None = c
 counted_if c (Some refusal) = counted c refusal
 
--- what was never answered isn't told
+-- what was never answered isn't reported
 abbrev pub count_text : List ℕ → ℕ → List ℕ
 count_text word count = if nat_eq count 0 then [] else 32 ∷ word ++ number_text count
 

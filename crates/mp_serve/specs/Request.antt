@@ -41,7 +41,7 @@ pub data Request : Type 0 where
   Return : ℕ → Request
   -- what is read of it
   Read : Query → Request
-  -- what would stay upon the ledger state
+  -- what would stay on the ledger state
   Try : LedgerState → Request
   -- what the submit of the transaction would be answered
   Check : Transaction → Request
@@ -54,7 +54,7 @@ pub record Response : Type 0 where
   pub cursor : ℕ
   pub text : List ℕ
 
--- a pool that has made as many changes as it may counts them anew
+-- a pool that has made as many changes as it may counts them from 0 again
 abbrev pub counted_anew : Pool → Pool
 counted_anew p = if is_at_limit p then renewed p.limit p else p
 

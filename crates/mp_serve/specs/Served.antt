@@ -8,12 +8,12 @@ use Rattle.mp_serve.specs.Talk.{Step, line_step}
 use Rattle.mp_serve.specs.declared.fault.Fault.{Fault}
 use Rattle.mp_serve.specs.declared.fault.Fault.TheVariants.{NoMemory, ReadFault, WriteFault, ManyLines}
 
--- as the line asks; a bad one is told with its number and why, and nothing has changed
+-- as the line asks; the answer to a bad one has its number and why, and nothing has changed
 abbrev pub IsTold : ℕ → Conversation → Step → List ℕ → Conversation → Type 0
 IsTold n t None text u = ((why : List ℕ) × (text ≡ bad_text n ++ why ++ 10 ∷ [])) × (u ≡ t)
 IsTold n t (Some r) text u = (text ≡ r.1) × (u ≡ r.0)
 
--- Memory may be wanting for any answer, and then nothing has changed.
+-- There may be no memory for any answer, and then nothing has changed.
 abbrev pub IsAnswer : ℕ → Conversation → List ℕ → List ℕ → Conversation → Type 0
 IsAnswer n t line text u = IsTold n t (line_step t line) text u ⊎ ((text ≡ no_memory_text) × (u ≡ t))
 
@@ -28,7 +28,7 @@ abbrev pub WereAnswered : Conversation → Option (List ℕ) → Option (List �
 WereAnswered start old new lines =
     (text : List ℕ) × (t : Conversation) × AreAnswers 1 start lines text t × Appends old new text
 
--- a front of these bytes was written, and perhaps all
+-- a prefix of these bytes was written, and perhaps all
 abbrev pub AppendsUpTo : Option (List ℕ) → Option (List ℕ) → List ℕ → Type 0
 AppendsUpTo old new bytes = (taken : ℕ) × Appends old new (take taken bytes)
 

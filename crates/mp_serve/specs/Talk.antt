@@ -54,7 +54,7 @@ Step = Option (Conversation × List ℕ)
 
 -- ---- the pool
 
--- the empty pool upon the opening outputs
+-- the empty pool on the opening outputs
 abbrev pub opened : Settings → Beginning → ServedPool
 opened g b = record {
   pool = empty_pool (limit_of g) (last_of g) (at_tick b.ledger (tick_of g) (block_bytes_of g));
@@ -88,7 +88,7 @@ submit_again c t = submit c (name_of (id_of t) c.names) t
 
 -- ---- settings, outputs and names
 
--- a setting stands before the first request
+-- a setting comes before the first request
 abbrev pub set_at : Conversation → Setting → Stage → Step
 set_at c setting (Before b) = option_map (λ g. (record c { settings = g }, ok_text)) (with_setting c.settings setting)
 set_at c setting (Open p) = None
@@ -177,7 +177,7 @@ does c (Sync l) = Some (ask c (Adopt (ledger_at c.settings l)))
 does c (For l) = Some (ask c (Try (ledger_at c.settings l)))
 does c (Asks query) = Some (ask c (Read query))
 
--- where the line tells no bytes of a block, the setting holds
+-- where the line gives no bytes of a block, the setting holds
 abbrev pub block_at : Settings → NewBlock → Block
 block_at g b = record { tick = b.tick; block_bytes = unwrap_or b.block_bytes (block_bytes_of g); txs = b.txs }
 

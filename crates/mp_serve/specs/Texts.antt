@@ -1,4 +1,4 @@
--- The lines that are written beside those of scenarios.
+-- The lines that a conversation writes in addition to those of scenarios.
 use Rattle.std.specs.Prelude.{ℕ, List, [], ◌∷◌, ◌++◌, length, slice_get, codes, Option, None, Some, Result, Ok, Err}
 use Rattle.hex.specs.Hex.{encode_lower}
 use Rattle.mp_tx.specs.Transaction.{Transaction}
@@ -14,15 +14,15 @@ use Rattle.mp_answers.specs.AnswerText.{number_text, refusal_text}
 use Rattle.mp_serve.specs.declared.refused.Counts.{Counts}
 use Rattle.mp_serve.specs.Refused.{counts_text}
 
--- what is answered where there is nothing to tell
+-- what is answered where there is nothing to report
 abbrev pub ok_text : List ℕ
 ok_text = codes "ok\n"
 
--- what is answered where memory was wanting
+-- what is answered where there was no memory
 abbrev pub no_memory_text : List ℕ
 no_memory_text = codes "fault: no memory\n"
 
--- how a bad line is answered; why it is bad stands behind
+-- how the answer to a bad line begins; why it is bad comes after
 abbrev pub bad_text : ℕ → List ℕ
 bad_text number = codes "bad" ++ number_text number ++ codes ": "
 
@@ -54,7 +54,7 @@ bytes_text (Err fault) = (codes "undecodable " ++ fault_name fault) ++ 10 ∷ []
 unfoldable pub show_text : Transaction → List ℕ
 show_text t = (tx_words t ++ 32 ∷ encode_lower (spelling t)) ++ 10 ∷ []
 
--- how many transactions, their bytes, the free bytes, the last ticket, and the changes since they were last counted anew
+-- how many transactions, their bytes, the free bytes, the last ticket, and the changes since they were last counted from 0
 abbrev pub pool_numbers : Pool → List ℕ
 pool_numbers p =
     codes "stats" ++ number_text (length p.items) ++ number_text (bytes_held p) ++ number_text (free_bytes p) ++ number_text p.last ++ number_text p.changes

@@ -234,7 +234,7 @@ fn is_among(names: &[Name], word: &[u8]) -> bool
     names.iter().any(|name| word == name.as_bytes())
 }
 
-// Puts in the names, of which none stands twice.
+// Puts in the names, of which none may occur twice.
 fn put_names<'a>(
     names: &mut Vec<Name, Memory>,
     memory: Memory,
@@ -365,8 +365,8 @@ fn long_ask<'a>(memory: Memory, names: &Names, line: &'a [u8]) -> Result<Ask, Li
     }
 }
 
-/// The most bytes of a line: those of `utxo`, a reference and an output that fills the largest transaction, of which this stands between
-/// blanks and around the digits: the word, the id, the sign, 20 digits of an index, two blanks.
+/// The most bytes of a line: those of `utxo` with an output that fills the largest transaction. These are the word, the id, the
+/// sign, 20 digits of an index, two blanks, and two digits for each byte of the output.
 pub const MAX_LINE_BYTES: usize = 4 + 64 + 1 + 20 + 2 + 2 * (MAX_BYTES - AROUND_BYTES);
 
 // What the line asks, if it isn't too long.
@@ -388,7 +388,7 @@ impl Ask {
     /// What the line, without its line feed, asks where these names are declared.
     ///
     /// # Errors
-    /// `Bad` where the line is none of the language. `NoMemory` may stand in place of each answer.
+    /// `Bad` where the line is none of the language. `NoMemory` may come in place of each answer.
     #[tactic(auto, unfolding(crate::specs::Ask::ask_of))]
     pub fn parse<'a>(memory: Memory, names: &Names, line: &'a [u8]) -> Result<Ask, LineFault<'a>>
         ensures { Gives to_ask (ask_of names.now line.now) result }

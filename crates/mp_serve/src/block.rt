@@ -14,11 +14,11 @@ use std::sync::Arc;
 /// Transactions, in their order.
 pub type Txs = Vec<Arc<Tx, Memory>, Memory>;
 
-/// A block as a line tells it.
+/// A block as a line gives it.
 #[derive(Drop)]
 pub struct NewBlock {
     pub tick: u64,
-    /// The bytes that a block may have, where the line tells them.
+    /// The bytes that a block may have, where the line gives them.
     pub block_bytes: Option<BlockBytes>,
     pub txs: Txs,
 }
@@ -59,7 +59,7 @@ impl Block {
     ghost use Rattle.mp_settings.specs.Settings.{block_bytes_of};
     ghost use Rattle.mp_serve.specs.Inside.Ask.{to_block};
 
-    /// The block that a line tells. The setting holds where it tells no bytes of a block.
+    /// The block that a line gives. The setting holds where it gives no bytes of a block.
     pub fn at(settings: &Settings, block: NewBlock) -> Block
         ensures { result ≡ record {
           tick = block.tick;
@@ -86,7 +86,7 @@ impl Block {
         self.tick
     }
 
-    /// The bytes that a block may have upon the ledger state after it, 1 to 2^39.
+    /// The bytes that a block on the ledger state after it may have, 1 to 2^39.
     pub fn block_bytes(&self) -> u64
         ensures same { result ≡ self.now.block_bytes }
         ensures range { HasBlockBytes result }

@@ -161,7 +161,7 @@ impl Conversation {
         Ok(text)
     }
 
-    // The pool, which opens with the first request, takes the transaction in if it can, and it is reported under the name then.
+    // The pool, which opens with the first request, takes the transaction in if it can, and reports it under the name then.
     fn submit(
         &mut self,
         memory: Memory,
@@ -199,7 +199,7 @@ impl Conversation {
         self.submit(memory, &name, tx)
     }
 
-    // A setting stands before the first request.
+    // A setting comes before the first request.
     fn set<'a>(&mut self, memory: Memory, setting: Setting) -> Result<Text, LineFault<'a>>
         ensures ok { IfOk result (λ text.
             set_at self.old setting self.old.stage ≡ Some (self.new, text.items)) }
@@ -214,7 +214,7 @@ impl Conversation {
         Ok(ok)
     }
 
-    // An output stands before the first request.
+    // An output comes before the first request.
     fn put_out<'a>(
         &mut self,
         memory: Memory,
@@ -359,7 +359,7 @@ impl Conversation {
         }
     }
 
-    // Lets the names go, but those of transactions that the pool holds.
+    // Lets the names go, but those under which the pool reports what it holds.
     fn forget(&mut self, memory: Memory, listed: Vec<Name, Memory>) -> Result<Text, NoMemory>
         ensures ok { IfOk result (λ text.
             forget self.old listed.items ≡ (self.new, text.items)) }
@@ -374,8 +374,8 @@ impl Conversation {
     /// Does what is asked, and gives the line that answers it.
     ///
     /// # Errors
-    /// `Bad` where a setting comes twice or after the first request, and where an output comes after it, has a reference that is taken, or
-    /// is the 65,537th with a name.
+    /// `Bad` where a setting comes twice or after the first request, and where an output comes after it, has a reference that is
+    /// taken, or is the 65,537th with a name.
     /// After an `Err` nothing has changed.
     pub fn take<'a>(&mut self, memory: Memory, ask: Ask) -> Result<Text, LineFault<'a>>
         ensures ok { IfOk result (λ text.

@@ -52,7 +52,7 @@ pub trait Device {
     /// Writes the answer to the line that was read.
     ///
     /// # Errors
-    /// Where the device fails. A front of the answer is written then.
+    /// Where the device fails. A prefix of the answer is written then.
     fn write(&mut self, text: &[u8]) -> Result<(), WriteFault>
         requires { turn self.old ≡ Owes }
         ensures ok { OnOk result (Appends (output self.old) (output self.new) text.now) }

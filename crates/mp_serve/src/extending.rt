@@ -18,11 +18,11 @@ use mp_tx::Ledger;
 pub enum Extended {
     /// The ledger state after it, and what leads back.
     To(AppliedBlock),
-    /// The line that tells which transaction isn't valid after those before it.
+    /// The line that says which transaction isn't valid after those before it.
     Refused(Text),
 }
 
-/// Applies the block upon the ledger state.
+/// Applies the block to the ledger state.
 pub fn extend(
     memory: Memory,
     names: &Names,

@@ -1,4 +1,4 @@
-//! What a pool does when it is told to.
+//! What a pool does when it is asked to.
 
 ghost use Rattle.std.specs.Prelude.{◌≡◌, ◌≤◌, ◌^◌, Some, Err, IfOk, IfErr, OnOk, OnErr};
 ghost use Rattle.std.specs.Result.{result_err};
@@ -40,7 +40,7 @@ fn prepare(
     }
 }
 
-// Counts the changes anew, where no more may be made.
+// Counts the changes from 0 again, where no more may be made.
 fn count_anew(pool: &mut SeqPool)
     requires least { 1 ≤ pool.old.pool.limit }
     requires most { pool.old.pool.limit ≤ 2 ^ 32 }
@@ -151,8 +151,8 @@ fn take_in(
     }
 }
 
-/// Takes the transaction in, and reports it under the name from then on, if it is accepted. Gives the line of the answer, and why it was
-/// refused, if it was. After an `Err` nothing has changed.
+/// Takes the transaction in, and reports it under the name from then on, if it is accepted. Returns the line of the answer, and why
+/// it was refused, if it was. After an `Err` nothing has changed.
 pub fn submit(
     memory: Memory,
     names: &mut Names,
@@ -178,8 +178,8 @@ pub fn submit(
     take_in(memory, names, name, signatures, pool, tx)
 }
 
-/// Takes out the transactions with these ids. Gives the line of the answer, and why it was refused, if it was. After an `Err` nothing has
-/// changed.
+/// Takes out the transactions with these ids. Returns the line of the answer, and why it was refused, if it was. After an `Err`
+/// nothing has changed.
 pub fn remove(
     memory: Memory,
     names: &Names,

@@ -10,14 +10,14 @@ use mp_memory::{Memory, NoMemory};
 use mp_names::{LineFault, Reason, number_in, split_once};
 use mp_tx::{OutRef, Output, Tx, TxFault, TxId};
 
-// What stands before and behind the bytes of the one output of a transaction of format 1, which has nothing else.
+// What comes before and after the bytes of the one output of a transaction of format 1, which has nothing else.
 const BEFORE: [u8; 5] = [1, 0, 0, 0, 1];
 
 const BEHIND: [u8; 22] = [
     0, 0, 0, 0, 0, 0, 0, 0, 255, 255, 255, 255, 255, 255, 255, 255, 0, 0, 0, 0, 0, 0,
 ];
 
-/// How many bytes stand around those of an output in a transaction that has nothing else.
+/// How many bytes a transaction has around those of its output, if it has nothing else.
 pub const AROUND_BYTES: usize = 27;
 
 const MAX_INDEX: u64 = (1 << 16) - 1;

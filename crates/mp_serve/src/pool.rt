@@ -20,8 +20,8 @@ use mp_tx::{Ledger, Tx, TxId};
 use std::marker::Model;
 use std::sync::Arc;
 
-/// The pool of a conversation, which one thread has, with what leads back to the ledger states that it had before, at most 2,160. When it has made as
-/// many changes as it may, it counts them anew, so that it goes on for as long as it is asked; its last ticket stays.
+/// The pool of a conversation, which one thread has, with what leads back to its former ledger states, at most 2,160. When it has
+/// made as many changes as it may, it counts them from 0 again, so it goes on for as long as it is asked; its last ticket stays.
 pub struct ServedPool {
     pool: SeqPool,
     signatures: Signatures,
@@ -65,7 +65,7 @@ impl ServedPool {
     ghost use Rattle.mp_serve.specs.Request.{Adopt, Extend, Return, after_command, answer_to, answered, reported_if, respond};
     ghost use Rattle.mp_serve.specs.Inside.Request.{to_request};
 
-    /// The empty pool upon the opening outputs, which stay as they are.
+    /// The empty pool on the opening outputs, which stay as they are.
     pub fn open(
         memory: Memory,
         settings: &Settings,

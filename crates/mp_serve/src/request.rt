@@ -20,7 +20,7 @@ pub enum Request {
     Return(u64),
     /// What is read of it.
     Read(Query),
-    /// What would stay upon the ledger state.
+    /// What would stay on the ledger state.
     Try(Ledger),
     /// What the submit of the transaction would be answered.
     Check(Arc<Tx, Memory>),

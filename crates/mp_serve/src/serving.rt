@@ -43,9 +43,9 @@ fn answer_all<D: Device>(
     Err(Fault::ManyLines)
 }
 
-/// Answers each line of the input as it comes, until the input ends. The line after it is read once its answer is written and handed
-/// on. A line that is too long, or for which there is no memory, is answered so. The salt is the host's to pick at random and to keep
-/// secret; no answer depends on it.
+/// Answers each line of the input as it comes, until the input ends. The next line is read once the answer is written and handed on.
+/// A line that is too long, or for which there is no memory, is read to its end and answered so. The host picks the salt at random
+/// and keeps it secret; no answer depends on it.
 ///
 /// # Errors
 /// `ReadFault` and `WriteFault` where the device fails; `NoMemory` before the first line; `ManyLines` after 2^64 - 2 lines.

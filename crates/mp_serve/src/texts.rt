@@ -1,4 +1,4 @@
-//! The lines that are written beside those of scenarios.
+//! The lines that a conversation writes in addition to those of scenarios.
 
 ghost use Rattle.std.specs.Prelude.{◌≡◌, ◌++◌, ◌∷◌, [], ℕ, List, Ok, Err, IfOk, OnOk};
 ghost use Rattle.hex.specs.Hex.{encode_lower};
@@ -23,7 +23,7 @@ pub const NO_MEMORY: &[u8] = b"fault: no memory\n";
 // The line of bytes that were read fits into so many bytes.
 const TX_ROOM: usize = 80;
 
-/// What is answered where there is nothing to tell.
+/// What is answered where there is nothing to report.
 pub fn ok_line(memory: Memory) -> Result<Text, NoMemory>
     ensures { IfOk result (λ text. text.items ≡ ok_text) }
 {
