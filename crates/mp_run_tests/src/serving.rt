@@ -82,7 +82,7 @@ fn hold(
         fails_at: fails.flush,
         flushes: 0,
     };
-    let Ok(reader) = BufReader::new(memory, lines) else {
+    let Ok(reader) = BufReader::new(alloc, lines) else {
         return (1, Vec::new(alloc));
     };
     let mut device = Streams::new(reader, writer);
