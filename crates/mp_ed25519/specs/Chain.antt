@@ -1,7 +1,7 @@
--- What an addition chain adds up.
-use Rattle.std.specs.Prelude.{◌≡◌, ℕ, ◌+◌, List, length}
-use Rattle.mp_ed25519.specs.Curve.{Point, combined, neutral, sum, twice}
-use Rattle.mp_ed25519.specs.Ed25519.{little}
+-- What an addition chain adds up, and that a good signature meets the standard's equation.
+use Rattle.std.specs.Prelude.{◌≡◌, ℕ, ◌+◌, ◌^◌, ◌<◌, true, List, length, Option, Some}
+use Rattle.mp_ed25519.specs.Curve.{Point, combined, negated, neutral, sum, twice}
+use Rattle.mp_ed25519.specs.Ed25519.{accepts_halves, base, bytes_of, challenge, decoded, encoded, little, order}
 
 -- the point is s times b and k times a, added up in some order
 pub data IsSum : Point → Point → ℕ → ℕ → Point → Type 0 where
@@ -13,7 +13,14 @@ pub data IsSum : Point → Point → ℕ → ℕ → Point → Type 0 where
   double : {b a : Point} {s k : ℕ} {p : Point} →
       IsSum b a s k p → IsSum b a (s + s) (k + k) (twice p)
 
--- the point that a signature is compared with is [s] b + [k] a, in one such order
+-- the windowed multiplication adds up [s] b + [k] a
 abbrev pub CombinedIsSum : Type 0
-CombinedIsSum = (b a : Point) (ss ks : List ℕ) → length ss ≡ length ks →
-    IsSum b a (little ss) (little ks) (combined b a ss ks)
+CombinedIsSum = (b a : Point) (s : List ℕ) (k : ℕ) → length s ≡ 32 → k < 2 ^ 256 →
+    IsSum b a (little s) k (combined b a s (bytes_of 32 k))
+
+-- of a good signature R encodes [S] base - [k] a, where a is the key's point and S is below the order
+abbrev pub GoodIsSum : Type 0
+GoodIsSum = (key message r s : List ℕ) → length s ≡ 32 → accepts_halves key message r s ≡ true →
+    (little s < order)
+    × (a p : Point) × (decoded (little key) ≡ Some a) × (encoded p ≡ little r)
+    × IsSum base (negated a) (little s) (challenge r key message) p

@@ -1,12 +1,16 @@
 //! What is true of the definitions.
 
-ghost use Rattle.mp_ed25519.specs.Chain.{CombinedIsSum};
+ghost use Rattle.mp_ed25519.specs.Chain.{CombinedIsSum, GoodIsSum};
 ghost use Rattle.mp_ed25519.specs.Constants.{ConstantsAreRight};
 
-/// The point that a signature is compared with is S times the base point and k times the negated
-/// key, added up in one order.
+/// The windowed multiplication of two points adds up S times the one and k times the other.
 pub fn combined_is_sum()
     ensures { CombinedIsSum }
+{}
+
+/// The R of a good signature encodes S times the base point minus k times the key's point, added up in some order.
+pub fn good_is_sum()
+    ensures { GoodIsSum }
 {}
 
 /// The constants are those of the curve and of its base point.

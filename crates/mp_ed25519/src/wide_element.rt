@@ -1,6 +1,6 @@
 //! Products of field elements before their carries.
 
-ghost use Rattle.std.specs.Prelude.{◌≡◌, ◌<◌, ◌≤◌, ◌^◌, ◌*◌};
+ghost use Rattle.std.specs.Prelude.{◌≡◌, ◌<◌, ◌≤◌, ◌^◌, ◌*◌, ◌/◌, ◌%◌};
 
 use crate::field_element::FieldElement;
 
@@ -31,8 +31,24 @@ fn wide(a: u64, b: u64) -> u128
     a as u128 * b as u128
 }
 
+// The lowest 51 bits.
+#[inline(always)]
+fn low_part(limb: u128) -> u64
+    ensures { result ≡ limb % 2 ^ 51 }
+{
+    (limb % WIDE_LIMB) as u64
+}
+
+// The other bits, which fit into a word.
+#[inline(always)]
+fn high_part(limb: u128) -> u64
+    requires { limb < 2 ^ 115 }
+    ensures { result ≡ limb / 2 ^ 51 }
+{
+    (limb / WIDE_LIMB) as u64
+}
+
 impl WideElement {
-    ghost use Rattle.std.specs.Prelude.{◌%◌};
     ghost use Rattle.mp_ed25519.specs.Field.{prime, mul as product_of};
     ghost use Rattle.mp_ed25519.specs.Inside.Limbs.{AreWithin, tight, element, wide_value};
 
@@ -67,31 +83,24 @@ impl WideElement {
         }
     }
 
-    /// The element with limbs of some 51 bits. Twice each limb hands what it has above them to the next, and all
-    /// limbs do so at once, which is faster than one after the other.
+    /// The same element with its limbs carried. Two chains of carries, from the first limb and from
+    /// the third, are faster than one.
     #[inline(always)]
     pub fn carried(self) -> FieldElement
         ensures tight { AreWithin tight result }
         ensures element { element result ≡ wide_value self % prime }
     {
-        let (h0, h1, h2, h3, h4) = (
-            (self.l0 / WIDE_LIMB) as u64,
-            (self.l1 / WIDE_LIMB) as u64,
-            (self.l2 / WIDE_LIMB) as u64,
-            (self.l3 / WIDE_LIMB) as u64,
-            (self.l4 / WIDE_LIMB) as u64,
-        );
-        let r0 = (self.l0 % WIDE_LIMB) as u64 + 19 * h4;
-        let r1 = (self.l1 % WIDE_LIMB) as u64 + h0;
-        let r2 = (self.l2 % WIDE_LIMB) as u64 + h1;
-        let r3 = (self.l3 % WIDE_LIMB) as u64 + h2;
-        let r4 = (self.l4 % WIDE_LIMB) as u64 + h3;
+        let d1 = self.l1 + high_part(self.l0) as u128;
+        let e2 = low_part(self.l2) + high_part(d1);
+        let d3 = self.l3 + high_part(self.l2) as u128;
+        let d4 = self.l4 + high_part(d3) as u128;
+        let e0 = low_part(self.l0) + 19 * high_part(d4);
         FieldElement {
-            l0: r0 % LIMB + 19 * (r4 / LIMB),
-            l1: r1 % LIMB + r0 / LIMB,
-            l2: r2 % LIMB + r1 / LIMB,
-            l3: r3 % LIMB + r2 / LIMB,
-            l4: r4 % LIMB + r3 / LIMB,
+            l0: e0 % LIMB,
+            l1: low_part(d1) + e0 / LIMB,
+            l2: e2 % LIMB,
+            l3: low_part(d3) + e2 / LIMB,
+            l4: low_part(d4),
         }
     }
 }

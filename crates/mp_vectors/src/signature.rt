@@ -4,17 +4,28 @@ use crate::pieces;
 use crate::wrong::{Result, Wrong};
 use mp_ed25519::Base;
 use mp_memory::Memory;
+use mp_rules::Verifier;
+use mp_signatures::Ed25519Verifier;
 
-fn is_good(base: &Base, bytes: &[u8]) -> Result<bool> {
+struct Case<'a> {
+    key: &'a [u8; 32],
+    signature: &'a [u8; 64],
+    message: &'a [u8],
+}
+
+fn case_of(bytes: &[u8]) -> Result<Case<'_>> {
     let (key, signed) = bytes.split_first_chunk::<32>().ok_or(Wrong("no key"))?;
     let (signature, message) = signed
         .split_first_chunk::<64>()
         .ok_or(Wrong("no signature"))?;
-    Ok(base.verify(key, message, signature))
+    Ok(Case {
+        key,
+        signature,
+        message,
+    })
 }
 
-fn is_wanted(base: &Base, bytes: &[u8], wanted: &str) -> Result<bool> {
-    let is_good = is_good(base, bytes)?;
+fn is_wanted(is_good: bool, wanted: &str) -> Result<bool> {
     match wanted {
         "good" => Ok(is_good),
         "bad" => Ok(!is_good),
@@ -22,11 +33,24 @@ fn is_wanted(base: &Base, bytes: &[u8], wanted: &str) -> Result<bool> {
     }
 }
 
+// Whether a pool's verifier answers the same, if the message can be the id of a transaction.
+fn is_answered_alike(verifier: &Ed25519Verifier, case: &Case<'_>, is_good: bool) -> bool {
+    match case.message.split_first_chunk::<32>() {
+        Some((id, rest)) if rest.is_empty() => {
+            verifier.verify(case.key, id, case.signature) == is_good
+        }
+        _ => true,
+    }
+}
+
 /// Whether a key, a signature and a message, one after the other, are good or bad, as it is wanted.
 pub fn holds(memory: Memory, given: &str, wanted: &str) -> Result<bool> {
     let bytes = pieces::bytes(memory, given)?;
     let base = Base::new(memory)?;
-    is_wanted(&base, &bytes, wanted)
+    let verifier = Ed25519Verifier::new(memory)?;
+    let case = case_of(&bytes)?;
+    let is_good = base.verify(case.key, case.message, case.signature);
+    Ok(is_wanted(is_good, wanted)? && is_answered_alike(&verifier, &case, is_good))
 }
 
 fn flip(bytes: &mut [u8], place: usize, bit: u8) {
@@ -39,7 +63,8 @@ fn flip(bytes: &mut [u8], place: usize, bit: u8) {
 fn flips_held_at(base: &Base, bytes: &mut [u8], place: usize, wanted: &str) -> Result<u64> {
     for bit in [1, 2, 4, 8, 16, 32, 64, 128] {
         flip(bytes, place, bit);
-        if !is_wanted(base, bytes, wanted)? {
+        let case = case_of(bytes)?;
+        if !is_wanted(base.verify(case.key, case.message, case.signature), wanted)? {
             return Err(Wrong("a flipped bit comes to something else"));
         }
         flip(bytes, place, bit);

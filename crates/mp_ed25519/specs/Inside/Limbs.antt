@@ -23,7 +23,7 @@ element_of (Some f) = Some (element f)
 
 -- the most that a limb has after the carries
 abbrev pub tight : ℕ
-tight = 2 ^ 51 + 2 ^ 17
+tight = 2 ^ 51 + 2 ^ 13
 
 -- each limb is at most this number
 abbrev pub AreWithin : ℕ → FieldElement → Type 0
