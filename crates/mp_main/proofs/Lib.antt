@@ -1,3 +1,4 @@
 pub mod Ends
-pub mod Runs
-pub mod Audits
+pub mod Running
+pub mod Auditing
+pub mod Racing

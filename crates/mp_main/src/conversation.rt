@@ -24,10 +24,10 @@ pub fn converse_over<D: Device>(
     device: &mut D,
 ) -> ExitCode
     requires { D.turn device.old ≡ Turn.Listens }
-    ensures answers { IfSome (D.input device.old) (λ bytes. EndsAs
-        (Ended (new_conversation signatures salt) bytes
-        (D.output device.old) (D.output device.new)) (exit_status result)) }
-    ensures turn { EndsAs (λ ended. EndsAt ended (D.turn device.new)) (exit_status result) }
+    ensures { EndsAs (λ ended. IfSome (D.input device.old) (λ bytes.
+        Ended (new_conversation signatures salt) bytes
+        (D.output device.old) (D.output device.new) ended)
+        × EndsAt ended (D.turn device.new)) (exit_status result) }
 {
     match serve(memory, signatures, salt, device) {
         Ok(()) => ExitCode::SUCCESS,
