@@ -5,6 +5,7 @@ use Rattle.std.proofs.lemmas.Bool.{and_parts, eqb-true, false≢true, ltb-true}
 use Rattle.mp_ed25519.specs.Chain.{IsSum, CombinedIsSum, GoodIsSum, nothing, one_b, one_a, both, double}
 use Rattle.mp_ed25519.specs.Curve.{Point, combined, multiple, negated, shifted_sum}
 use Rattle.mp_ed25519.specs.Ed25519.{accepts_halves, base, bytes_of, challenge, decoded, encoded, equation_holds, has_small_order, little, order}
+
 -- the same sum, its two numbers written otherwise
 same_sum : (b a : Point) (s k t l : ℕ) (p : Point) → s ≡ t → k ≡ l → IsSum b a s k p → IsSum b a t l p
 same_sum b a s k t l p e f h =
