@@ -48,7 +48,9 @@ pub(crate) fn add_cell(own: &Word<Noted, u64, Law>, seen: &Seen<Noted, u64, Law>
 
 impl NewName {
     /// A name that no other pool has. It takes no memory.
-    pub fn new() -> NewName {
+    pub fn new() -> NewName
+        ensures { result ≡ head_of result.book result.key }
+    {
         let (seen, mut first, _second) = Seen::open(Start::alone(), 0, 0);
         let own = Word::tracked(0, &mut first);
         let pen = add_cell(&own, &seen);
