@@ -7,6 +7,7 @@ use mp_memory::Memory;
 use mp_rules::Verifier;
 use mp_signatures::Ed25519Verifier;
 
+#[derive(Clone, Copy)]
 struct Case<'a> {
     key: &'a [u8; 32],
     signature: &'a [u8; 64],
