@@ -1,6 +1,7 @@
-//! Measures the cost of the product's parts. Without an argument, it prints the names of its measurements. With `run`,
-//! it takes all measurements, or the one that is named after it, at several sizes. For each it prints a line with the
-//! name, the size, and the nanoseconds of one step. With `mempool-hour`, it tries mempools that hand over, for an hour.
+//! Measures what the product's parts cost. Without an argument it prints the names of its measurements. With `run` it takes
+//! each, or the one that is named after it, at several sizes. It prints a line for each: its name, the size, and the nanoseconds
+//! of one step. With `mempool-hour` it tries mempools that hand over for an hour, with `mempool-soak` one mempool that makes
+//! ten million changes.
 #![tactic(auto)]
 
 mod blocks;
@@ -20,7 +21,7 @@ use round::{Round, Tally, fill, opening, time_alone};
 use samples::all_bytes;
 use shared::time_shared;
 use std::env::{self, Env};
-use std::rt::Clock;
+use std::rt::{Clock, Files};
 use std::sync::Wait;
 use std::thread::Threads;
 use std::time::Duration;
@@ -148,7 +149,7 @@ fn words<R: Env + AllocGlobal>(rt: &R) -> Result<Vec<String>> {
     Ok(words)
 }
 
-fn obey<R: Clock + Threads + Wait + Print + Sync>(
+fn obey<R: Clock + Threads + Wait + Print + Files + AllocGlobal + Sync>(
     rt: &R,
     memory: Memory,
     words: &[String],
@@ -164,7 +165,10 @@ fn obey<R: Clock + Threads + Wait + Print + Sync>(
         "mempool-hour" => {
             trial::run(rt, memory, numbers(words, [1, 3_600, 64])?)?;
         }
-        _ => bail!("expected nothing, 'run' or 'mempool-hour'"),
+        "mempool-soak" => {
+            trial::run_soak(rt, memory, numbers(words, [1, 10_000_000, 64])?)?;
+        }
+        _ => bail!("expected nothing, 'run', 'mempool-hour' or 'mempool-soak'"),
     }
     Ok(())
 }

@@ -9,12 +9,12 @@ use crate::samples::submit_of;
 use crate::verifier::Spinning;
 use mp_history::{NewName, PoolName};
 use mp_memory::Memory;
-use mp_mempool::{Config, Mempool, Pass, Receipt, Refusal};
+use mp_mempool::{Config, Mempool, Pass, Reader, Receipt, Refusal};
 use mp_seqpool::Command;
 use std::marker::Brand;
 use std::rt::Clock;
-use std::sync::Wait;
 use std::sync::atomic::Ordering;
+use std::sync::{Arc, Wait};
 use std::thread::{Threads, for_each_mut};
 use std::time::{Duration, Instant};
 
@@ -105,15 +105,16 @@ fn take_part<N: PoolName>(
     }
 }
 
-fn number_of<N: PoolName>(mempool: &Mempool<N, Spinning>, pass: &mut Pass<N>) -> u64 {
-    mempool.reader().snapshot(pass).number()
+fn number_of<N: PoolName>(reader: &Reader<N, Spinning>, pass: &mut Pass<N>) -> u64 {
+    reader.refresh(pass);
+    pass.snapshot().number()
 }
 
 // Takes snapshots until the other caller has ended, and counts them.
-fn look_until<N: PoolName>(mempool: &Mempool<N, Spinning>, pass: &mut Pass<N>, tally: &Tally) {
+fn look_until<N: PoolName>(reader: &Reader<N, Spinning>, pass: &mut Pass<N>, tally: &Tally) {
     let mut looks: u64 = 0;
     for _ in 0..u64::MAX {
-        number_of(mempool, pass);
+        number_of(reader, pass);
         looks = looks.saturating_add(1);
         if tally.has_ended.load(Ordering::SeqCst) {
             break;
@@ -124,13 +125,13 @@ fn look_until<N: PoolName>(mempool: &Mempool<N, Spinning>, pass: &mut Pass<N>, t
 
 /// How many of these callers see this many entries.
 pub fn count_seen<N: PoolName>(
-    mempool: &Mempool<N, Spinning>,
+    reader: &Reader<N, Spinning>,
     passes: &mut [Pass<N>],
     entries: u64,
 ) -> u64 {
     let mut seen: u64 = 0;
     for pass in passes {
-        if number_of(mempool, pass) == entries {
+        if number_of(reader, pass) == entries {
             seen = seen.saturating_add(1);
         }
     }
@@ -155,12 +156,13 @@ fn part_of<'a>(round: &Round<'a>, caller: usize) -> &'a [Command] {
 fn act<N: PoolName>(
     rt: &impl Wait,
     mempool: &Mempool<N, Spinning>,
+    reader: &Reader<N, Spinning>,
     round: &Round<'_>,
     caller: usize,
     pass: &mut Pass<N>,
 ) {
     if matches!(round.work, Work::Watch) && caller == 1 {
-        look_until(mempool, pass, round.tally);
+        look_until(reader, pass, round.tally);
     } else {
         let answered = take_part(rt, mempool, pass, round, caller);
         round.tally.answered.fetch_add(answered, Ordering::SeqCst);
@@ -171,13 +173,14 @@ fn act<N: PoolName>(
 fn take_steps<N: PoolName + Send + Sync, R: Threads + Wait + Sync>(
     rt: &R,
     mempool: &Mempool<N, Spinning>,
+    reader: &Reader<N, Spinning>,
     passes: &mut [Pass<N>],
     round: &Round<'_>,
 ) -> Option<()> {
     let (first, others) = passes.split_first_mut()?;
     match round.work {
         Work::Newer => {
-            let seen = count_seen(mempool, others, round.size);
+            let seen = count_seen(reader, others, round.size);
             round.tally.answered.store(seen, Ordering::SeqCst);
         }
         Work::FourThreads | Work::Watch => {
@@ -190,10 +193,10 @@ fn take_steps<N: PoolName + Send + Sync, R: Threads + Wait + Sync>(
                 rt,
                 passes.get_mut(..threads)?,
                 threads,
-                &|caller, pass: &mut Pass<N>| act(rt, mempool, round, caller, pass),
+                &|caller, pass: &mut Pass<N>| act(rt, mempool, reader, round, caller, pass),
             );
         }
-        _ => act(rt, mempool, round, 0, first),
+        _ => act(rt, mempool, reader, round, 0, first),
     }
     Some(())
 }
@@ -208,6 +211,7 @@ fn reset(tally: &Tally) {
 fn time_steps<N: PoolName + Send + Sync, R: Clock + Threads + Wait + Sync>(
     rt: &R,
     mempool: &Mempool<N, Spinning>,
+    reader: &Reader<N, Spinning>,
     passes: &mut [Pass<N>],
     round: &Round<'_>,
 ) -> Option<Duration> {
@@ -217,7 +221,7 @@ fn time_steps<N: PoolName + Send + Sync, R: Clock + Threads + Wait + Sync>(
     }
     reset(round.tally);
     let start = Instant::now(rt).ok()?;
-    take_steps(rt, mempool, passes, round)?;
+    take_steps(rt, mempool, reader, passes, round)?;
     let time = start.elapsed(rt).ok()?;
     if round.tally.answered.load(Ordering::SeqCst) != round.answered {
         return None;
@@ -241,17 +245,19 @@ fn open<N: PoolName + Send + Sync, R: Clock + Threads + Wait + Sync>(
     requires callers { callers ≡ N.callers }
     requires accepts { N.accepts ≡ any }
 {
-    let verifier = Spinning::new();
+    let verifier = Arc::new(round.memory, Spinning::new()).ok()?;
     match Mempool::<N, _>::open(
         rt,
         round.memory,
         name,
         CONFIG,
         round.ledger,
-        verifier,
+        &verifier,
         callers,
     ) {
-        Ok((mempool, mut passes)) => time_steps(rt, &mempool, &mut passes, round),
+        Ok((mempool, reader, mut passes)) => {
+            time_steps(rt, &mempool, &reader, &mut passes, round)
+        }
         Err(_) => None,
     }
 }

@@ -7,6 +7,7 @@ mod dice;
 mod fault;
 mod player;
 mod pools;
+mod soak;
 mod table;
 
 use crate::samples::{MANY, ledger_by};
@@ -20,8 +21,9 @@ use mp_mempool::Receipt;
 use mp_tx::Ledger;
 use player::{Counts, Part};
 use pools::{Plan, Tale, play_pools};
+use soak::soak;
 use std::io;
-use std::rt::Clock;
+use std::rt::{Clock, Files};
 use std::sync::{Mutex, Wait};
 use std::thread::Threads;
 use std::time::{Duration, Instant};
@@ -176,7 +178,25 @@ fn run_upon<R: Clock + Threads + Wait + Print + Sync>(
     }
 }
 
-/// Plays rounds for this many seconds, and prints the counts.
+// The start of a trial with this number of callers.
+fn trial_of(memory: Memory, callers: u64) -> Result<Trial> {
+    let mut table = Table {
+        changes: Vec::new(memory),
+        syncs: Vec::new(memory),
+    };
+    fill(memory, &mut table).context("no memory")?;
+    let ledger = ledger_by(memory, 1, MANY, OUTPUTS).context("no memory")?;
+    Ok(Trial {
+        memory,
+        ledger,
+        table,
+        counts: Counts::none(),
+        callers: u32::try_from(callers).unwrap_or(0),
+        receipts: Mutex::new(Vec::new(memory)),
+    })
+}
+
+/// Plays rounds for this number of seconds, and prints their results.
 ///
 /// # Errors
 /// The first failure, with the seed of its round. A trial of that seed begins with the same commands.
@@ -185,19 +205,19 @@ pub fn run<R: Clock + Threads + Wait + Print + Sync>(
     memory: Memory,
     [seed, seconds, callers]: [u64; 3],
 ) -> Result<()> {
-    let mut table = Table {
-        changes: Vec::new(memory),
-        syncs: Vec::new(memory),
-    };
-    fill(memory, &mut table).context("no memory")?;
-    let ledger = ledger_by(memory, 1, MANY, OUTPUTS).context("no memory")?;
-    let trial = Trial {
-        memory,
-        ledger,
-        table,
-        counts: Counts::none(),
-        callers: u32::try_from(callers).unwrap_or(0),
-        receipts: Mutex::new(Vec::new(memory)),
-    };
+    let trial = trial_of(memory, callers)?;
     run_upon(rt, &trial, seed, Duration::from_secs(seconds))
+}
+
+/// Makes this number of changes on one pool, and prints the resident memory after each tenth of them.
+///
+/// # Errors
+/// What went wrong.
+pub fn run_soak<R: Clock + Threads + Wait + Print + Files + AllocGlobal + Sync>(
+    rt: &R,
+    memory: Memory,
+    [seed, changes, callers]: [u64; 3],
+) -> Result<()> {
+    let trial = trial_of(memory, callers)?;
+    soak(rt, &trial, seed, changes)
 }

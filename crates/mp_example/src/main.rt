@@ -18,11 +18,11 @@ use callers::{RefusesAll, history_of, passes_of, submit_all};
 use ledger::{BLOCK_BYTES, ledger_after, opening_ledger};
 use mp_history::{Entry, NewName, PoolName, audit};
 use mp_memory::Memory;
-use mp_mempool::{Config, Mempool, Pass, Receipt};
+use mp_mempool::{Config, Mempool, Pass, Reader, Receipt};
 use mp_seqpool::Reply;
 use mp_tx::Ledger;
 use std::marker::Brand;
-use std::sync::Wait;
+use std::sync::{Arc, Wait};
 use std::thread::Threads;
 
 const CALLERS: u32 = 4;
@@ -38,9 +38,11 @@ fn make_block<N: PoolName>(
     rt: &(impl Wait + Print),
     memory: Memory,
     mempool: &Mempool<N, RefusesAll>,
+    reader: &Reader<N, RefusesAll>,
     pass: &mut Pass<N>,
 ) -> Result<Receipt> {
-    let snapshot = mempool.reader().snapshot(pass);
+    reader.refresh(pass);
+    let snapshot = pass.snapshot();
     let (count, bytes) = snapshot.size();
     println!(rt; "pool {count} transactions {bytes} bytes")?;
     let block = fill(memory, snapshot.take(BLOCK_BYTES))?;
@@ -86,6 +88,7 @@ fn share<N: PoolName + Send + Sync, R: Threads + Wait + Print + Sync>(
     rt: &R,
     memory: Memory,
     mempool: &Mempool<N, RefusesAll>,
+    reader: &Reader<N, RefusesAll>,
     passes: Vec<Pass<N>, Memory>,
     ledger: &Ledger,
 ) -> Result<Vec<Pass<N>, Memory>> {
@@ -93,15 +96,15 @@ fn share<N: PoolName + Send + Sync, R: Threads + Wait + Print + Sync>(
     let Some(first) = callers.first_mut() else {
         bail!("no caller");
     };
-    let receipt = make_block(rt, memory, mempool, &mut first.pass)?;
+    let receipt = make_block(rt, memory, mempool, reader, &mut first.pass)?;
     first.receipts.push(receipt)?;
     let history = history_of(memory, &mut callers)?;
     print_audit(rt, memory, ledger, &history)?;
     passes_of(memory, callers)
 }
 
-// A host does this before its pool's history is full, or when the published versions take too much memory. The
-// successor has a name of its own, and its callers get new passes.
+// A host does this before its pool's history is full, or for another number of callers. The successor has a name of its own, and its
+// callers get new passes.
 fn hand_over<N: PoolName, M: PoolName>(
     rt: &(impl Wait + Print),
     memory: Memory,
@@ -115,7 +118,7 @@ fn hand_over<N: PoolName, M: PoolName>(
 {
     let limit = CONFIG.limit;
     match mempool.into_successor::<M>(rt, memory, name, passes, limit, CALLERS) {
-        Ok((successor, mut passes)) => print_opening(rt, &successor, &mut passes),
+        Ok((_successor, reader, mut passes)) => print_opening(rt, &reader, &mut passes),
         Err((refusal, _, _)) => bail!("{refusal}"),
     }
 }
@@ -123,13 +126,14 @@ fn hand_over<N: PoolName, M: PoolName>(
 // What the first caller of a successor sees.
 fn print_opening<M: PoolName>(
     rt: &impl Print,
-    successor: &Mempool<M, RefusesAll>,
+    reader: &Reader<M, RefusesAll>,
     passes: &mut [Pass<M>],
 ) -> Result<()> {
     let Some(first) = passes.first_mut() else {
         bail!("no caller");
     };
-    let snapshot = successor.reader().snapshot(first);
+    reader.refresh(first);
+    let snapshot = first.snapshot();
     let (count, entries, last) = (snapshot.size().0, snapshot.number(), snapshot.last());
     println!(rt; "successor {count} transactions {entries} entries last ticket {last}")?;
     Ok(())
@@ -149,12 +153,13 @@ fn open<N: PoolName + Send + Sync, R: Threads + Wait + Print + Sync>(
     requires callers { N.callers ≡ 4 }
     requires accepts { N.accepts ≡ nobody }
 {
-    match Mempool::<N, _>::open(rt, memory, name, CONFIG, ledger, RefusesAll, CALLERS) {
-        Ok((mempool, passes)) => {
-            let passes = share(rt, memory, &mempool, passes, ledger)?;
+    let verifier = Arc::new(memory, RefusesAll)?;
+    match Mempool::<N, _>::open(rt, memory, name, CONFIG, ledger, &verifier, CALLERS) {
+        Ok((mempool, reader, passes)) => {
+            let passes = share(rt, memory, &mempool, &reader, passes, ledger)?;
             hand_over::<N, Brand>(rt, memory, NewName::new(), mempool, passes)
         }
-        Err((refusal, _)) => bail!("{refusal}"),
+        Err(refusal) => bail!("{refusal}"),
     }
 }
 

@@ -8,24 +8,20 @@ use Rattle.mp_seqpool.specs.Command.{Command}
 use Rattle.mp_seqpool.specs.Pool.{Pool, Holding}
 use Rattle.mp_seqpool.specs.Prepared.{Prepared, Prepares}
 use Rattle.mp_seqpool.specs.SlowPool.{AreSigned, IsRefused}
-use Rattle.mp_history.specs.Log.{Log, IsLegalLog, state_after}
-use Rattle.mp_history.proofs.Logs.{signed-of}
+use Rattle.mp_history.specs.Log.{Log, state_after}
+use Rattle.mp_reader.proofs.Signed.{signed_after}
 use Rattle.mp_locked.specs.Locked.{Locked, holding}
 use Rattle.mp_locked.specs.Inside.Locked.{IsAt}
 
 module _ (accepts : Accepts) where
   -- the sequential pool is what the lock's history leads to
-  pub held : (callers : ℕ) (log : Log) (h : Holding) (newest : Log) (places : List (Option ℕ)) (l : Locked) → IsAt accepts callers log h.pool newest places
-      → record { log = log; room = h.room } ≡ l → h ≡ holding accepts l
-  held callers log h newest places l at view = ap (λ p. record { pool = p; room = h.room }) at.state ∙ ap (holding accepts) view
-
-  -- the verifier accepts all signatures in a pool after a legal log
-  pub signed_after : (a : Accepts) (callers : ℕ) (log : Log) (p : Pool) → a ≡ accepts → IsLegalLog accepts callers log → p ≡ state_after accepts log → AreSigned a p
-  signed_after a callers log p same legal is =
-      subst (λ b. AreSigned b p) (sym same) (signed-of accepts log.opening p log.entries legal.lawful is)
+  pub held : (callers : ℕ) (log : Log) (h : Holding) (newest : Log) (places : List (Option ℕ)) (waiting : Option Log) (published : Log) (l : Locked)
+      → IsAt accepts callers log h.pool newest places
+      → record { log = log; room = h.room; waiting = waiting; published = published } ≡ l → h ≡ holding accepts l
+  held callers log h newest places waiting published l at view = ap (λ p. record { pool = p; room = h.room }) at.state ∙ ap (holding accepts) view
 
   pub signed_held : (a : Accepts) (callers : ℕ) (log : Log) (p : Pool) (newest : Log) (places : List (Option ℕ)) → a ≡ accepts → IsAt accepts callers log p newest places → AreSigned a p
-  signed_held a callers log p newest places same at = signed_after a callers log p same at.legal at.state
+  signed_held a callers log p newest places same at = signed_after accepts a callers log p same at.legal at.state
 
   pub prepares_held : {E : Type 0} (a : Accepts) (h : Holding) (l : Locked) (c : Command) (r : Result Prepared E) → a ≡ accepts → h ≡ holding accepts l
       → IfOk r (Prepares a h c) → IfOk r (Prepares accepts (holding accepts l) c)

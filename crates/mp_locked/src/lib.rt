@@ -5,4 +5,4 @@ mod locked;
 mod ready;
 
 pub use locked::Locked;
-pub use ready::{Committed, Outcome, Owners, Ready};
+pub use ready::{Outcome, Owners, Ready};

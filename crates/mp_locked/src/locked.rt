@@ -1,5 +1,5 @@
 //! What a pool's lock guards.
-ghost use Rattle.std.specs.Prelude.{◌≡◌, ◌<◌, ◌≤◌, ◌≢◌, ◌^◌, [], true, false, length, replicate, Some, None, IfSome, IfOk, IfErr};
+ghost use Rattle.std.specs.Prelude.{◌≡◌, ◌<◌, ◌≤◌, ◌≢◌, ◌^◌, [], true, false, length, replicate, Some, None, IfSome, IfOk, IfErr, OnOk, OnErr};
 ghost use Rattle.std.specs.Arc.{arc_value};
 ghost use Rattle.mp_rules.specs.Checked.{IsChecked};
 ghost use Rattle.mp_seqpool.specs.Command.{Submit, Remove, Sync};
@@ -9,28 +9,32 @@ ghost use Rattle.mp_seqpool.specs.declared.refusal.Refusal.TheVariants as refusa
 ghost use Rattle.mp_history.specs.Log.{Begins, IsLegalLog, entered, last_of, state_after};
 ghost use Rattle.mp_history.specs.Successors.{successor};
 ghost use Rattle.mp_versions.specs.Shown.{IsVersionOf};
-ghost use Rattle.mp_locked.specs.Locked.{holding};
+ghost use Rattle.mp_reader.specs.Pass.{IsOwn};
+ghost use Rattle.mp_locked.specs.Locked.{holding, IsKept, with_published};
 ghost use Rattle.mp_locked.specs.Inside.Locked.{IsAt};
 ghost use Rattle.mp_locked.specs.Ready.{IsReady, Own, Tells};
 
-use crate::ready::{Committed, Outcome, Owners, Ready};
+use crate::ready::{Outcome, Owners, Ready};
 use mp_history::{Caller, CommitRight, Entry, Front, History, PoolName};
 use mp_memory::{Memory, NoMemory};
+use mp_reader::{Pass, Receipt};
 use mp_rules::{Checked, Verifier};
 use mp_seqpool::{Ids, Prepared, Refusal, SeqPool};
 use mp_tx::{Ledger, Tx};
-use mp_versions::{Board, Shown, Version};
+use mp_versions::{Boards, Publisher, Shown, Version};
 use std::marker::Model;
 use std::sync::{Arc, Wait};
 
-/// What a pool's lock guards: the right to lengthen its history, the sequential pool after it, the newest version, and for each
-/// caller the place of its last entry. Contracts see the history, and the room that the sequential pool has for its next step:
-/// all else is what the history leads to, as the readers say.
+/// What a pool's lock guards: the right to lengthen its history, the sequential pool after it, the newest version, the right to
+/// publish versions, and for each caller the place of its last entry. Contracts see the history, the room that the sequential pool
+/// has for its next step, the version that waits to be published, and the one that was published last: all else is what the
+/// history leads to, as the readers say.
 pub struct Locked<N: PoolName> {
     pool: SeqPool,
     right: CommitRight<N>,
     newest: Shown<N>,
-    // The newest version, where it couldn't be shown yet.
+    publisher: Publisher<N>,
+    // The newest version, until it is published.
     waiting: Option<Shown<N>>,
     // By caller, the place of its last entry.
     places: Vec<Option<u64>, Memory>,
@@ -42,6 +46,7 @@ impl<N: PoolName> Drop for Locked<N> {
             pool: _,
             right: _,
             newest: _,
+            publisher: _,
             waiting: _,
             places: _,
         } = self;
@@ -58,10 +63,16 @@ impl<N: PoolName> Model for Locked<N> {
 
     ghost coded = { Prim.hlevel (codes, finite.code) };
 
-    ghost view = { λ l. record { log = l.right; room = l.pool.room } };
+    ghost view = { λ l. record {
+      log = l.right;
+      room = l.pool.room;
+      waiting = l.waiting;
+      published = l.publisher;
+    } };
 
     ghost invariant = { λ l. IsAt N.accepts N.callers
-        l.right l.pool.pool l.newest l.places.items };
+        l.right l.pool.pool l.newest l.places.items
+        × told.IsKept l.right l.waiting l.publisher };
 }
 
 // The entry that tells of the step.
@@ -100,39 +111,48 @@ fn take_step(pool: &mut SeqPool, prepared: Prepared)
 }
 
 impl<N: PoolName> Locked<N> {
-    // All parts together.
+    // All parts together, with no version that waits.
     fn of(
         pool: SeqPool,
         right: CommitRight<N>,
         newest: Shown<N>,
+        publisher: Publisher<N>,
         places: Vec<Option<u64>, Memory>,
     ) -> Locked<N>
-        requires { IsAt N.accepts N.callers right pool.pool newest places.items }
-        ensures { result.log ≡ right }
+        requires at { IsAt N.accepts N.callers right pool.pool newest places.items }
+        requires published { publisher ≡ right }
+        ensures log { result.log ≡ right }
+        ensures waiting { result.waiting ≡ None }
+        ensures published { result.published ≡ right }
     {
         Locked {
             pool,
             right,
             newest,
+            publisher,
             waiting: None,
             places,
         }
     }
 
-    /// What the lock guards at first: no entry, and no version that waits.
+    /// What the lock guards at first: no entry, and no version that waits, since the opening one is published.
     pub fn open(
         pool: SeqPool,
         right: CommitRight<N>,
         newest: Shown<N>,
+        publisher: Publisher<N>,
         places: Vec<Option<u64>, Memory>,
     ) -> Locked<N>
         requires state { right ≡ record { opening = pool.pool; entries = [] } }
         requires legal { IsLegalLog N.accepts N.callers right }
         requires newest { newest ≡ right }
+        requires published { publisher ≡ right }
         requires places { places.items ≡ replicate N.callers None }
-        ensures { result.log ≡ right }
+        ensures log { result.log ≡ right }
+        ensures waiting { result.waiting ≡ None }
+        ensures published { result.published ≡ right }
     {
-        Locked::of(pool, right, newest, places)
+        Locked::of(pool, right, newest, publisher, places)
     }
 
     /// What the lock of a successor guards, whose right this is: the sequential pool is renewed, and no item is copied.
@@ -141,6 +161,7 @@ impl<N: PoolName> Locked<N> {
         limit: u64,
         right: CommitRight<M>,
         newest: Shown<M>,
+        publisher: Publisher<M>,
         places: Vec<Option<u64>, Memory>,
     ) -> Locked<M>
         requires least { 1 ≤ limit }
@@ -148,18 +169,22 @@ impl<N: PoolName> Locked<N> {
         requires right { right ≡ successor N.accepts limit self.log }
         requires legal { IsLegalLog M.accepts M.callers right }
         requires newest { newest ≡ right }
+        requires published { publisher ≡ right }
         requires places { places.items ≡ replicate M.callers None }
-        ensures { result.log ≡ right }
+        ensures log { result.log ≡ right }
+        ensures waiting { result.waiting ≡ None }
+        ensures published { result.published ≡ right }
     {
         let Locked {
             mut pool,
             right: _,
             newest: _,
+            publisher: _,
             waiting: _,
             places: _,
         } = self;
         pool.renew(limit);
-        Locked::open(pool, right, newest, places)
+        Locked::open(pool, right, newest, publisher, places)
     }
 
     // The readers, which say what ties the parts together.
@@ -179,9 +204,10 @@ impl<N: PoolName> Locked<N> {
         &self.pool
     }
 
-    /// The version after all entries.
+    /// The version after all entries. It is published, or waits for that.
     pub fn newest(&self) -> &Shown<N>
-        ensures { result.now ≡ self.now.log }
+        ensures newest { result.now ≡ self.now.log }
+        ensures kept { IsKept self.now.log self.now.waiting self.now.published }
     {
         &self.newest
     }
@@ -200,17 +226,18 @@ impl<N: PoolName> Locked<N> {
         self.places[caller.number() as usize]
     }
 
-    /// Whether the caller's token has the last of its entries. What the front has seen begins the history under the lock.
-    pub fn is_known_to(&mut self, caller: &Caller<N>, front: &Front<N>) -> bool
+    /// Whether the pass knows the last of its caller's entries. What it has seen begins the history under the lock.
+    pub fn is_known_to(&mut self, pass: &Pass<N>) -> bool
         ensures same { self.new ≡ self.old }
-        ensures begins { Begins front.now self.new.log }
+        ensures begins { Begins pass.now.front self.new.log }
+        ensures own { IsOwn pass.now }
         ensures known { result ≡ true
-            → last_of caller.now.number self.new.log.entries ≡ caller.now.last }
+            → last_of pass.now.caller self.new.log.entries ≡ pass.now.last }
         ensures foreign { result ≡ false
-            → last_of caller.now.number self.new.log.entries ≢ caller.now.last }
+            → last_of pass.now.caller self.new.log.entries ≢ pass.now.last }
     {
-        self.right.covers(front);
-        self.last_of(caller) == caller.last()
+        self.right.covers(pass.front());
+        self.last_of(pass.token()) == pass.last()
     }
 
     // Owners of the version after a step, of which the entry tells.
@@ -409,46 +436,52 @@ impl<N: PoolName> Locked<N> {
         self.pool.changes()
     }
 
-    /// Commits the caller's entry and takes the step. The version after it waits to be shown. It takes no memory and can't fail.
-    pub fn commit(
-        &mut self,
-        history: &History<N>,
-        caller: &mut Caller<N>,
-        ready: Ready,
-    ) -> Committed<N>
-        requires { IsReady N.accepts N.callers self.old caller.old.number ready }
+    /// Commits the caller's entry and takes the step; the caller has then seen the version after it, which waits to be published.
+    /// It allocates nothing and can't fail.
+    pub fn commit(&mut self, history: &History<N>, pass: &mut Pass<N>, ready: Ready) -> Receipt
+        requires { IsReady N.accepts N.callers self.old pass.old.caller ready }
         ensures log { self.new.log ≡ entered self.old.log ready.outcome.entry }
+        ensures waiting { self.new.waiting ≡ Some self.new.log }
+        ensures published { self.new.published ≡ self.old.published }
         ensures place { result.place ≡ length self.old.log.entries }
         ensures entry { result.entry ≡ ready.outcome.entry }
-        ensures shown { result.shown ≡ self.new.log }
-        ensures caller { caller.new
-            ≡ record caller.old { last = Some (length self.old.log.entries) } }
+        ensures pass { pass.new ≡ record pass.old {
+          last = Some (length self.old.log.entries);
+          front = self.new.log;
+        } }
     {
         let Ready { prepared, outcome } = ready;
         let Outcome { entry, owners } = outcome;
         let place = self.next_place();
-        let number = caller.number() as usize;
-        history.commit(&mut self.right, caller, &entry);
+        let number = pass.caller() as usize;
+        pass.commit(history, &mut self.right, &entry, owners.for_pass);
         take_step(&mut self.pool, prepared);
         self.places[number] = Some(place);
         self.newest = Shown::of(owners.for_lock, self.right.front());
         self.waiting = Some(Shown::of(owners.for_board, self.right.front()));
-        Committed {
-            place,
-            entry,
-            shown: Shown::of(owners.for_pass, self.right.front()),
-        }
+        Receipt { place, entry }
     }
 
-    /// Shows the version that waits, if one does. Where memory is wanting it waits on.
-    pub fn show_waiting(&mut self, rt: &impl Wait, board: &Board<N>)
-        ensures { self.new ≡ self.old }
+    /// Publishes the version that waits, if one does.
+    ///
+    /// # Errors
+    /// `NoMemory`, and it waits on.
+    pub fn publish_waiting(
+        &mut self,
+        rt: &impl Wait,
+        memory: Memory,
+        boards: &Boards<N>,
+    ) -> Result<(), NoMemory>
+        ensures published { OnOk result (self.new ≡ with_published self.old) }
+        ensures waits { OnErr result (self.new ≡ self.old) }
     {
         let Some(shown) = self.waiting.take() else {
-            return;
+            return Ok(());
         };
-        if let Err(shown) = board.show(rt, shown) {
+        if let Err(shown) = self.publisher.publish(rt, memory, boards, shown) {
             self.waiting = Some(shown);
+            return Err(NoMemory);
         }
+        Ok(())
     }
 }

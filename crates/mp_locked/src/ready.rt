@@ -1,9 +1,9 @@
 //! Steps for which everything is ready.
 
-use mp_history::{Entry, PoolName};
+use mp_history::Entry;
 use mp_memory::Memory;
 use mp_seqpool::Prepared;
-use mp_versions::{Shown, Version};
+use mp_versions::Version;
 use std::sync::Arc;
 
 /// Owners of one version, one for each who is going to hold it.
@@ -26,12 +26,4 @@ pub struct Outcome {
 pub struct Ready {
     pub prepared: Prepared,
     pub outcome: Outcome,
-}
-
-/// A step that was taken: its entry, the place of that in the history, from 0, and the version after it.
-#[derive(Drop)]
-pub struct Committed<N: PoolName> {
-    pub place: u64,
-    pub entry: Entry,
-    pub shown: Shown<N>,
 }

@@ -5,11 +5,12 @@
 mod config;
 mod mempool;
 mod opening;
+mod readers;
 mod refusal;
 mod successor;
 pub mod under_lock;
 
 pub use config::Config;
-pub use mempool::{Handover, Mempool};
+pub use mempool::{Handover, Mempool, Opened};
 pub use mp_reader::{Pass, Reader, Receipt, SnapshotFor};
 pub use refusal::{OpenRefusal, Refusal, SuccessorRefusal};

@@ -11,6 +11,7 @@ ghost use Rattle.mp_mempool.specs.Inside.Heir.{IsHeir};
 
 use crate::config::Config;
 use crate::opening::{Parts, open_fault, open_parts};
+use crate::readers::{Readers, make_readers};
 use crate::refusal::{OpenRefusal, Refusal, SuccessorRefusal};
 use crate::successor::{Heir, prepare};
 use crate::under_lock::{remove_in, submit_in, sync_in};
@@ -32,13 +33,13 @@ use std::sync::{Arc, Mutex, Wait};
 /// Each caller has a `Pass`, which holds the version of the pool that the caller has seen last. A call that changes the pool
 /// (`submit`, `remove`, `sync`) takes the pool's lock, enters one entry and answers with a `Receipt`, or it is refused and enters
 /// none. Unless memory was wanting or the refusal is `Foreign`, its pass then holds the version at which the answer is the
-/// sequential pool's. The calls that read are those of its `reader`, which has no lock. Whatever a call does, what its pass holds
-/// extends what it held.
+/// sequential pool's. The calls that read are those of a `Reader`, which comes with the pool: a thread that only reads needs that
+/// and its pass, and no pool. Whatever a call does, what its pass holds extends what it held.
 ///
 /// Any number of threads may share a pool, each with passes of its own.
 pub struct Mempool<N: PoolName, V: Verifier> {
     pub(crate) history: History<N>,
-    pub(crate) reader: Reader<N, V>,
+    pub(crate) reader: Arc<Reader<N, V>, Memory>,
     locked: Mutex<Locked<N>>,
 }
 
@@ -52,72 +53,178 @@ impl<N: PoolName, V: Verifier + Drop> Drop for Mempool<N, V> {
     }
 }
 
-/// A successor with its passes; or why the pool doesn't hand over, and the pool with the passes as they were.
+/// A pool, what reads it without the pool, and the passes of its callers 0, 1, .. in order.
+pub type Opened<N, V> = (
+    Mempool<N, V>,
+    Arc<Reader<N, V>, Memory>,
+    Vec<Pass<N>, Memory>,
+);
+
+/// A successor; or why the pool doesn't hand over, and the pool with the passes as they were.
 pub type Handover<N, M, V> = Result<
-    (Mempool<M, V>, Vec<Pass<M>, Memory>),
+    Opened<M, V>,
     (SuccessorRefusal<N>, Mempool<N, V>, Vec<Pass<N>, Memory>),
 >;
 
-impl<N: PoolName, V: Verifier> Mempool<N, V> {
-    /// Opens a pool under the name, for 1 to 1,024 callers, upon the ledger state: a pool without transactions, and a pass for
-    /// each of the callers 0, 1, .. in order. The version that it opens with is shown.
+impl<N: PoolName, V: Verifier + Drop> Mempool<N, V> {
+    /// Opens a pool under the name, for 1 to 1,024 callers, upon the ledger state: a pool without transactions, what reads it, and
+    /// a pass for each of the callers 0, 1, .. in order. The version that it opens with is published. The verifier is shared.
     ///
     /// # Errors
-    /// The first of `OpenRefusal`'s reasons that holds, with the verifier. The name is used up.
+    /// The first of `OpenRefusal`'s reasons that holds. The name is used up.
     pub fn open(
         rt: &impl Wait,
         memory: Memory,
         name: NewName,
         config: Config,
         ledger: &Ledger,
-        verifier: V,
+        verifier: &Arc<V, Memory>,
         callers: u32,
-    ) -> Result<(Mempool<N, V>, Vec<Pass<N>, Memory>), (OpenRefusal, V)>
+    ) -> Result<Opened<N, V>, OpenRefusal>
         requires name { name ≡ head_of N.book N.root }
         requires callers { callers ≡ N.callers }
-        requires accepts { V.accepts verifier ≡ N.accepts }
-        ensures passes { IfOk result (λ opened. opened.1.items
+        requires accepts { V.accepts (arc_value verifier.now) ≡ N.accepts }
+        ensures passes { IfOk result (λ opened. opened.2.items
             ≡ fresh_passes callers (fresh_log config ledger.now)) }
         ensures open { OnOk result (open_fault config.limit callers ≡ None) }
-        ensures refused { IfErr result (λ e. IsOpenFault config.limit callers e.0) }
-        ensures verifier { IfErr result (λ e. e.1 ≡ verifier) }
+        ensures refused { IfErr result (IsOpenFault config.limit callers) }
     {
         if let Some(refusal) = open_fault(config.limit, callers) {
-            return Err((refusal, verifier));
+            return Err(refusal);
         }
-        match open_parts(rt, memory, name, config, ledger, callers) {
-            Ok(parts) => Ok(Mempool::of_parts(memory, verifier, parts)),
-            Err(NoMemory) => Err((OpenRefusal::NoMemory, verifier)),
+        match Mempool::open_within(rt, memory, name, config, ledger, verifier, callers) {
+            Ok(opened) => Ok(opened),
+            Err(NoMemory) => Err(OpenRefusal::NoMemory),
         }
     }
 
-    // The pool with its passes.
-    fn of_parts(
+    // Opens a pool for so many changes and callers as there may be.
+    fn open_within(
+        rt: &impl Wait,
         memory: Memory,
-        verifier: V,
-        parts: Parts<N>,
-    ) -> (Mempool<N, V>, Vec<Pass<N>, Memory>)
-        requires { V.accepts verifier ≡ N.accepts }
-        ensures { result.1.items ≡ parts.passes.items }
+        name: NewName,
+        config: Config,
+        ledger: &Ledger,
+        verifier: &Arc<V, Memory>,
+        callers: u32,
+    ) -> Result<Opened<N, V>, NoMemory>
+        requires name { name ≡ head_of N.book N.root }
+        requires number { callers ≡ N.callers }
+        requires accepts { V.accepts (arc_value verifier.now) ≡ N.accepts }
+        requires some { 1 ≤ callers }
+        requires most { callers ≤ 1024 }
+        requires least { 1 ≤ config.limit }
+        requires greatest { config.limit ≤ 2 ^ 32 }
+        ensures { IfOk result (λ opened. opened.2.items
+            ≡ fresh_passes callers (fresh_log config ledger.now)) }
     {
         let Parts {
             history,
-            board,
+            boards,
             locked,
             passes,
-        } = parts;
-        let reader = Reader::of(memory, verifier, board);
-        let locked = Mutex::new(locked);
-        (
-            Mempool {
-                history,
-                reader,
-                locked,
-            },
-            passes,
-        )
+        } = open_parts(rt, memory, name, config, ledger, callers)?;
+        let readers = make_readers(memory, Arc::try_clone(verifier)?, boards)?;
+        Ok(Mempool::of_parts(history, locked, readers, passes))
     }
 
+    // All of them together.
+    fn of_parts(
+        history: History<N>,
+        locked: Locked<N>,
+        readers: Readers<N, V>,
+        passes: Vec<Pass<N>, Memory>,
+    ) -> Opened<N, V>
+        ensures { result.2.items ≡ passes.items }
+    {
+        let Readers { for_pool, for_host } = readers;
+        let locked = Mutex::new(locked);
+        let pool = Mempool {
+            history,
+            reader: for_pool,
+            locked,
+        };
+        (pool, for_host, passes)
+    }
+
+    /// Hands over to a successor under the name, for so many changes and 1 to 1,024 callers. It opens with the transactions that
+    /// this pool has, their tickets, the ledger state and the last ticket, with no change made: nothing is checked again, and no
+    /// transaction is copied. The passes are those of all callers of this pool; each caller of the successor gets a new one, and
+    /// what reads the successor comes with it. Who still has a reader and versions of the old pool keeps those.
+    ///
+    /// # Errors
+    /// The first of `SuccessorRefusal`'s reasons that holds, with the pool and the passes as they were. The name is used up.
+    pub fn into_successor<M: PoolName>(
+        self,
+        rt: &impl Wait,
+        memory: Memory,
+        name: NewName,
+        passes: Vec<Pass<N>, Memory>,
+        limit: u64,
+        callers: u32,
+    ) -> Handover<N, M, V>
+        requires name { name ≡ head_of M.book M.root }
+        requires callers { callers ≡ M.callers }
+        requires accepts { M.accepts ≡ N.accepts }
+        ensures successor { IfOk result (λ s. AreSuccessors N.accepts N.callers
+            passes.items limit callers s.2.items) }
+        ensures open { OnOk result (open_fault limit callers ≡ None) }
+        ensures refused { IfErr result (λ e. IsRefusedSuccessor N.accepts N.callers
+            passes.items limit callers e.0) }
+        ensures passes { IfErr result (λ e. e.2.items ≡ passes.items) }
+    {
+        let Mempool {
+            history,
+            reader,
+            locked,
+        } = self;
+        let mut locked = locked.into_inner();
+        match prepare(
+            rt,
+            memory,
+            name,
+            &reader,
+            &mut locked,
+            &passes,
+            limit,
+            callers,
+        ) {
+            Ok(heir) => Ok(Mempool::inherit(locked, limit, heir)),
+            Err(refusal) => {
+                let locked = Mutex::new(locked);
+                let pool = Mempool {
+                    history,
+                    reader,
+                    locked,
+                };
+                Err((refusal, pool, passes))
+            }
+        }
+    }
+
+    // The successor.
+    fn inherit<M: PoolName>(locked: Locked<N>, limit: u64, heir: Heir<M, V>) -> Opened<M, V>
+        requires least { 1 ≤ limit }
+        requires greatest { limit ≤ 2 ^ 32 }
+        requires heir { IsHeir M.accepts M.callers (successor N.accepts limit locked.log)
+            heir.right heir.shown heir.publisher heir.places.items }
+        ensures { result.2.items ≡ heir.passes.items }
+    {
+        let Heir {
+            history,
+            right,
+            shown,
+            publisher,
+            places,
+            readers,
+            passes,
+        } = heir;
+        let locked = locked.renew(limit, right, shown, publisher, places);
+        Mempool::of_parts(history, locked, readers, passes)
+    }
+}
+
+impl<N: PoolName, V: Verifier> Mempool<N, V> {
     /// Takes the transaction in under the next ticket. Signatures and scripts are looked at before the lock is taken, upon the
     /// outputs that the newest version has: under the lock scripts are run again only where an output is another one, and both
     /// where one wasn't found. The call may wait for other callers.
@@ -179,90 +286,6 @@ impl<N: PoolName, V: Verifier> Mempool<N, V> {
     {
         let mut locked = self.locked.lock(rt);
         sync_in(self, rt, &mut locked, pass, ledger)
-    }
-
-    /// Hands over to a successor under the name, for so many changes and 1 to 1,024 callers. It opens with the transactions that
-    /// this pool has, their tickets, the ledger state and the last ticket, with no change made: nothing is checked again, and no
-    /// transaction is copied. The passes are those of all callers of this pool; each caller of the successor gets a new one. What
-    /// the old pool showed goes with the last that holds it.
-    ///
-    /// # Errors
-    /// The first of `SuccessorRefusal`'s reasons that holds, with the pool and the passes as they were. The name is used up.
-    pub fn into_successor<M: PoolName>(
-        self,
-        rt: &impl Wait,
-        memory: Memory,
-        name: NewName,
-        passes: Vec<Pass<N>, Memory>,
-        limit: u64,
-        callers: u32,
-    ) -> Handover<N, M, V>
-        requires name { name ≡ head_of M.book M.root }
-        requires callers { callers ≡ M.callers }
-        requires accepts { M.accepts ≡ N.accepts }
-        ensures successor { IfOk result (λ s. AreSuccessors N.accepts N.callers
-            passes.items limit callers s.1.items) }
-        ensures open { OnOk result (open_fault limit callers ≡ None) }
-        ensures refused { IfErr result (λ e. IsRefusedSuccessor N.accepts N.callers
-            passes.items limit callers e.0) }
-        ensures passes { IfErr result (λ e. e.2.items ≡ passes.items) }
-    {
-        let Mempool {
-            history,
-            reader,
-            locked,
-        } = self;
-        let mut locked = locked.into_inner();
-        match prepare::<N, M>(rt, memory, name, &mut locked, &passes, limit, callers) {
-            Ok(heir) => Ok(Mempool::inherit(memory, reader, locked, limit, heir)),
-            Err(refusal) => {
-                let locked = Mutex::new(locked);
-                let pool = Mempool {
-                    history,
-                    reader,
-                    locked,
-                };
-                Err((refusal, pool, passes))
-            }
-        }
-    }
-
-    // The successor with its passes.
-    fn inherit<M: PoolName>(
-        memory: Memory,
-        reader: Reader<N, V>,
-        locked: Locked<N>,
-        limit: u64,
-        heir: Heir<M>,
-    ) -> (Mempool<M, V>, Vec<Pass<M>, Memory>)
-        requires least { 1 ≤ limit }
-        requires greatest { limit ≤ 2 ^ 32 }
-        requires accepts { M.accepts ≡ N.accepts }
-        requires heir { IsHeir M.accepts M.callers (successor N.accepts limit locked.log)
-            heir.right heir.desk.shown heir.desk.places.items }
-        ensures { result.1.items ≡ heir.desk.passes.items }
-    {
-        let Heir {
-            history,
-            right,
-            desk,
-        } = heir;
-        let locked = locked.renew(limit, right, desk.shown, desk.places);
-        Mempool::of_parts(
-            memory,
-            reader.into_verifier(),
-            Parts {
-                history,
-                board: desk.board,
-                locked,
-                passes: desk.passes,
-            },
-        )
-    }
-
-    /// What reads the pool, for any number of callers at once. It has no lock.
-    pub fn reader(&self) -> &Reader<N, V> {
-        &self.reader
     }
 }
 

@@ -13,7 +13,7 @@ use mp_memory::{Memory, NoMemory};
 use mp_reader::Pass;
 use mp_seqpool::SeqPool;
 use mp_tx::Ledger;
-use mp_versions::{Board, Shown, Version};
+use mp_versions::{Boards, Publisher, Shown, Version};
 use std::sync::{Arc, Wait};
 
 // No pool has more callers.
@@ -43,7 +43,7 @@ pub(crate) fn open_fault(limit: u64, callers: u32) -> Option<OpenRefusal>
 #[derive(Drop)]
 pub(crate) struct Parts<N: PoolName> {
     pub(crate) history: History<N>,
-    pub(crate) board: Board<N>,
+    pub(crate) boards: Boards<N>,
     pub(crate) locked: Locked<N>,
     pub(crate) passes: Vec<Pass<N>, Memory>,
 }
@@ -53,12 +53,14 @@ fn put_pass<N: PoolName>(
     passes: &mut Vec<Pass<N>, Memory>,
     caller: Caller<N>,
     shown: &Shown<N>,
+    publisher: &Publisher<N>,
 ) -> Result<(), NoMemory>
     requires { caller.last ≡ None }
     ensures { OnOk result (passes.new.items ≡ passes.old.items ++ pass_of shown.now caller ∷ []) }
 {
     let shown = shown.share()?;
-    passes.push(Pass::of(caller, shown))?;
+    let subscriber = publisher.subscriber()?;
+    passes.push(Pass::of(caller, shown, subscriber))?;
     Ok(())
 }
 
@@ -67,13 +69,14 @@ fn put_passes<N: PoolName>(
     passes: &mut Vec<Pass<N>, Memory>,
     callers: Vec<Caller<N>, Memory>,
     shown: &Shown<N>,
+    publisher: &Publisher<N>,
 ) -> Result<(), NoMemory>
     requires none { passes.old.items ≡ [] }
     requires fresh { All (λ c. c.last ≡ None) callers.items }
     ensures { OnOk result (passes.new.items ≡ map (pass_of shown.now) callers.items) }
 {
     for caller in callers {
-        put_pass(passes, caller, shown)?;
+        put_pass(passes, caller, shown, publisher)?;
     }
     Ok(())
 }
@@ -83,26 +86,14 @@ fn give_passes<N: PoolName>(
     memory: Memory,
     callers: Vec<Caller<N>, Memory>,
     shown: &Shown<N>,
+    publisher: &Publisher<N>,
 ) -> Result<Vec<Pass<N>, Memory>, NoMemory>
     requires { All (λ c. c.last ≡ None) callers.items }
     ensures { IfOk result (λ passes. passes.items ≡ map (pass_of shown.now) callers.items) }
 {
     let mut passes = Vec::with_capacity(memory, callers.len())?;
-    put_passes(&mut passes, callers, shown)?;
+    put_passes(&mut passes, callers, shown, publisher)?;
     Ok(passes)
-}
-
-// A board that shows this version.
-fn open_board<N: PoolName>(
-    rt: &impl Wait,
-    memory: Memory,
-    shown: &Shown<N>,
-) -> Result<Board<N>, NoMemory> {
-    let board = Board::new(memory)?;
-    match board.show(rt, shown.share()?) {
-        Ok(()) => Ok(board),
-        Err(_) => Err(NoMemory),
-    }
 }
 
 // Puts for each of so many callers that it hasn't made an entry.
@@ -144,11 +135,12 @@ fn first_version<N: PoolName>(
 pub(crate) struct Desk<N: PoolName> {
     pub(crate) shown: Shown<N>,
     pub(crate) passes: Vec<Pass<N>, Memory>,
-    pub(crate) board: Board<N>,
+    pub(crate) boards: Boards<N>,
+    pub(crate) publisher: Publisher<N>,
     pub(crate) places: Vec<Option<u64>, Memory>,
 }
 
-/// The desk with this version on its board: a pass for each caller that has seen it, and no entry of any of them.
+/// The desk with this version published: a pass for each caller that has seen it, and no entry of any of them.
 pub(crate) fn set_desk<N: PoolName>(
     rt: &impl Wait,
     memory: Memory,
@@ -158,16 +150,18 @@ pub(crate) fn set_desk<N: PoolName>(
 ) -> Result<Desk<N>, NoMemory>
     requires { All (λ c. c.last ≡ None) tokens.items }
     ensures shown { IfOk result (λ desk. desk.shown ≡ shown) }
+    ensures published { IfOk result (λ desk. desk.publisher ≡ shown) }
     ensures passes { IfOk result (λ desk. desk.passes.items ≡ map (pass_of shown) tokens.items) }
     ensures places { IfOk result (λ desk. desk.places.items ≡ replicate callers None) }
 {
     let places = unset_places(memory, callers)?;
-    let board = open_board(rt, memory, &shown)?;
-    let passes = give_passes(memory, tokens, &shown)?;
+    let (boards, publisher) = Boards::open(rt, memory, &shown)?;
+    let passes = give_passes(memory, tokens, &shown, &publisher)?;
     Ok(Desk {
         shown,
         passes,
-        board,
+        boards,
+        publisher,
         places,
     })
 }
@@ -185,6 +179,7 @@ fn open_desk<N: PoolName>(
     requires legal { IsLegalLog N.accepts N.callers right.now }
     requires fresh { All (λ c. c.last ≡ None) tokens.items }
     ensures shown { IfOk result (λ desk. desk.shown ≡ right.now) }
+    ensures published { IfOk result (λ desk. desk.publisher ≡ right.now) }
     ensures passes { IfOk result (λ desk. desk.passes.items
         ≡ map (pass_of right.now) tokens.items) }
     ensures places { IfOk result (λ desk. desk.places.items ≡ replicate callers None) }
@@ -205,15 +200,16 @@ fn open_upon<N: PoolName>(
     requires legal { IsLegalLog N.accepts N.callers opened.1 }
     requires number { callers ≡ N.callers }
     requires fresh { All (λ c. c.last ≡ None) opened.2.items }
-    ensures { IfOk result (λ parts. parts.passes.items
+    ensures passes { IfOk result (λ parts. parts.passes.items
         ≡ map (pass_of opened.1) opened.2.items) }
+    ensures published { IfOk result (λ parts. parts.locked.published ≡ opened.1) }
 {
     let (history, right, tokens) = opened;
     let desk = open_desk(rt, memory, tokens, &pool, &right, callers)?;
     Ok(Parts {
         history,
-        board: desk.board,
-        locked: Locked::open(pool, right, desk.shown, desk.places),
+        boards: desk.boards,
+        locked: Locked::open(pool, right, desk.shown, desk.publisher, desk.places),
         passes: desk.passes,
     })
 }
@@ -233,8 +229,10 @@ pub(crate) fn open_parts<N: PoolName>(
     requires most { callers ≤ 1024 }
     requires least { 1 ≤ config.limit }
     requires greatest { config.limit ≤ 2 ^ 32 }
-    ensures { IfOk result (λ parts. parts.passes.items
+    ensures passes { IfOk result (λ parts. parts.passes.items
         ≡ fresh_passes callers (fresh_log config ledger.now)) }
+    ensures published { IfOk result (λ parts. parts.locked.published
+        ≡ fresh_log config ledger.now) }
 {
     let config = mp_seqpool::Config {
         limit: config.limit,

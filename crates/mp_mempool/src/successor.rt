@@ -9,20 +9,26 @@ ghost use Rattle.mp_mempool.specs.Successor.{numbers, AreAll, AreBadAt, IsKnownT
 ghost use Rattle.mp_mempool.specs.Inside.Heir.{IsHeir};
 
 use crate::opening::{Desk, open_fault, set_desk};
+use crate::readers::{Readers, make_readers};
 use crate::refusal::{OpenRefusal, SuccessorRefusal};
 use mp_history::{CommitRight, Front, History, NewName, PoolName};
 use mp_locked::Locked;
 use mp_memory::{Memory, NoMemory};
-use mp_reader::Pass;
-use mp_versions::Shown;
+use mp_reader::{Pass, Reader};
+use mp_rules::Verifier;
+use mp_versions::{Publisher, Shown};
 use std::sync::{Arc, Wait};
 
 /// All with which a successor opens, but the sequential pool that it takes over.
 #[derive(Drop)]
-pub(crate) struct Heir<M: PoolName> {
+pub(crate) struct Heir<M: PoolName, V: Verifier + Drop> {
     pub(crate) history: History<M>,
     pub(crate) right: CommitRight<M>,
-    pub(crate) desk: Desk<M>,
+    pub(crate) shown: Shown<M>,
+    pub(crate) publisher: Publisher<M>,
+    pub(crate) places: Vec<Option<u64>, Memory>,
+    pub(crate) readers: Readers<M, V>,
+    pub(crate) passes: Vec<Pass<M>, Memory>,
 }
 
 // The first place at which the passes aren't those of the callers 0, 1, .., of whom there are so many.
@@ -52,7 +58,7 @@ fn foreign_front<N: PoolName>(locked: &mut Locked<N>, passes: &[Pass<N>]) -> Opt
 {
     let front = locked.front();
     for pass in passes {
-        if !pass.knows_all(locked) {
+        if !locked.is_known_to(pass) {
             return Some(front);
         }
     }
@@ -109,14 +115,15 @@ fn renewed_version<N: PoolName, M: PoolName>(
 }
 
 // Makes all with which the successor opens.
-fn make_heir<N: PoolName, M: PoolName>(
+fn make_heir<N: PoolName, M: PoolName, V: Verifier + Drop>(
     rt: &impl Wait,
     memory: Memory,
     name: NewName,
+    reader: &Reader<N, V>,
     locked: &Locked<N>,
     limit: u64,
     callers: u32,
-) -> Result<Heir<M>, NoMemory>
+) -> Result<Heir<M, V>, NoMemory>
     requires name { name ≡ head_of M.book M.root }
     requires number { callers ≡ M.callers }
     requires accepts { M.accepts ≡ N.accepts }
@@ -127,30 +134,42 @@ fn make_heir<N: PoolName, M: PoolName>(
     requires legal { IsLegalLog N.accepts N.callers locked.now.log }
     ensures heir { IfOk result (λ h. IsHeir M.accepts M.callers
         (successor N.accepts limit locked.now.log)
-        h.right h.desk.shown h.desk.places.items) }
-    ensures passes { IfOk result (λ h. h.desk.passes.items
+        h.right h.shown h.publisher h.places.items) }
+    ensures passes { IfOk result (λ h. h.passes.items
         ≡ fresh_passes callers (successor N.accepts limit locked.now.log)) }
 {
     let (history, right, tokens) = History::open(name, memory, callers, locked.pool(), limit)?;
     let shown = renewed_version(memory, locked.newest(), limit, &right)?;
-    let desk = set_desk(rt, memory, tokens, shown, callers)?;
+    let Desk {
+        shown,
+        passes,
+        boards,
+        publisher,
+        places,
+    } = set_desk(rt, memory, tokens, shown, callers)?;
+    let readers = make_readers(memory, reader.share_verifier()?, boards)?;
     Ok(Heir {
         history,
         right,
-        desk,
+        shown,
+        publisher,
+        places,
+        readers,
+        passes,
     })
 }
 
 /// Makes all with which the successor opens, where the pool hands over.
-pub(crate) fn prepare<N: PoolName, M: PoolName>(
+pub(crate) fn prepare<N: PoolName, M: PoolName, V: Verifier + Drop>(
     rt: &impl Wait,
     memory: Memory,
     name: NewName,
+    reader: &Reader<N, V>,
     locked: &mut Locked<N>,
     passes: &[Pass<N>],
     limit: u64,
     callers: u32,
-) -> Result<Heir<M>, SuccessorRefusal<N>>
+) -> Result<Heir<M, V>, SuccessorRefusal<N>>
     requires name { name ≡ head_of M.book M.root }
     requires number { callers ≡ M.callers }
     requires accepts { M.accepts ≡ N.accepts }
@@ -158,8 +177,8 @@ pub(crate) fn prepare<N: PoolName, M: PoolName>(
     ensures over { IfOk result (λ _. HandsOver N.accepts N.callers passes.now locked.old.log) }
     ensures heir { IfOk result (λ h. IsHeir M.accepts M.callers
         (successor N.accepts limit locked.old.log)
-        h.right h.desk.shown h.desk.places.items) }
-    ensures passes { IfOk result (λ h. h.desk.passes.items
+        h.right h.shown h.publisher h.places.items) }
+    ensures passes { IfOk result (λ h. h.passes.items
         ≡ fresh_passes callers (successor N.accepts limit locked.old.log)) }
     ensures open { OnOk result (open_fault limit callers ≡ None) }
     ensures least { IfOk result (λ _. 1 ≤ limit) }
@@ -170,7 +189,7 @@ pub(crate) fn prepare<N: PoolName, M: PoolName>(
     if let Some(refusal) = refuse(locked, passes, limit, callers) {
         return Err(refusal);
     }
-    match make_heir(rt, memory, name, locked, limit, callers) {
+    match make_heir(rt, memory, name, reader, locked, limit, callers) {
         Ok(heir) => Ok(heir),
         Err(NoMemory) => Err(SuccessorRefusal::NoMemory),
     }

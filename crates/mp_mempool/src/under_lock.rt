@@ -1,5 +1,5 @@
 //! What happens under the pool's lock, from the question whether the pass knows its caller's entries to the answer: a change is
-//! prepared, its entry is committed, its step taken and its version shown; or it is refused.
+//! prepared, its entry is committed, its step taken and its version published; or it is refused.
 ghost use Rattle.std.specs.Prelude.{◌≡◌, ◌≢◌, true, false, IfSome, IfOk, IfErr, OnOk, OnErr};
 ghost use Rattle.std.specs.Arc.{arc_value};
 ghost use Rattle.mp_rules.specs.Checked.{IsChecked};
@@ -13,10 +13,10 @@ ghost use Rattle.mp_mempool.specs.Answers.{IsEntered, IsRefused, IsOfLog};
 
 use crate::mempool::Mempool;
 use crate::refusal::Refusal;
-use mp_history::{History, PoolName};
+use mp_history::PoolName;
 use mp_locked::{Locked, Ready};
 use mp_memory::{Memory, NoMemory};
-use mp_reader::{Pass, Reader, Receipt};
+use mp_reader::{Pass, Receipt};
 use mp_rules::{Checked, Verifier};
 use mp_seqpool::Ids;
 use mp_tx::{Ledger, Tx};
@@ -32,7 +32,7 @@ fn require_known<N: PoolName>(locked: &mut Locked<N>, pass: &Pass<N>) -> Result<
         → IsRefused N.accepts N.callers pass.now c r pass.now) }
     ensures there { IfErr result (λ r. IsOfLog locked.new.log r pass.now) }
 {
-    if pass.knows_all(locked) {
+    if locked.is_known_to(pass) {
         Ok(())
     } else {
         Err(Refusal::Foreign(locked.front()))
@@ -47,11 +47,22 @@ fn wants_memory(refusal: &mp_seqpool::Refusal) -> bool
     matches!(refusal, mp_seqpool::Refusal::NoMemory)
 }
 
-// Enters a step that is ready, and shows the version after it, which the pass then holds. It can't fail.
+// Publishes the version that waits. Without memory it waits on, until the next change or refusal.
+fn publish<N: PoolName, V: Verifier>(
+    rt: &impl Wait,
+    mempool: &Mempool<N, V>,
+    locked: &mut Locked<N>,
+)
+    ensures { locked.new.log ≡ locked.old.log }
+{
+    let reader = &mempool.reader;
+    let _waits = locked.publish_waiting(rt, reader.memory(), reader.boards());
+}
+
+// Enters a step that is ready, and publishes the version after it, which the pass then holds. It can't fail.
 fn enter<N: PoolName, V: Verifier>(
     rt: &impl Wait,
-    history: &History<N>,
-    reader: &Reader<N, V>,
+    mempool: &Mempool<N, V>,
     locked: &mut Locked<N>,
     pass: &mut Pass<N>,
     ready: Ready,
@@ -65,15 +76,15 @@ fn enter<N: PoolName, V: Verifier>(
     ensures last { pass.new.front ≡ locked.new.log }
 {
     let _last = pass.last();
-    let receipt = pass.commit(history, locked, ready);
-    reader.show_waiting(rt, locked);
+    let receipt = locked.commit(&mempool.history, pass, ready);
+    publish(rt, mempool, locked);
     receipt
 }
 
-// Gives the pass the version of the whole history, and shows the version that waits. Without memory the pass is as it was.
+// Gives the pass the version of the whole history, and publishes the version that waits. Without memory the pass is as it was.
 fn bring_up<N: PoolName, V: Verifier>(
     rt: &impl Wait,
-    reader: &Reader<N, V>,
+    mempool: &Mempool<N, V>,
     locked: &mut Locked<N>,
     pass: &mut Pass<N>,
 ) -> Result<(), NoMemory>
@@ -88,7 +99,7 @@ fn bring_up<N: PoolName, V: Verifier>(
     let _front = locked.front();
     let shown = locked.newest().share()?;
     pass.see(shown);
-    reader.show_waiting(rt, locked);
+    publish(rt, mempool, locked);
     Ok(())
 }
 
@@ -96,7 +107,7 @@ fn bring_up<N: PoolName, V: Verifier>(
 // the pass is as it was.
 fn refuse<N: PoolName, V: Verifier>(
     rt: &impl Wait,
-    reader: &Reader<N, V>,
+    mempool: &Mempool<N, V>,
     locked: &mut Locked<N>,
     pass: &mut Pass<N>,
     refusal: mp_seqpool::Refusal,
@@ -112,7 +123,7 @@ fn refuse<N: PoolName, V: Verifier>(
     if wants_memory(&refusal) {
         return Refusal::Pool(refusal);
     }
-    match bring_up(rt, reader, locked, pass) {
+    match bring_up(rt, mempool, locked, pass) {
         Ok(()) => Refusal::Pool(refusal),
         Err(NoMemory) => Refusal::Pool(mp_seqpool::Refusal::NoMemory),
     }
@@ -146,8 +157,8 @@ pub fn submit_in<N: PoolName, V: Verifier>(
         checked,
         reader.verifier(),
     ) {
-        Ok(ready) => Ok(enter(rt, &mempool.history, reader, locked, pass, ready)),
-        Err(refusal) => Err(refuse(rt, reader, locked, pass, refusal)),
+        Ok(ready) => Ok(enter(rt, mempool, locked, pass, ready)),
+        Err(refusal) => Err(refuse(rt, mempool, locked, pass, refusal)),
     }
 }
 
@@ -171,8 +182,8 @@ pub fn remove_in<N: PoolName, V: Verifier>(
     require_known(locked, pass)?;
     let reader = &mempool.reader;
     match locked.prepare_remove(reader.memory(), pass.token(), ids, reader.verifier()) {
-        Ok(ready) => Ok(enter(rt, &mempool.history, reader, locked, pass, ready)),
-        Err(refusal) => Err(refuse(rt, reader, locked, pass, refusal)),
+        Ok(ready) => Ok(enter(rt, mempool, locked, pass, ready)),
+        Err(refusal) => Err(refuse(rt, mempool, locked, pass, refusal)),
     }
 }
 
@@ -196,7 +207,7 @@ pub fn sync_in<N: PoolName, V: Verifier>(
     require_known(locked, pass)?;
     let reader = &mempool.reader;
     match locked.prepare_sync(reader.memory(), pass.token(), ledger, reader.verifier()) {
-        Ok(ready) => Ok(enter(rt, &mempool.history, reader, locked, pass, ready)),
-        Err(refusal) => Err(refuse(rt, reader, locked, pass, refusal)),
+        Ok(ready) => Ok(enter(rt, mempool, locked, pass, ready)),
+        Err(refusal) => Err(refuse(rt, mempool, locked, pass, refusal)),
     }
 }

@@ -2,6 +2,7 @@
 //! allocations. Tables have the calls and the expected results, and one function plays a table on a new pool. Pools
 //! hand over to successors.
 mod calls;
+mod freed;
 mod growths;
 mod heard;
 mod meeting;
@@ -12,6 +13,7 @@ mod tables;
 mod threads;
 mod unshown;
 
+use crate::mempool::freed::held_freed;
 use crate::mempool::growths::held_growths;
 use crate::mempool::opening::held_openings;
 use crate::mempool::successors::held_successors;
@@ -31,12 +33,14 @@ fn held_alone(rt: &(impl Print + Wait), samples: &Samples) -> io::Result<u64> {
     let growths = held_growths(rt, samples)?;
     let unshown = held_unshown(rt, samples)?;
     let successors = held_successors(rt, samples)?;
+    let freed = held_freed(rt, samples)?;
     Ok(
         tables
             .wrapping_add(openings)
             .wrapping_add(growths)
             .wrapping_add(unshown)
-            .wrapping_add(successors),
+            .wrapping_add(successors)
+            .wrapping_add(freed),
     )
 }
 

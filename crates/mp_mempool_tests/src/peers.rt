@@ -13,7 +13,8 @@ mod seen;
 use crate::peers::asks::make;
 use crate::peers::rows::ROWS;
 use mp_history::{NewName, PoolName};
-use mp_mempool::{Config, Mempool, Pass};
+use mp_memory::Memory;
+use mp_mempool::{Config, Mempool, Pass, Reader};
 use mp_peer::PeerReader;
 use mp_pool_samples::samples::{ALL, Samples};
 use mp_pool_samples::{ACCEPTS_ALL, AcceptsAll};
@@ -21,7 +22,7 @@ use mp_testing::count;
 use mp_tx::Ledger;
 use std::io;
 use std::marker::Brand;
-use std::sync::Wait;
+use std::sync::{Arc, Wait};
 
 const CONFIG: Config = Config {
     limit: 1_000,
@@ -32,16 +33,17 @@ const CONFIG: Config = Config {
 fn play<N: PoolName>(
     rt: &(impl Wait + Print),
     mempool: &Mempool<N, AcceptsAll>,
+    reader: &Reader<N, AcceptsAll>,
     passes: &mut [Pass<N>],
     samples: &Samples,
 ) -> io::Result<u64> {
     let Some(pass) = passes.first_mut() else {
         return Ok(0);
     };
-    let mut reader = PeerReader::new();
+    let mut peer = PeerReader::new();
     let mut held = 0u64;
     for (name, ask, wanted) in &ROWS {
-        let found = make(rt, mempool, pass, &mut reader, samples, *ask);
+        let found = make(rt, mempool, reader, pass, &mut peer, samples, *ask);
         held = held.wrapping_add(count(rt, name, found, *wanted)?);
     }
     Ok(held)
@@ -53,22 +55,26 @@ fn of_name<N: PoolName>(
     name: NewName,
     samples: &Samples,
     ledger: &Ledger,
+    verifier: &Arc<AcceptsAll, Memory>,
 ) -> io::Result<u64>
     requires name { name ≡ head_of N.book N.root }
     requires callers { N.callers ≡ 1 }
     requires accepts { N.accepts ≡ any }
 {
     let memory = samples.memory;
-    match Mempool::<N, _>::open(rt, memory, name, CONFIG, ledger, ACCEPTS_ALL, 1) {
-        Ok((mempool, mut passes)) => play(rt, &mempool, &mut passes, samples),
+    match Mempool::<N, _>::open(rt, memory, name, CONFIG, ledger, verifier, 1) {
+        Ok((mempool, reader, mut passes)) => play(rt, &mempool, &reader, &mut passes, samples),
         Err(_) => Ok(0),
     }
 }
 
 /// The number of cases that hold.
 pub fn held(rt: &(impl Wait + Print), samples: &Samples) -> io::Result<u64> {
-    match samples.ledger(ALL) {
-        Some(ledger) => of_name::<Brand>(rt, NewName::new(), samples, ledger),
-        None => Ok(0),
-    }
+    let Some(ledger) = samples.ledger(ALL) else {
+        return Ok(0);
+    };
+    let Ok(verifier) = Arc::new(samples.memory, ACCEPTS_ALL) else {
+        return Ok(0);
+    };
+    of_name::<Brand>(rt, NewName::new(), samples, ledger, &verifier)
 }

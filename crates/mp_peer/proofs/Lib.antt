@@ -3,3 +3,4 @@ pub mod Fronts
 pub mod Rising
 pub mod Rounds
 pub mod Sharing
+pub mod Turns

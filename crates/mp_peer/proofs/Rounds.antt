@@ -20,21 +20,21 @@ use Rattle.mp_peer.proofs.Fronts.{legal-beginning}
 use Rattle.mp_peer.proofs.Rising.{above_low, rising-lawful, rising-after, rising-left, rising-joined, increasing, moved-bound, in_offer}
 
 -- the cursor is the ticket offered last
-last_one : (accepts : Accepts) (cursor : ℕ) (offers : List Offer) → cursor_after accepts cursor offers ≡ moved cursor (offered accepts cursor offers)
+pub last_one : (accepts : Accepts) (cursor : ℕ) (offers : List Offer) → cursor_after accepts cursor offers ≡ moved cursor (offered accepts cursor offers)
 last_one accepts cursor [] = refl
 last_one accepts cursor (o ∷ os) =
     let g : List (ℕ × Transaction) = offer_at accepts cursor o in
     last_one accepts (moved cursor g) os ∙ sym (moved-append cursor g (offered accepts (moved cursor g) os))
 
 -- what stands above start and up to the cursor was offered
-abbrev IsWhole : ℕ → List (ℕ × Transaction) → ℕ → Pool → Type 0
+abbrev pub IsWhole : ℕ → List (ℕ × Transaction) → ℕ → Pool → Type 0
 IsWhole start seen cursor p = (x : ℕ × Transaction) → Contains p.items x → start < x.0 → x.0 ≤ cursor → Contains seen x
 
 -- nothing stands both above start and up to it
 none : (start : ℕ) (p : Pool) → IsWhole start [] start p
 none start p x c more le = absurd (omega arith)
 
-above_zero : (accepts : Accepts) (p : Pool) → IsLawful accepts p → (x : ℕ × Transaction) → Contains p.items x → 0 < x.0
+pub above_zero : (accepts : Accepts) (p : Pool) → IsLawful accepts p → (x : ℕ × Transaction) → Contains p.items x → 0 < x.0
 above_zero accepts p law x c = All-contains (λ i. 0 < i.0) p.items x (All-unmap (λ i. i.0) (λ k. 0 < k) p.items law.above_zero) c
 
 given : (accepts : Accepts) (p : Pool) → IsLawful accepts p → (x : ℕ × Transaction) → Contains p.items x → x.0 ≤ p.last
@@ -58,11 +58,27 @@ module _ (accepts : Accepts) (callers : ℕ) (log : Log) (legal : IsLegalLog acc
       let first = begins_after cursor o.count o.bytes items in
       rising-left cursor (offer_at accepts cursor o) first.0 (subst (IsRisingFrom cursor) (sym first.1) (rising-after 0 cursor items (rising-lawful accepts (state_after accepts o.front) (lawful_at o begins))))
 
-  all_rise : (cursor : ℕ) (offers : List Offer) → All (λ o. Begins o.front log) offers → IsRisingFrom cursor (offered accepts cursor offers)
+  pub all_rise : (cursor : ℕ) (offers : List Offer) → All (λ o. Begins o.front log) offers → IsRisingFrom cursor (offered accepts cursor offers)
   all_rise cursor [] are = tt
   all_rise cursor (o ∷ os) are =
       let g : List (ℕ × Transaction) = offer_at accepts cursor o in
       rising-joined cursor g (offered accepts (moved cursor g) os) (rises cursor o (All-head (λ f. Begins f.front log) o os are)) (all_rise (moved cursor g) os (All-tail (λ f. Begins f.front log) o os are))
+
+  -- the cursor moves to no ticket that isn't given yet
+  bound_one : (cursor : ℕ) (o : Offer) → Begins o.front log → moved cursor (offer_at accepts cursor o) ≤ max cursor (state_after accepts o.front).last
+  bound_one cursor o begins =
+      let p : Pool = state_after accepts o.front in
+      moved-bound (λ k. k ≤ max cursor p.last) cursor (offer_at accepts cursor o) (omega arith) (λ y d. let h = given accepts p (lawful_at o begins) y (there accepts cursor o y d) in omega arith)
+
+  pub bound_all : (cursor : ℕ) (offers : List Offer) → All (λ o. Begins o.front log) offers → cursor_after accepts cursor offers ≤ max cursor (state_after accepts log).last
+  bound_all cursor [] are = omega arith
+  bound_all cursor (o ∷ os) are =
+      let g : List (ℕ × Transaction) = offer_at accepts cursor o in
+      let begins = All-head (λ f. Begins f.front log) o os are in
+      let one = bound_one cursor o begins in
+      let later = (lasts accepts callers o.front log legal begins).last in
+      let rest = bound_all (moved cursor g) os (All-tail (λ f. Begins f.front log) o os are) in
+      omega (arith, one, later, rest)
 
   -- it still holds after one offer more
   one_more : (start : ℕ) (seen : List (ℕ × Transaction)) (cursor : ℕ) (o : Offer) → Begins o.front log → IsWhole start seen cursor (state_after accepts log)
@@ -78,9 +94,8 @@ module _ (accepts : Accepts) (callers : ℕ) (log : Log) (legal : IsLegalLog acc
       law : IsLawful accepts p
       law = lawful_at o begins
 
-      -- the cursor moves to no ticket that isn't given yet
       bound : moved cursor g ≤ max cursor p.last
-      bound = moved-bound (λ k. k ≤ max cursor p.last) cursor g (omega arith) (λ y d. let h = given accepts p law y (there accepts cursor o y d) in omega arith)
+      bound = bound_one cursor o begins
 
       then : cursor < x.0 → Contains p.items x
       then above = All-contains (λ i. i.0 ≤ p.last → Contains p.items i) (state_after accepts log).items x (lasts accepts callers o.front log legal begins).kept c (let b = bound in omega arith)
@@ -91,7 +106,7 @@ module _ (accepts : Accepts) (callers : ℕ) (log : Log) (legal : IsLegalLog acc
           Contains-append_right seen g x (in_offer cursor 0 p.items g (rising-lawful accepts p law) (begins_after cursor o.count o.bytes p.items) x (then above) above le)
       by false e = Contains-append_left seen g x (before x c more (grind (arith, nat_tests)))
 
-  whole : (start : ℕ) (seen : List (ℕ × Transaction)) (cursor : ℕ) (offers : List Offer) → All (λ o. Begins o.front log) offers → IsWhole start seen cursor (state_after accepts log)
+  pub whole : (start : ℕ) (seen : List (ℕ × Transaction)) (cursor : ℕ) (offers : List Offer) → All (λ o. Begins o.front log) offers → IsWhole start seen cursor (state_after accepts log)
       → IsWhole start (seen ++ offered accepts cursor offers) (cursor_after accepts cursor offers) (state_after accepts log)
   whole start seen cursor [] are is = subst (λ l. IsWhole start l cursor (state_after accepts log)) (sym (append-nil seen)) is
   whole start seen cursor (o ∷ os) are is =
@@ -100,7 +115,7 @@ module _ (accepts : Accepts) (callers : ℕ) (log : Log) (legal : IsLegalLog acc
       (whole start (seen ++ g) (moved cursor g) os (All-tail (λ f. Begins f.front log) o os are) (one_more start seen cursor o (All-head (λ f. Begins f.front log) o os are) is))
 
   -- all that is offered, as far as the cursor
-  offered_whole : (start : ℕ) (offers : List Offer) → All (λ o. Begins o.front log) offers → IsWhole start (offered accepts start offers) (cursor_after accepts start offers) (state_after accepts log)
+  pub offered_whole : (start : ℕ) (offers : List Offer) → All (λ o. Begins o.front log) offers → IsWhole start (offered accepts start offers) (cursor_after accepts start offers) (state_after accepts log)
   offered_whole start offers are = whole start [] start offers are (none start (state_after accepts log))
 
   each_once : (offers : List Offer) → All (λ o. Begins o.front log) offers → IsEachOfferedOnce accepts offers log

@@ -6,6 +6,7 @@ use Rattle.mp_tx.specs.Transaction.{Transaction}
 use Rattle.mp_rules.specs.Verifier.{Accepts}
 use Rattle.mp_resync.specs.Keep.{tickets, bytes_of}
 use Rattle.mp_history.specs.Log.{Log, Begins, state_after}
+use Rattle.mp_history.specs.Successors.{Succeeds}
 use Rattle.mp_seqpool.specs.Reading.{offer, moved}
 
 -- the longest beginning of at most so many items, whose sizes sum to at most so many bytes
@@ -28,6 +29,17 @@ pub record Offer : Type 0 where
 -- Each is made on a snapshot of the pool with this history, or of what it had before.
 abbrev pub AreOffersOf : Log → List Offer → Type 0
 AreOffersOf log offers = All (λ o. Begins o.front log) offers
+
+-- What a reader offers of one of the pools that take over from each other.
+pub record Turn : Type 0 where
+  -- the pool's history
+  pub log : Log
+  pub offers : List Offer
+
+-- the last pool's history
+abbrev pub last_log : Log → List Turn → Log
+last_log log [] = log
+last_log log (t ∷ ts) = last_log t.log ts
 
 -- The verifier decides which signatures are good.
 module _ (accepts : Accepts) where
@@ -63,3 +75,26 @@ module _ (accepts : Accepts) where
     pub last : cursor_after start offers ≡ moved start (offered start offers)
     -- what stands in the pool with a ticket above start and up to the cursor was offered
     pub whole : All (λ i. start < i.0 → i.0 ≤ cursor_after start offers → Contains (offered start offers) i) (state_after accepts log).items
+
+  -- each pool takes over from the one before, and the offers are made of it
+  abbrev pub AreTurns : Log → List Turn → Type 0
+  AreTurns before [] = Unit {0}
+  AreTurns before (t ∷ ts) = Succeeds accepts before t.log × AreOffersOf t.log t.offers × AreTurns t.log ts
+
+  -- all that is offered from a cursor on, of one pool after the other
+  abbrev pub offered_in : ℕ → List Turn → List (ℕ × Transaction)
+  offered_in cursor [] = []
+  offered_in cursor (t ∷ ts) = offered cursor t.offers ++ offered_in (cursor_after cursor t.offers) ts
+
+  -- where the cursor stands then
+  abbrev pub cursor_in : ℕ → List Turn → ℕ
+  cursor_in cursor [] = cursor
+  cursor_in cursor (t ∷ ts) = cursor_in (cursor_after cursor t.offers) ts
+
+  -- What a reader that begins at 0 has offered of a pool with this history, and then, after the same cursor, of pools that took over.
+  pub record IsOfferedOnceInAll (offers : List Offer) (log : Log) (turns : List Turn) : Type 0 where
+    -- tickets rise from the first offer of the first pool to the last of the last one
+    pub rising : IsStrictlyIncreasing (tickets (offered 0 offers ++ offered_in (cursor_after 0 offers) turns))
+    -- what stands in the last pool with a ticket up to the cursor was offered
+    pub whole : All (λ i. i.0 ≤ cursor_in (cursor_after 0 offers) turns → Contains (offered 0 offers ++ offered_in (cursor_after 0 offers) turns) i)
+        (state_after accepts (last_log log turns)).items

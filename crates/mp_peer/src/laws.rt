@@ -6,7 +6,8 @@ ghost use Rattle.mp_rules.specs.Verifier.{Accepts};
 ghost use Rattle.mp_tickets.specs.Tickets.{after};
 ghost use Rattle.mp_history.specs.Log.{Log, IsLegalLog, state_after};
 ghost use Rattle.mp_seqpool.specs.Reading.{within, offer};
-ghost use Rattle.mp_peer.specs.Offers.{Offer, IsLongestOffer, AreOffersOf, IsEachOfferedOnce, IsEachOfferedAfter};
+ghost use Rattle.mp_peer.specs.Offers.{Offer, Turn, IsLongestOffer, AreOffersOf, AreTurns};
+ghost use Rattle.mp_peer.specs.Offers.{IsEachOfferedOnce, IsEachOfferedAfter, IsOfferedOnceInAll};
 ghost use Rattle.mp_peer.specs.Blocks.{IsValidBlock};
 
 /// An offer is the longest beginning of what comes after the cursor that has no more items and no more bytes.
@@ -28,6 +29,14 @@ pub fn offers_after()
     ensures { (accepts : Accepts) (callers start : ℕ) (offers : List Offer) (log : Log)
         → IsLegalLog accepts callers log → AreOffersOf log offers
         → IsEachOfferedAfter accepts start offers log }
+{}
+
+/// However often the pool hands over: a reader that goes on after the cursor of the one before offers no ticket twice, and leaves
+/// nothing out.
+pub fn offers_in_all()
+    ensures { (accepts : Accepts) (callers : ℕ) (offers : List Offer) (log : Log)
+        → (turns : List Turn) → IsLegalLog accepts callers log → AreOffersOf log offers
+        → AreTurns accepts log turns → IsOfferedOnceInAll accepts offers log turns }
 {}
 
 /// The transactions of a block are valid one after the other upon the ledger state that the pool has adopted.

@@ -1,6 +1,7 @@
-//! Versions: reading them, the ends of chunks and pages, sharing, and the board.
+//! Versions: what is read of them, where chunks and pages end, what is shared, and the boards.
 mod board;
 mod both;
+mod freed;
 mod pages;
 mod reading;
 mod sharing;

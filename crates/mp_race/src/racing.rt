@@ -24,22 +24,28 @@ use crate::report::{Report, count_reads, counts_of};
 use crate::scenario::Scenario;
 use crate::task::Task;
 use crate::told::Refused;
-use crate::worker::{Worker, work};
+use crate::worker::{SharedPool, Worker, work};
 use mp_history::{AuditFault, Entry, Front, NewName, PoolName, audit};
 use mp_memory::{Memory, NoMemory};
 use mp_mempool::{Mempool, OpenRefusal, Pass};
+use mp_rules::Verifier;
 use mp_settings::KeyAndId;
-use std::sync::Wait;
+use std::sync::{Arc, Wait};
 use std::thread::{Threads, map_vec};
 
 // What a race runs on: a pool, and a pass for each worker.
-type Opened<'a, N, G> = (Mempool<N, Watched<'a, G>>, Vec<Pass<N>, Memory>);
+type Opened<'a, N, G> = (SharedPool<N, Watched<'a, G>>, Vec<Pass<N>, Memory>);
 
 // Each worker does what is dealt to it, in a thread of its own where one can be made.
-fn work_all<N: PoolName + Send + Sync, R: Threads + Wait + Sync, G: Gate>(
+fn work_all<
+    N: PoolName + Send + Sync,
+    R: Threads + Wait + Sync,
+    V: Verifier + Send + Sync,
+    G: Gate,
+>(
     rt: &R,
     memory: Memory,
-    mempool: &Mempool<N, Watched<'_, G>>,
+    pool: &SharedPool<N, V>,
     gate: &G,
     tasks: &[Task],
     workers: u32,
@@ -56,7 +62,7 @@ fn work_all<N: PoolName + Send + Sync, R: Threads + Wait + Sync, G: Gate>(
             requires { 1 ≤ workers }
             ensures { (opening : Pool) → IsUnused opening pass
                 → IsBack N.accepts workers opening (tasks_of tasks.entry.now) result }
-        { work(rt, memory, mempool, gate, tasks, workers, pass) },
+        { work(rt, memory, pool, gate, tasks, workers, pass) },
     )?)
 }
 
@@ -77,18 +83,18 @@ fn open<'a, N: PoolName, G: Gate>(
     ensures { IfOk result (λ o. o.1.items
         ≡ fresh_passes workers (fresh_log scenario.now.config scenario.now.ledger)) }
 {
-    let verifier = Watched { gate };
+    let verifier = Arc::new(memory, Watched { gate })?;
     match Mempool::open(
         rt,
         memory,
         name,
         scenario.config,
         &scenario.ledger,
-        verifier,
+        &verifier,
         workers,
     ) {
-        Ok(opened) => Ok(opened),
-        Err((refusal, _)) => match refusal {
+        Ok((mempool, reader, passes)) => Ok((SharedPool { mempool, reader }, passes)),
+        Err(refusal) => match refusal {
             OpenRefusal::NoMemory => Err(NoMemory),
             OpenRefusal::BadCallers => unreachable!(),
             OpenRefusal::BadLimit => unreachable!(),
@@ -125,10 +131,10 @@ fn run_workers<N: PoolName + Send + Sync, R: Threads + Wait + Sync, G: Gate>(
         (fresh_log scenario.now.config scenario.now.ledger).opening scenario.now.tasks
         g.front g.passes.items g.done.items g.refused.items) }
 {
-    let (mempool, passes) = open(rt, memory, name, scenario, workers, gate)?;
+    let (pool, passes) = open(rt, memory, name, scenario, workers, gate)?;
     let front = first_front(&passes);
     let tasks = &scenario.tasks;
-    let done = work_all(rt, memory, &mempool, gate, tasks, workers, passes)?;
+    let done = work_all(rt, memory, &pool, gate, tasks, workers, passes)?;
     gather(memory, front, done)
 }
 

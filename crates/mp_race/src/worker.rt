@@ -11,9 +11,24 @@ use crate::task::Task;
 use crate::told::{Done, Refused};
 use mp_history::PoolName;
 use mp_memory::{Memory, NoMemory};
-use mp_mempool::{Mempool, Pass, Refusal};
+use mp_mempool::{Mempool, Pass, Reader, Refusal};
 use mp_rules::Verifier;
-use std::sync::Wait;
+use std::sync::{Arc, Wait};
+
+/// The pool that the workers share, and what reads it.
+pub struct SharedPool<N: PoolName, V: Verifier> {
+    pub mempool: Mempool<N, V>,
+    pub reader: Arc<Reader<N, V>, Memory>,
+}
+
+impl<N: PoolName, V: Verifier + Drop> Drop for SharedPool<N, V> {
+    fn drop(self) {
+        let SharedPool {
+            mempool: _,
+            reader: _,
+        } = self;
+    }
+}
 
 /// What a worker comes back with.
 #[derive(Drop)]
@@ -30,7 +45,7 @@ pub struct Worker<N: PoolName> {
 // Does the task with this number. Whether the pool had no entry of the caller that its pass doesn't know.
 fn do_task<N: PoolName, V: Verifier>(
     rt: &impl Wait,
-    mempool: &Mempool<N, V>,
+    pool: &SharedPool<N, V>,
     pass: &mut Pass<N>,
     done: &mut Vec<Done, Memory>,
     refused: &mut Vec<Refused, Memory>,
@@ -43,10 +58,10 @@ fn do_task<N: PoolName, V: Verifier>(
 {
     match task {
         Task::Read => {
-            mempool.reader().refresh(pass);
+            pool.reader.refresh(pass);
             Ok(true)
         }
-        Task::Change(command) => match mempool.ask(rt, pass, command) {
+        Task::Change(command) => match pool.mempool.ask(rt, pass, command) {
             Ok(receipt) => {
                 done.push(Done {
                     task: number,
@@ -73,7 +88,7 @@ fn do_task<N: PoolName, V: Verifier>(
 pub fn work<N: PoolName, V: Verifier, G: Gate>(
     rt: &impl Wait,
     memory: Memory,
-    mempool: &Mempool<N, V>,
+    pool: &SharedPool<N, V>,
     gate: &G,
     tasks: &[Task],
     workers: u32,
@@ -91,7 +106,7 @@ pub fn work<N: PoolName, V: Verifier, G: Gate>(
             gate.start(number, place as u64);
             let is_sure = do_task(
                 rt,
-                mempool,
+                pool,
                 &mut pass,
                 &mut done,
                 &mut refused,

@@ -1,5 +1,5 @@
 -- What reads say.
-use Rattle.std.proofs.Common.{◌≡◌, ℕ, [], length, Result, Ok, Err, IfOk, refl, sym, ap, ap₂, subst, ◌∙◌, append-nil}
+use Rattle.std.proofs.Common.{◌≡◌, ℕ, [], Result, Ok, Err, IfOk, refl, sym, ap, ap₂, subst, ◌∙◌, append-nil}
 use Rattle.mp_tx.specs.Ledger.{LedgerState}
 use Rattle.mp_rules.specs.Verifier.{Accepts}
 use Rattle.mp_resync.specs.Keep.{keep, bytes_of}

@@ -1,24 +1,26 @@
 //! The token of one caller.
-ghost use Rattle.std.specs.Prelude.{◌≡◌, ◌≢◌, ◌<◌, ◌≤◌, true, false, length};
-ghost use Rattle.mp_history.specs.Log.{Begins, IsLegalLog, entered, last_of};
-ghost use Rattle.mp_locked.specs.Ready.{IsReady};
+ghost use Rattle.std.specs.Prelude.{◌≡◌, ◌<◌, ◌≤◌, ◌^◌, length};
+ghost use Rattle.std.specs.Arc.{arc_value};
+ghost use Rattle.mp_history.specs.Log.{Begins, IsLegalLog, entered};
+ghost use Rattle.mp_versions.specs.Shown.{IsVersionOf};
 ghost use Rattle.mp_reader.specs.Pass.{IsOwn, pass_of};
 
 use crate::reader::Reader;
-use crate::receipt::Receipt;
-use mp_history::{Caller, Front, History, PoolName};
-use mp_locked::{Committed, Locked, Ready};
+use mp_history::{Caller, CommitRight, Entry, Front, History, PoolName};
+use mp_memory::Memory;
 use mp_rules::Verifier;
-use mp_versions::{Shown, Snapshot};
+use mp_versions::{Boards, Shown, Snapshot, Subscriber, Version};
 use std::marker::Model;
+use std::sync::Arc;
 
 /// The token of one caller of the pool: with it the caller asks, and it holds what the caller has seen. It comes with the pool,
 /// one for each caller; it can't be cloned, and to make one takes the caller's token, which the pool gives to nobody else. It
-/// never goes back: what it holds is only replaced by what extends it. Contracts see the caller's number, the place of the last
-/// entry that it made, and the history that it has seen.
+/// never goes back: what it holds is only replaced by what extends it. It keeps the versions of one board, at most 64 with its own.
+/// Contracts see the caller's number, the place of the last entry that it made, and the history that it has seen.
 pub struct Pass<N: PoolName> {
     caller: Caller<N>,
     shown: Shown<N>,
+    subscriber: Subscriber<N>,
 }
 
 impl<N: PoolName> Drop for Pass<N> {
@@ -26,6 +28,7 @@ impl<N: PoolName> Drop for Pass<N> {
         let Pass {
             caller: _,
             shown: _,
+            subscriber: _,
         } = self;
     }
 }
@@ -53,45 +56,38 @@ impl<N: PoolName> Pass<N> {
     ghost use Rattle.mp_reader.specs.Seen.{IsSeen};
 
     /// The pass of a caller that hasn't made an entry.
-    pub fn of(caller: Caller<N>, shown: Shown<N>) -> Pass<N>
+    pub fn of(caller: Caller<N>, shown: Shown<N>, subscriber: Subscriber<N>) -> Pass<N>
         requires { caller.last ≡ None }
         ensures { result ≡ pass_of shown caller }
     {
-        Pass { caller, shown }
+        Pass {
+            caller,
+            shown,
+            subscriber,
+        }
     }
 
-    /// Whether the pass knows all entries of its caller. Nobody has seen more than the lock's history has.
-    pub fn knows_all(&self, locked: &mut Locked<N>) -> bool
-        ensures same { locked.new ≡ locked.old }
-        ensures begins { Begins self.now.front locked.new.log }
-        ensures own { IsOwn self.now }
-        ensures known { result ≡ true
-            → last_of self.now.caller locked.new.log.entries ≡ self.now.last }
-        ensures foreign { result ≡ false
-            → last_of self.now.caller locked.new.log.entries ≢ self.now.last }
-    {
-        locked.is_known_to(&self.caller, self.shown.front())
-    }
-
-    /// Commits the caller's entry and takes the step; the caller has then seen the version after it. Nothing else enters an
-    /// entry, so each leaves its place here.
-    pub fn commit(&mut self, history: &History<N>, locked: &mut Locked<N>, ready: Ready) -> Receipt
-        requires { IsReady N.accepts N.callers locked.old self.old.caller ready }
-        ensures log { locked.new.log ≡ entered locked.old.log ready.outcome.entry }
-        ensures place { result.place ≡ length locked.old.log.entries }
-        ensures entry { result.entry ≡ ready.outcome.entry }
+    /// Commits the caller's entry; the caller has then seen this version, which is the one after it. Nothing else commits an
+    /// entry, so each leaves its place here. It allocates nothing.
+    pub fn commit(
+        &mut self,
+        history: &History<N>,
+        right: &mut CommitRight<N>,
+        entry: &Entry,
+        version: Arc<Version, Memory>,
+    )
+        requires room { length right.old.entries < 2 ^ 32 }
+        requires own { entry.now.caller ≡ self.old.caller }
+        requires version { IsVersionOf N.accepts N.callers
+            (entered right.old entry.now) (arc_value version) }
+        ensures right { right.new ≡ entered right.old entry.now }
         ensures pass { self.new ≡ record self.old {
-          last = Some (length locked.old.log.entries);
-          front = locked.new.log;
+          last = Some (length right.old.entries);
+          front = right.new;
         } }
     {
-        let Committed {
-            place,
-            entry,
-            shown,
-        } = locked.commit(history, &mut self.caller, ready);
-        self.shown = shown;
-        Receipt { place, entry }
+        history.commit(right, &mut self.caller, entry);
+        self.shown = Shown::of(version, right.front());
     }
 
     /// The caller has seen the version, which extends what it had seen.
@@ -154,8 +150,46 @@ impl<N: PoolName> Pass<N> {
         &self.shown
     }
 
-    /// The newest version that is shown, or the pass's own where that is longer: the caller has then seen it. It takes no lock
-    /// and no memory, and is never `None`.
+    /// From now on the newest versions are found that have been published until now. What the caller has seen stays.
+    pub(crate) fn catch_up(&mut self, boards: &Boards<N>)
+        ensures { self.new ≡ self.old }
+    {
+        self.subscriber.catch_up(boards);
+    }
+
+    // The newest version that the subscriber finds, if it is longer than the pass's own.
+    fn later(&self) -> Option<&Shown<N>>
+        ensures { IfSome result (λ shown. Begins self.now.front shown.now) }
+    {
+        let shown = self.subscriber.newest()?;
+        let (own, other) = (self.front(), shown.front());
+        own.compare(other);
+        if own.len() < other.len() {
+            Some(shown)
+        } else {
+            None
+        }
+    }
+
+    /// A share of that.
+    pub(crate) fn share_later(&self) -> Option<Shown<N>>
+        ensures { IfSome result (Begins self.now.front) }
+    {
+        self.later()?.share().ok()
+    }
+
+    /// The newest version that the subscriber finds, or the pass's own if that is longer.
+    pub(crate) fn latest(&self) -> &Shown<N>
+        ensures { Begins self.now.front result.now }
+    {
+        match self.later() {
+            Some(shown) => shown,
+            None => &self.shown,
+        }
+    }
+
+    /// The newest version that is published, or the pass's own if that is longer: the caller has then seen it. It takes no lock,
+    /// allocates nothing, and is never `None`.
     pub fn newest<V: Verifier>(&mut self, reader: &Reader<N, V>) -> Option<&Shown<N>>
         ensures there { IsSome result }
         ensures later { IfSome result (λ shown. Begins self.old.front shown.now) }
@@ -168,7 +202,8 @@ impl<N: PoolName> Pass<N> {
         Some(&self.shown)
     }
 
-    /// What is read of the version that the caller has seen, without a look at what others have shown since.
+    /// What is read of the version that the caller has seen, without a look at what others have published since: `refresh` of a
+    /// reader comes before it.
     pub fn snapshot(&self) -> Snapshot<'_, N>
         ensures { result ≡ self.now.front }
     {

@@ -1,5 +1,6 @@
-//! Reading the pool: no call here has the lock.
+//! Reading a pool without the pool.
 ghost use Rattle.std.specs.Prelude.{◌≡◌, ◌<◌, ◌≤◌, length, IfSome, IfOk, OnOk, OnErr};
+ghost use Rattle.std.specs.Arc.{arc_value};
 ghost use Rattle.mp_rules.specs.Checked.{IsChecked};
 ghost use Rattle.mp_history.specs.Log.{Begins, IsLegalLog};
 ghost use Rattle.mp_reader.specs.Seen.{IsSeen, IsSnapshotFor};
@@ -8,20 +9,19 @@ use crate::early::check_early;
 use crate::pass::Pass;
 use crate::snapshot_for::{SnapshotFor, snapshot_upon};
 use mp_history::PoolName;
-use mp_locked::Locked;
 use mp_memory::{Memory, NoMemory};
 use mp_rules::{Checked, Verifier};
 use mp_tx::{Ledger, Tx};
-use mp_versions::{Board, Shown, Snapshot};
-use std::sync::Wait;
+use mp_versions::{Boards, Shown};
+use std::sync::Arc;
 
-/// What reads the pool: it has the board on which versions are shown, and neither the lock nor anything of what the lock guards.
-/// So no call here enters anything, and each waits for nobody but `show_waiting`, which takes what only the pool has.
+/// What a thread needs to read a pool: the published versions, the verifier, and where memory comes from. It has neither the pool
+/// nor its lock. So no call here commits anything or waits for anybody. The pool's threads share it.
 pub struct Reader<N: PoolName, V: Verifier> {
     memory: Memory,
-    verifier: V,
-    board: Board<N>,
-    ghost accepts: { V.accepts verifier ≡ N.accepts },
+    verifier: Arc<V, Memory>,
+    boards: Boards<N>,
+    ghost accepts: { V.accepts (arc_value verifier) ≡ N.accepts },
 }
 
 impl<N: PoolName, V: Verifier + Drop> Drop for Reader<N, V> {
@@ -29,7 +29,7 @@ impl<N: PoolName, V: Verifier + Drop> Drop for Reader<N, V> {
         let Reader {
             memory: _,
             verifier: _,
-            board: _,
+            boards: _,
         } = self;
     }
 }
@@ -51,14 +51,14 @@ fn see<N: PoolName>(pass: &mut Pass<N>, shown: Shown<N>)
 }
 
 impl<N: PoolName, V: Verifier> Reader<N, V> {
-    /// What reads by this board.
-    pub fn of(memory: Memory, verifier: V, board: Board<N>) -> Reader<N, V>
-        requires { V.accepts verifier ≡ N.accepts }
+    /// What reads by these boards.
+    pub fn of(memory: Memory, verifier: Arc<V, Memory>, boards: Boards<N>) -> Reader<N, V>
+        requires { V.accepts (arc_value verifier) ≡ N.accepts }
     {
         Reader {
             memory,
             verifier,
-            board,
+            boards,
         }
     }
 
@@ -74,94 +74,42 @@ impl<N: PoolName, V: Verifier> Reader<N, V> {
         &self.verifier
     }
 
-    /// What decides which signatures are good, when the pool has handed over.
-    pub fn into_verifier(self) -> V
-        ensures { V.accepts result ≡ N.accepts }
+    /// A share of it, for a successor's reader.
+    pub fn share_verifier(&self) -> Result<Arc<V, Memory>, NoMemory>
+        ensures { IfOk result (λ verifier. V.accepts (arc_value verifier) ≡ N.accepts) }
     {
-        let Reader {
-            memory: _,
-            verifier,
-            board: _,
-        } = self;
-        verifier
+        Ok(Arc::try_clone(&self.verifier)?)
     }
 
-    /// Shows on the board the version that waits under the lock, if one does. Where memory is wanting it waits on.
-    pub fn show_waiting(&self, rt: &impl Wait, locked: &mut Locked<N>)
-        ensures { locked.new ≡ locked.old }
-    {
-        locked.show_waiting(rt, &self.board);
+    /// Where versions are published.
+    pub fn boards(&self) -> &Boards<N> {
+        &self.boards
     }
 
-    // The newest version that is shown, where it is longer than the pass's own.
-    fn later(&self, pass: &Pass<N>) -> Option<&Shown<N>>
-        ensures { IfSome result (λ shown. Begins pass.now.front shown.now) }
+    /// What is found of the transaction before the lock is taken. What the caller has seen stays.
+    pub fn check_early(&self, pass: &mut Pass<N>, tx: &Tx) -> Option<Checked>
+        ensures checked { IfSome result (IsChecked N.accepts tx.now) }
+        ensures same { pass.new ≡ pass.old }
     {
-        let shown = self.board.newest()?;
-        pass.front().compare(shown.front());
-        if pass.front().len() < shown.front().len() {
-            Some(shown)
-        } else {
-            None
-        }
+        pass.catch_up(&self.boards);
+        let version = pass.latest().version();
+        check_early(self.memory, version, tx, self.verifier())
     }
 
-    // A share of that.
-    fn share_later(&self, pass: &Pass<N>) -> Option<Shown<N>>
-        ensures { IfSome result (Begins pass.now.front) }
-    {
-        self.later(pass)?.share().ok()
-    }
-
-    // The newest version that is shown, or the pass's own where that is longer.
-    fn newest<'a>(&'a self, pass: &'a Pass<N>) -> &'a Shown<N>
-        ensures { Begins pass.now.front result.now }
-    {
-        match self.later(pass) {
-            Some(shown) => shown,
-            None => pass.shown(),
-        }
-    }
-
-    // A share of it.
-    fn share_newest(&self, pass: &Pass<N>) -> Result<Shown<N>, NoMemory>
-        ensures { IfOk result (Begins pass.now.front) }
-    {
-        self.newest(pass).share()
-    }
-
-    /// What is found of the transaction before the lock is taken.
-    pub fn check_early(&self, pass: &Pass<N>, tx: &Tx) -> Option<Checked>
-        ensures { IfSome result (IsChecked N.accepts tx.now) }
-    {
-        let version = self.newest(pass).version();
-        check_early(self.memory, version, tx, &self.verifier)
-    }
-
-    /// Gives the pass the newest version that is shown, where that is longer than its own. It takes no lock and no memory.
+    /// Gives the pass the newest version that is published, if that is longer than its own: `Pass::snapshot` reads it then. It
+    /// takes no lock, and allocates nothing.
     pub fn refresh(&self, pass: &mut Pass<N>)
         ensures seen { IsSeen N.accepts N.callers pass.old pass.new }
     {
-        match self.share_later(pass) {
+        pass.catch_up(&self.boards);
+        match pass.share_later() {
             Some(shown) => see(pass, shown),
             None => look_at(pass),
         }
     }
 
-    /// What is read of the newest version that is shown, or of the pass's own where that is longer, as `Pass::newest` lends it:
-    /// the pass then holds it. It takes no lock and no memory, and can't be refused.
-    pub fn snapshot<'p>(&self, pass: &'p mut Pass<N>) -> Snapshot<'p, N>
-        ensures later { Begins pass.old.front result }
-        ensures legal { IsLegalLog N.accepts N.callers result }
-    {
-        match pass.newest(self) {
-            Some(shown) => Snapshot::of(shown),
-            None => unreachable!(),
-        }
-    }
-
-    /// Gives the pass a version that another caller has told of, where it is longer than its own. It takes no lock and no memory,
-    /// and can't be refused.
+    /// Gives the pass a version that another caller has told of, if it is longer than its own. It takes no lock, allocates
+    /// nothing, and can't be refused.
     pub fn learn(&self, pass: &mut Pass<N>, shown: Shown<N>)
         ensures longer { length pass.old.front.entries < length shown.entries
             → pass.new ≡ record pass.old { front = shown } }
@@ -182,7 +130,7 @@ impl<N: PoolName, V: Verifier> Reader<N, V> {
     ) -> Result<SnapshotFor, NoMemory>
         ensures { IfOk result (IsSnapshotFor N.accepts shown.now ledger.now) }
     {
-        snapshot_upon(memory, shown.version(), ledger, &self.verifier)
+        snapshot_upon(memory, shown.version(), ledger, self.verifier())
     }
 
     /// What of the newest version's transactions would stay valid upon another ledger state: each that is valid upon it after
@@ -200,7 +148,8 @@ impl<N: PoolName, V: Verifier> Reader<N, V> {
         ensures seen { OnOk result (IsSeen N.accepts N.callers pass.old pass.new) }
         ensures err { OnErr result (pass.new ≡ pass.old) }
     {
-        let shown = self.share_newest(pass)?;
+        pass.catch_up(&self.boards);
+        let shown = pass.latest().share()?;
         let kept = self.try_upon(memory, &shown, ledger)?;
         pass.see(shown);
         Ok(kept)

@@ -1,23 +1,33 @@
-//! Where versions are shown to all callers.
-ghost use Rattle.std.specs.Prelude.{◌≡◌, IfErr};
+//! A limited number of published versions.
+ghost use Rattle.std.specs.Prelude.{◌≡◌, IfOk, IfErr};
+ghost use Rattle.boxcar.specs.Table.{Shows};
 
 use crate::shown::Shown;
+use boxcar::Pushed;
 use mp_history::PoolName;
 use mp_memory::{Memory, NoMemory};
 use std::sync::Wait;
 use std::sync::atomic::{AtomicUsize, Ordering};
 
-/// The versions that were shown, for all threads at once, and a hint which of them is the newest.
-/// A version that was shown stays as long as the board. What a reader gets is a `Shown`, whose type
-/// says that it is a true one: no clause rests on the hint.
-pub struct Board<N: PoolName> {
-    shown: boxcar::Vec<Shown<N>, Memory>,
+// A board with so many versions is full. With its own version, a pass that keeps a board keeps at most 64.
+const MAX_VERSIONS: usize = 63;
+
+/// What shows that a board has a version.
+pub(crate) type Published<N> = Pushed<Shown<N>, Memory>;
+
+/// Published versions, for all threads at once, and a hint which of them is the newest. They are freed with the board. What a
+/// reader gets is a `Shown`, whose type says that it is a true one: no clause depends on the hint.
+pub(crate) struct Board<N: PoolName> {
+    // How many boards were opened before this one.
+    pub(crate) number: u64,
+    pub(crate) shown: boxcar::Vec<Shown<N>, Memory>,
     newest: AtomicUsize,
 }
 
 impl<N: PoolName> Drop for Board<N> {
     fn drop(self) {
         let Board {
+            number: _,
             shown: _,
             newest: _,
         } = self;
@@ -25,29 +35,36 @@ impl<N: PoolName> Drop for Board<N> {
 }
 
 impl<N: PoolName> Board<N> {
-    /// A board that shows nothing.
-    pub fn new(memory: Memory) -> Result<Board<N>, NoMemory> {
+    /// A board without versions, the one after so many others.
+    pub(crate) fn new(memory: Memory, number: u64) -> Result<Board<N>, NoMemory> {
         Ok(Board {
+            number,
             shown: boxcar::Vec::new(memory)?,
             newest: AtomicUsize::new(0),
         })
     }
 
-    /// Shows the version: from now on it is the newest, until another is shown. It may spin where
-    /// another thread is just making room.
+    /// Adds the version: from now on it is the newest, until another is added. It may spin while another thread makes room.
     ///
     /// # Errors
-    /// Gives the version back where memory is wanting.
-    pub fn show(&self, rt: &impl Wait, shown: Shown<N>) -> Result<(), Shown<N>>
-        ensures { IfErr result (λ s. s ≡ shown) }
+    /// Returns the version if memory is refused.
+    pub(crate) fn add(&self, rt: &impl Wait, shown: Shown<N>) -> Result<Published<N>, Shown<N>>
+        ensures board { IfOk result (Shows self.now.shown) }
+        ensures version { IfOk result (λ p. p.value ≡ shown) }
+        ensures back { IfErr result (λ s. s ≡ shown) }
     {
-        let index = self.shown.push(rt, shown)?;
-        self.newest.store(index, Ordering::SeqCst);
-        Ok(())
+        let published = self.shown.push_shown(rt, shown)?;
+        self.newest.store(published.index(), Ordering::SeqCst);
+        Ok(published)
     }
 
-    /// The version that was shown last, if any was. It takes no memory and waits for nobody.
-    pub fn newest(&self) -> Option<&Shown<N>> {
+    /// The version that was added last, if any was. It allocates nothing and waits for nobody.
+    pub(crate) fn newest(&self) -> Option<&Shown<N>> {
         self.shown.get(self.newest.load(Ordering::SeqCst))
+    }
+
+    /// Whether the next version belongs on another board.
+    pub(crate) fn is_full(&self) -> bool {
+        self.shown.count() >= MAX_VERSIONS
     }
 }

@@ -2,12 +2,17 @@
 #![tactic(auto)]
 
 mod board;
+mod boards;
 pub mod laws;
+mod publisher;
 mod shown;
 mod snapshot;
+mod subscriber;
 mod version;
 
-pub use board::Board;
+pub use boards::Boards;
+pub use publisher::Publisher;
 pub use shown::Shown;
 pub use snapshot::Snapshot;
+pub use subscriber::Subscriber;
 pub use version::Version;

@@ -6,7 +6,7 @@ use crate::shared::ask;
 use crate::verifier::Spinning;
 use mp_history::PoolName;
 use mp_memory::Memory;
-use mp_mempool::{Mempool, Pass, Receipt, Refusal};
+use mp_mempool::{Mempool, Pass, Reader, Receipt, Refusal};
 use mp_seqpool::Command;
 use mp_versions::{Shown, Snapshot};
 use std::rt::Clock;
@@ -95,10 +95,13 @@ pub struct Part {
 pub struct Scene<'a, N: PoolName> {
     pub memory: Memory,
     pub mempool: &'a Mempool<N, Spinning>,
+    pub reader: &'a Reader<N, Spinning>,
     pub table: &'a Table,
     pub counts: &'a Counts,
     pub receipts: &'a Mutex<Vec<Receipt, Memory>>,
-    /// The post through which callers pass on what they have seen.
+    /// How many of the receipts are kept: those with the first places.
+    pub keep: u64,
+    /// Where callers tell one another what they have seen.
     pub post: &'a Mutex<Shown<N>>,
     pub part: Part,
     /// When their first turn begins: turns begin at the same times for all.
@@ -106,17 +109,24 @@ pub struct Scene<'a, N: PoolName> {
     pub period: Duration,
 }
 
-// Stores the receipt.
+// Keeps the receipt if its place is one of the first.
+fn keep_first<N: PoolName>(rt: &impl Wait, scene: &Scene<'_, N>, receipt: Receipt) -> Came {
+    if receipt.place >= scene.keep {
+        return Came::Entered;
+    }
+    match scene.receipts.lock(rt).push(receipt) {
+        Ok(()) => Came::Entered,
+        Err(_) => Came::Strange,
+    }
+}
+
 fn note<N: PoolName>(
     rt: &impl Wait,
-    receipts: &Mutex<Vec<Receipt, Memory>>,
+    scene: &Scene<'_, N>,
     answer: Result<Receipt, Refusal<N>>,
 ) -> Came {
     match answer {
-        Ok(receipt) => match receipts.lock(rt).push(receipt) {
-            Ok(()) => Came::Entered,
-            Err(_) => Came::Strange,
-        },
+        Ok(receipt) => keep_first(rt, scene, receipt),
         Err(Refusal::Foreign(_front)) => Came::Strange,
         Err(Refusal::Pool(mp_seqpool::Refusal::NoMemory)) => Came::Strange,
         Err(Refusal::Pool(_refusal)) => Came::Refused,
@@ -130,7 +140,7 @@ fn change<N: PoolName>(
     command: Option<&Command>,
 ) -> Came {
     match command {
-        Some(command) => note(rt, scene.receipts, ask(rt, scene.mempool, pass, command)),
+        Some(command) => note(rt, scene, ask(rt, scene.mempool, pass, command)),
         None => Came::Nothing,
     }
 }
@@ -154,9 +164,10 @@ fn is_sound<N: PoolName>(snapshot: &Snapshot<'_, N>, least: u64, last: u64) -> b
         && snapshot.size() == (count, bytes)
 }
 
-fn look<N: PoolName>(mempool: &Mempool<N, Spinning>, pass: &mut Pass<N>) -> Came {
+fn look<N: PoolName>(reader: &Reader<N, Spinning>, pass: &mut Pass<N>) -> Came {
     let (least, last) = (pass.front().len(), pass.snapshot().last());
-    if is_sound(&mempool.reader().snapshot(pass), least, last) {
+    reader.refresh(pass);
+    if is_sound(&pass.snapshot(), least, last) {
         Came::Snapshot
     } else {
         Came::Strange
@@ -173,11 +184,7 @@ fn look_upon<N: PoolName>(
         return Came::Nothing;
     };
     let least = pass.front().len();
-    match scene
-        .mempool
-        .reader()
-        .snapshot_for(scene.memory, pass, ledger)
-    {
+    match scene.reader.snapshot_for(scene.memory, pass, ledger) {
         Ok(kept) if kept.number >= least => Came::Snapshot,
         _ => Came::Strange,
     }
@@ -187,7 +194,7 @@ fn learn<N: PoolName>(rt: &impl Wait, scene: &Scene<'_, N>, pass: &mut Pass<N>) 
     let told = scene.post.lock(rt).share();
     match told {
         Ok(shown) => {
-            scene.mempool.reader().learn(pass, shown);
+            scene.reader.learn(pass, shown);
             Came::Learned
         }
         Err(_) => Came::Strange,
@@ -212,7 +219,7 @@ fn step<N: PoolName>(rt: &impl Wait, scene: &Scene<'_, N>, dice: &mut Dice, pass
         9 | 10 => learn(rt, scene, pass),
         11 => tell(rt, scene.post, pass),
         12 => look_upon(scene, pass, dice.pick(&scene.table.syncs)),
-        _ => look(scene.mempool, pass),
+        _ => look(scene.reader, pass),
     };
     scene.counts.add(came);
 }
@@ -225,6 +232,33 @@ fn wait_for<N: PoolName>(rt: &impl Clock, scene: &Scene<'_, N>, turn: u32) {
     }
 }
 
+fn dice_of<N: PoolName>(scene: &Scene<'_, N>, caller: usize) -> Dice {
+    Dice::of(
+        scene
+            .part
+            .seed
+            .wrapping_add(caller as u64)
+            .wrapping_mul(0x9e37_79b9_7f4a_7c15),
+    )
+}
+
+/// What the caller of this number does without a pause until it has seen this number of entries.
+pub fn play_until<N: PoolName>(
+    rt: &impl Wait,
+    scene: &Scene<'_, N>,
+    caller: usize,
+    pass: &mut Pass<N>,
+    entries: u64,
+) {
+    let mut dice = dice_of(scene, caller);
+    for _ in 0..u64::MAX {
+        step(rt, scene, &mut dice, pass);
+        if pass.front().len() >= entries {
+            break;
+        }
+    }
+}
+
 /// What the caller of this number does in all turns.
 pub fn play<N: PoolName>(
     rt: &(impl Clock + Wait),
@@ -232,13 +266,7 @@ pub fn play<N: PoolName>(
     caller: usize,
     pass: &mut Pass<N>,
 ) {
-    let mut dice = Dice::of(
-        scene
-            .part
-            .seed
-            .wrapping_add(caller as u64)
-            .wrapping_mul(0x9e37_79b9_7f4a_7c15),
-    );
+    let mut dice = dice_of(scene, caller);
     for turn in 0..scene.part.turns {
         wait_for(rt, scene, turn);
         for _ in 0..BURST {

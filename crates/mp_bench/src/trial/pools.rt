@@ -11,10 +11,10 @@ use crate::shared::count_seen;
 use crate::verifier::Spinning;
 use mp_history::{NewName, PoolName};
 use mp_memory::Memory;
-use mp_mempool::{Config, Mempool, Pass};
+use mp_mempool::{Config, Mempool, Opened, Pass, Reader};
 use std::marker::Brand;
 use std::rt::Clock;
-use std::sync::{Mutex, Wait};
+use std::sync::{Arc, Mutex, Wait};
 use std::thread::{Threads, for_each_mut};
 use std::time::{Duration, Instant};
 
@@ -55,6 +55,7 @@ fn play_all<N: PoolName + Send + Sync, R: Clock + Threads + Wait + Sync>(
     trial: &Trial,
     part: Part,
     mempool: &Mempool<N, Spinning>,
+    reader: &Reader<N, Spinning>,
     passes: &mut [Pass<N>],
 ) -> Option<()> {
     let post = Mutex::new(passes.first()?.shown().share().ok()?);
@@ -62,9 +63,11 @@ fn play_all<N: PoolName + Send + Sync, R: Clock + Threads + Wait + Sync>(
     let scene = Scene {
         memory: trial.memory,
         mempool,
+        reader,
         table: &trial.table,
         counts: &trial.counts,
         receipts: &trial.receipts,
+        keep: u64::MAX,
         post: &post,
         part,
         start: Instant::now(rt).ok()?,
@@ -95,11 +98,13 @@ fn are_fresh<N: PoolName>(passes: &[Pass<N>], callers: u32) -> bool {
 }
 
 fn see<N: PoolName>(
-    mempool: &Mempool<N, Spinning>,
+    reader: &Reader<N, Spinning>,
     passes: &mut [Pass<N>],
     view: &mut View,
 ) -> Option<()> {
-    view.take_down(&mempool.reader().snapshot(passes.first_mut()?))
+    let pass = passes.first_mut()?;
+    reader.refresh(pass);
+    view.take_down(&pass.snapshot())
 }
 
 // Plays the part, and records the content of the pool when it opens and at the end.
@@ -108,12 +113,13 @@ fn play_part<N: PoolName + Send + Sync, R: Clock + Threads + Wait + Sync>(
     trial: &Trial,
     part: Part,
     mempool: &Mempool<N, Spinning>,
+    reader: &Reader<N, Spinning>,
     passes: &mut [Pass<N>],
     chapter: &mut Chapter,
 ) -> Option<()> {
-    see(mempool, passes, &mut chapter.opening)?;
-    play_all(rt, trial, part, mempool, passes)?;
-    see(mempool, passes, &mut chapter.closing)
+    see(reader, passes, &mut chapter.opening)?;
+    play_all(rt, trial, part, mempool, reader, passes)?;
+    see(reader, passes, &mut chapter.closing)
 }
 
 // The record of a pool with these passes.
@@ -122,13 +128,14 @@ fn live<N: PoolName + Send + Sync, R: Clock + Threads + Wait + Sync>(
     trial: &Trial,
     part: Part,
     mempool: &Mempool<N, Spinning>,
+    reader: &Reader<N, Spinning>,
     passes: &mut [Pass<N>],
     chapter: &mut Chapter,
 ) -> Result<(), Fault> {
     if !are_fresh(passes, trial.callers) {
         return Err(Fault::StalePasses);
     }
-    play_part(rt, trial, part, mempool, passes, chapter).ok_or(Fault::Wanting)?;
+    play_part(rt, trial, part, mempool, reader, passes, chapter).ok_or(Fault::Wanting)?;
     let history = take_history(rt, trial.memory, &trial.receipts, chapter.closing.number);
     chapter.entries = history.ok_or(Fault::LostEntry)?;
     Ok(())
@@ -140,11 +147,12 @@ fn live_on<M: PoolName + Send + Sync, R: Clock + Threads + Wait + Sync>(
     trial: &Trial,
     part: Part,
     heir: &Mempool<M, Spinning>,
+    reader: &Reader<M, Spinning>,
     passes: &mut [Pass<M>],
     chapter: &mut Chapter,
 ) -> Result<(), Fault> {
-    live(rt, trial, part, heir, passes, chapter)?;
-    if count_seen(heir, passes, chapter.closing.number) != u64::from(trial.callers) {
+    live(rt, trial, part, heir, reader, passes, chapter)?;
+    if count_seen(reader, passes, chapter.closing.number) != u64::from(trial.callers) {
         return Err(Fault::OldVersion);
     }
     Ok(())
@@ -155,8 +163,7 @@ fn go_on<N: PoolName + Send + Sync, M: PoolName + Send + Sync, R: Clock + Thread
     rt: &R,
     trial: &Trial,
     plan: Plan,
-    mempool: Mempool<N, Spinning>,
-    mut passes: Vec<Pass<N>, Memory>,
+    opened: Opened<N, Spinning>,
     name: NewName,
     tale: &mut Tale,
 ) -> Result<(), Fault>
@@ -164,20 +171,23 @@ fn go_on<N: PoolName + Send + Sync, M: PoolName + Send + Sync, R: Clock + Thread
     requires callers { trial.now.callers ≡ M.callers }
     requires accepts { M.accepts ≡ N.accepts }
 {
+    let (mempool, reader, mut passes) = opened;
     live(
         rt,
         trial,
         plan.before,
         &mempool,
+        &reader,
         &mut passes,
         &mut tale.before,
     )?;
     match mempool.into_successor::<M>(rt, trial.memory, name, passes, LIMIT, trial.callers) {
-        Ok((heir, mut passes)) => live_on(
+        Ok((heir, reader, mut passes)) => live_on(
             rt,
             trial,
             plan.after,
             &heir,
+            &reader,
             &mut passes,
             &mut tale.after,
         ),
@@ -201,10 +211,11 @@ fn open<N: PoolName + Send + Sync, R: Clock + Threads + Wait + Sync>(
         last: plan.last,
     };
     let (memory, ledger, callers) = (trial.memory, &trial.ledger, trial.callers);
-    match Mempool::<N, _>::open(rt, memory, name, config, ledger, Spinning::new(), callers) {
-        Ok((mempool, passes)) => {
-            go_on::<N, Brand, _>(rt, trial, plan, mempool, passes, NewName::new(), tale)
-        }
+    let Ok(verifier) = Arc::new(memory, Spinning::new()) else {
+        return Err(Fault::Wanting);
+    };
+    match Mempool::<N, _>::open(rt, memory, name, config, ledger, &verifier, callers) {
+        Ok(opened) => go_on::<N, Brand, _>(rt, trial, plan, opened, NewName::new(), tale),
         Err(_) => Err(Fault::NotOpened),
     }
 }

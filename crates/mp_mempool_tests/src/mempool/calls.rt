@@ -2,7 +2,7 @@
 use crate::mempool::heard::{Heard, read_answer, read_kept, read_snapshot};
 use mp_history::PoolName;
 use mp_memory::Memory;
-use mp_mempool::{Mempool, Pass, Receipt, Refusal};
+use mp_mempool::{Mempool, Pass, Reader, Receipt, Refusal};
 use mp_pool_samples::AcceptsAll;
 use mp_pool_samples::samples::Samples;
 use mp_seqpool::Command;
@@ -17,7 +17,9 @@ pub enum Call {
     /// It gives the commands of the samples from the first number up to and without the second, and hears the answer to
     /// the last one.
     AskAll(usize, usize),
-    /// It asks what would stay on the ledger state of the sample.
+    /// It asks for the sample so often, and hears of the last time.
+    AskOften(usize, u64),
+    /// It asks for what would stay on the ledger state of the sample.
     SnapshotFor(usize),
     Snapshot,
     /// It reads what it has seen, without reading the pool.
@@ -37,7 +39,14 @@ pub enum Call {
 /// The passes of all callers.
 pub type Passes<N> = Vec<Pass<N>, Memory>;
 
-/// Gives the command to the pool.
+/// A pool, and what reads it.
+#[derive(Drop)]
+pub struct Parts<'a, N: PoolName> {
+    pub mempool: &'a Mempool<N, AcceptsAll>,
+    pub reader: &'a Reader<N, AcceptsAll>,
+}
+
+/// The command is asked of the pool.
 pub fn ask<N: PoolName>(
     rt: &impl Wait,
     mempool: &Mempool<N, AcceptsAll>,
@@ -65,14 +74,29 @@ fn ask_all<N: PoolName>(
     heard
 }
 
-fn keep<N: PoolName>(
+// What is heard of the last time.
+fn ask_often<N: PoolName>(
+    rt: &impl Wait,
     mempool: &Mempool<N, AcceptsAll>,
+    pass: &mut Pass<N>,
+    commands: &[Command],
+    times: u64,
+) -> Heard {
+    let mut heard = Heard::Nobody;
+    for _ in 0..times {
+        heard = ask_all(rt, mempool, pass, commands);
+    }
+    heard
+}
+
+fn keep<N: PoolName>(
+    reader: &Reader<N, AcceptsAll>,
     pass: &mut Pass<N>,
     samples: &Samples,
     number: usize,
 ) -> Heard {
     match samples.ledger(number) {
-        Some(ledger) => read_kept(&mempool.reader().snapshot_for(samples.memory, pass, ledger)),
+        Some(ledger) => read_kept(&reader.snapshot_for(samples.memory, pass, ledger)),
         None => Heard::Nobody,
     }
 }
@@ -84,10 +108,15 @@ fn read_last<N: PoolName>(pass: &Pass<N>) -> Heard {
     }
 }
 
-// An action of a caller with its own pass.
+fn look<N: PoolName>(reader: &Reader<N, AcceptsAll>, pass: &mut Pass<N>) -> Heard {
+    reader.refresh(pass);
+    read_snapshot(&pass.snapshot())
+}
+
+// What a caller does with its own pass.
 fn use_pass<N: PoolName>(
     rt: &impl Wait,
-    mempool: &Mempool<N, AcceptsAll>,
+    parts: &Parts<'_, N>,
     pass: &mut Pass<N>,
     samples: &Samples,
     asked: Call,
@@ -95,11 +124,15 @@ fn use_pass<N: PoolName>(
     match asked {
         Call::Ask(number) => {
             let commands = samples.commands(number, number.saturating_add(1));
-            ask_all(rt, mempool, pass, commands)
+            ask_all(rt, parts.mempool, pass, commands)
         }
-        Call::AskAll(from, to) => ask_all(rt, mempool, pass, samples.commands(from, to)),
-        Call::SnapshotFor(number) => keep(mempool, pass, samples, number),
-        Call::Snapshot => read_snapshot(&mempool.reader().snapshot(pass)),
+        Call::AskAll(from, to) => ask_all(rt, parts.mempool, pass, samples.commands(from, to)),
+        Call::AskOften(number, times) => {
+            let commands = samples.commands(number, number.saturating_add(1));
+            ask_often(rt, parts.mempool, pass, commands, times)
+        }
+        Call::SnapshotFor(number) => keep(parts.reader, pass, samples, number),
+        Call::Snapshot => look(parts.reader, pass),
         Call::Seen => read_snapshot(&pass.snapshot()),
         Call::Last => read_last(pass),
         _ => Heard::Nobody,
@@ -107,13 +140,13 @@ fn use_pass<N: PoolName>(
 }
 
 fn learn<N: PoolName>(
-    mempool: &Mempool<N, AcceptsAll>,
+    reader: &Reader<N, AcceptsAll>,
     pass: Option<&mut Pass<N>>,
     shown: Shown<N>,
 ) -> Heard {
     match pass {
         Some(pass) => {
-            mempool.reader().learn(pass, shown);
+            reader.learn(pass, shown);
             Heard::Done
         }
         None => Heard::Nobody,
@@ -125,13 +158,13 @@ fn share_seen<N: PoolName>(passes: &[Pass<N>], from: usize) -> Option<Shown<N>> 
 }
 
 fn learn_from<N: PoolName>(
-    mempool: &Mempool<N, AcceptsAll>,
+    reader: &Reader<N, AcceptsAll>,
     passes: &mut Passes<N>,
     caller: usize,
     from: usize,
 ) -> Heard {
     match share_seen(passes, from) {
-        Some(shown) => learn(mempool, passes.get_mut(caller), shown),
+        Some(shown) => learn(reader, passes.get_mut(caller), shown),
         None => Heard::Nobody,
     }
 }
@@ -164,19 +197,19 @@ fn is_met(memory: Memory) -> Heard {
 /// What the caller hears.
 pub fn make<N: PoolName>(
     rt: &impl Wait,
-    mempool: &Mempool<N, AcceptsAll>,
+    parts: &Parts<'_, N>,
     passes: &mut Passes<N>,
     samples: &Samples,
     caller: usize,
     asked: Call,
 ) -> Heard {
     match asked {
-        Call::Learn(from) => learn_from(mempool, passes, caller, from),
+        Call::Learn(from) => learn_from(parts.reader, passes, caller, from),
         Call::Refuse(nth) => refuse(samples.memory, nth),
         Call::Met => is_met(samples.memory),
         Call::Passes => all_fresh(passes),
         _ => match passes.get_mut(caller) {
-            Some(pass) => use_pass(rt, mempool, pass, samples, asked),
+            Some(pass) => use_pass(rt, parts, pass, samples, asked),
             None => Heard::Nobody,
         },
     }

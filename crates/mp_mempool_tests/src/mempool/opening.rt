@@ -9,9 +9,9 @@ use mp_testing::{Seen, count, under_each_refusal};
 use std::io;
 use std::sync::Wait;
 
-const BAD_CALLERS: Played = Played::NotOpened(OpenRefusal::BadCallers, 7);
+const BAD_CALLERS: Played = Played::NotOpened(OpenRefusal::BadCallers);
 
-const BAD_LIMIT: Played = Played::NotOpened(OpenRefusal::BadLimit, 7);
+const BAD_LIMIT: Played = Played::NotOpened(OpenRefusal::BadLimit);
 
 // The callers and the limit, and the result.
 static ROWS: [(&str, u32, u64, Played); 9] = [
@@ -48,7 +48,7 @@ impl<R: Wait> mp_testing::Call for Opening<'_, R> {
 
     fn call(&self, _value: &mut ()) -> Option<Seen> {
         match open(self.rt, self.samples, 3, 1) {
-            Played::NotOpened(OpenRefusal::NoMemory, 7) => None,
+            Played::NotOpened(OpenRefusal::NoMemory) => None,
             played => Some(played.seen()),
         }
     }

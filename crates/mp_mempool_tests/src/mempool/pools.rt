@@ -3,16 +3,17 @@ ghost use Rattle.std.specs.Prelude.{◌≡◌};
 ghost use Rattle.mp_history.specs.PoolName.{head_of};
 ghost use Rattle.mp_pool_samples.specs.Names.{any};
 
-use crate::mempool::calls::{Call, Passes, make};
+use crate::mempool::calls::{Call, Parts, Passes, make};
 use crate::mempool::heard::Heard;
 use mp_history::{NewName, PoolName};
-use mp_mempool::{Config, Mempool, OpenRefusal};
+use mp_memory::{Memory, NoMemory};
+use mp_mempool::{Config, Mempool, OpenRefusal, Opened, Reader};
 use mp_pool_samples::samples::{ALL, Samples};
 use mp_pool_samples::{ACCEPTS_ALL, AcceptsAll};
 use mp_testing::Seen;
 use mp_tx::Ledger;
 use std::marker::Brand;
-use std::sync::Wait;
+use std::sync::{Arc, Wait};
 
 /// A limit that no table reaches.
 pub const LONG: u64 = 1_000_000;
@@ -30,9 +31,9 @@ pub enum Played {
     AsTold,
     /// The first line, from 0, whose caller hears something else, and what it hears.
     Otherwise(usize, Heard),
-    /// The pool doesn't open, and this is the mark of the verifier that comes back.
-    NotOpened(OpenRefusal, u64),
-    /// There is no ledger state on which to open.
+    /// The pool isn't opened.
+    NotOpened(OpenRefusal),
+    /// There is no ledger state to open on.
     NoLedger,
 }
 
@@ -45,7 +46,7 @@ impl Played {
                 let [kind, first, second, third, ..] = heard.seen();
                 [1, line as u64, kind, first, second, third]
             }
-            Played::NotOpened(refusal, mark) => [2, refusal.number(), mark, 0, 0, 0],
+            Played::NotOpened(refusal) => [2, refusal.number(), 0, 0, 0, 0],
             Played::NoLedger => [3, 0, 0, 0, 0, 0],
         }
     }
@@ -59,13 +60,13 @@ impl Played {
 /// The result of the table on the pool.
 pub fn play_on<N: PoolName>(
     rt: &impl Wait,
-    mempool: &Mempool<N, AcceptsAll>,
+    parts: &Parts<'_, N>,
     passes: &mut Passes<N>,
     samples: &Samples,
     lines: &[Line],
 ) -> Played {
     for (number, (caller, call, wanted)) in lines.iter().enumerate() {
-        let heard = make(rt, mempool, passes, samples, *caller, *call);
+        let heard = make(rt, parts, passes, samples, *caller, *call);
         if heard.seen() != wanted.seen() {
             return Played::Otherwise(number, heard);
         }
@@ -73,11 +74,17 @@ pub fn play_on<N: PoolName>(
     Played::AsTold
 }
 
+/// A verifier that accepts each signature, for pools to share.
+pub fn accepts_all(memory: Memory) -> Result<Arc<AcceptsAll, Memory>, NoMemory> {
+    Ok(Arc::new(memory, ACCEPTS_ALL)?)
+}
+
 fn of_name<N: PoolName>(
     rt: &impl Wait,
     name: NewName,
     samples: &Samples,
     ledger: &Ledger,
+    verifier: &Arc<AcceptsAll, Memory>,
     callers: u32,
     limit: u64,
     lines: &[Line],
@@ -88,18 +95,65 @@ fn of_name<N: PoolName>(
 {
     let config = Config { limit, last: 0 };
     let memory = samples.memory;
-    match Mempool::<N, _>::open(rt, memory, name, config, ledger, ACCEPTS_ALL, callers) {
-        Ok((mempool, mut passes)) => play_on(rt, &mempool, &mut passes, samples, lines),
-        Err((refusal, verifier)) => Played::NotOpened(refusal, verifier.mark),
+    match Mempool::<N, _>::open(rt, memory, name, config, ledger, verifier, callers) {
+        Ok((mempool, reader, mut passes)) => {
+            let parts = Parts {
+                mempool: &mempool,
+                reader: &reader,
+            };
+            play_on(rt, &parts, &mut passes, samples, lines)
+        }
+        Err(refusal) => Played::NotOpened(refusal),
     }
 }
 
 /// The result of the table on a new pool with this many callers and this limit.
 pub fn play(rt: &impl Wait, samples: &Samples, callers: u32, limit: u64, lines: &[Line]) -> Played {
-    match samples.ledger(ALL) {
-        Some(ledger) => {
-            of_name::<Brand>(rt, NewName::new(), samples, ledger, callers, limit, lines)
+    let Some(ledger) = samples.ledger(ALL) else {
+        return Played::NoLedger;
+    };
+    let Ok(verifier) = accepts_all(samples.memory) else {
+        return Played::NotOpened(OpenRefusal::NoMemory);
+    };
+    let name = NewName::new();
+    of_name::<Brand>(rt, name, samples, ledger, &verifier, callers, limit, lines)
+}
+
+/// What comes of the table on the pool that this reader reads.
+pub fn play_with<N: PoolName>(
+    rt: &impl Wait,
+    mempool: &Mempool<N, AcceptsAll>,
+    reader: &Reader<N, AcceptsAll>,
+    passes: &mut Passes<N>,
+    samples: &Samples,
+    lines: &[Line],
+) -> Played {
+    play_on(rt, &Parts { mempool, reader }, passes, samples, lines)
+}
+
+/// A pool of two callers, on which the table was played.
+pub fn open_two<N: PoolName>(
+    rt: &impl Wait,
+    name: NewName,
+    samples: &Samples,
+    limit: u64,
+    lines: &[Line],
+) -> Option<Opened<N, AcceptsAll>>
+    requires name { name ≡ head_of N.book N.root }
+    requires callers { N.callers ≡ 2 }
+    requires accepts { N.accepts ≡ any }
+{
+    let ledger = samples.ledger(ALL)?;
+    let config = Config { limit, last: 0 };
+    let verifier = accepts_all(samples.memory).ok()?;
+    match Mempool::<N, _>::open(rt, samples.memory, name, config, ledger, &verifier, 2) {
+        Ok((mempool, reader, mut passes)) => {
+            if play_with(rt, &mempool, &reader, &mut passes, samples, lines).is_as_told() {
+                Some((mempool, reader, passes))
+            } else {
+                None
+            }
         }
-        None => Played::NoLedger,
+        Err(_) => None,
     }
 }

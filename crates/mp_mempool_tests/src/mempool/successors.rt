@@ -5,14 +5,14 @@ ghost use Rattle.mp_pool_samples.specs.Names.{any};
 
 use crate::mempool::calls::{Call, Passes};
 use crate::mempool::heard::Heard;
-use crate::mempool::pools::{LONG, Line, MAX_GROWTHS, Played, play_on};
+use crate::mempool::pools::{LONG, Line, MAX_GROWTHS, Played, open_two, play_with};
 use crate::mempool::tables::count_owners;
 use mp_history::{NewName, PoolName};
 use mp_memory::Memory;
-use mp_mempool::{Config, Mempool, Pass, SuccessorRefusal};
-use mp_pool_samples::samples::{ALL, CHAINED, REMOVE_SECOND, SUBMITS, Samples};
+use mp_mempool::{Opened, Pass, SuccessorRefusal};
+use mp_pool_samples::AcceptsAll;
+use mp_pool_samples::samples::{CHAINED, REMOVE_SECOND, SUBMITS, Samples};
 use mp_pool_samples::told::Told;
-use mp_pool_samples::{ACCEPTS_ALL, AcceptsAll};
 use mp_testing::{Seen, count};
 use mp_versions::Shown;
 use std::io;
@@ -116,7 +116,7 @@ fn see<N: PoolName, M: PoolName>(
     rt: &impl Wait,
     name: NewName,
     samples: &Samples,
-    opened: Opened<N>,
+    opened: Opened<N, AcceptsAll>,
     mut kept: Passes<N>,
     case: Case,
 ) -> Seen
@@ -125,52 +125,24 @@ fn see<N: PoolName, M: PoolName>(
     requires accepts { M.accepts ≡ N.accepts }
 {
     let memory = samples.memory;
-    let (mempool, passes) = opened;
+    let (mempool, reader, passes) = opened;
     memory.refuse(case.refused);
     let handed = mempool.into_successor::<M>(rt, memory, name, passes, case.limit, case.heirs);
     memory.refuse(0);
     match handed {
-        Ok((heir, mut passes)) => {
-            with_played(0, 0, play_on(rt, &heir, &mut passes, samples, &AFTER))
+        Ok((heir, reader, mut passes)) => {
+            let played = play_with(rt, &heir, &reader, &mut passes, samples, &AFTER);
+            with_played(0, 0, played)
         }
         Err((refusal, mempool, mut passes)) => {
             arrange_back(&mut passes, &mut kept, case.order);
-            let played = play_on(rt, &mempool, &mut passes, samples, &AS_BEFORE);
+            let played = play_with(rt, &mempool, &reader, &mut passes, samples, &AS_BEFORE);
             with_played(refusal.number(), place_of(&refusal), played)
         }
     }
 }
 
-// A pool with its passes.
-type Opened<N> = (Mempool<N, AcceptsAll>, Passes<N>);
-
-// A pool with two callers, on which the table was played.
-fn open<N: PoolName>(
-    rt: &impl Wait,
-    name: NewName,
-    samples: &Samples,
-    limit: u64,
-    lines: &[Line],
-) -> Option<Opened<N>>
-    requires name { name ≡ head_of N.book N.root }
-    requires callers { N.callers ≡ 2 }
-    requires accepts { N.accepts ≡ any }
-{
-    let ledger = samples.ledger(ALL)?;
-    let config = Config { limit, last: 0 };
-    match Mempool::<N, _>::open(rt, samples.memory, name, config, ledger, ACCEPTS_ALL, 2) {
-        Ok((mempool, mut passes)) => {
-            if play_on(rt, &mempool, &mut passes, samples, lines).is_as_told() {
-                Some((mempool, passes))
-            } else {
-                None
-            }
-        }
-        Err(_) => None,
-    }
-}
-
-// The result of the handover, and whether the allocation failed.
+// The results of the handover, and whether the allocation was refused.
 fn try_case<N: PoolName>(
     rt: &impl Wait,
     name: NewName,
@@ -181,10 +153,10 @@ fn try_case<N: PoolName>(
     requires callers { N.callers ≡ 2 }
     requires accepts { N.accepts ≡ any }
 {
-    let (mempool, mut passes) = open::<N>(rt, name, samples, 2, &BEFORE)?;
+    let (mempool, reader, mut passes) = open_two::<N>(rt, name, samples, 2, &BEFORE)?;
     let kept = arrange(samples.memory, &mut passes, case.order);
     let heir = NewName::new();
-    let opened = (mempool, passes);
+    let opened = (mempool, reader, passes);
     Some(see::<N, Brand>(rt, heir, samples, opened, kept, case))
 }
 
@@ -237,7 +209,7 @@ fn count_held<N: PoolName, M: PoolName>(
     rt: &impl Wait,
     name: NewName,
     samples: &Samples,
-    opened: Opened<N>,
+    opened: Opened<N, AcceptsAll>,
     shown: Shown<N>,
     before: u64,
 ) -> Seen
@@ -246,7 +218,8 @@ fn count_held<N: PoolName, M: PoolName>(
     requires accepts { M.accepts ≡ N.accepts }
 {
     let commands = samples.commands(0, SUBMITS);
-    let (mempool, passes) = opened;
+    let (mempool, reader, passes) = opened;
+    drop(reader);
     let handed = mempool.into_successor::<M>(rt, samples.memory, name, passes, 2, 1);
     let held = count_owners(commands).wrapping_sub(before);
     drop(shown);
@@ -260,12 +233,12 @@ fn see_held<N: PoolName>(rt: &impl Wait, name: NewName, samples: &Samples) -> Op
     requires accepts { N.accepts ≡ any }
 {
     let before = count_owners(samples.commands(0, SUBMITS));
-    let (mempool, mut passes) = open::<N>(rt, name, samples, LONG, &COME)?;
+    let (mempool, reader, mut passes) = open_two::<N>(rt, name, samples, LONG, &COME)?;
     let shown = share_first(&passes)?;
-    if !play_on(rt, &mempool, &mut passes, samples, &GO).is_as_told() {
+    if !play_with(rt, &mempool, &reader, &mut passes, samples, &GO).is_as_told() {
         return None;
     }
-    let opened = (mempool, passes);
+    let opened = (mempool, reader, passes);
     let heir = NewName::new();
     Some(count_held::<N, Brand>(rt, heir, samples, opened, shown, before))
 }

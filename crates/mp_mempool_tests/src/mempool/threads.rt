@@ -117,7 +117,7 @@ fn of_name<N: PoolName + Send + Sync, R: Threads + Wait + Sync>(
     name: NewName,
     samples: &Samples,
     ledger: &Ledger,
-    verifier: Meeting,
+    verifier: &Arc<Meeting, Memory>,
     part: Part,
     receipts: &Mutex<Receipts>,
 ) -> Option<()>
@@ -130,7 +130,7 @@ fn of_name<N: PoolName + Send + Sync, R: Threads + Wait + Sync>(
         last: 0,
     };
     match Mempool::<N, _>::open(rt, samples.memory, name, config, ledger, verifier, 3) {
-        Ok((mempool, mut passes)) => {
+        Ok((mempool, _reader, mut passes)) => {
             submit_all(rt, &mempool, passes.as_mut_slice(), samples, part, receipts)
         }
         Err(_) => None,
@@ -145,15 +145,13 @@ fn submit_part<R: Threads + Wait + Sync>(
     receipts: &Mutex<Receipts>,
 ) -> Option<()> {
     let ledger = samples.ledger(ALL)?;
-    let Ok(verifier) = Meeting::of(flags) else {
-        return None;
-    };
+    let verifier = Arc::new(samples.memory, Meeting::of(flags).ok()?).ok()?;
     of_name::<Brand, R>(
         rt,
         NewName::new(),
         samples,
         ledger,
-        verifier,
+        &verifier,
         part,
         receipts,
     )

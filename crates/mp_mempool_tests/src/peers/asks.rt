@@ -3,7 +3,7 @@ use crate::mempool::ask;
 use crate::peers::growths::{Trial, try_call};
 use crate::peers::seen::{see_block, see_offer};
 use mp_history::PoolName;
-use mp_mempool::{Mempool, Pass};
+use mp_mempool::{Mempool, Pass, Reader};
 use mp_peer::PeerReader;
 use mp_pool_samples::AcceptsAll;
 use mp_pool_samples::samples::Samples;
@@ -41,29 +41,33 @@ fn change<N: PoolName>(
     }
 }
 
-fn renew(reader: &mut PeerReader, with: PeerReader) -> Seen {
-    *reader = with;
-    [reader.cursor(), 0, 0, 0, 0, 0]
+fn renew(peer: &mut PeerReader, with: PeerReader) -> Seen {
+    *peer = with;
+    [peer.cursor(), 0, 0, 0, 0, 0]
 }
 
 /// The answer: for a change, the place of its entry. Returns `None` if it is refused.
 pub fn make<N: PoolName>(
     rt: &impl Wait,
     mempool: &Mempool<N, AcceptsAll>,
+    reader: &Reader<N, AcceptsAll>,
     pass: &mut Pass<N>,
-    reader: &mut PeerReader,
+    peer: &mut PeerReader,
     samples: &Samples,
     asked: Ask,
 ) -> Option<Seen> {
     match asked {
         Ask::Change(number) => change(rt, mempool, pass, samples, number),
-        Ask::NewPeer => Some(renew(reader, PeerReader::new())),
-        Ask::PeerAfter(ticket) => Some(renew(reader, PeerReader::after(ticket))),
+        Ask::NewPeer => Some(renew(peer, PeerReader::new())),
+        Ask::PeerAfter(ticket) => Some(renew(peer, PeerReader::after(ticket))),
         Ask::Offer(count, bytes) => {
-            let snapshot = mempool.reader().snapshot(pass);
-            see_offer(samples, reader, &snapshot, count, bytes)
+            reader.refresh(pass);
+            see_offer(samples, peer, &pass.snapshot(), count, bytes)
         }
-        Ask::Forge(bytes) => see_block(samples, &mempool.reader().snapshot(pass), bytes),
+        Ask::Forge(bytes) => {
+            reader.refresh(pass);
+            see_block(samples, &pass.snapshot(), bytes)
+        }
         Ask::Try(trial) => try_call(samples, pass, trial),
     }
 }

@@ -1,30 +1,35 @@
-//! The board: threads that read while versions are published.
+//! Boards: threads that read while versions are published, boards that are freed, and publications at refused allocations.
 ghost use Rattle.std.specs.Prelude.{◌≡◌, IfSome};
 ghost use Rattle.mp_seqpool.specs.PoolLaws.{IsLawful};
 ghost use Rattle.mp_seqpool.specs.Config.{renewed};
 ghost use Rattle.mp_history.specs.PoolName.{head_of};
 ghost use Rattle.mp_pool_samples.specs.Names.{any};
 
+use crate::versions::freed::count_freed;
 use mp_history::{History, NewName, PoolName};
 use mp_memory::{Memory, NoMemory};
 use mp_pool_samples::CONFIG;
 use mp_pool_samples::samples::{PART, Samples};
 use mp_seqpool::SeqPool;
 use mp_testing::{Seen, count};
-use mp_versions::{Board, Shown, Snapshot, Version};
+use mp_versions::{Boards, Publisher, Shown, Snapshot, Subscriber, Version};
 use std::io;
 use std::marker::Brand;
-use std::sync::{Arc, Wait};
-use std::thread::{Threads, map_indices};
+use std::sync::{Arc, Mutex, Wait};
+use std::thread::{Threads, for_each_mut};
 
 // How often each thread reads or publishes.
 const TIMES: u32 = 500;
 
-// The number of threads: one publishes the version, and four read.
+// How many threads there are: one that publishes the version, and four that read.
 const THREADS: usize = 5;
 
-// The pool's version, after no entry of a history.
-fn open<N: PoolName>(memory: Memory, name: NewName, pool: &SeqPool) -> Result<Shown<N>, NoMemory>
+// The pool's version, and the same after no entry of a history.
+fn open<N: PoolName>(
+    memory: Memory,
+    name: NewName,
+    pool: &SeqPool,
+) -> Result<(Arc<Version, Memory>, Shown<N>), NoMemory>
     requires name { name ≡ head_of N.book N.root }
     requires callers { N.callers ≡ 1 }
     requires lawful { IsLawful N.accepts pool.now.pool }
@@ -38,22 +43,59 @@ fn open<N: PoolName>(memory: Memory, name: NewName, pool: &SeqPool) -> Result<Sh
         pool,
         pool.config().limit,
     )?;
-    Ok(Shown::of(version, right.front()))
+    let shown = Shown::of(Arc::try_clone(&version)?, right.front());
+    Ok((version, shown))
 }
 
-// Publishes the version. An `Err` says that there was no memory for it.
-fn show<N: PoolName>(rt: &impl Wait, board: &Board<N>, shown: &Shown<N>) -> Result<(), NoMemory> {
-    match board.show(rt, shown.share()?) {
+/// Where versions are published, for all threads, and the version.
+pub struct Site<'a, N: PoolName> {
+    pub memory: Memory,
+    pub boards: &'a Boards<N>,
+    pub publisher: &'a Mutex<Publisher<N>>,
+    pub shown: &'a Shown<N>,
+}
+
+impl<N: PoolName> Drop for Site<'_, N> {
+    fn drop(self) {
+        let Site {
+            memory: _,
+            boards: _,
+            publisher: _,
+            shown: _,
+        } = self;
+    }
+}
+
+// A thread: what it reads by, and how often something was wrong.
+struct Seat<N: PoolName> {
+    subscriber: Subscriber<N>,
+    wrong: u64,
+}
+
+impl<N: PoolName> Drop for Seat<N> {
+    fn drop(self) {
+        let Seat {
+            subscriber: _,
+            wrong: _,
+        } = self;
+    }
+}
+
+/// Publishes the version.
+pub fn publish<N: PoolName>(rt: &impl Wait, site: &Site<'_, N>) -> Result<(), NoMemory> {
+    let shown = site.shown.share()?;
+    let mut publisher = site.publisher.lock(rt);
+    match publisher.publish(rt, site.memory, site.boards, shown) {
         Ok(()) => Ok(()),
         Err(_) => Err(NoMemory),
     }
 }
 
-// Publishes the version `TIMES` times, and returns how often there was no memory for it.
-fn show_all<N: PoolName>(rt: &impl Wait, board: &Board<N>, shown: &Shown<N>) -> u64 {
+/// Publishes the version so often, and returns how often there was no memory for that.
+pub fn publish_all<N: PoolName>(rt: &impl Wait, site: &Site<'_, N>, times: u32) -> u64 {
     let mut refused: u64 = 0;
-    for _ in 0..TIMES {
-        if show(rt, board, shown).is_err() {
+    for _ in 0..times {
+        if publish(rt, site).is_err() {
             refused = refused.saturating_add(1);
         }
     }
@@ -65,70 +107,95 @@ fn is_strange<N: PoolName>(shown: &Shown<N>) -> bool {
     (snapshot.size(), snapshot.number(), snapshot.tick()) != ((0, 0), 0, 0)
 }
 
-// Reads the newest version `TIMES` times, and returns how often its numbers weren't those of the published version.
-fn read_all<N: PoolName>(board: &Board<N>) -> u64 {
-    let mut strange: u64 = 0;
+// Whether the newest version has other numbers than the one that is published, or there is none.
+fn reads_wrong<N: PoolName>(boards: &Boards<N>, subscriber: &mut Subscriber<N>) -> bool {
+    subscriber.catch_up(boards);
+    match subscriber.newest() {
+        Some(shown) => is_strange(shown),
+        None => true,
+    }
+}
+
+// Reads the newest version so often, and returns how often it was wrong.
+fn read_all<N: PoolName>(boards: &Boards<N>, subscriber: &mut Subscriber<N>) -> u64 {
+    let mut wrong: u64 = 0;
     for _ in 0..TIMES {
-        if board.newest().is_some_and(is_strange) {
-            strange = strange.saturating_add(1);
+        if reads_wrong(boards, subscriber) {
+            wrong = wrong.saturating_add(1);
         }
     }
-    strange
+    wrong
 }
 
-// The number of failures in one of the threads.
-fn run<N: PoolName>(rt: &impl Wait, board: &Board<N>, shown: &Shown<N>, thread: usize) -> u64 {
-    if thread == 0 {
-        return show_all(rt, board, shown);
+fn act<N: PoolName>(rt: &impl Wait, site: &Site<'_, N>, thread: usize, seat: &mut Seat<N>) {
+    seat.wrong = if thread == 0 {
+        publish_all(rt, site, TIMES)
+    } else {
+        read_all(site.boards, &mut seat.subscriber)
+    };
+}
+
+fn take_seat<N: PoolName>(publisher: &Publisher<N>) -> Result<Seat<N>, NoMemory> {
+    Ok(Seat {
+        subscriber: publisher.subscriber()?,
+        wrong: 0,
+    })
+}
+
+fn take_seats<N: PoolName>(
+    memory: Memory,
+    publisher: &Publisher<N>,
+) -> Result<Vec<Seat<N>, Memory>, NoMemory> {
+    let mut seats = Vec::new(memory);
+    for _ in 0..THREADS {
+        seats.push(take_seat(publisher)?)?;
     }
-    read_all(board)
+    Ok(seats)
 }
 
-fn sum(numbers: &[u64]) -> u64 {
+fn sum_wrong<N: PoolName>(seats: &[Seat<N>]) -> u64 {
     let mut sum: u64 = 0;
-    for number in numbers {
-        sum = sum.saturating_add(*number);
+    for seat in seats {
+        sum = sum.saturating_add(seat.wrong);
     }
     sum
 }
 
-// The number of threads, their failures, and whether the board has a version before and after them.
-fn see<N: PoolName + Send + Sync, R: Threads + Wait + Sync>(
-    rt: &R,
-    memory: Memory,
-    board: &Board<N>,
-    shown: &Shown<N>,
-) -> Option<Seen> {
-    let before = u64::from(board.newest().is_some());
-    let Ok(wrong) = map_indices(rt, memory, THREADS, &|thread| run(rt, board, shown, thread)) else {
-        return None;
-    };
-    let after = u64::from(board.newest().is_some());
-    Some([wrong.len() as u64, sum(&wrong), before, after, 0, 0])
-}
-
-fn see_board<N: PoolName + Send + Sync, R: Threads + Wait + Sync>(
+// How many threads there were, and what went wrong in them.
+fn see_threads<N: PoolName + Send + Sync, R: Threads + Wait + Sync>(
     rt: &R,
     memory: Memory,
     shown: &Shown<N>,
-) -> Option<Seen> {
-    let Ok(board) = Board::new(memory) else {
-        return None;
+) -> Result<Seen, NoMemory> {
+    let (boards, publisher) = Boards::open(rt, memory, shown)?;
+    let mut seats = take_seats(memory, &publisher)?;
+    let publisher = Mutex::new(publisher);
+    let site = Site {
+        memory,
+        boards: &boards,
+        publisher: &publisher,
+        shown,
     };
-    see(rt, memory, &board, shown)
+    for_each_mut(
+        rt,
+        &mut seats,
+        THREADS,
+        &|thread, seat: &mut Seat<N>| act(rt, &site, thread, seat),
+    );
+    Ok([seats.len() as u64, sum_wrong(&seats), 0, 0, 0, 0])
 }
 
-fn count_shown<N: PoolName + Send + Sync, R: Print + Threads + Wait + Sync>(
+fn count_threads<N: PoolName + Send + Sync, R: Print + Threads + Wait + Sync>(
     rt: &R,
     memory: Memory,
     shown: &Shown<N>,
 ) -> io::Result<u64> {
-    let seen = see_board(rt, memory, shown);
+    let seen = see_threads(rt, memory, shown).ok();
     count(
         rt,
-        "four threads read what is shown",
+        "four threads read what is published",
         seen,
-        [5, 0, 0, 1, 0, 0],
+        [5, 0, 0, 0, 0, 0],
     )
 }
 
@@ -144,7 +211,10 @@ fn of_name<N: PoolName + Send + Sync, R: Print + Threads + Wait + Sync>(
     requires anew { renewed pool.now.pool.limit pool.now.pool ≡ pool.now.pool }
 {
     match open::<N>(memory, name, pool) {
-        Ok(shown) => count_shown(rt, memory, &shown),
+        Ok((version, shown)) => {
+            let threads = count_threads(rt, memory, &shown)?;
+            Ok(threads.wrapping_add(count_freed(rt, memory, &version, &shown)?))
+        }
         Err(NoMemory) => count(rt, "boards", None, [0; 6]),
     }
 }

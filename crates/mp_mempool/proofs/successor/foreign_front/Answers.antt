@@ -9,11 +9,11 @@ use Rattle.mp_mempool.specs.Successor.{IsKnownTo}
 use Rattle.mp_mempool.proofs.Entries.{foreign_told}
 use Rattle.mp_mempool.proofs.successor.foreign_front.Goals as goal
 
-pub returns-then-not-knows_all-clause-foreign : goal.returns-then-not-knows_all-clause-foreign
-returns-then-not-knows_all-clause-foreign g c =
+pub returns-then-not-is_known_to-clause-foreign : goal.returns-then-not-is_known_to-clause-foreign
+returns-then-not-is_known_to-clause-foreign g c =
     let is : c.front-front.result ≡ c.args.locked.now.log = c.front-front.ensures.front in
-    let now : c.knows_all.new.locked.log ≡ c.args.locked.now.log = ap (λ l. l.log) (c.knows_all.ensures.same ∙ c.loop-pass.invariant.0) in
-    let told = foreign_told c.pass-item.result c.knows_all.new.locked.log c.front-front.result c.knows_all.ensures.own c.knows_all.ensures.begins (c.knows_all.ensures.foreign c.if-not-knows_all.true) (is ∙ sym now) in
+    let now : c.is_known_to.new.self.log ≡ c.args.locked.now.log = ap (λ l. l.log) (c.is_known_to.ensures.same ∙ c.loop-pass.invariant.0) in
+    let told = foreign_told c.pass-item.result c.is_known_to.new.self.log c.front-front.result c.is_known_to.ensures.own c.is_known_to.ensures.begins (c.is_known_to.ensures.foreign c.if-not-is_known_to.true) (is ∙ sym now) in
     record {
       place = c.loop-pass.pass-index;
       foreign = at_read c.args.passes.now (λ (p : Pass). IsForeign p c.front-front.result) c.loop-pass.pass-index c.pass-item.result c.loop-pass-test.true c.pass-item.is told;
@@ -22,8 +22,8 @@ returns-then-not-knows_all-clause-foreign g c =
 
 pub loop-pass-preserved : goal.loop-pass-preserved
 loop-pass-preserved g c =
-    let now = c.knows_all.ensures.same ∙ c.loop-pass.invariant.0 in
-    let here : IsKnownTo c.knows_all.new.locked.log c.pass-item.result = record { begins = c.knows_all.ensures.begins; known = c.knows_all.ensures.known c.if-not-knows_all.false } in (
+    let now = c.is_known_to.ensures.same ∙ c.loop-pass.invariant.0 in
+    let here : IsKnownTo c.is_known_to.new.self.log c.pass-item.result = record { begins = c.is_known_to.ensures.begins; known = c.is_known_to.ensures.known c.if-not-is_known_to.false } in (
       now,
       All-more (IsKnownTo c.args.locked.now.log) c.args.passes.now c.loop-pass.pass-index c.pass-item.result c.loop-pass-test.true c.loop-pass.invariant.1
           (subst (IsKnownTo c.args.locked.now.log) c.pass-item.is (subst (λ (l : Log). IsKnownTo l c.pass-item.result) (ap (λ l. l.log) now) here)),

@@ -15,18 +15,25 @@ prepare_submit-requires g c =
     subst (λ (a : Accepts). IfSome c.args.checked (λ k. IsChecked a (arc_value c.args.tx.now) k.now)) (sym c.requires.verifier) c.requires.checked
 
 pub invariant_of-self : goal.invariant_of-self
-invariant_of-self g c =
-    subst (λ (p : Pool). IsAt g.N.PoolName.accepts g.N.PoolName.callers c.self.inside.right p c.self.inside.newest c.self.inside.places.items) (sym c.prepare_submit.ensures.same) c.self.invariant
+invariant_of-self g c = (
+  subst (λ (p : Pool). IsAt g.N.PoolName.accepts g.N.PoolName.callers c.self.inside.right p c.self.inside.newest c.self.inside.places.items) (sym c.prepare_submit.ensures.same) c.self.invariant.0,
+  c.self.invariant.1,
+)
 
 pub returns-clause-ready : goal.returns-clause-ready
 returns-clause-ready g c =
-    let l : Locked = record { log = c.self.inside.right; room = c.prepare_submit.new.self.room } in
+    let l : Locked = record {
+      log = c.self.inside.right;
+      room = c.prepare_submit.new.self.room;
+      waiting = c.self.inside.waiting;
+      published = c.self.inside.publisher;
+    } in
     prepares_held g.N.PoolName.accepts (g.V.Verifier.accepts c.args.verifier.now) c.prepare_submit.new.self l (Submit (arc_value c.args.tx.now)) c.prepare_submit.result c.requires.verifier
-    (held g.N.PoolName.accepts g.N.PoolName.callers c.self.inside.right c.prepare_submit.new.self c.self.inside.newest c.self.inside.places.items l
-    (subst (λ (p : Pool). IsAt g.N.PoolName.accepts g.N.PoolName.callers c.self.inside.right p c.self.inside.newest c.self.inside.places.items) (sym c.prepare_submit.ensures.same) c.self.invariant) refl) c.prepare_submit.ensures.ready
+    (held g.N.PoolName.accepts g.N.PoolName.callers c.self.inside.right c.prepare_submit.new.self c.self.inside.newest c.self.inside.places.items c.self.inside.waiting c.self.inside.publisher l
+    (subst (λ (p : Pool). IsAt g.N.PoolName.accepts g.N.PoolName.callers c.self.inside.right p c.self.inside.newest c.self.inside.places.items) (sym c.prepare_submit.ensures.same) c.self.invariant.0) refl) c.prepare_submit.ensures.ready
 
 pub returns-clause-refused : goal.returns-clause-refused
 returns-clause-refused g c =
     refused_held g.N.PoolName.accepts (g.V.Verifier.accepts c.args.verifier.now) c.self.inside.pool c.args.self.now (Submit (arc_value c.args.tx.now)) c.prepare_submit.result c.requires.verifier
-    (held g.N.PoolName.accepts g.N.PoolName.callers c.self.inside.right c.self.inside.pool c.self.inside.newest c.self.inside.places.items c.args.self.now c.self.invariant c.self.view_is)
+    (held g.N.PoolName.accepts g.N.PoolName.callers c.self.inside.right c.self.inside.pool c.self.inside.newest c.self.inside.places.items c.self.inside.waiting c.self.inside.publisher c.args.self.now c.self.invariant.0 c.self.view_is)
     c.prepare_submit.ensures.refused

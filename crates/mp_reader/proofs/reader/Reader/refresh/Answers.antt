@@ -1,5 +1,11 @@
+use Rattle.std.proofs.Common.{subst}
+use Rattle.mp_reader.specs.Pass.{Pass}
+use Rattle.mp_reader.specs.Seen.{IsSeen}
 use Rattle.mp_reader.proofs.Seeing.{is_seen_still}
 use Rattle.mp_reader.proofs.reader.Reader.refresh.Goals as goal
 
 pub returns-in-None : goal.returns-in-None
-returns-in-None g c = record { seen = is_seen_still g.N.PoolName.accepts g.N.PoolName.callers c.args.pass.now c.look_at.ensures }
+returns-in-None g c = record {
+  seen = subst (λ (p : Pass). IsSeen g.N.PoolName.accepts g.N.PoolName.callers p c.catch_up.new.self) c.catch_up.ensures
+      (is_seen_still g.N.PoolName.accepts g.N.PoolName.callers c.catch_up.new.self c.look_at.ensures);
+}

@@ -1,0 +1,6 @@
+use Rattle.mp_pool_samples.specs.Names.{any}
+use Rattle.mp_mempool_tests.proofs.mempool.freed.held_freed.Given as goal
+
+-- the name that was just made, for two callers
+abbrev pub ghosts-see : goal.ghosts-see
+ghosts-see g a = record { book = a.name.book; root = a.name.key; callers = 2; accepts = any }
