@@ -1,4 +1,4 @@
-//! The program's own words: its name, its commands, their options, its help and its version.
+//! The texts of the command line: the program's name, its commands, their options, its help and its version.
 
 ghost use Rattle.std.specs.Prelude.{◌≡◌, IfOk, codes, false};
 ghost use Rattle.clap.specs.declared.builder.command.Command.TheViews.{out-Command as fields_of};
@@ -34,7 +34,7 @@ Examples:
 The status is 0, or 1 at a fault, as a scenario's bad line or a history that isn't legal, or 2
 where the command line is refused.";
 
-/// The program, with the four commands that it has.
+/// The program with its four commands.
 pub(crate) fn program<'a>(alloc: Global) -> Result<Command<'a>, AllocError>
     ensures { IfOk result (λ c. IsAlike (app_of c) spec.program) }
 {
@@ -44,7 +44,7 @@ pub(crate) fn program<'a>(alloc: Global) -> Result<Command<'a>, AllocError>
     add_command(program, serve_command(alloc, SIGNATURES))
 }
 
-// Puts a command under the program, where memory sufficed for both.
+// Adds a command to the program, unless an allocation failed.
 fn add_command<'a>(
     program: Result<Command<'a>, AllocError>,
     command: Result<Command<'a>, AllocError>,
@@ -140,7 +140,7 @@ fn new_command<'a>(alloc: Global, name: &'a str, about: &'a str) -> Command<'a>
     Command::new(alloc, name).about(about)
 }
 
-// Gives an argument to the command, where memory sufficed for that.
+// Adds an argument to the command, unless an allocation failed.
 fn add_arg<'a>(
     command: Result<Command<'a>, AllocError>,
     arg: Arg<'a>,
@@ -189,7 +189,7 @@ fn salt_option<'a>(alloc: Global) -> Arg<'a>
     value_option(alloc, "salt", "N", help).value_parser(value_parser!(u64))
 }
 
-// An option with a value, which help calls by the name `value`.
+// An option with a value, which the help names `value`.
 fn value_option<'a>(alloc: Global, name: &'a str, value: &'a str, help: &'a str) -> Arg<'a>
     ensures rule { rule_of result ≡ spec.output_rule name.now }
     ensures local { result.global ≡ false }
