@@ -15,7 +15,7 @@ use mp_mempool::{Mempool, Pass, Reader, Refusal};
 use mp_rules::Verifier;
 use std::sync::{Arc, Wait};
 
-/// The pool that the workers share, and what reads it.
+/// The pool that the workers share, and its reader.
 pub struct SharedPool<N: PoolName, V: Verifier> {
     pub mempool: Mempool<N, V>,
     pub reader: Arc<Reader<N, V>, Memory>,
@@ -30,7 +30,7 @@ impl<N: PoolName, V: Verifier + Drop> Drop for SharedPool<N, V> {
     }
 }
 
-/// What a worker comes back with.
+/// What a worker returns.
 #[derive(Drop)]
 pub struct Worker<N: PoolName> {
     pub pass: Pass<N>,
@@ -42,7 +42,7 @@ pub struct Worker<N: PoolName> {
     pub is_sure: bool,
 }
 
-// Does the task with this number. Whether the pool had no entry of the caller that its pass doesn't know.
+// Does the task with this number. Returns whether the pass knows all entries of its caller in the pool.
 fn do_task<N: PoolName, V: Verifier>(
     rt: &impl Wait,
     pool: &SharedPool<N, V>,
@@ -83,8 +83,7 @@ fn do_task<N: PoolName, V: Verifier>(
     }
 }
 
-/// Does those of the tasks that are dealt to the pass's caller: of so many workers task j goes to worker j mod workers. The gate is
-/// told of each.
+/// Does the tasks that are dealt to the pass's caller: task j goes to worker j mod `workers`. It calls the gate before each.
 pub fn work<N: PoolName, V: Verifier, G: Gate>(
     rt: &impl Wait,
     memory: Memory,
