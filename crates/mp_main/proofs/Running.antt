@@ -1,4 +1,4 @@
--- How a run ends.
+-- The end of a run.
 use Rattle.std.proofs.Common.{◌≡◌, ℕ, List, refl}
 use Rattle.std.specs.Prelude.{Option, IfSome, Err}
 use Rattle.mp_driver.specs.declared.fault.Fault.TheVariants.{NoMemory, ReadFault}
@@ -10,6 +10,6 @@ use Rattle.mp_main.proofs.Ends.{ends, keeps, appends-nothing, for_all}
 pub unread : (known old : Option (List ℕ)) (status : ℕ) → status ≡ 1 → IfSome known (λ bytes. EndsAs (Ended bytes old old) status)
 unread known old status is = ends (λ bytes. Ended bytes old old) known (Err ReadFault) status (for_all (λ bytes. Ended bytes old old (Err ReadFault)) known (λ bytes. keeps old)) is
 
--- there is no memory for it
+-- an allocation fails
 pub unkept : (known old : Option (List ℕ)) (status : ℕ) → status ≡ 1 → IfSome known (λ bytes. EndsAs (Ended bytes old old) status)
 unkept known old status is = ends (λ bytes. Ended bytes old old) known (Err NoMemory) status (for_all (λ bytes. Ended bytes old old (Err NoMemory)) known (λ bytes. (0, (appends-nothing old, refl)))) is

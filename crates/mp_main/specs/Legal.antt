@@ -1,4 +1,4 @@
--- What an audit of a history over a scenario comes to.
+-- The result of auditing a history over a scenario.
 use Rattle.std.specs.Prelude.{ℕ, ◌⊎◌, List, Option, Result, Ok, Err, codes, ◌++◌, ◌∷◌, [], ◌≡◌}
 use Rattle.std.specs.Io.KnownBytes.{Appends, Keeps}
 use Rattle.mp_text.specs.Output.{AppendsFront}
@@ -11,25 +11,25 @@ use Rattle.mp_race.specs.Scenario.{Scenario}
 use Rattle.mp_race.specs.History.{IsHistory, IsFaultOfHistory}
 use Rattle.mp_race.specs.HistoryText.{history_text, IsFaultOfText}
 
--- what is written of a legal one
+-- what is written about a legal history
 abbrev pub legal_text : List ℕ
 legal_text = codes "audit legal" ++ 10 ∷ []
 
--- The text is that of a history of this race, told so.
+-- The text is a history of this race.
 pub record IsLegalText (s : Scenario) (text : List ℕ) : Type 0 where
   pub workers : ℕ
   pub told : List Told
   pub text_is : text ≡ history_text workers told
   pub legal : IsHistory is_key_and_id (fresh_log s.config s.ledger).opening workers s.tasks told
 
--- The text is that of a history with this fault.
+-- The text is a history with this fault.
 pub record IsFaultyText (s : Scenario) (text : List ℕ) (fault : Fault) : Type 0 where
   pub workers : ℕ
   pub told : List Told
   pub text_is : text ≡ history_text workers told
   pub faulty : IsFaultOfHistory is_key_and_id (fresh_log s.config s.ledger).opening workers s.tasks told fault
 
--- a legal history is said to be so; of another nothing is written, and the fault is that of its text or of its entries
+-- a legal history is reported as legal; for any other nothing is written, and the fault is in its text or in its entries
 abbrev pub IsAudited : Scenario → List ℕ → Option (List ℕ) → Option (List ℕ) → Result (Unit {0}) Fault → Type 0
 IsAudited s text old new (Ok u) = IsLegalText s text × Appends old new legal_text
 IsAudited s text old new (Err NoMemory) = Keeps old new
@@ -40,7 +40,7 @@ IsAudited s text old new (Err (Audit fault)) = IsFaultyText s text (Audit fault)
 IsAudited s text old new (Err (MissingEntry place)) =
     (IsFaultOfText text (MissingEntry place) ⊎ IsFaultyText s text (MissingEntry place)) × Keeps old new
 
--- what is said of an audit's answer, and how it ends then
+-- what is written about the result of an audit, and the result of that
 abbrev pub IsSaid : Option (List ℕ) → Option (List ℕ) → Result (Unit {0}) Fault → Result (Unit {0}) Fault → Type 0
 IsSaid old new (Ok u) (Ok v) = Appends old new legal_text
 IsSaid old new (Ok u) (Err WriteFault) = AppendsFront old new legal_text

@@ -14,7 +14,7 @@ use std::fs::File;
 use std::io::{Read, Write};
 use std::process::ExitCode;
 
-/// Audits the history that the reader gives, and says to the writer whether it is legal.
+/// Audits the history that the reader gives, and writes whether it is legal.
 pub fn audit_over<R: Read, W: Write>(
     rt: &HostRuntime,
     memory: Memory,
@@ -32,7 +32,7 @@ pub fn audit_over<R: Read, W: Write>(
     }
 }
 
-/// Reads the scenario and the history from these files, and says whether the history is legal.
+/// Reads the scenario and the history from these files, and writes whether the history is legal.
 pub fn audit_files(rt: &HostRuntime, scenario: &str, history: &str, explains: bool) -> ExitCode {
     let Ok(memory) = Memory::new(rt.alloc()) else {
         return end_fault(rt, Fault::NoMemory);

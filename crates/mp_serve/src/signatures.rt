@@ -9,7 +9,7 @@ use mp_tx::{Key, Sig, TxId};
 pub enum Signatures {
     /// Those of scenarios: the key followed by the id.
     OfScenarios,
-    /// All. Whoever hands in a transaction has verified them.
+    /// All. The program that submits a transaction has checked them.
     Checked,
 }
 
