@@ -1,7 +1,8 @@
 -- What a served pool is seen as, and what it keeps.
 use Rattle.std.specs.Prelude.{◌≤◌, length}
+use Rattle.mp_signatures.specs.Scheme.{accepted_by}
 use Rattle.mp_serve.specs.declared.pool.ServedPool.TheInside.{Inside}
-use Rattle.mp_serve.specs.ServedPool.{ServedPool, accepted_by}
+use Rattle.mp_serve.specs.ServedPool.{ServedPool}
 use Rattle.mp_serve.specs.Inside.Pool.{IsReady}
 use Rattle.mp_serve.specs.Inside.Former.{states_of, CanAllGoBack}
 
