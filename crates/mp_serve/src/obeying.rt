@@ -126,13 +126,15 @@ fn take_in(
 ) -> Result<Answered, NoMemory>
     requires { IsReady (accepted_by signatures.now) pool.old.pool }
     ensures pool { OnOk result (pool.new.pool
-        ≡ counted_anew (next (accepted_by signatures.now) pool.old.pool (Submit (arc_value tx.now)))) }
+        ≡ counted_anew (next (accepted_by signatures.now) pool.old.pool
+        (Submit (arc_value tx.now)))) }
     ensures names { OnOk result (names.new ≡ reported_if names.old name.now
         (answer (accepted_by signatures.now) pool.old.pool (Submit (arc_value tx.now)))) }
     ensures text { IfOk result (λ r. r.0.items ≡ answer_text names.old
         (answer (accepted_by signatures.now) pool.old.pool (Submit (arc_value tx.now)))) }
     ensures refusal { IfOk result (λ r. r.1
-        ≡ result_err (answer (accepted_by signatures.now) pool.old.pool (Submit (arc_value tx.now)))) }
+        ≡ result_err (answer (accepted_by signatures.now) pool.old.pool
+        (Submit (arc_value tx.now)))) }
     ensures err { OnErr result (pool.new.pool ≡ pool.old.pool) }
     ensures kept { OnErr result (names.new ≡ names.old) }
 {
@@ -163,13 +165,15 @@ pub fn submit(
 ) -> Result<Answered, NoMemory>
     requires { IsReady (accepted_by signatures.now) pool.old.pool }
     ensures pool { OnOk result (pool.new.pool
-        ≡ counted_anew (next (accepted_by signatures.now) pool.old.pool (Submit (arc_value tx.now)))) }
+        ≡ counted_anew (next (accepted_by signatures.now) pool.old.pool
+        (Submit (arc_value tx.now)))) }
     ensures names { OnOk result (names.new ≡ reported_if names.old name.now
         (answer (accepted_by signatures.now) pool.old.pool (Submit (arc_value tx.now)))) }
     ensures text { IfOk result (λ r. r.0.items ≡ answer_text names.old
         (answer (accepted_by signatures.now) pool.old.pool (Submit (arc_value tx.now)))) }
     ensures refusal { IfOk result (λ r. r.1
-        ≡ result_err (answer (accepted_by signatures.now) pool.old.pool (Submit (arc_value tx.now)))) }
+        ≡ result_err (answer (accepted_by signatures.now) pool.old.pool
+        (Submit (arc_value tx.now)))) }
     ensures err { OnErr result (pool.new.pool ≡ pool.old.pool) }
     ensures kept { OnErr result (names.new ≡ names.old) }
     ensures ready { IsReady (accepted_by signatures.now) pool.new.pool }
@@ -189,11 +193,13 @@ pub fn remove(
 ) -> Result<Answered, NoMemory>
     requires { IsReady (accepted_by signatures.now) pool.old.pool }
     ensures pool { OnOk result (pool.new.pool
-        ≡ counted_anew (next (accepted_by signatures.now) pool.old.pool (Remove (arc_value ids.now)))) }
+        ≡ counted_anew (next (accepted_by signatures.now) pool.old.pool
+        (Remove (arc_value ids.now)))) }
     ensures text { IfOk result (λ r. r.0.items ≡ answer_text names.now
         (answer (accepted_by signatures.now) pool.old.pool (Remove (arc_value ids.now)))) }
     ensures refusal { IfOk result (λ r. r.1
-        ≡ result_err (answer (accepted_by signatures.now) pool.old.pool (Remove (arc_value ids.now)))) }
+        ≡ result_err (answer (accepted_by signatures.now) pool.old.pool
+        (Remove (arc_value ids.now)))) }
     ensures err { OnErr result (pool.new.pool ≡ pool.old.pool) }
     ensures ready { IsReady (accepted_by signatures.now) pool.new.pool }
     ensures ledger { pool.new.pool.ledger ≡ pool.old.pool.ledger }
