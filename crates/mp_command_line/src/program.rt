@@ -12,7 +12,8 @@ use std::alloc::{AllocError, Global};
 
 const VERSION: &str = "0.1.0";
 
-const SIGNATURES: &[&str] = &["scenarios", "checked"];
+// The last is another word for the first.
+const SIGNATURES: &[&str] = &["trial", "checked", "ed25519", "scenarios"];
 
 const EXAMPLES: &str = "\
 Examples:
@@ -28,6 +29,8 @@ Examples:
   keltuvar audit scenario.scn race.log
                                     whether that history is legal over the scenario
   keltuvar serve                    a conversation: each line of standard input is answered at once
+  keltuvar serve --signatures ed25519
+                                    the same, with Ed25519 signatures
   keltuvar serve --signatures checked
                                     the same, with every signature accepted, as checked by the host
 
@@ -38,10 +41,11 @@ where the command line is refused.";
 pub(crate) fn program<'a>(alloc: Global) -> Result<Command<'a>, AllocError>
     ensures { IfOk result (λ c. IsAlike (app_of c) spec.program) }
 {
-    let program = add_command(bare_program(alloc), run_command(alloc));
-    let program = add_command(program, race_command(alloc));
-    let program = add_command(program, audit_command(alloc));
-    add_command(program, serve_command(alloc, SIGNATURES))
+    let names = SIGNATURES;
+    let program = add_command(bare_program(alloc), run_command(alloc, names));
+    let program = add_command(program, race_command(alloc, names));
+    let program = add_command(program, audit_command(alloc, names));
+    add_command(program, serve_command(alloc, names))
 }
 
 // Puts a command under the program, where memory sufficed for both.
@@ -68,23 +72,25 @@ fn bare_program<'a>(alloc: Global) -> Result<Command<'a>, AllocError>
         .bin_name("keltuvar")
 }
 
-fn run_command<'a>(alloc: Global) -> Result<Command<'a>, AllocError>
-    ensures { IfOk result (λ c. (app_of c ≡ spec.run_command)
+fn run_command<'a>(alloc: Global, names: &'a [&'a str]) -> Result<Command<'a>, AllocError>
+    ensures { IfOk result (λ c. (app_of c ≡ spec.run_command names.entry)
         × ((fields_of c).has_globals ≡ false)) }
 {
     let about = "Runs a scenario and writes its answers to standard output";
     let command = new_command(alloc, "run", about).arg(explain_flag(alloc));
+    let command = add_arg(command, signatures_option(alloc, names));
     add_arg(command, scenario_file(alloc))
 }
 
-fn race_command<'a>(alloc: Global) -> Result<Command<'a>, AllocError>
-    ensures { IfOk result (λ c. (app_of c ≡ spec.race_command)
+fn race_command<'a>(alloc: Global, names: &'a [&'a str]) -> Result<Command<'a>, AllocError>
+    ensures { IfOk result (λ c. (app_of c ≡ spec.race_command names.entry)
         × ((fields_of c).has_globals ≡ false)) }
 {
     let about = "Deals a scenario's commands to workers that race for one pool, and audits its log";
     let command = new_command(alloc, "race", about).arg(workers_option(alloc));
-    let command = add_arg(add_wishes(alloc, command), explain_flag(alloc));
-    add_arg(command, scenario_file(alloc))
+    let explained = add_arg(add_wishes(alloc, command), explain_flag(alloc));
+    let signed = add_arg(explained, signatures_option(alloc, names));
+    add_arg(signed, scenario_file(alloc))
 }
 
 fn add_wishes<'a>(
@@ -112,12 +118,13 @@ fn add_wishes<'a>(
     add_arg(command, verify_us_option(alloc))
 }
 
-fn audit_command<'a>(alloc: Global) -> Result<Command<'a>, AllocError>
-    ensures { IfOk result (λ c. (app_of c ≡ spec.audit_command)
+fn audit_command<'a>(alloc: Global, names: &'a [&'a str]) -> Result<Command<'a>, AllocError>
+    ensures { IfOk result (λ c. (app_of c ≡ spec.audit_command names.entry)
         × ((fields_of c).has_globals ≡ false)) }
 {
     let about = "Replays a history that a pool wrote over a scenario, and says whether it is legal";
     let command = new_command(alloc, "audit", about).arg(explain_flag(alloc));
+    let command = add_arg(command, signatures_option(alloc, names));
     let scenario = input_file(alloc, "FILE", "SCENARIO", "The scenario");
     let history_help = "The history, as race --history writes it";
     let history = input_file(alloc, "history", "HISTORY", history_help);
@@ -177,7 +184,7 @@ fn signatures_option<'a>(alloc: Global, names: &'a [&'a str]) -> Arg<'a>
     ensures rule { rule_of result ≡ spec.signatures_rule names.entry }
     ensures local { result.global ≡ false }
 {
-    let help = "Which signatures to accept: those of scenarios, or all, as checked by the host";
+    let help = "Which signatures to accept: trial ones, all, as checked by the host, or Ed25519 ones";
     value_option(alloc, "signatures", "WHICH", help).value_parser(ValueParser::Names(names))
 }
 
