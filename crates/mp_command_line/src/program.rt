@@ -184,7 +184,8 @@ fn signatures_option<'a>(alloc: Global, names: &'a [&'a str]) -> Arg<'a>
     ensures rule { rule_of result ≡ spec.signatures_rule names.entry }
     ensures local { result.global ≡ false }
 {
-    let help = "Which signatures to accept: trial ones, all, as checked by the host, or Ed25519 ones";
+    let help =
+        "Which signatures to accept: trial ones, all, as checked by the host, or Ed25519 ones";
     value_option(alloc, "signatures", "WHICH", help).value_parser(ValueParser::Names(names))
 }
 

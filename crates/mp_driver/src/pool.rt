@@ -52,11 +52,7 @@ impl Model for ScenarioPool {
 }
 
 // The pool stays lawful.
-fn step(
-    signatures: &Signatures,
-    pool: &mut SeqPool,
-    command: &Command,
-) -> Result<Answer, NoMemory>
+fn step(signatures: &Signatures, pool: &mut SeqPool, command: &Command) -> Result<Answer, NoMemory>
     requires { IsLawful (accepted_by signatures.now) pool.old.pool }
     ensures answer { IfOk result (λ a. a
         ≡ answer (accepted_by signatures.now) pool.old.pool (command_of command.now)) }

@@ -31,7 +31,8 @@ pub fn run_over<R: Read, W: Write>(
 {
     match read_all(memory, reader) {
         Ok(text) => {
-            end_answers(rt, explains, answer_text(memory, signatures, &text, writer))
+            let ended = answer_text(memory, signatures, &text, writer);
+            end_answers(rt, explains, ended)
         }
         Err(InputFault::NoMemory) => end_fault(rt, Fault::NoMemory),
         Err(InputFault::Read) => end_fault(rt, Fault::ReadFault),
@@ -59,7 +60,14 @@ fn run_input(
     let explains = input.explains;
     let mut writer = rt.stdout();
     match input.file {
-        None => run_over(rt, memory, signatures, explains, &mut rt.stdin(), &mut writer),
+        None => run_over(
+            rt,
+            memory,
+            signatures,
+            explains,
+            &mut rt.stdin(),
+            &mut writer,
+        ),
         Some(path) => match File::open(rt, path) {
             Ok(mut scenario) => {
                 run_over(rt, memory, signatures, explains, &mut scenario, &mut writer)

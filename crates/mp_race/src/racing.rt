@@ -276,8 +276,7 @@ pub fn race<N: PoolName + Send + Sync, R: Threads + Wait + Sync, G: Gate + Send 
     ensures workers { IfOk result (λ raced. raced.history.workers ≡ workers) }
     ensures fault { IfErr result IsOfRace }
 {
-    let gathered =
-        run_workers::<N, R, G>(rt, memory, name, scenario, workers, signatures, gate)?;
+    let gathered = run_workers::<N, R, G>(rt, memory, name, scenario, workers, signatures, gate)?;
     let (ordered, refused) = explain(memory, &scenario.tasks, workers, gathered)?;
     let report = report_on(memory, scenario, signatures, workers, &ordered.entries)?;
     let Ordered { told, .. } = ordered;

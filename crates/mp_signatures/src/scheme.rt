@@ -5,7 +5,7 @@
 pub enum Scheme {
     /// The key followed by the transaction's id. Anybody can write those, so it is for trials.
     Trial,
-    /// All. Whoever hands in a transaction has verified them.
+    /// All. The caller of a submit has verified them.
     Checked,
     /// The Ed25519 signatures of the transaction's id, all 32 bytes.
     Ed25519,
