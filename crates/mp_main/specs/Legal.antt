@@ -25,14 +25,14 @@ IsSaid old new (Err fault) (Err other) = (other ≡ fault) × Keeps old new
 
 -- The verifier decides which signatures are good.
 module _ (accepts : Accepts) where
-  -- The text is that of a history of this race, told so.
+  -- The text is a history of this race.
   pub record IsLegalText (s : Scenario) (text : List ℕ) : Type 0 where
     pub workers : ℕ
     pub told : List Told
     pub text_is : text ≡ history_text workers told
     pub legal : IsHistory accepts (fresh_log s.config s.ledger).opening workers s.tasks told
 
-  -- The text is that of a history with this fault.
+  -- The text is a history with this fault.
   pub record IsFaultyText (s : Scenario) (text : List ℕ) (fault : Fault) : Type 0 where
     pub workers : ℕ
     pub told : List Told
