@@ -68,7 +68,7 @@ static ROWS: [Row; 6] = [
 // An audit makes fewer allocations.
 const MAX_ALLOCATIONS: u64 = 1_000;
 
-// The result of the audits of the three entries, of which so many come before the handover.
+// The result of the audits of the three entries, with this number of them before the handover.
 fn tell_split(samples: &Samples, entries: &[Entry], number: usize, limit: Limit) -> Option<Told> {
     let ledger = samples.ledger(PART)?;
     let limit = match limit {
