@@ -1,6 +1,6 @@
 -- Words that the program takes name a run, a race with its numbers in their ranges, an audit of two files, or a conversation, and
 -- signatures by one of their names.
-use Rattle.std.proofs.Common.{◌≡◌, ◌⊎◌, ◌||◌, Bool, cond, not, true, false, true≢false, refl, sym, inl, inr, List, [], ◌∷◌}
+use Rattle.std.proofs.Common.{◌≡◌, ◌||◌, Bool, cond, not, true, false, true≢false, refl, sym, inl, inr, List, [], ◌∷◌}
 use Rattle.std.proofs.Common.{Option, Some, None, IfSome, is_some, codes}
 use Rattle.std.specs.Option.{option_map, option_map_or}
 use Rattle.std.specs.Str.{bytes_eq}

@@ -2,7 +2,7 @@
 -- `keltuvar race --workers N [--history FILE] [--svg FILE] [--verify-us MICROSECONDS] [--explain] [--signatures WHICH] [FILE]`,
 -- `keltuvar audit [--explain] [--signatures WHICH] SCENARIO HISTORY`, `keltuvar serve [--signatures WHICH] [--salt N]`, `--help`
 -- and `--version`.
-use Rattle.std.specs.Prelude.{◌≡◌, ◌≤◌, ◌⊎◌, ⊤, ℕ, Bool, true, false, List, [], ◌∷◌, map, Option, None, Some, IfSome, codes}
+use Rattle.std.specs.Prelude.{◌≡◌, ◌≤◌, ◌⊎◌, ⊤, ℕ, Bool, true, false, List, [], ◌∷◌, map, Option, None, Some, codes}
 use Rattle.std.specs.Prelude.{option_and_then, option_map, unwrap_or}
 use Rattle.std.specs.Borrow.{Bor}
 use Rattle.std.specs.Str.Parse.{digits_value, without_leading_plus}
