@@ -6,6 +6,7 @@ pub mod Gathered
 pub mod Counts
 pub mod Auditing
 pub mod HistoryWords
+pub mod Jobs
 pub mod HistoryFront
 pub mod HistoryReading
 pub mod Ordered

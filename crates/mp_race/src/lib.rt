@@ -8,6 +8,7 @@ mod gate;
 mod gathering;
 mod history;
 mod input;
+mod jobs;
 mod ordering;
 mod racing;
 mod reading;

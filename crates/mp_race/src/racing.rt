@@ -18,27 +18,29 @@ use crate::fault::Fault;
 use crate::gate::{Gate, Watch, Watched};
 use crate::gathering::{Gathered, gather};
 use crate::history::History;
+use crate::jobs::run_all;
 use crate::ordering::{Ordered, all_know, order_done};
 use crate::refusals::order_refused;
 use crate::report::{Report, count_reads, counts_of};
 use crate::scenario::Scenario;
 use crate::task::Task;
 use crate::told::Refused;
-use crate::worker::{Worker, work};
+use crate::worker::{SharedPool, Work, Worker};
 use mp_history::{AuditFault, Entry, Front, NewName, PoolName, audit};
 use mp_memory::{Memory, NoMemory};
-use mp_mempool::{Mempool, OpenRefusal, Opened, Pass, Reader};
+use mp_mempool::{Mempool, OpenRefusal, Pass};
 use mp_rules::Verifier;
 use mp_signatures::Signatures;
 use std::sync::{Arc, Wait};
-use std::thread::{Threads, map_vec};
+use std::thread::Threads;
+
+// A race's pool, and a pass for each worker.
+type Opened<'a, N, G> = (SharedPool<N, Watched<'a, G>>, Vec<Pass<N>, Memory>);
 
 // Each worker does its tasks, in a thread of its own if one can be made.
 fn work_all<N: PoolName + Send + Sync, R: Threads + Wait + Sync, V: Verifier + Watch + Send + Sync>(
     rt: &R,
-    memory: Memory,
-    mempool: &Mempool<N, V>,
-    reader: &Reader<N, V>,
+    pool: &SharedPool<N, V>,
     tasks: &[Task],
     workers: u32,
     passes: Vec<Pass<N>, Memory>,
@@ -47,15 +49,12 @@ fn work_all<N: PoolName + Send + Sync, R: Threads + Wait + Sync, V: Verifier + W
     ensures { (opening : Pool) → All (IsUnused opening) passes.items → IfOk result (λ done.
         All (IsBack N.accepts workers opening (tasks_of tasks.now)) done.items) }
 {
-    Ok(map_vec(
-        rt,
-        passes,
-        &|pass: Pass<N>| -> Result<Worker<N>, NoMemory>
-            requires { 1 ≤ workers }
-            ensures { (opening : Pool) → IsUnused opening pass
-                → IsBack N.accepts workers opening (tasks_of tasks.entry.now) result }
-        { work(rt, memory, mempool, reader, tasks, workers, pass) },
-    )?)
+    let job = Work {
+        pool,
+        tasks,
+        workers,
+    };
+    Ok(run_all(rt, &job, passes)?)
 }
 
 // Opens the pool of a race.
@@ -67,13 +66,13 @@ fn open<'a, N: PoolName, G: Gate>(
     workers: u32,
     signatures: &'a Signatures,
     gate: &'a G,
-) -> Result<Opened<N, Watched<'a, G>>, NoMemory>
+) -> Result<Opened<'a, N, G>, NoMemory>
     requires name { name ≡ head_of N.book N.root }
     requires number { workers ≡ N.callers }
     requires accepts { N.accepts ≡ accepted_by signatures.now }
     requires some { 1 ≤ workers }
     requires most { workers ≤ 64 }
-    ensures { IfOk result (λ o. o.2.items
+    ensures { IfOk result (λ o. o.1.items
         ≡ fresh_passes workers (fresh_log scenario.now.config scenario.now.ledger)) }
 {
     let verifier = Arc::new(memory, Watched { gate, signatures })?;
@@ -86,7 +85,7 @@ fn open<'a, N: PoolName, G: Gate>(
         &verifier,
         workers,
     ) {
-        Ok(opened) => Ok(opened),
+        Ok((mempool, reader, passes)) => Ok((SharedPool { mempool, reader }, passes)),
         Err(refusal) => match refusal {
             OpenRefusal::NoMemory => Err(NoMemory),
             OpenRefusal::BadCallers => unreachable!(),
@@ -125,10 +124,10 @@ fn run_workers<N: PoolName + Send + Sync, R: Threads + Wait + Sync, G: Gate>(
         (fresh_log scenario.now.config scenario.now.ledger).opening scenario.now.tasks
         g.front g.passes.items g.done.items g.refused.items) }
 {
-    let (mempool, reader, passes) = open(rt, memory, name, scenario, workers, signatures, gate)?;
+    let (pool, passes) = open(rt, memory, name, scenario, workers, signatures, gate)?;
     let front = first_front(&passes);
     let tasks = &scenario.tasks;
-    let done = work_all(rt, memory, &mempool, &reader, tasks, workers, passes)?;
+    let done = work_all(rt, &pool, tasks, workers, passes)?;
     gather(memory, front, done)
 }
 

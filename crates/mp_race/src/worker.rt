@@ -7,13 +7,29 @@ ghost use Rattle.mp_race.specs.Inside.Work.{IsUnused, Does};
 ghost use Rattle.mp_race.specs.Inside.Gathered.{IsBack};
 
 use crate::gate::Watch;
+use crate::jobs::Job;
 use crate::task::Task;
 use crate::told::{Done, Refused};
 use mp_history::PoolName;
 use mp_memory::{Memory, NoMemory};
 use mp_mempool::{Mempool, Pass, Reader, Refusal};
 use mp_rules::Verifier;
-use std::sync::Wait;
+use std::sync::{Arc, Wait};
+
+/// The pool that the workers share, and its reader.
+pub struct SharedPool<N: PoolName, V: Verifier> {
+    pub mempool: Mempool<N, V>,
+    pub reader: Arc<Reader<N, V>, Memory>,
+}
+
+impl<N: PoolName, V: Verifier + Drop> Drop for SharedPool<N, V> {
+    fn drop(self) {
+        let SharedPool {
+            mempool: _,
+            reader: _,
+        } = self;
+    }
+}
 
 /// What a worker returns.
 #[derive(Drop)]
@@ -30,8 +46,7 @@ pub struct Worker<N: PoolName> {
 // Does the task with this number. Returns whether the pass knows all entries of its caller in the pool.
 fn do_task<N: PoolName, V: Verifier>(
     rt: &impl Wait,
-    mempool: &Mempool<N, V>,
-    reader: &Reader<N, V>,
+    pool: &SharedPool<N, V>,
     pass: &mut Pass<N>,
     done: &mut Vec<Done, Memory>,
     refused: &mut Vec<Refused, Memory>,
@@ -44,10 +59,10 @@ fn do_task<N: PoolName, V: Verifier>(
 {
     match task {
         Task::Read => {
-            reader.refresh(pass);
+            pool.reader.refresh(pass);
             Ok(true)
         }
-        Task::Change(command) => match mempool.ask(rt, pass, command) {
+        Task::Change(command) => match pool.mempool.ask(rt, pass, command) {
             Ok(receipt) => {
                 done.push(Done {
                     task: number,
@@ -69,12 +84,46 @@ fn do_task<N: PoolName, V: Verifier>(
     }
 }
 
-/// Does the tasks that are dealt to the pass's caller: task j goes to worker j mod `workers`. It calls the verifier before each.
-pub fn work<N: PoolName, V: Verifier + Watch>(
+/// The tasks of a race, which are dealt to this number of workers of a pool.
+pub struct Work<'a, N: PoolName, V: Verifier> {
+    pub pool: &'a SharedPool<N, V>,
+    pub tasks: &'a [Task],
+    pub workers: u32,
+    ghost some: { 1 ≤ workers },
+}
+
+impl<N: PoolName, V: Verifier> Drop for Work<'_, N, V> {
+    fn drop(self) {
+        let Work {
+            pool: _,
+            tasks: _,
+            workers: _,
+        } = self;
+    }
+}
+
+impl<N: PoolName + Send + Sync, V: Verifier + Watch + Send + Sync> Job<
+    Pass<N>,
+    Result<Worker<N>, NoMemory>,
+> for Work<'_, N, V> {
+    ghost use Rattle.mp_seqpool.specs.Pool.{Pool};
+    ghost use Rattle.mp_race.specs.Inside.Task.{tasks_of};
+    ghost use Rattle.mp_race.specs.Inside.Work.{IsUnused};
+    ghost use Rattle.mp_race.specs.Inside.Gathered.{IsBack};
+
+    ghost does = { λ w pass result. (opening : Pool) → IsUnused opening pass
+        → IsBack N.accepts w.workers opening (tasks_of w.tasks.now) result };
+
+    /// Does the tasks that are dealt to the pass's caller: task j goes to worker j mod `workers`. It calls the gate before each.
+    fn run<R: Wait>(&self, rt: &R, pass: Pass<N>) -> Result<Worker<N>, NoMemory> {
+        do_tasks(rt, self.pool, self.tasks, self.workers, pass)
+    }
+}
+
+// Does the tasks of one worker.
+fn do_tasks<N: PoolName, V: Verifier + Watch>(
     rt: &impl Wait,
-    memory: Memory,
-    mempool: &Mempool<N, V>,
-    reader: &Reader<N, V>,
+    pool: &SharedPool<N, V>,
     tasks: &[Task],
     workers: u32,
     mut pass: Pass<N>,
@@ -83,16 +132,16 @@ pub fn work<N: PoolName, V: Verifier + Watch>(
     ensures { (opening : Pool) → IsUnused opening pass
         → IsBack N.accepts workers opening (tasks_of tasks.now) result }
 {
+    let memory = pool.reader.memory();
     let mut done = Vec::new(memory);
     let mut refused = Vec::new(memory);
     let number = pass.caller();
     for (place, task) in tasks.iter().enumerate() {
         if place % workers as usize == number as usize {
-            reader.verifier().start(number, place as u64);
+            pool.reader.verifier().start(number, place as u64);
             let is_sure = do_task(
                 rt,
-                mempool,
-                reader,
+                pool,
                 &mut pass,
                 &mut done,
                 &mut refused,

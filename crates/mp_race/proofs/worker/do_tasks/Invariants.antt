@@ -2,7 +2,7 @@ use Rattle.std.proofs.Common.{◌≡◌, take}
 use Rattle.mp_seqpool.specs.Pool.{Pool}
 use Rattle.mp_race.specs.Inside.Task.{tasks_of}
 use Rattle.mp_race.specs.Inside.Work.{IsUnused, HasMade}
-use Rattle.mp_race.proofs.worker.work.Given as goal
+use Rattle.mp_race.proofs.worker.do_tasks.Given as goal
 
 -- the worker has done those of the tasks so far that are dealt to it
 abbrev pub invariant-loop-place : goal.invariant-loop-place

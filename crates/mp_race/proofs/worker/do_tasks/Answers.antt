@@ -8,8 +8,8 @@ use Rattle.mp_race.specs.Inside.Task.{task_of, tasks_of}
 use Rattle.mp_race.specs.Inside.Work.{HasMade}
 use Rattle.mp_race.proofs.Ordered.{apart}
 use Rattle.mp_race.proofs.Working.{does, skips, same_caller}
-use Rattle.mp_race.proofs.worker.work.Goals as goal
-use Rattle.mp_race.proofs.worker.work.Goals.{then-place-workers+in_ok-is_sure+else-not-is_sure, else-place-workers}
+use Rattle.mp_race.proofs.worker.do_tasks.Goals as goal
+use Rattle.mp_race.proofs.worker.do_tasks.Goals.{then-place-workers+in_ok-is_sure+else-not-is_sure, else-place-workers}
 
 pub loop-place-preserved : goal.loop-place-preserved
 loop-place-preserved g c = λ opening unused.

@@ -1,0 +1,40 @@
+//! Jobs that threads do at once.
+
+ghost use Rattle.std.specs.Prelude.{All, IfOk};
+ghost use Rattle.mp_race.specs.Inside.Jobs.{IsOfOne};
+
+use std::alloc::{AllocError, Allocator};
+use std::sync::Wait;
+use std::thread::{Threads, map_vec};
+
+/// What each of several threads does with an item of its own.
+pub trait Job<T, U>: Sync {
+    // `does self item result`: the job may make this result of the item.
+    ghost does: { Self → T → U → Type 0 };
+
+    /// Does the job with the item.
+    fn run<R: Wait>(&self, rt: &R, item: T) -> U
+        ensures { does self.now item result };
+}
+
+/// Does the job with each item, in a thread of its own if one can be made. Returns the results in the order of the items.
+///
+/// # Errors
+/// An allocation failed, and then some items may have been dropped.
+pub fn run_all<
+    T: Send + Drop,
+    U: Send + Drop,
+    A: Allocator + Clone + Send,
+    R: Threads + Wait + Sync,
+    J: Job<T, U>,
+>(rt: &R, job: &J, items: Vec<T, A>) -> Result<Vec<U, A>, AllocError>
+    ensures { IfOk result (λ done. All (IsOfOne (J.does job.now) items.items) done.items) }
+{
+    map_vec(
+        rt,
+        items,
+        &|item: T| -> U
+            ensures { J.does job.entry.now item result }
+        { job.run(rt, item) },
+    )
+}
