@@ -1,4 +1,4 @@
--- Where the names of an option's values lie in memory counts nothing.
+-- It doesn't matter where the names of an option's values are in memory.
 use Rattle.std.proofs.Common.{◌≡◌, ◌∙◌, ◌&&◌, ◌||◌, Bool, cond, true, false, refl, sym, ap, ap₂, List, [], ◌∷◌, map}
 use Rattle.std.proofs.Common.{Option, Some, None, codes, is_some}
 use Rattle.std.specs.Prelude.{find}
@@ -23,7 +23,7 @@ use Rattle.mp_command_line.proofs.Parsers.{level_fault-same, level_passes-same, 
 
 -- ---- one command
 
--- the same parser, of names that lie nowhere
+-- the same parser, for names without a place in memory
 abbrev unplaced : Option ValueParser → Option ValueParser
 unplaced (Some (Names names)) = Some (Names (lent (map (λ s. lent s.now) names.now)))
 unplaced parser = parser
@@ -41,11 +41,11 @@ accepts-same : (i : Bool) (p : Option ValueParser) (t : Text)
 accepts-same i (Some (Names names)) t = sym (list_any-map (λ (s : Bor Text). same_text i s.now t) (λ s. lent s.now) names.now)
 accepts-same i p t = refl
 
--- a command of the program's, as it is built
+-- a command of the program, as it is built
 abbrev pub leaf : App → Shape
 leaf command = built_leaf (inherited (with_leaf_noted (marked_built program.top)) command.top)
 
--- the names of signatures, as the definitions have them
+-- the names of signatures, as in the definitions
 abbrev pub which : Bor (List (Bor Text))
 which = lent (map lent signature_names)
 

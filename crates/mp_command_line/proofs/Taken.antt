@@ -1,5 +1,4 @@
--- Words that the program takes name a run, a race with its numbers in their ranges, an audit of two files, or a conversation, and
--- signatures by one of their names.
+-- Accepted words name a run, a race with its numbers in range, an audit of two files, or a conversation. They name signatures.
 use Rattle.std.proofs.Common.{◌≡◌, ◌||◌, Bool, cond, not, true, false, true≢false, refl, sym, inl, inr, List, [], ◌∷◌}
 use Rattle.std.proofs.Common.{Option, Some, None, IfSome, is_some, codes}
 use Rattle.std.specs.Option.{option_map, option_map_or}
@@ -99,7 +98,7 @@ audit_taken words none = record {
 abbrev serve : Shape
 serve = leaf (serve_command which)
 
--- no value passes this parser, so an id of no argument, whose values pass any parser, has none
+-- no value passes this parser, so an id without an argument, whose values pass any parser, has no values
 abbrev never : ValueParser
 never = vp.Names (lent [])
 
@@ -128,7 +127,7 @@ is_met : (rows : List Row) (has : Bool) → check_fault (built program).top rows
 is_met rows true none = refl
 is_met rows false none = not_none _ _ none
 
--- a command was met, and it is one of the four
+-- a command was found, and it is one of the four
 met_taken : (stop : Option (Text × List Text)) → entered_fault (built program) stop ≡ []
     → is_some (entered (built program) stop) ≡ true
     → IsTaken (entered (built program) stop)

@@ -1,4 +1,4 @@
--- The command lines that the program takes: `keltuvar run [--explain] [--signatures WHICH] [FILE]`,
+-- The command lines that the program accepts: `keltuvar run [--explain] [--signatures WHICH] [FILE]`,
 -- `keltuvar race --workers N [--history FILE] [--svg FILE] [--verify-us MICROSECONDS] [--explain] [--signatures WHICH] [FILE]`,
 -- `keltuvar audit [--explain] [--signatures WHICH] SCENARIO HISTORY`, `keltuvar serve [--signatures WHICH] [--salt N]`, `--help`
 -- and `--version`.
@@ -22,7 +22,7 @@ explain_rule = record (new_rule (codes "explain")) { long = Some (codes "explain
 abbrev pub file_rule : Rule
 file_rule = new_rule (codes "FILE")
 
--- a number from 1 to 64, which has to be given
+-- a required number from 1 to 64
 abbrev pub workers_rule : Rule
 workers_rule = record (new_rule (codes "workers")) {
   long = Some (codes "workers");
@@ -59,40 +59,40 @@ salt_rule = record (new_rule (codes "salt")) {
 abbrev pub output_rule : Text → Rule
 output_rule name = record (new_rule name) { long = Some name; value_names = 1 }
 
--- a file that has to be given
+-- a required file
 abbrev pub input_rule : Text → Rule
 input_rule id = record (new_rule id) { value_names = 1; required = true }
 
--- `run`, with the flag or without, with one of these names or none, with a file or none
+-- `run`, with or without the flag and a file
 abbrev pub run_command : Bor (List (Bor Text)) → App
 run_command names = with_rule (with_rule (with_rule (new_app (codes "run")) explain_rule) (signatures_rule names)) file_rule
 
--- a command with two files to write and a number of microseconds
+-- a command with two output files and a number of microseconds
 abbrev pub with_wishes : App → App
 with_wishes command = with_rule (with_rule (with_rule command
     (output_rule (codes "history"))) (output_rule (codes "svg"))) verify_us_rule
 
--- `race`, as `run` with a number of workers and those
+-- `race`: `run` with a number of workers and those options
 abbrev pub race_command : Bor (List (Bor Text)) → App
 race_command names =
     with_rule (with_rule (with_rule (with_wishes (with_rule (new_app (codes "race")) workers_rule)) explain_rule)
     (signatures_rule names)) file_rule
 
--- `audit`, with the flag or without, with one of these names or none, of a scenario and a history
+-- `audit` of a scenario and a history, with or without the flag
 abbrev pub audit_command : Bor (List (Bor Text)) → App
 audit_command names = with_rule (with_rule (with_rule (with_rule (new_app (codes "audit"))
     explain_rule) (signatures_rule names)) (input_rule (codes "FILE"))) (input_rule (codes "history"))
 
--- `serve`, with one of these names or none, and a number or none
+-- `serve`, with or without one of these names and a number
 abbrev pub serve_command : Bor (List (Bor Text)) → App
 serve_command names = with_rule (with_rule (new_app (codes "serve")) (signatures_rule names)) salt_rule
 
--- the program but for its commands, of which one has to be named
+-- the program without its commands, of which one is required
 abbrev pub bare_program : App
 bare_program = on_top (λ s. record s { has_version = true; disable_help_subcommand = true; subcommand_required = true })
     (new_app (codes "keltuvar"))
 
--- there is none but `run`, `race`, `audit` and `serve`
+-- the only commands are `run`, `race`, `audit` and `serve`
 abbrev pub program_with : Bor (List (Bor Text)) → App
 program_with names = with_subcommand (with_subcommand (with_subcommand (with_subcommand bare_program
     (run_command names).top)
@@ -100,8 +100,7 @@ program_with names = with_subcommand (with_subcommand (with_subcommand (with_sub
     (audit_command names).top)
     (serve_command names).top
 
--- the signatures that are accepted: trial ones, every one, as checked by the host, or Ed25519 ones; the last is another word for
--- the first
+-- the accepted signatures: those of scenarios, or all of them because the host has checked them
 abbrev pub signature_names : List Text
 signature_names = codes "trial" ∷ codes "checked" ∷ codes "ed25519" ∷ codes "scenarios" ∷ []
 
@@ -115,32 +114,32 @@ IsNamed name Ed25519 = name ≡ codes "ed25519"
 abbrev pub IsSignatures : Text → Type 0
 IsSignatures name = (scheme : SchemeName) × IsNamed name scheme
 
--- a value behind a reference; where it lies in memory counts nothing
+-- a value behind a reference; its place in memory doesn't matter
 abbrev pub lent : {X : Type 0} → X → Bor X
 lent x = record { ref_ptr = (0, 0); now = x }
 
 abbrev pub program : App
 program = program_with (lent (map lent signature_names))
 
--- the command that these words name, the program's name first, with what they give to it
+-- the command that these words name, after the program's name, with what they give to it
 abbrev pub met_in : List Text → Option (Text × List Row)
 met_in words = subcommand_of program words
 
--- its name
+-- the name of that command
 abbrev pub command_in : List Text → Option Text
 command_in words = option_map (λ c. c.0) (met_in words)
 
--- ---- what was given to the command that was met
+-- -- what was given to that command
 
 -- the first value of an argument
 abbrev pub value_of : Text → Option (Text × List Row) → Option Text
 value_of id command = option_and_then (first_of id) (option_map (λ c. c.1) command)
 
--- the scenario's file, which is called FILE at each command
+-- the scenario's file, named FILE in each command
 abbrev pub file_of : Option (Text × List Row) → Option Text
 file_of = value_of (codes "FILE")
 
--- the history's file, which is called so at a race and at an audit
+-- the history's file, which has this name in a race and an audit
 abbrev pub history_of : Option (Text × List Row) → Option Text
 history_of = value_of (codes "history")
 
@@ -155,37 +154,37 @@ text_of id command = option_and_then (one_of id) (option_map (λ c. c.1) command
 abbrev pub explain_of : Option (Text × List Row) → Option Text
 explain_of = text_of (codes "explain")
 
--- the number that decimal digits stand for, behind a plus or none
+-- the number that decimal digits denote, with or without a leading plus
 abbrev pub number_of : Text → ℕ
 number_of text = digits_value 10 (without_leading_plus text)
 
 abbrev pub workers_of : Option (Text × List Row) → Option ℕ
 workers_of command = option_map number_of (text_of (codes "workers") command)
 
--- the microseconds that a look at a signature takes
+-- how many microseconds the check of a signature takes
 abbrev pub verify_us_of : Option (Text × List Row) → Option ℕ
 verify_us_of command = option_map number_of (text_of (codes "verify-us") command)
 
--- the name of the signatures that are accepted
+-- the name of the accepted signatures
 abbrev pub signatures_of : Option (Text × List Row) → Option Text
 signatures_of = value_of (codes "signatures")
 
--- what the tables of a conversation are salted with
+-- the salt of a conversation's tables
 abbrev pub salt_of : Option (Text × List Row) → Option ℕ
 salt_of command = option_map number_of (text_of (codes "salt") command)
 
--- what the text of a flag says
+-- what the text of a flag means
 pub record IsFlag (text : Option Text) (set : Bool) : Type 0 where
   pub none : text ≡ None → set ≡ false
   pub true_text : text ≡ Some (codes "true") → set ≡ true
   pub false_text : text ≡ Some (codes "false") → set ≡ false
 
--- the signatures are those that are named, or else trial ones
+-- what that name means, which is one of two
 abbrev pub IsChoice : Option Text → SchemeName → Type 0
 IsChoice None scheme = scheme ≡ Trial
 IsChoice (Some name) scheme = IsNamed name scheme
 
--- ---- what is asked for
+-- -- what the words ask for
 
 abbrev pub name_of : Asked → Text
 name_of (Run input signatures) = codes "run"
@@ -216,29 +215,29 @@ scheme_of (Race input workers signatures wishes) = signatures
 scheme_of (Audit scenario history signatures explains) = signatures
 scheme_of (Serve signatures salt) = signatures
 
--- a race is of as many workers as are given, from 1 to 64
+-- a race has the given number of workers, from 1 to 64
 abbrev pub HasWorkers : Option ℕ → Asked → Type 0
 HasWorkers given (Race input workers signatures wishes) = (given ≡ Some workers) × (1 ≤ workers) × (workers ≤ 64)
 HasWorkers given asked = ⊤
 
--- the file for a race's history is the one that is given, or none, and an audit is of the one that is given
+-- the file for a race's history is the given one, or none; an audit is of the given one
 abbrev pub HasHistory : Option Text → Asked → Type 0
 HasHistory given (Run input signatures) = ⊤
 HasHistory given (Race input workers signatures wishes) = file_text wishes.history ≡ given
 HasHistory given (Audit scenario history signatures explains) = Some history.now ≡ given
 HasHistory given (Serve signatures salt) = ⊤
 
--- the file for a race's picture is the one that is given, or none
+-- the file for a race's picture is the given one, or none
 abbrev pub HasPicture : Option Text → Asked → Type 0
 HasPicture given (Race input workers signatures wishes) = file_text wishes.picture ≡ given
 HasPicture given asked = ⊤
 
--- a race's look at a signature takes as many microseconds as are given, up to 1,000,000, or else 0
+-- the check of a signature in a race takes the given number of microseconds, up to 1,000,000, or 0
 abbrev pub HasDelay : Option ℕ → Asked → Type 0
 HasDelay given (Race input workers signatures wishes) = (wishes.verify_us ≡ unwrap_or given 0) × (wishes.verify_us ≤ 1000000)
 HasDelay given asked = ⊤
 
--- a conversation has the salt that is given, or none
+-- a conversation has the given salt, or none
 abbrev pub HasSalt : Option ℕ → Asked → Type 0
 HasSalt given (Serve signatures salt) = salt ≡ given
 HasSalt given asked = ⊤

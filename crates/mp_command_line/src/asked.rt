@@ -24,25 +24,25 @@ pub enum Asked<'a> {
         input: Input<'a>,
         signatures: SchemeName,
     },
-    /// A race of 1 to 64 workers, to whom a scenario's commands are dealt.
+    /// A race of 1 to 64 workers, who share the commands of a scenario.
     Race {
         input: Input<'a>,
         workers: u32,
         signatures: SchemeName,
         wishes: Wishes<'a>,
     },
-    /// An audit of a pool's history over a scenario, by the names of their files.
+    /// An audit of a pool's history over a scenario, given the names of their files.
     Audit {
         scenario: &'a str,
         history: &'a str,
         signatures: SchemeName,
-        /// Whether is to be said what is wrong with a bad line.
+        /// Whether to say what is wrong with a bad line.
         explains: bool,
     },
     /// A conversation over standard input and output.
     Serve {
         signatures: SchemeName,
-        /// What the pool's tables are salted with, or `None` where none is given.
+        /// The salt of the pool's tables, or `None` if none is given.
         salt: Option<u64>,
     },
 }
@@ -52,37 +52,36 @@ pub enum Asked<'a> {
 pub enum SchemeName {
     /// The key followed by the transaction's id.
     Trial,
-    /// All, since the host has verified them.
+    /// All, because the host has verified them.
     Checked,
     /// Ed25519 signatures of the transaction's id.
     Ed25519,
 }
 
-/// The scenario, and how its faults are told.
+/// The scenario, and how its faults are reported.
 #[derive(Clone, Copy)]
 pub struct Input<'a> {
-    /// The scenario's file, or `None` where it is on standard input.
+    /// The scenario's file, or `None` for standard input.
     pub file: Option<&'a str>,
-    /// Whether is to be said what is wrong with a bad line.
+    /// Whether to say what is wrong with a bad line.
     pub explains: bool,
 }
 
-/// What a race writes besides its report, and how long a look at a signature takes in it.
+/// What a race writes next to its report, and how long the check of a signature takes in it.
 #[derive(Clone, Copy)]
 pub struct Wishes<'a> {
     /// The file for the race's history.
     pub history: Option<&'a str>,
     /// The file for a picture of the race, as an SVG.
     pub picture: Option<&'a str>,
-    /// The microseconds that each look at a signature takes: up to 1,000,000, and 0 where none are given.
+    /// The microseconds that each check of a signature takes: up to 1,000,000, by default 0.
     pub verify_us: u32,
 }
 
-/// What the command line asks for.
+/// Returns what the command line asks for, if the program accepts the words.
 ///
 /// # Errors
-/// What the words ask for in place of a command (the help or the version), why they are refused, or
-/// `OutOfMemory`. An answer comes only where the program takes the words.
+/// The help or the version if the words ask for one, the reason for a refusal, or `OutOfMemory`.
 pub fn parse_words<'a, S: AsStr>(alloc: Global, words: &'a [S]) -> Result<Asked<'a>, Error>
     ensures taken { FailsBy (fault_of spec.program (map S.text words.now)) result }
     ensures command { IfOk result (λ asked. spec.command_in (map S.text words.now)

@@ -1,4 +1,4 @@
-//! The command line of the program: the words that it takes, and what they ask for.
+//! The command line of the program: the words that it accepts, and what they ask for.
 #![tactic(auto)]
 
 mod asked;

@@ -1,4 +1,4 @@
--- How an audit ends.
+-- The end of an audit.
 use Rattle.std.proofs.Common.{◌≡◌, ℕ, List, sym, subst, inl, inr}
 use Rattle.std.specs.Prelude.{Option, None, Some, IfSome, IfErr, OnOk, Result, Ok, Err}
 use Rattle.std.specs.Io.KnownBytes.{Keeps}
@@ -16,7 +16,7 @@ use Rattle.mp_main.specs.Legal.{IsAudited, IsSaid, IsLegalText, IsFaultyText}
 use Rattle.mp_main.proofs.Ends.{keeps}
 
 module _ (accepts : Accepts) (s : Scenario) where
-  -- what the audit of the history answers
+  -- what the audit of the history returns
   abbrev pub IsAnswer : History → Result (Unit {0}) Fault → Type 0
   IsAnswer h a =
       OnOk a (IsHistory accepts (fresh_log s.config s.ledger).opening h.workers s.tasks h.told.items)
@@ -64,7 +64,7 @@ module _ (accepts : Accepts) (s : Scenario) where
   none_read bytes old (Audit fault) is = absurd is
   none_read bytes old (MissingEntry place) is = (inl is, keeps old)
 
-  -- no history is read of the bytes
+  -- no history can be read from the bytes
   pub unread : (known old : Option (List ℕ)) (fault : Fault) (status : ℕ) → IfSome known (λ bytes. IsRead bytes (Err fault)) → status ≡ 1 → IfSome known (λ bytes. EndsAs (IsAudited accepts s bytes old old) status)
   unread None old fault status is one = tt
   unread (Some bytes) old fault status is one = (Err fault, none_read bytes old fault is, one)

@@ -1,4 +1,4 @@
--- How a race ends.
+-- The end of a race.
 use Rattle.std.proofs.Common.{◌≡◌, ℕ, ◌<◌, List, [], ◌∷◌, ◌++◌, length, take, length-append, sym, ap, ◌∙◌, append-nil, arith, codes}
 use Rattle.std.specs.Prelude.{Option, None, Some, Result, Ok, Err}
 use Rattle.std.specs.Io.KnownBytes.{Appends, Keeps}
@@ -16,7 +16,7 @@ use Rattle.mp_main.specs.Status.{status_of, EndsAs}
 use Rattle.mp_main.specs.Told.{IsReported, RaceEnds}
 use Rattle.mp_main.proofs.Ends.{keeps}
 
--- a front of no bytes is one, where there are some
+-- nothing is a prefix of some bytes
 front_of_none : (old new : Option (List ℕ)) (bytes : List ℕ) → 0 < length bytes → Keeps old new → AppendsFront old new bytes
 front_of_none None new bytes some kept = (0, some, tt)
 front_of_none (Some xs) None bytes some kept = absurd kept
@@ -43,6 +43,6 @@ module _ (accepts : Accepts) (workers : ℕ) (s : Scenario) (r : Raced) (old new
   told (Ok u) is written = record { raced = r; race = is; written = written }
   told (Err u) is written = inl (record { raced = r; race = is; written = written })
 
-  -- its report is written so
+  -- the report is written in this way
   pub raced_ends : (status : ℕ) → IsRaced accepts workers s r → EndsAs (IsReported r.report old new) status → EndsAs (RaceEnds accepts workers s old new) status
   raced_ends status is ends = (ends.0, told ends.0 is ends.1, ends.2)

@@ -1,4 +1,4 @@
--- What an audit of a history over a scenario comes to.
+-- The result of auditing a history over a scenario.
 use Rattle.std.specs.Prelude.{ℕ, ◌⊎◌, List, Option, Result, Ok, Err, codes, ◌++◌, ◌∷◌, [], ◌≡◌}
 use Rattle.std.specs.Io.KnownBytes.{Appends, Keeps}
 use Rattle.mp_text.specs.Output.{AppendsFront}
@@ -11,11 +11,11 @@ use Rattle.mp_race.specs.Scenario.{Scenario}
 use Rattle.mp_race.specs.History.{IsHistory, IsFaultOfHistory}
 use Rattle.mp_race.specs.HistoryText.{history_text, IsFaultOfText}
 
--- what is written of a legal one
+-- what is written about a legal history
 abbrev pub legal_text : List ℕ
 legal_text = codes "audit legal" ++ 10 ∷ []
 
--- what is said of an audit's answer, and how it ends then
+-- what is written about the result of an audit, and the result of that
 abbrev pub IsSaid : Option (List ℕ) → Option (List ℕ) → Result (Unit {0}) Fault → Result (Unit {0}) Fault → Type 0
 IsSaid old new (Ok u) (Ok v) = Appends old new legal_text
 IsSaid old new (Ok u) (Err WriteFault) = AppendsFront old new legal_text
@@ -25,14 +25,14 @@ IsSaid old new (Err fault) (Err other) = (other ≡ fault) × Keeps old new
 
 -- The verifier decides which signatures are good.
 module _ (accepts : Accepts) where
-  -- The text is that of a history of this race, told so.
+  -- The text is a history of this race.
   pub record IsLegalText (s : Scenario) (text : List ℕ) : Type 0 where
     pub workers : ℕ
     pub told : List Told
     pub text_is : text ≡ history_text workers told
     pub legal : IsHistory accepts (fresh_log s.config s.ledger).opening workers s.tasks told
 
-  -- The text is that of a history with this fault.
+  -- The text is a history with this fault.
   pub record IsFaultyText (s : Scenario) (text : List ℕ) (fault : Fault) : Type 0 where
     pub workers : ℕ
     pub told : List Told

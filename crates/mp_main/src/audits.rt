@@ -17,7 +17,7 @@ use std::fs::File;
 use std::io::{Read, Write};
 use std::process::ExitCode;
 
-/// Audits the history that the reader gives, and says to the writer whether it is legal.
+/// Audits the history that the reader gives, and writes whether it is legal.
 pub fn audit_over<R: Read, W: Write>(
     rt: &HostRuntime,
     memory: Memory,
@@ -40,7 +40,7 @@ pub fn audit_over<R: Read, W: Write>(
     }
 }
 
-/// Reads the scenario and the history from these files, and says whether the history is legal by these signatures.
+/// Reads the scenario and the history from these files, and writes whether the history is legal.
 pub fn audit_files(
     rt: &HostRuntime,
     scenario: &str,

@@ -18,7 +18,7 @@ use mp_tx::Salt;
 use std::io::BufReader;
 use std::process::ExitCode;
 
-/// Answers each line of the device's input, until that ends.
+/// Answers each line of the device's input, until the input ends.
 pub fn converse_over<D: Device>(
     rt: &HostRuntime,
     memory: Memory,
@@ -38,8 +38,8 @@ pub fn converse_over<D: Device>(
     }
 }
 
-/// Answers each line of standard input on standard output, until the input ends. Where all signatures are accepted, whoever writes the
-/// lines has verified them. The salt is random where none is given.
+/// Answers each line of standard input on standard output, until the input ends. With `accepts_all`, the program that writes the
+/// lines has checked all signatures. The salt is random if none is given.
 pub fn converse(rt: &HostRuntime, signatures: SchemeName, salt: Option<u64>) -> ExitCode {
     let salt = match salt_of(rt, salt) {
         Ok(salt) => salt,

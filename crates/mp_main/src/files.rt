@@ -14,7 +14,7 @@ use mp_signatures::Signatures;
 use std::fs;
 use std::process::ExitCode;
 
-/// Writes the bytes to the file, in place of what is there.
+/// Writes the bytes to the file, and replaces its content.
 pub fn write_file(rt: &HostRuntime, path: &str, bytes: &[u8]) -> Result<(), ExitCode>
     ensures { IfErr result (λ code. exit_status code ≡ 1) }
 {
@@ -45,7 +45,7 @@ fn write_legal(
     write_file(rt, path, text)
 }
 
-/// Writes the history, where its audit finds it legal.
+/// Writes the history if its audit finds it legal.
 pub fn write_history(
     rt: &HostRuntime,
     memory: Memory,

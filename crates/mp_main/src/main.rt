@@ -1,7 +1,10 @@
-//! The program: `keltuvar run [--explain] [FILE]` reads a scenario and writes its answers to standard output, and
-//! `keltuvar race --workers N [--explain] [FILE]` has so many threads race over it and writes the report, and on wish the history and a
-//! picture of it; `keltuvar audit SCENARIO HISTORY` says whether such a history is legal; `keltuvar serve [--salt N]` holds a
-//! conversation. Each takes `--signatures WHICH`. It ends with status 0, with 1 at a fault, and with 2 where the command line is refused.
+//! The program `keltuvar`. It ends with status 0, with 1 after a fault, and with 2 if the command line is refused.
+//!
+//! - `run [--explain] [FILE]` reads a scenario and writes its answers to standard output.
+//! - `race --workers N [--explain] [FILE]` lets N threads race over it and writes the report, and if asked the history and a
+//! picture.
+//! - `audit SCENARIO HISTORY` says whether such a history is legal.
+//! - `serve [--signatures WHICH] [--salt N]` holds a conversation.
 #![tactic(auto)]
 
 mod audits;

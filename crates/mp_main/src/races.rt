@@ -24,7 +24,7 @@ use std::rt::Clock;
 use std::sync::Wait;
 use std::thread::Threads;
 
-/// Has so many workers race over a scenario for a pool that accepts these signatures, writes the report to standard output, and to files what else is wished.
+/// Lets `workers` workers race over a scenario. Writes the report to standard output, and what else is asked for to files.
 pub fn race_scenario<R: Threads + Wait + Clock + Sync>(
     rt: &HostRuntime,
     threads: &R,
@@ -59,8 +59,8 @@ pub fn race_scenario<R: Threads + Wait + Clock + Sync>(
     }
 }
 
-/// Has so many workers race over the scenario, each look at a signature of whom takes as long as is wished. The report goes to the
-/// writer, and to files what else is wished.
+/// Lets `workers` workers race over the scenario. Each check of a signature takes as long as is asked for. Writes the report to
+/// the writer, and what else is asked for to files.
 pub fn race_over<R: Threads + Wait + Clock + Sync, W: Write>(
     rt: &HostRuntime,
     threads: &R,
@@ -85,7 +85,7 @@ pub fn race_over<R: Threads + Wait + Clock + Sync, W: Write>(
     )
 }
 
-// The same by a pool of its own, with looks that take as long as is wished.
+// The same with a pool of its own, and with this gate for the checks of signatures.
 fn race_slowly<R: Threads + Wait + Clock + Sync, W: Write>(
     rt: &HostRuntime,
     threads: &R,
@@ -112,7 +112,7 @@ fn race_slowly<R: Threads + Wait + Clock + Sync, W: Write>(
     }
 }
 
-// Writes what is wished, and the report.
+// Writes what is asked for, then the report.
 fn tell<W: Write>(
     rt: &HostRuntime,
     memory: Memory,

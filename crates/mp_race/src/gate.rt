@@ -1,15 +1,15 @@
-//! What is told of a race as it runs.
+//! Hooks into a race as it runs.
 
 use mp_rules::Verifier;
 use mp_signatures::Signatures;
 use mp_tx::{Key, Sig, TxId};
 
-/// What is told of a race as it runs, by each of its threads. A call may hold a worker back, and changes no answer.
+/// Hooks into a race as it runs, which each of its threads calls. A call may delay a worker, and changes no answer.
 pub trait Gate: Sync {
     /// The worker is about to do the task with this number, both from 0.
     fn start(&self, worker: u32, task: u64);
 
-    /// A signature of the transaction with this id is about to be looked at.
+    /// A signature of the transaction with this id is about to be checked.
     fn check(&self, id: &TxId);
 }
 
@@ -23,7 +23,7 @@ impl Gate for NoGate {
     fn check(&self, _id: &TxId) {}
 }
 
-/// Accepts a signature exactly if its scheme does, and reports each that it looks at to its gate.
+/// Accepts a signature exactly if it is the key followed by the id, and calls the gate before each check.
 #[derive(Drop)]
 pub struct Watched<G: Gate + Drop> {
     pub gate: G,

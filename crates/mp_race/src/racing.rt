@@ -32,10 +32,10 @@ use mp_signatures::Signatures;
 use std::sync::{Arc, Wait};
 use std::thread::{Threads, map_vec};
 
-// What a race runs on: a pool, and a pass for each worker.
+// A race's pool, and a pass for each worker.
 type Opened<N, G> = (SharedPool<N, G>, Vec<Pass<N>, Memory>);
 
-// Each worker does what is dealt to it, in a thread of its own where one can be made.
+// Each worker does its tasks, in a thread of its own if one can be made.
 fn work_all<N: PoolName + Send + Sync, R: Threads + Wait + Sync, G: Gate + Send + Drop>(
     rt: &R,
     memory: Memory,
@@ -97,7 +97,7 @@ fn open<N: PoolName, G: Gate + Drop>(
     }
 }
 
-// The front that the first of the passes has, which is legal.
+// The front of the first pass, which is legal.
 fn first_front<N: PoolName>(passes: &[Pass<N>]) -> Front<N>
     requires { 0 < length passes.now }
     ensures legal { IsLegalLog N.accepts N.callers result }
@@ -108,7 +108,7 @@ fn first_front<N: PoolName>(passes: &[Pass<N>]) -> Front<N>
     pass.front().again()
 }
 
-// Opens the pool, has the workers do their tasks, and puts together what they come back with.
+// Opens the pool, lets the workers do their tasks, and collects what they return.
 fn run_workers<N: PoolName + Send + Sync, R: Threads + Wait + Sync, G: Gate + Send + Drop>(
     rt: &R,
     memory: Memory,
@@ -134,7 +134,7 @@ fn run_workers<N: PoolName + Send + Sync, R: Threads + Wait + Sync, G: Gate + Se
     gather(memory, front, done)
 }
 
-// The history that explains what the workers came back with, and what is told of it.
+// The history that explains what the workers return, and its records.
 fn explain<N: PoolName>(
     memory: Memory,
     tasks: &[Task],
@@ -170,7 +170,7 @@ fn explain<N: PoolName>(
     Ok((ordered, refused))
 }
 
-// Audits the history, and gives the last ticket after it.
+// Audits the history, and returns the last ticket after it.
 fn audit_last(
     memory: Memory,
     scenario: &Scenario,
@@ -237,27 +237,32 @@ fn report_on(
     })
 }
 
-/// What a race came to.
+/// The result of a race.
 #[derive(Drop)]
 pub struct Raced {
     pub report: Report,
-    /// What is told of each entry, in the order of their places.
+    /// The records of the entries, in the order of their places.
     pub history: History,
-    /// What is told of each refusal, in the order of their commands.
+    /// The records of the refusals, in the order of their commands.
     pub refused: Vec<Refused, Memory>,
 }
 
-/// Runs the scenario by so many workers, each in a thread of its own where one can be made, on one pool under the name, and gives
-/// the report, the history and the refusals. Task j, from 0, goes to worker j mod workers. There is one legal history that explains
-/// what each change was answered: each worker's entries in it are the changes dealt to it, each once and in order, but for those that
-/// the sequential pool refuses at a beginning of the history with just the worker's entries before. The history tells its entries one
-/// by one. The refusals are of the other changes, each once, and each tells after how many entries the sequential pool refuses it.
-/// The pool accepts these signatures. What snapshots show isn't told. The gate is told of each task and of each signature that is looked at.
+/// Runs the scenario with `workers` workers, each in a thread of its own if one can be made, on one pool under the name. Returns
+/// the report, the history and the refusals. Task j, from 0, goes to worker j mod `workers`.
+///
+/// One legal history explains every answer to a change. Each worker's entries in it are the changes dealt to it, each once and in
+/// order, without those that are refused. The sequential pool refuses each of those after a prefix of the history that has
+/// exactly the worker's entries before it.
+///
+/// The history records its entries one by one. The refusals are those of all other changes, each once, with the number of entries
+/// after which the sequential pool refuses it. What snapshots show isn't recorded. The gate is called before each task and each
+/// check of a signature.
 ///
 /// # Errors
-/// `NoMemory`, where it was wanting for any worker, after all have ended. `MissingEntry` with the least place of the history below
-/// the number of the receipts of which no receipt tells, or two do, or whose command isn't its worker's next, and with their number
-/// where the pool has another entry or the refusals are others than the changes that have no entry. None is to be met.
+/// `NoMemory`, after all workers have ended, if an allocation of a worker failed. `MissingEntry` with the least place, below the
+/// number of receipts, that has no receipt or two, or whose command isn't its worker's next. `MissingEntry` with that number, if
+/// the pool has another entry, or if the refusals aren't those of the changes without an entry. Neither `MissingEntry` is
+/// expected.
 pub fn race<N: PoolName + Send + Sync, R: Threads + Wait + Sync, G: Gate + Send + Drop>(
     rt: &R,
     memory: Memory,

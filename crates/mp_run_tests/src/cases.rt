@@ -1,4 +1,4 @@
-//! Races of texts.
+//! Races over texts.
 ghost use Rattle.std.specs.Prelude.{◌≡◌, ◌≤◌};
 ghost use Rattle.mp_history.specs.PoolName.{head_of};
 ghost use Rattle.mp_signatures.specs.Scheme.{accepted_by};
@@ -11,11 +11,11 @@ use std::marker::Brand;
 use std::sync::Wait;
 use std::thread::Threads;
 
-/// The numbers of a report behind that of its workers.
+/// The numbers of a report after that of its workers.
 pub type Numbers = [u64; 7];
 
-/// How a race ends: with the numbers of its report, or with the number of a fault, and its line, its place or 0. Where what is told of
-/// it isn't what is counted, these are 0 and 1.
+/// How a race ends: with the numbers of its report; or with the number of a fault and its line, its place or 0. If the records of
+/// the race don't fit the counts, these are 0 and 1.
 pub type Ended = Result<Numbers, (u64, u64)>;
 
 /// The fault's number, and its line, its place or 0.
@@ -39,7 +39,8 @@ fn numbers_of(report: &Report) -> Numbers {
     ]
 }
 
-// What is told of the race, written and read again, is as many entries and refusals as are counted, and its audits find no fault.
+// The records of the race, written and read again, are as many entries and refusals as are counted, and their audits find no
+// fault.
 fn retell(
     memory: Memory,
     scenario: &Scenario,
@@ -58,7 +59,7 @@ fn retell(
     )
 }
 
-// The numbers of the report, where what is told of the race fits it.
+// The numbers of the report, if the records of the race fit it.
 fn numbers_told(
     memory: Memory,
     scenario: &Scenario,
@@ -113,7 +114,7 @@ pub fn race_new<R: Threads + Wait + Sync, G: Gate + Send + Drop>(
     race_named::<Brand, R, G>(rt, memory, name, scenario, workers, signatures, gate)
 }
 
-/// A race of the scenario that the text is of, by 1 to 64 workers, with trial signatures.
+/// A race of the scenario with this text, by 1 to 64 workers.
 pub fn race_text<R: Threads + Wait + Sync, G: Gate + Send + Drop>(
     rt: &R,
     memory: Memory,

@@ -1,4 +1,4 @@
--- A pool that is served, with the ledger states to which it can go back.
+-- A pool that is served, with the ledger states to which it can return.
 use Rattle.std.specs.Prelude.{ℕ, ◌-◌, nat_le, List, [], ◌∷◌, ◌++◌, length, drop, slice_get, Option, None, if◌then◌else◌}
 use Rattle.mp_tx.specs.Ledger.{LedgerState}
 use Rattle.mp_seqpool.specs.Pool.{Pool}
@@ -7,18 +7,18 @@ use Rattle.mp_serve.specs.declared.refused.Counts.{Counts}
 
 pub record ServedPool : Type 0 where
   pub pool : Pool
-  -- which signatures it accepts
+  -- the signatures that it accepts
   pub signatures : Scheme
-  -- the ledger states before the pool's, the oldest first
+  -- the ledger states before the present one, oldest first
   pub former : List LedgerState
   -- how often each kind of refusal was answered
   pub refused : Counts
 
--- the last 2,160
+-- the last 2,160 items
 abbrev pub latest : {X : Type 0} → List X → List X
 latest states = drop (length states - 2160) states
 
--- the ledger state of so many ago, if that is kept
+-- the ledger state this many steps ago, if it is kept
 abbrev pub state_back : List LedgerState → LedgerState → ℕ → Option LedgerState
 state_back former now count =
     if nat_le count (length former) then slice_get (former ++ now ∷ []) (length former - count) else None

@@ -1,4 +1,4 @@
-//! The ledger states that a pool adopts one after the other, and goes back to.
+//! Ledger states that a pool adopts one after the other, and to which it can return.
 
 ghost use Rattle.std.specs.Prelude.{◌≡◌, ◌≤◌, ◌-◌, [], ◌∷◌, ◌++◌, length, take, drop, IfOk, OnOk, OnErr};
 ghost use Rattle.mp_seqpool.specs.Command.{Sync};
@@ -19,10 +19,10 @@ use mp_seqpool::{Command, SeqPool};
 use mp_signatures::Signatures;
 use mp_tx::Ledger;
 
-// So many former ledger states are kept.
+// How many former ledger states are kept.
 const MAX_FORMER: usize = 2160;
 
-// Lets the oldest go where there is one too many.
+// Removes the oldest if there is one too many.
 fn keep_latest(formers: &mut Formers)
     requires { length formers.old.items ≤ 2161 }
     ensures latest { formers.new.items ≡ latest formers.old.items }
@@ -33,7 +33,7 @@ fn keep_latest(formers: &mut Formers)
     }
 }
 
-/// Has the pool adopt a new ledger state, from which there is a way back to the one that it had.
+/// Makes the pool adopt a new ledger state, and keeps how to go back to the one that it had.
 pub fn go_on(
     memory: Memory,
     names: &Names,
@@ -72,7 +72,7 @@ pub fn go_on(
     }
 }
 
-/// Has the pool adopt the ledger state of so many ago. Those before it stay.
+/// Makes the pool adopt the ledger state after the first `left` former ones. Those stay.
 pub fn go_back(
     memory: Memory,
     names: &Names,

@@ -13,10 +13,10 @@ use mp_names::Names;
 use mp_signatures::Signatures;
 use mp_tx::Ledger;
 
-/// What a block comes to.
+/// The result of applying a block.
 #[derive(Drop)]
 pub enum Extended {
-    /// The ledger state after it, and what leads back.
+    /// The ledger state after it, and how to go back.
     To(AppliedBlock),
     /// The line that says which transaction isn't valid after those before it.
     Refused(Text),

@@ -1,4 +1,4 @@
-//! A conversation with a pool, line by line: each line answered before the next is read.
+//! A conversation with a pool, line by line. Each line is answered before the next is read.
 #![tactic(auto)]
 
 mod adopting;

@@ -1,4 +1,4 @@
-//! What a pool does when it is asked to.
+//! Commands to the pool, and their answers.
 
 ghost use Rattle.std.specs.Prelude.{◌≡◌, ◌≤◌, ◌^◌, Some, Err, IfOk, IfErr, OnOk, OnErr};
 ghost use Rattle.std.specs.Result.{result_err};
@@ -40,7 +40,7 @@ fn prepare(
     }
 }
 
-// Counts the changes from 0 again, where no more may be made.
+// Counts the changes from 0 again if the pool has made as many as it may.
 fn count_anew(pool: &mut SeqPool)
     requires least { 1 ≤ pool.old.pool.limit }
     requires most { pool.old.pool.limit ≤ 2 ^ 32 }
@@ -52,7 +52,7 @@ fn count_anew(pool: &mut SeqPool)
     }
 }
 
-/// The line that answers a command, and why it is refused, if it is.
+/// The line that answers a command, and the refusal if it is refused.
 pub type Answered = (Text, Option<Refusal>);
 
 fn refused(memory: Memory, names: &Names, refusal: &Refusal) -> Result<Answered, NoMemory>
@@ -63,7 +63,7 @@ fn refused(memory: Memory, names: &Names, refusal: &Refusal) -> Result<Answered,
     Ok((text, Some(*refusal)))
 }
 
-// Does what is asked. The line is there before it is done, so that there is nothing to undo.
+// Does what is asked. The line is allocated first, so that nothing has to be undone.
 fn carry_out(
     memory: Memory,
     names: &Names,
@@ -94,7 +94,7 @@ fn carry_out(
     }
 }
 
-/// Does what is asked, and gives the line of its answer, and why it was refused, if it was. After an `Err` nothing has changed.
+/// Does what is asked. Returns the line of the answer, and the refusal if it is refused. After an `Err` nothing has changed.
 pub fn obey(
     memory: Memory,
     names: &Names,
@@ -115,7 +115,7 @@ pub fn obey(
     carry_out(memory, names, signatures, pool, command)
 }
 
-// Takes the transaction in. The line is there, and the name noted, before it is done, so that there is nothing to undo.
+// Submits the transaction. The line is allocated and the name noted first, so that nothing has to be undone.
 fn take_in(
     memory: Memory,
     names: &mut Names,
@@ -153,8 +153,8 @@ fn take_in(
     }
 }
 
-/// Takes the transaction in, and reports it under the name from then on, if it is accepted. Returns the line of the answer, and why
-/// it was refused, if it was. After an `Err` nothing has changed.
+/// Submits the transaction, and reports it under the name from then on if it is accepted. Returns the line of the answer, and the
+/// refusal if it is refused. After an `Err` nothing has changed.
 pub fn submit(
     memory: Memory,
     names: &mut Names,
@@ -182,7 +182,7 @@ pub fn submit(
     take_in(memory, names, name, signatures, pool, tx)
 }
 
-/// Takes out the transactions with these ids. Returns the line of the answer, and why it was refused, if it was. After an `Err`
+/// Removes the transactions with these ids. Returns the line of the answer, and the refusal if it is refused. After an `Err`
 /// nothing has changed.
 pub fn remove(
     memory: Memory,
@@ -208,7 +208,7 @@ pub fn remove(
     obey(memory, names, signatures, pool, &command)
 }
 
-/// What the submit would be answered.
+/// What the submit would answer.
 pub fn check(
     memory: Memory,
     names: &Names,

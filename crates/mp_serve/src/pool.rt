@@ -20,8 +20,8 @@ use mp_tx::{Ledger, Tx, TxId};
 use std::marker::Model;
 use std::sync::Arc;
 
-/// The pool of a conversation, which one thread has, with what leads back to its former ledger states, at most 2,160. When it has
-/// made as many changes as it may, it counts them from 0 again, so it goes on for as long as it is asked; its last ticket stays.
+/// The pool of a conversation, used by one thread, with what leads back to its former ledger states, at most 2,160. After as many
+/// changes as it may make, it counts them from 0 again and goes on. Its last ticket stays.
 pub struct ServedPool {
     pool: SeqPool,
     signatures: Signatures,
@@ -65,7 +65,7 @@ impl ServedPool {
     ghost use Rattle.mp_serve.specs.Request.{Adopt, Extend, Return, after_command, answer_to, answered, reported_if, respond};
     ghost use Rattle.mp_serve.specs.Inside.Request.{to_request};
 
-    /// The empty pool on the opening outputs, which stay as they are.
+    /// The empty pool on the opening outputs. `beginning` doesn't change.
     pub fn open(
         memory: Memory,
         settings: &Settings,
@@ -96,10 +96,10 @@ impl ServedPool {
         self.pool.ticket_of(id).is_some()
     }
 
-    /// Takes the transaction in, and reports it under the name from then on, if it is accepted. A refusal is counted.
+    /// Submits the transaction, and reports it under the name from then on if it is accepted. A refusal is counted.
     ///
     /// # Errors
-    /// `NoMemory`, and then nothing has changed.
+    /// `NoMemory`. Then nothing has changed.
     pub fn submit(
         &mut self,
         memory: Memory,
@@ -122,7 +122,7 @@ impl ServedPool {
         Ok(text)
     }
 
-    // Takes out the transactions with these ids. A refusal is counted.
+    // Removes the transactions with these ids. A refusal is counted.
     fn remove(
         &mut self,
         memory: Memory,
@@ -140,7 +140,7 @@ impl ServedPool {
         Ok(text)
     }
 
-    // The new ledger state. The one that it had is kept whole.
+    // Adopts a new ledger state. The previous one is stored whole.
     fn adopt(&mut self, memory: Memory, names: &Names, ledger: &Ledger) -> Result<Text, NoMemory>
         ensures ok { IfOk result (λ text. (cursor : ℕ)
             → respond names.now cursor self.old (Adopt ledger.now)
@@ -159,7 +159,7 @@ impl ServedPool {
         )
     }
 
-    // The ledger state after the block, or which of its transactions isn't valid after those before it.
+    // Adopts the ledger state after the block, or answers which of its transactions isn't valid after those before it.
     fn adopt_block(
         &mut self,
         memory: Memory,
@@ -191,7 +191,7 @@ impl ServedPool {
         }
     }
 
-    // The ledger state of so many ago, or how many are kept.
+    // Adopts the ledger state this many steps ago, or answers how many are kept.
     fn return_by(&mut self, memory: Memory, names: &Names, count: u64) -> Result<Text, NoMemory>
         ensures ok { IfOk result (λ text. (cursor : ℕ)
             → respond names.now cursor self.old (Return count)
@@ -215,10 +215,10 @@ impl ServedPool {
         )
     }
 
-    /// Responds, and gives the line and where the peer's cursor is then.
+    /// Does what is asked. Returns the line of the answer, and the peer's cursor after it.
     ///
     /// # Errors
-    /// `NoMemory`, and then nothing has changed.
+    /// `NoMemory`. Then nothing has changed.
     pub fn respond(
         &mut self,
         memory: Memory,
