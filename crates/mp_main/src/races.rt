@@ -81,7 +81,7 @@ pub fn race_over<R: Threads + Wait + Clock + Sync, W: Write>(
         micros: wishes.verify_us,
     };
     race_slowly(
-        rt, threads, memory, scenario, workers, signatures, wishes, gate, writer,
+        rt, threads, memory, scenario, workers, signatures, wishes, &gate, writer,
     )
 }
 
@@ -94,12 +94,12 @@ fn race_slowly<R: Threads + Wait + Clock + Sync, W: Write>(
     workers: u32,
     signatures: &Signatures,
     wishes: Wishes<'_>,
-    gate: Slow<'_, R>,
+    gate: &Slow<'_, R>,
     writer: &mut W,
 ) -> ExitCode
     requires some { 1 ≤ workers }
     requires most { workers ≤ 64 }
-    requires slow { gate.micros ≡ wishes.verify_us }
+    requires slow { gate.now.micros ≡ wishes.verify_us }
     ensures { EndsAs (RaceEnds (accepted_by signatures.now) workers scenario.now
         (W.contents writer.old) (W.contents writer.new)) (exit_status result) }
 {

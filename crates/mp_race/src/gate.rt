@@ -23,17 +23,29 @@ impl Gate for NoGate {
     fn check(&self, _id: &TxId) {}
 }
 
-/// Accepts a signature exactly if it is the key followed by the id, and calls the gate before each check.
-#[derive(Drop)]
-pub struct Watched<G: Gate + Drop> {
-    pub gate: G,
-    pub signatures: Signatures,
+/// What a worker calls as it works.
+pub trait Watch {
+    /// The worker is about to do the task with this number, both from 0.
+    fn start(&self, worker: u32, task: u64);
 }
 
-impl<G: Gate + Drop> Verifier for Watched<G> {
+/// Accepts what these signatures do, and calls the gate before each check.
+#[derive(Drop)]
+pub struct Watched<'a, G: Gate> {
+    pub gate: &'a G,
+    pub signatures: &'a Signatures,
+}
+
+impl<G: Gate> Watch for Watched<'_, G> {
+    fn start(&self, worker: u32, task: u64) {
+        self.gate.start(worker, task);
+    }
+}
+
+impl<G: Gate> Verifier for Watched<'_, G> {
     ghost use Rattle.mp_signatures.specs.Scheme.{accepted_by};
 
-    ghost accepts = { λ w. accepted_by w.signatures };
+    ghost accepts = { λ w. accepted_by w.signatures.now };
 
     fn verify(&self, key: &Key, id: &TxId, sig: &Sig) -> bool {
         self.gate.check(id);

@@ -15,7 +15,7 @@ ghost use Rattle.mp_race.specs.Inside.Work.{IsUnused};
 ghost use Rattle.mp_race.specs.Inside.Gathered.{IsBack, AreGathered, IsExplained};
 
 use crate::fault::Fault;
-use crate::gate::{Gate, Watched};
+use crate::gate::{Gate, Watch, Watched};
 use crate::gathering::{Gathered, gather};
 use crate::history::History;
 use crate::ordering::{Ordered, all_know, order_done};
@@ -24,22 +24,21 @@ use crate::report::{Report, count_reads, counts_of};
 use crate::scenario::Scenario;
 use crate::task::Task;
 use crate::told::Refused;
-use crate::worker::{SharedPool, Worker, work};
+use crate::worker::{Worker, work};
 use mp_history::{AuditFault, Entry, Front, NewName, PoolName, audit};
 use mp_memory::{Memory, NoMemory};
-use mp_mempool::{Mempool, OpenRefusal, Pass};
+use mp_mempool::{Mempool, OpenRefusal, Opened, Pass, Reader};
+use mp_rules::Verifier;
 use mp_signatures::Signatures;
 use std::sync::{Arc, Wait};
 use std::thread::{Threads, map_vec};
 
-// A race's pool, and a pass for each worker.
-type Opened<N, G> = (SharedPool<N, G>, Vec<Pass<N>, Memory>);
-
 // Each worker does its tasks, in a thread of its own if one can be made.
-fn work_all<N: PoolName + Send + Sync, R: Threads + Wait + Sync, G: Gate + Send + Drop>(
+fn work_all<N: PoolName + Send + Sync, R: Threads + Wait + Sync, V: Verifier + Watch + Send + Sync>(
     rt: &R,
     memory: Memory,
-    pool: &SharedPool<N, G>,
+    mempool: &Mempool<N, V>,
+    reader: &Reader<N, V>,
     tasks: &[Task],
     workers: u32,
     passes: Vec<Pass<N>, Memory>,
@@ -55,29 +54,28 @@ fn work_all<N: PoolName + Send + Sync, R: Threads + Wait + Sync, G: Gate + Send 
             requires { 1 ≤ workers }
             ensures { (opening : Pool) → IsUnused opening pass
                 → IsBack N.accepts workers opening (tasks_of tasks.entry.now) result }
-        { work(rt, memory, pool, tasks, workers, pass) },
+        { work(rt, memory, mempool, reader, tasks, workers, pass) },
     )?)
 }
 
 // Opens the pool of a race.
-fn open<N: PoolName, G: Gate + Drop>(
+fn open<'a, N: PoolName, G: Gate>(
     rt: &impl Wait,
     memory: Memory,
     name: NewName,
     scenario: &Scenario,
     workers: u32,
-    signatures: &Signatures,
-    gate: G,
-) -> Result<Opened<N, G>, NoMemory>
+    signatures: &'a Signatures,
+    gate: &'a G,
+) -> Result<Opened<N, Watched<'a, G>>, NoMemory>
     requires name { name ≡ head_of N.book N.root }
     requires number { workers ≡ N.callers }
     requires accepts { N.accepts ≡ accepted_by signatures.now }
     requires some { 1 ≤ workers }
     requires most { workers ≤ 64 }
-    ensures { IfOk result (λ o. o.1.items
+    ensures { IfOk result (λ o. o.2.items
         ≡ fresh_passes workers (fresh_log scenario.now.config scenario.now.ledger)) }
 {
-    let signatures = signatures.share()?;
     let verifier = Arc::new(memory, Watched { gate, signatures })?;
     match Mempool::open(
         rt,
@@ -88,7 +86,7 @@ fn open<N: PoolName, G: Gate + Drop>(
         &verifier,
         workers,
     ) {
-        Ok((mempool, reader, passes)) => Ok((SharedPool { mempool, reader }, passes)),
+        Ok(opened) => Ok(opened),
         Err(refusal) => match refusal {
             OpenRefusal::NoMemory => Err(NoMemory),
             OpenRefusal::BadCallers => unreachable!(),
@@ -109,14 +107,14 @@ fn first_front<N: PoolName>(passes: &[Pass<N>]) -> Front<N>
 }
 
 // Opens the pool, lets the workers do their tasks, and collects what they return.
-fn run_workers<N: PoolName + Send + Sync, R: Threads + Wait + Sync, G: Gate + Send + Drop>(
+fn run_workers<N: PoolName + Send + Sync, R: Threads + Wait + Sync, G: Gate>(
     rt: &R,
     memory: Memory,
     name: NewName,
     scenario: &Scenario,
     workers: u32,
     signatures: &Signatures,
-    gate: G,
+    gate: &G,
 ) -> Result<Gathered<N>, NoMemory>
     requires name { name ≡ head_of N.book N.root }
     requires number { workers ≡ N.callers }
@@ -127,10 +125,10 @@ fn run_workers<N: PoolName + Send + Sync, R: Threads + Wait + Sync, G: Gate + Se
         (fresh_log scenario.now.config scenario.now.ledger).opening scenario.now.tasks
         g.front g.passes.items g.done.items g.refused.items) }
 {
-    let (pool, passes) = open(rt, memory, name, scenario, workers, signatures, gate)?;
+    let (mempool, reader, passes) = open(rt, memory, name, scenario, workers, signatures, gate)?;
     let front = first_front(&passes);
     let tasks = &scenario.tasks;
-    let done = work_all(rt, memory, &pool, tasks, workers, passes)?;
+    let done = work_all(rt, memory, &mempool, &reader, tasks, workers, passes)?;
     gather(memory, front, done)
 }
 
@@ -263,14 +261,14 @@ pub struct Raced {
 /// number of receipts, that has no receipt or two, or whose command isn't its worker's next. `MissingEntry` with that number, if
 /// the pool has another entry, or if the refusals aren't those of the changes without an entry. Neither `MissingEntry` is
 /// expected.
-pub fn race<N: PoolName + Send + Sync, R: Threads + Wait + Sync, G: Gate + Send + Drop>(
+pub fn race<N: PoolName + Send + Sync, R: Threads + Wait + Sync, G: Gate>(
     rt: &R,
     memory: Memory,
     name: NewName,
     scenario: &Scenario,
     workers: u32,
     signatures: &Signatures,
-    gate: G,
+    gate: &G,
 ) -> Result<Raced, Fault>
     requires name { name ≡ head_of N.book N.root }
     requires number { workers ≡ N.callers }

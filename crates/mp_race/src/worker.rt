@@ -6,28 +6,14 @@ ghost use Rattle.mp_race.specs.Inside.Task.{task_of, tasks_of};
 ghost use Rattle.mp_race.specs.Inside.Work.{IsUnused, Does};
 ghost use Rattle.mp_race.specs.Inside.Gathered.{IsBack};
 
-use crate::gate::{Gate, Watched};
+use crate::gate::Watch;
 use crate::task::Task;
 use crate::told::{Done, Refused};
 use mp_history::PoolName;
 use mp_memory::{Memory, NoMemory};
 use mp_mempool::{Mempool, Pass, Reader, Refusal};
-use std::sync::{Arc, Wait};
-
-/// The pool that the workers share, and its reader.
-pub struct SharedPool<N: PoolName, G: Gate + Drop> {
-    pub mempool: Mempool<N, Watched<G>>,
-    pub reader: Arc<Reader<N, Watched<G>>, Memory>,
-}
-
-impl<N: PoolName, G: Gate + Drop> Drop for SharedPool<N, G> {
-    fn drop(self) {
-        let SharedPool {
-            mempool: _,
-            reader: _,
-        } = self;
-    }
-}
+use mp_rules::Verifier;
+use std::sync::Wait;
 
 /// What a worker returns.
 #[derive(Drop)]
@@ -42,9 +28,10 @@ pub struct Worker<N: PoolName> {
 }
 
 // Does the task with this number. Returns whether the pass knows all entries of its caller in the pool.
-fn do_task<N: PoolName, G: Gate + Drop>(
+fn do_task<N: PoolName, V: Verifier>(
     rt: &impl Wait,
-    pool: &SharedPool<N, G>,
+    mempool: &Mempool<N, V>,
+    reader: &Reader<N, V>,
     pass: &mut Pass<N>,
     done: &mut Vec<Done, Memory>,
     refused: &mut Vec<Refused, Memory>,
@@ -57,10 +44,10 @@ fn do_task<N: PoolName, G: Gate + Drop>(
 {
     match task {
         Task::Read => {
-            pool.reader.refresh(pass);
+            reader.refresh(pass);
             Ok(true)
         }
-        Task::Change(command) => match pool.mempool.ask(rt, pass, command) {
+        Task::Change(command) => match mempool.ask(rt, pass, command) {
             Ok(receipt) => {
                 done.push(Done {
                     task: number,
@@ -82,11 +69,12 @@ fn do_task<N: PoolName, G: Gate + Drop>(
     }
 }
 
-/// Does the tasks that are dealt to the pass's caller: task j goes to worker j mod `workers`. It calls the gate before each.
-pub fn work<N: PoolName, G: Gate + Drop>(
+/// Does the tasks that are dealt to the pass's caller: task j goes to worker j mod `workers`. It calls the verifier before each.
+pub fn work<N: PoolName, V: Verifier + Watch>(
     rt: &impl Wait,
     memory: Memory,
-    pool: &SharedPool<N, G>,
+    mempool: &Mempool<N, V>,
+    reader: &Reader<N, V>,
     tasks: &[Task],
     workers: u32,
     mut pass: Pass<N>,
@@ -100,10 +88,11 @@ pub fn work<N: PoolName, G: Gate + Drop>(
     let number = pass.caller();
     for (place, task) in tasks.iter().enumerate() {
         if place % workers as usize == number as usize {
-            pool.reader.verifier().gate.start(number, place as u64);
+            reader.verifier().start(number, place as u64);
             let is_sure = do_task(
                 rt,
-                pool,
+                mempool,
+                reader,
                 &mut pass,
                 &mut done,
                 &mut refused,

@@ -77,14 +77,14 @@ fn numbers_told(
 }
 
 // A race on a pool under the name.
-fn race_named<N: PoolName + Send + Sync, R: Threads + Wait + Sync, G: Gate + Send + Drop>(
+fn race_named<N: PoolName + Send + Sync, R: Threads + Wait + Sync, G: Gate>(
     rt: &R,
     memory: Memory,
     name: NewName,
     scenario: &Scenario,
     workers: u32,
     signatures: &Signatures,
-    gate: G,
+    gate: &G,
 ) -> Ended
     requires name { name ≡ head_of N.book N.root }
     requires number { workers ≡ N.callers }
@@ -99,13 +99,13 @@ fn race_named<N: PoolName + Send + Sync, R: Threads + Wait + Sync, G: Gate + Sen
 }
 
 /// A race of the scenario, on a pool of its own that accepts these signatures.
-pub fn race_new<R: Threads + Wait + Sync, G: Gate + Send + Drop>(
+pub fn race_new<R: Threads + Wait + Sync, G: Gate>(
     rt: &R,
     memory: Memory,
     scenario: &Scenario,
     workers: u32,
     signatures: &Signatures,
-    gate: G,
+    gate: &G,
 ) -> Ended
     requires some { 1 ≤ workers }
     requires most { workers ≤ 64 }
@@ -115,12 +115,12 @@ pub fn race_new<R: Threads + Wait + Sync, G: Gate + Send + Drop>(
 }
 
 /// A race of the scenario with this text, by 1 to 64 workers.
-pub fn race_text<R: Threads + Wait + Sync, G: Gate + Send + Drop>(
+pub fn race_text<R: Threads + Wait + Sync, G: Gate>(
     rt: &R,
     memory: Memory,
     mut text: &[u8],
     workers: u32,
-    gate: G,
+    gate: &G,
 ) -> Ended {
     if workers < 1 || workers > 64 {
         return Err((0, 0));

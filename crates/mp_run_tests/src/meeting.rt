@@ -20,23 +20,18 @@ enum Waits {
     Checks,
 }
 
-// How many calls have begun, and how many have met.
+// Delays each of two calls until the other has begun.
 #[derive(Drop)]
-struct Meeting {
+struct MeetGate {
+    waits: Waits,
     begun: AtomicU64,
     met: AtomicU64,
 }
 
-// Delays each of two calls until the other has begun.
-#[derive(Drop)]
-struct MeetGate<'a> {
-    waits: Waits,
-    meeting: &'a Meeting,
-}
-
-impl Meeting {
-    fn new() -> Meeting {
-        Meeting {
+impl MeetGate {
+    fn of(waits: Waits) -> MeetGate {
+        MeetGate {
+            waits,
             begun: AtomicU64::new(0),
             met: AtomicU64::new(0),
         }
@@ -68,16 +63,16 @@ impl Meeting {
     }
 }
 
-impl Gate for MeetGate<'_> {
+impl Gate for MeetGate {
     fn start(&self, _worker: u32, task: u64) {
         if self.waits == Waits::Starts && task < 2 {
-            self.meeting.meet();
+            self.meet();
         }
     }
 
     fn check(&self, _id: &TxId) {
         if self.waits == Waits::Checks {
-            self.meeting.meet();
+            self.meet();
         }
     }
 }
@@ -87,13 +82,9 @@ const SIGNED: &[u8] = b"out g0 100\nout g1 100\ntx a in=g0 out=100 sign=1\n\
 
 // How many calls have met, if both transactions are accepted.
 fn met<R: Threads + Wait + Sync>(rt: &R, memory: Memory, waits: Waits) -> u64 {
-    let meeting = Meeting::new();
-    let gate = MeetGate {
-        waits,
-        meeting: &meeting,
-    };
-    match race_text(rt, memory, SIGNED, 2, gate) {
-        Ok(numbers) => meeting.met_of(numbers[0]),
+    let gate = MeetGate::of(waits);
+    match race_text(rt, memory, SIGNED, 2, &gate) {
+        Ok(numbers) => gate.met_of(numbers[0]),
         Err(_) => 0,
     }
 }
