@@ -32,10 +32,11 @@ pub fn audit_over<R: Read, W: Write>(
         (exit_status result)) }
 {
     match History::read(memory, reader) {
-        Ok(history) => {
-            let ended = audit_history(memory, scenario, signatures, &history);
-            end_audit(rt, ended, writer)
-        }
+        Ok(history) => end_audit(
+            rt,
+            audit_history(memory, scenario, signatures, &history),
+            writer,
+        ),
         Err(fault) => end_bad_history(rt, fault),
     }
 }

@@ -3,10 +3,11 @@
 //! sooner. It ends with status 0, with 1 after a fault, and with 2 if it has an argument.
 #![tactic(auto)]
 
-ghost use Rattle.std.specs.Prelude.{◌≡◌, ◌≢◌, ◌<◌, IfSome};
+ghost use Rattle.std.specs.Prelude.{◌≡◌, ◌≢◌, ◌<◌, IfOk, IfSome};
 ghost use Rattle.std.specs.Process.{exit_status};
 ghost use Rattle.std.specs.IoError.{error_kind};
 ghost use Rattle.std.specs.declared.io.ErrorKind.TheVariants as kinds;
+ghost use Rattle.mp_signatures.specs.declared.scheme.Scheme.TheVariants.{Trial};
 ghost use Rattle.mp_run.specs.Status.{status_of, EndsAs};
 
 use mp_driver::{Fault, run};
@@ -42,26 +43,39 @@ fn count_words(rt: &HostRuntime) -> io::Result<usize> {
 
 // Runs the scenario of standard input.
 fn run_input(rt: &HostRuntime) -> ExitCode {
-    match Memory::new(rt.alloc()) {
-        Ok(memory) => run_over(rt, memory, &mut rt.stdin(), &mut rt.stdout()),
-        Err(_) => end(rt, Err(Fault::NoMemory)),
+    match begin(rt) {
+        Ok((memory, signatures)) => run_over(
+            rt,
+            memory,
+            &signatures,
+            &mut rt.stdin(),
+            &mut rt.stdout(),
+        ),
+        Err(NoMemory) => end(rt, Err(Fault::NoMemory)),
     }
+}
+
+// The memory of a run, and trial signatures.
+fn begin(rt: &HostRuntime) -> Result<(Memory, Signatures), NoMemory>
+    ensures { IfOk result (λ r. r.1 ≡ Trial) }
+{
+    let memory = Memory::new(rt.alloc())?;
+    let signatures = Signatures::new(memory, Scheme::Trial)?;
+    Ok((memory, signatures))
 }
 
 // Runs the scenario of the reader, and writes the answers to the writer.
 fn run_over<R: Read, W: Write>(
     rt: &HostRuntime,
     memory: Memory,
+    signatures: &Signatures,
     reader: &mut R,
     writer: &mut W,
 ) -> ExitCode
-    ensures { IfSome (R.remaining reader.old) (λ bytes. EndsAs bytes
+    ensures { IfSome (R.remaining reader.old) (λ bytes. EndsAs signatures.now bytes
         (W.contents writer.old) (W.contents writer.new) (exit_status result)) }
 {
-    match Signatures::new(memory, Scheme::Trial) {
-        Ok(signatures) => end(rt, run(memory, &signatures, reader, writer)),
-        Err(NoMemory) => end(rt, Err(Fault::NoMemory)),
-    }
+    end(rt, run(memory, signatures, reader, writer))
 }
 
 // After the answers: 0, or 1 and the fault's line.

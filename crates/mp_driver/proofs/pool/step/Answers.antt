@@ -9,5 +9,5 @@ step-requires c = signed (accepted_by c.args.signatures.now) c.args.pool.now.poo
 
 pub returns-clause-lawful : goal.returns-clause-lawful
 returns-clause-lawful c =
-    lawful_either (accepted_by c.args.signatures.now) c.step.result c.args.pool.now.pool c.step.new.self.pool (command_of c.args.command.now) c.step.ensures.next
-    c.step.ensures.err c.requires
+    lawful_either c.args.signatures.now c.step.result c.args.pool.now.pool c.step.new.self.pool (command_of c.args.command.now) c.step.ensures.next c.step.ensures.err
+    c.requires

@@ -5,7 +5,7 @@ use Rattle.mp_serve.proofs.pool.ServedPool.respond.Goals as goal
 use Rattle.mp_serve.proofs.pool.ServedPool.respond.Goals.{in-Remove+in_ok-text-in-Remove, in-Adopt+in_ok-text-in-Adopt, in-Extend+in_ok-text-in-Extend, in-Return+in_ok-text-in-Return, in-Try+in_ok-text-in-Try, in-Check+in_ok-text-in-Check, in-Count+in_ok-text-in-Count}
 
 pub kept_line-requires : goal.kept_line-requires
-kept_line-requires c = signed (accepted_by c.self.inside.signatures) c.self.inside.pool.pool c.self.invariant.ready.lawful
+kept_line-requires c = signed (accepted_by c.self-in-Try.inside.signatures) c.self-in-Try.inside.pool.pool c.self-in-Try.invariant.ready.lawful
 
 pub returns-clause-ok : goal.returns-clause-ok
 returns-clause-ok c =
