@@ -61,21 +61,23 @@ class Pool:
         self,
         program: str | os.PathLike[str],
         *,
-        signatures: Literal["scenarios", "checked"] = "scenarios",
+        signatures: Literal["trial", "checked", "ed25519", "scenarios"] = "trial",
         salt: int | None = None,
         timeout: float | None = None,
     ) -> None:
         """Starts `PROGRAM serve`. Raises an OSError if that can't be run.
 
-        signatures: with "checked" the program accepts every signature, as verified by the caller.
+        signatures: what the pool accepts. "trial" signatures, also called "scenarios", are the key
+            and then the id. "checked" accepts every signature, as verified by the caller.
+            "ed25519" accepts Ed25519 signatures of the id.
         salt: a number for the program's `--salt`; without one the program chooses.
         timeout: the limit of each call that has none of its own; None is no limit.
         """
-        if signatures not in ("scenarios", "checked"):
-            raise ValueError(f"{signatures!r:.80} is neither 'scenarios' nor 'checked'")
+        if signatures not in ("trial", "checked", "ed25519", "scenarios"):
+            raise ValueError(f"{signatures!r:.80} is none of 'trial', 'checked' and 'ed25519'")
         command = [os.fspath(program), "serve"]
-        if signatures == "checked":
-            command += ["--signatures", "checked"]
+        if signatures in ("checked", "ed25519"):
+            command += ["--signatures", signatures]
         if salt is not None:
             command += ["--salt", words.format_number(salt)]
         limit = _check_seconds(math.inf if timeout is None else timeout)

@@ -4,4 +4,4 @@
 mod asked;
 mod program;
 
-pub use asked::{Asked, Input, Wishes, parse_words};
+pub use asked::{Asked, Input, SchemeName, Wishes, parse_words};

@@ -12,7 +12,8 @@ use std::alloc::{AllocError, Global};
 
 const VERSION: &str = "0.1.0";
 
-const SIGNATURES: &[&str] = &["scenarios", "checked"];
+// The last is another word for the first.
+const SIGNATURES: &[&str] = &["trial", "checked", "ed25519", "scenarios"];
 
 const EXAMPLES: &str = "\
 Examples:
@@ -28,6 +29,8 @@ Examples:
   keltuvar audit scenario.scn race.log
                                     report whether that history is legal over the scenario
   keltuvar serve                    answer each line of standard input before reading the next
+  keltuvar serve --signatures ed25519
+                                    the same, with Ed25519 signatures
   keltuvar serve --signatures checked
                                     accept every signature, because the host has checked it
 
@@ -38,10 +41,11 @@ command line is refused.";
 pub(crate) fn program<'a>(alloc: Global) -> Result<Command<'a>, AllocError>
     ensures { IfOk result (λ c. IsAlike (app_of c) spec.program) }
 {
-    let program = add_command(bare_program(alloc), run_command(alloc));
-    let program = add_command(program, race_command(alloc));
-    let program = add_command(program, audit_command(alloc));
-    add_command(program, serve_command(alloc, SIGNATURES))
+    let names = SIGNATURES;
+    let program = add_command(bare_program(alloc), run_command(alloc, names));
+    let program = add_command(program, race_command(alloc, names));
+    let program = add_command(program, audit_command(alloc, names));
+    add_command(program, serve_command(alloc, names))
 }
 
 // Adds a command to the program, unless an allocation failed.
@@ -68,24 +72,26 @@ fn bare_program<'a>(alloc: Global) -> Result<Command<'a>, AllocError>
         .bin_name("keltuvar")
 }
 
-fn run_command<'a>(alloc: Global) -> Result<Command<'a>, AllocError>
-    ensures { IfOk result (λ c. (app_of c ≡ spec.run_command)
+fn run_command<'a>(alloc: Global, names: &'a [&'a str]) -> Result<Command<'a>, AllocError>
+    ensures { IfOk result (λ c. (app_of c ≡ spec.run_command names.entry)
         × ((fields_of c).has_globals ≡ false)) }
 {
     let about = "Run a scenario and write its answers to standard output";
     let command = new_command(alloc, "run", about).arg(explain_flag(alloc));
+    let command = add_arg(command, signatures_option(alloc, names));
     add_arg(command, scenario_file(alloc))
 }
 
-fn race_command<'a>(alloc: Global) -> Result<Command<'a>, AllocError>
-    ensures { IfOk result (λ c. (app_of c ≡ spec.race_command)
+fn race_command<'a>(alloc: Global, names: &'a [&'a str]) -> Result<Command<'a>, AllocError>
+    ensures { IfOk result (λ c. (app_of c ≡ spec.race_command names.entry)
         × ((fields_of c).has_globals ≡ false)) }
 {
     let about =
         "Deal a scenario's commands to workers that race for one pool, and audit the history";
     let command = new_command(alloc, "race", about).arg(workers_option(alloc));
-    let command = add_arg(add_wishes(alloc, command), explain_flag(alloc));
-    add_arg(command, scenario_file(alloc))
+    let explained = add_arg(add_wishes(alloc, command), explain_flag(alloc));
+    let signed = add_arg(explained, signatures_option(alloc, names));
+    add_arg(signed, scenario_file(alloc))
 }
 
 fn add_wishes<'a>(
@@ -113,13 +119,14 @@ fn add_wishes<'a>(
     add_arg(command, verify_us_option(alloc))
 }
 
-fn audit_command<'a>(alloc: Global) -> Result<Command<'a>, AllocError>
-    ensures { IfOk result (λ c. (app_of c ≡ spec.audit_command)
+fn audit_command<'a>(alloc: Global, names: &'a [&'a str]) -> Result<Command<'a>, AllocError>
+    ensures { IfOk result (λ c. (app_of c ≡ spec.audit_command names.entry)
         × ((fields_of c).has_globals ≡ false)) }
 {
     let about =
         "Replay a history that a pool wrote over a scenario, and report whether it is legal";
     let command = new_command(alloc, "audit", about).arg(explain_flag(alloc));
+    let command = add_arg(command, signatures_option(alloc, names));
     let scenario = input_file(alloc, "FILE", "SCENARIO", "The scenario");
     let history_help = "The history, as race --history writes it";
     let history = input_file(alloc, "history", "HISTORY", history_help);
@@ -180,7 +187,7 @@ fn signatures_option<'a>(alloc: Global, names: &'a [&'a str]) -> Arg<'a>
     ensures local { result.global ≡ false }
 {
     let help =
-        "Which signatures to accept: those of scenarios, or all, because the host has checked them";
+        "Which signatures to accept: trial ones, all, as checked by the host, or Ed25519 ones";
     value_option(alloc, "signatures", "WHICH", help).value_parser(ValueParser::Names(names))
 }
 

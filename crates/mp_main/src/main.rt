@@ -16,6 +16,7 @@ mod races;
 mod runs;
 mod salt;
 mod scenarios;
+mod schemes;
 mod slow;
 
 use audits::audit_files;
@@ -30,22 +31,24 @@ use std::{env, io};
 fn main(rt: HostRuntime) -> ExitCode {
     match read_words(&rt) {
         Ok(words) => match parse_words(rt.alloc(), &words) {
-            Ok(Asked::Run { input }) => run_scenario(&rt, input),
+            Ok(Asked::Run { input, signatures }) => run_scenario(&rt, input, signatures),
             Ok(
                 Asked::Race {
                     input,
                     workers,
+                    signatures,
                     wishes,
                 },
-            ) => race_scenario(&rt, &rt, input, workers, wishes),
+            ) => race_scenario(&rt, &rt, input, workers, signatures, wishes),
             Ok(
                 Asked::Audit {
                     scenario,
                     history,
+                    signatures,
                     explains,
                 },
-            ) => audit_files(&rt, scenario, history, explains),
-            Ok(Asked::Serve { accepts_all, salt }) => converse(&rt, accepts_all, salt),
+            ) => audit_files(&rt, scenario, history, signatures, explains),
+            Ok(Asked::Serve { signatures, salt }) => converse(&rt, signatures, salt),
             Err(error) => end_unparsed(&rt, error),
         },
         Err(error) => end_unworded(&rt, error),

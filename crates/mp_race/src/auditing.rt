@@ -3,7 +3,7 @@
 ghost use Rattle.std.specs.Prelude.{◌≡◌, ◌≤◌, ◌<◌, true, false, length, take, get_or, All, IfOk, IfErr, IfSome, IfNone, OnOk};
 ghost use Rattle.mp_history.specs.Log.{IsLegal};
 ghost use Rattle.mp_mempool.specs.Opening.{fresh_log};
-ghost use Rattle.mp_settings.specs.Verifier.{is_key_and_id};
+ghost use Rattle.mp_signatures.specs.Scheme.{accepted_by};
 ghost use Rattle.mp_race.specs.History.{IsEntryOf, AreEntriesOf, IsHistory, IsUndealt, IsLate, IsFaultOfHistory};
 ghost use Rattle.mp_race.specs.HistoryText.{history_text};
 ghost use Rattle.mp_race.specs.Inside.Task.{tasks_of};
@@ -16,7 +16,7 @@ use crate::task::Task;
 use crate::told::Told;
 use mp_history::{AuditFault, Entry, audit};
 use mp_memory::{Memory, NoMemory};
-use mp_settings::KeyAndId;
+use mp_signatures::Signatures;
 
 /// No race has more workers.
 pub const MAX_WORKERS: usize = 64;
@@ -133,11 +133,17 @@ fn entries_of(memory: Memory, tasks: &[Task], history: &History) -> Result<Fitti
 }
 
 // Replays the entries, each of which is a worker's.
-fn replay(memory: Memory, scenario: &Scenario, workers: u32, entries: &[Entry]) -> Result<(), Fault>
+fn replay(
+    memory: Memory,
+    scenario: &Scenario,
+    signatures: &Signatures,
+    workers: u32,
+    entries: &[Entry],
+) -> Result<(), Fault>
     requires { All (λ e. e.caller < workers) entries.now }
-    ensures legal { OnOk result (IsLegal is_key_and_id workers
+    ensures legal { OnOk result (IsLegal (accepted_by signatures.now) workers
         (fresh_log scenario.now.config scenario.now.ledger).opening entries.now) }
-    ensures fault { IfErr result (IsOfReplay is_key_and_id workers
+    ensures fault { IfErr result (IsOfReplay (accepted_by signatures.now) workers
         (fresh_log scenario.now.config scenario.now.ledger).opening entries.now) }
 {
     let config = mp_seqpool::Config {
@@ -150,7 +156,7 @@ fn replay(memory: Memory, scenario: &Scenario, workers: u32, entries: &[Entry]) 
         &scenario.ledger,
         workers,
         entries,
-        &KeyAndId,
+        signatures,
     ) {
         Ok(_) => Ok(()),
         Err(AuditFault::NoMemory) => Err(Fault::NoMemory),
@@ -170,18 +176,23 @@ fn replay(memory: Memory, scenario: &Scenario, workers: u32, entries: &[Entry]) 
 /// - `Audit(WrongReply)`: the pool replies something else.
 ///
 /// `NoMemory` may replace any answer.
-pub fn audit_history(memory: Memory, scenario: &Scenario, history: &History) -> Result<(), Fault>
+pub fn audit_history(
+    memory: Memory,
+    scenario: &Scenario,
+    signatures: &Signatures,
+    history: &History,
+) -> Result<(), Fault>
     requires some { 1 ≤ history.now.workers }
     requires most { history.now.workers ≤ 64 }
-    ensures history { OnOk result (IsHistory is_key_and_id
+    ensures history { OnOk result (IsHistory (accepted_by signatures.now)
         (fresh_log scenario.now.config scenario.now.ledger).opening history.now.workers
         scenario.now.tasks history.now.told.items) }
-    ensures fault { IfErr result (IsFaultOfHistory is_key_and_id
+    ensures fault { IfErr result (IsFaultOfHistory (accepted_by signatures.now)
         (fresh_log scenario.now.config scenario.now.ledger).opening history.now.workers
         scenario.now.tasks history.now.told.items) }
 {
     let Fitting { entries, fault } = entries_of(memory, &scenario.tasks, history)?;
-    replay(memory, scenario, history.workers, &entries)?;
+    replay(memory, scenario, signatures, history.workers, &entries)?;
     match fault {
         Some(fault) => Err(fault),
         None => Ok(()),
@@ -195,19 +206,20 @@ pub fn audit_history(memory: Memory, scenario: &Scenario, history: &History) -> 
 pub fn text_if_legal(
     memory: Memory,
     scenario: &Scenario,
+    signatures: &Signatures,
     history: &History,
 ) -> Result<Vec<u8, Memory>, Fault>
     requires some { 1 ≤ history.now.workers }
     requires most { history.now.workers ≤ 64 }
     ensures text { IfOk result (λ text. text.items
         ≡ history_text history.now.workers history.now.told.items) }
-    ensures history { OnOk result (IsHistory is_key_and_id
+    ensures history { OnOk result (IsHistory (accepted_by signatures.now)
         (fresh_log scenario.now.config scenario.now.ledger).opening history.now.workers
         scenario.now.tasks history.now.told.items) }
-    ensures fault { IfErr result (IsFaultOfHistory is_key_and_id
+    ensures fault { IfErr result (IsFaultOfHistory (accepted_by signatures.now)
         (fresh_log scenario.now.config scenario.now.ledger).opening history.now.workers
         scenario.now.tasks history.now.told.items) }
 {
-    audit_history(memory, scenario, history)?;
+    audit_history(memory, scenario, signatures, history)?;
     Ok(history.to_text(memory)?)
 }

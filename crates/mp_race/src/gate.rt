@@ -1,7 +1,7 @@
 //! Hooks into a race as it runs.
 
-use mp_seqpool::Verifier;
-use mp_settings::KeyAndId;
+use mp_rules::Verifier;
+use mp_signatures::Signatures;
 use mp_tx::{Key, Sig, TxId};
 
 /// Hooks into a race as it runs, which each of its threads calls. A call may delay a worker, and changes no answer.
@@ -25,17 +25,18 @@ impl Gate for NoGate {
 
 /// Accepts a signature exactly if it is the key followed by the id, and calls the gate before each check.
 #[derive(Drop)]
-pub struct Watched<'a, G: Gate> {
-    pub gate: &'a G,
+pub struct Watched<G: Gate + Drop> {
+    pub gate: G,
+    pub signatures: Signatures,
 }
 
-impl<G: Gate> Verifier for Watched<'_, G> {
-    ghost use Rattle.mp_settings.specs.Verifier.{is_key_and_id};
+impl<G: Gate + Drop> Verifier for Watched<G> {
+    ghost use Rattle.mp_signatures.specs.Scheme.{accepted_by};
 
-    ghost accepts = { λ _. is_key_and_id };
+    ghost accepts = { λ w. accepted_by w.signatures };
 
     fn verify(&self, key: &Key, id: &TxId, sig: &Sig) -> bool {
         self.gate.check(id);
-        KeyAndId.verify(key, id, sig)
+        self.signatures.verify(key, id, sig)
     }
 }

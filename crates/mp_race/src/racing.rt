@@ -5,7 +5,7 @@ ghost use Rattle.mp_seqpool.specs.Pool.{Pool};
 ghost use Rattle.mp_history.specs.Log.{Log, IsLegal, IsLegalLog, state_after};
 ghost use Rattle.mp_history.specs.PoolName.{head_of};
 ghost use Rattle.mp_mempool.specs.Opening.{fresh_log, fresh_passes};
-ghost use Rattle.mp_settings.specs.Verifier.{is_key_and_id};
+ghost use Rattle.mp_signatures.specs.Scheme.{accepted_by};
 ghost use Rattle.mp_race.specs.Task as told;
 ghost use Rattle.mp_race.specs.Fault.{IsOfRace};
 ghost use Rattle.mp_race.specs.Report.{report_of};
@@ -28,25 +28,18 @@ use crate::worker::{SharedPool, Worker, work};
 use mp_history::{AuditFault, Entry, Front, NewName, PoolName, audit};
 use mp_memory::{Memory, NoMemory};
 use mp_mempool::{Mempool, OpenRefusal, Pass};
-use mp_rules::Verifier;
-use mp_settings::KeyAndId;
+use mp_signatures::Signatures;
 use std::sync::{Arc, Wait};
 use std::thread::{Threads, map_vec};
 
 // A race's pool, and a pass for each worker.
-type Opened<'a, N, G> = (SharedPool<N, Watched<'a, G>>, Vec<Pass<N>, Memory>);
+type Opened<N, G> = (SharedPool<N, G>, Vec<Pass<N>, Memory>);
 
 // Each worker does its tasks, in a thread of its own if one can be made.
-fn work_all<
-    N: PoolName + Send + Sync,
-    R: Threads + Wait + Sync,
-    V: Verifier + Send + Sync,
-    G: Gate,
->(
+fn work_all<N: PoolName + Send + Sync, R: Threads + Wait + Sync, G: Gate + Send + Drop>(
     rt: &R,
     memory: Memory,
-    pool: &SharedPool<N, V>,
-    gate: &G,
+    pool: &SharedPool<N, G>,
     tasks: &[Task],
     workers: u32,
     passes: Vec<Pass<N>, Memory>,
@@ -62,28 +55,30 @@ fn work_all<
             requires { 1 ≤ workers }
             ensures { (opening : Pool) → IsUnused opening pass
                 → IsBack N.accepts workers opening (tasks_of tasks.entry.now) result }
-        { work(rt, memory, pool, gate, tasks, workers, pass) },
+        { work(rt, memory, pool, tasks, workers, pass) },
     )?)
 }
 
 // Opens the pool of a race.
-fn open<'a, N: PoolName, G: Gate>(
+fn open<N: PoolName, G: Gate + Drop>(
     rt: &impl Wait,
     memory: Memory,
     name: NewName,
     scenario: &Scenario,
     workers: u32,
-    gate: &'a G,
-) -> Result<Opened<'a, N, G>, NoMemory>
+    signatures: &Signatures,
+    gate: G,
+) -> Result<Opened<N, G>, NoMemory>
     requires name { name ≡ head_of N.book N.root }
     requires number { workers ≡ N.callers }
-    requires accepts { N.accepts ≡ is_key_and_id }
+    requires accepts { N.accepts ≡ accepted_by signatures.now }
     requires some { 1 ≤ workers }
     requires most { workers ≤ 64 }
     ensures { IfOk result (λ o. o.1.items
         ≡ fresh_passes workers (fresh_log scenario.now.config scenario.now.ledger)) }
 {
-    let verifier = Arc::new(memory, Watched { gate })?;
+    let signatures = signatures.share()?;
+    let verifier = Arc::new(memory, Watched { gate, signatures })?;
     match Mempool::open(
         rt,
         memory,
@@ -114,27 +109,28 @@ fn first_front<N: PoolName>(passes: &[Pass<N>]) -> Front<N>
 }
 
 // Opens the pool, lets the workers do their tasks, and collects what they return.
-fn run_workers<N: PoolName + Send + Sync, R: Threads + Wait + Sync, G: Gate>(
+fn run_workers<N: PoolName + Send + Sync, R: Threads + Wait + Sync, G: Gate + Send + Drop>(
     rt: &R,
     memory: Memory,
     name: NewName,
     scenario: &Scenario,
     workers: u32,
-    gate: &G,
+    signatures: &Signatures,
+    gate: G,
 ) -> Result<Gathered<N>, NoMemory>
     requires name { name ≡ head_of N.book N.root }
     requires number { workers ≡ N.callers }
-    requires accepts { N.accepts ≡ is_key_and_id }
+    requires accepts { N.accepts ≡ accepted_by signatures.now }
     requires some { 1 ≤ workers }
     requires most { workers ≤ 64 }
     ensures { IfOk result (λ g. g.is_sure ≡ true → AreGathered N.accepts N.callers
         (fresh_log scenario.now.config scenario.now.ledger).opening scenario.now.tasks
         g.front g.passes.items g.done.items g.refused.items) }
 {
-    let (pool, passes) = open(rt, memory, name, scenario, workers, gate)?;
+    let (pool, passes) = open(rt, memory, name, scenario, workers, signatures, gate)?;
     let front = first_front(&passes);
     let tasks = &scenario.tasks;
-    let done = work_all(rt, memory, &pool, gate, tasks, workers, passes)?;
+    let done = work_all(rt, memory, &pool, tasks, workers, passes)?;
     gather(memory, front, done)
 }
 
@@ -178,14 +174,15 @@ fn explain<N: PoolName>(
 fn audit_last(
     memory: Memory,
     scenario: &Scenario,
+    signatures: &Signatures,
     workers: u32,
     entries: &[Entry],
 ) -> Result<u64, Fault>
-    requires { IsLegal is_key_and_id workers
+    requires { IsLegal (accepted_by signatures.now) workers
         (fresh_log scenario.now.config scenario.now.ledger).opening entries.now }
     ensures last { (log : Log) → log.entries ≡ entries.now
         → log.opening ≡ (fresh_log scenario.now.config scenario.now.ledger).opening
-        → IfOk result (λ last. last ≡ (state_after is_key_and_id log).last) }
+        → IfOk result (λ last. last ≡ (state_after (accepted_by signatures.now) log).last) }
     ensures fault { IfErr result IsOfRace }
 {
     let config = mp_seqpool::Config {
@@ -198,7 +195,7 @@ fn audit_last(
         &scenario.ledger,
         workers,
         entries,
-        &KeyAndId,
+        signatures,
     ) {
         Ok(pool) => Ok(pool.last_ticket()),
         Err(AuditFault::NoMemory) => Err(Fault::NoMemory),
@@ -211,17 +208,19 @@ fn audit_last(
 fn report_on(
     memory: Memory,
     scenario: &Scenario,
+    signatures: &Signatures,
     workers: u32,
     entries: &[Entry],
 ) -> Result<Report, Fault>
-    requires { IsLegal is_key_and_id workers
+    requires { IsLegal (accepted_by signatures.now) workers
         (fresh_log scenario.now.config scenario.now.ledger).opening entries.now }
     ensures report { (log : Log) → log.entries ≡ entries.now
         → log.opening ≡ (fresh_log scenario.now.config scenario.now.ledger).opening
-        → IfOk result (λ r. r ≡ report_of is_key_and_id workers scenario.now.tasks log) }
+        → IfOk result (λ r. r
+        ≡ report_of (accepted_by signatures.now) workers scenario.now.tasks log) }
     ensures fault { IfErr result IsOfRace }
 {
-    let last = audit_last(memory, scenario, workers, entries)?;
+    let last = audit_last(memory, scenario, signatures, workers, entries)?;
     let counts = counts_of(entries);
     let reads = count_reads(&scenario.tasks);
     let number = entries.len() as u64;
@@ -264,26 +263,27 @@ pub struct Raced {
 /// number of receipts, that has no receipt or two, or whose command isn't its worker's next. `MissingEntry` with that number, if
 /// the pool has another entry, or if the refusals aren't those of the changes without an entry. Neither `MissingEntry` is
 /// expected.
-pub fn race<N: PoolName + Send + Sync, R: Threads + Wait + Sync, G: Gate>(
+pub fn race<N: PoolName + Send + Sync, R: Threads + Wait + Sync, G: Gate + Send + Drop>(
     rt: &R,
     memory: Memory,
     name: NewName,
     scenario: &Scenario,
     workers: u32,
-    gate: &G,
+    signatures: &Signatures,
+    gate: G,
 ) -> Result<Raced, Fault>
     requires name { name ≡ head_of N.book N.root }
     requires number { workers ≡ N.callers }
-    requires accepts { N.accepts ≡ is_key_and_id }
+    requires accepts { N.accepts ≡ accepted_by signatures.now }
     requires some { 1 ≤ workers }
     requires most { workers ≤ 64 }
-    ensures raced { IfOk result (IsRaced is_key_and_id workers scenario.now) }
+    ensures raced { IfOk result (IsRaced (accepted_by signatures.now) workers scenario.now) }
     ensures workers { IfOk result (λ raced. raced.history.workers ≡ workers) }
     ensures fault { IfErr result IsOfRace }
 {
-    let gathered = run_workers::<N, R, G>(rt, memory, name, scenario, workers, gate)?;
+    let gathered = run_workers::<N, R, G>(rt, memory, name, scenario, workers, signatures, gate)?;
     let (ordered, refused) = explain(memory, &scenario.tasks, workers, gathered)?;
-    let report = report_on(memory, scenario, workers, &ordered.entries)?;
+    let report = report_on(memory, scenario, signatures, workers, &ordered.entries)?;
     let Ordered { told, .. } = ordered;
     let tasks = scenario.tasks.len();
     let refused = order_refused(memory, tasks, &told, report.refused, refused)?;

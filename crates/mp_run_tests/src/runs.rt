@@ -1,6 +1,7 @@
 //! Runs of scenarios: devices that fail, the most bytes of an input, and allocations that fail.
 use mp_driver::{Fault, run};
 use mp_memory::Memory;
+use mp_signatures::{Scheme, Signatures};
 use mp_testing::{FailingReader, FailingWriter, MAX_GROWTHS, Seen, count};
 use std::alloc::Global;
 use std::io;
@@ -43,7 +44,10 @@ const LENGTHS: [(usize, u64, u64); 3] = [
 type Ended = Result<(), (u64, u64)>;
 
 fn run_new<R: io::Read, W: io::Write>(memory: Memory, reader: &mut R, writer: &mut W) -> Ended {
-    match run(memory, reader, writer) {
+    let Ok(signatures) = Signatures::new(memory, Scheme::Trial) else {
+        return Err((Fault::NoMemory.number(), 0));
+    };
+    match run(memory, &signatures, reader, writer) {
         Ok(()) => Ok(()),
         Err(Fault::BadLine(line)) => Err((2, line)),
         Err(fault) => Err((fault.number(), 0)),

@@ -1,6 +1,7 @@
 //! Conversations over devices that fail, and with allocations that fail, also while a line is read.
 use mp_memory::Memory;
-use mp_serve::{Fault, Signatures, Streams, serve};
+use mp_serve::{Fault, Streams, serve};
+use mp_signatures::{Scheme, Signatures};
 use mp_testing::{FailingReader, FailingWriter, MAX_GROWTHS, Seen, count};
 use mp_tx::Salt;
 use std::alloc::Global;
@@ -85,9 +86,12 @@ fn hold(
     let Ok(reader) = BufReader::new(alloc, lines) else {
         return (1, Vec::new(alloc));
     };
+    let Ok(signatures) = Signatures::new(memory, Scheme::Trial) else {
+        return (1, Vec::new(alloc));
+    };
     let mut device = Streams::new(reader, writer);
     memory.refuse(refused);
-    let ended = serve(memory, Signatures::OfScenarios, Salt::new(7), &mut device);
+    let ended = serve(memory, signatures, Salt::new(7), &mut device);
     let Streams {
         reader: _,
         writer,

@@ -2,7 +2,8 @@
 
 use mp_memory::{Memory, NoMemory};
 use mp_names::LineFault;
-use mp_serve::{Conversation, Signatures};
+use mp_serve::Conversation;
+use mp_signatures::{Scheme, Signatures};
 use mp_testing::{MAX_GROWTHS, count};
 use mp_tx::Salt;
 use std::alloc::Global;
@@ -137,9 +138,10 @@ const TALKS: [Talk; 4] = [CHANGES, READS, BLOCKS, REPORTS];
 const FEWEST: u64 = 20;
 
 fn begin(memory: Memory) -> Result<Conversation, NoMemory> {
-    match Conversation::new(memory, Signatures::OfScenarios, Salt::new(7)) {
+    let signatures = Signatures::new(memory, Scheme::Trial)?;
+    match Conversation::new(memory, signatures.share()?, Salt::new(7)) {
         Ok(conversation) => Ok(conversation),
-        Err(_) => Conversation::new(memory, Signatures::OfScenarios, Salt::new(7)),
+        Err(_) => Conversation::new(memory, signatures, Salt::new(7)),
     }
 }
 

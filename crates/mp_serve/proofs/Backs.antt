@@ -10,7 +10,8 @@ use Rattle.mp_names.specs.Names.{Names}
 use Rattle.mp_answers.specs.AnswerText.{answer_text}
 use Rattle.mp_serve.specs.declared.former.Former.{Former}
 use Rattle.mp_serve.specs.Refused.{one_more}
-use Rattle.mp_serve.specs.ServedPool.{ServedPool, accepted_by, state_back}
+use Rattle.mp_signatures.specs.Scheme.{accepted_by}
+use Rattle.mp_serve.specs.ServedPool.{ServedPool, state_back}
 use Rattle.mp_serve.specs.Request.{Response, Return, counted_anew, refused_with, one_back_more, go_back, respond}
 use Rattle.mp_serve.specs.Texts.{back_refused_text}
 use Rattle.mp_serve.specs.Inside.Former.{states_of, earliest}

@@ -6,6 +6,7 @@ use Rattle.mp_tx.specs.Ledger.{LedgerState}
 use Rattle.mp_rules.specs.declared.invalid.Invalid.{Invalid}
 use Rattle.mp_block.specs.Block.{apply_block}
 use Rattle.mp_resync.specs.Keep.{keep}
+use Rattle.mp_signatures.specs.Scheme.{accepted_by}
 use Rattle.mp_seqpool.specs.declared.refusal.Refusal.{Refusal}
 use Rattle.mp_seqpool.specs.declared.command.Reply.{Reply}
 use Rattle.mp_seqpool.specs.Command.{Command}
@@ -17,7 +18,7 @@ use Rattle.mp_names.specs.Names.{Names, with_reported}
 use Rattle.mp_lines.specs.declared.query.Query.{Query}
 use Rattle.mp_answers.specs.AnswerText.{answer_text}
 use Rattle.mp_answers.specs.QueryText.{query_text, for_text, cursor_after}
-use Rattle.mp_serve.specs.ServedPool.{ServedPool, accepted_by, latest, state_back}
+use Rattle.mp_serve.specs.ServedPool.{ServedPool, latest, state_back}
 use Rattle.mp_serve.specs.declared.refused.Counts.{Counts}
 use Rattle.mp_serve.specs.Refused.{one_more, counted_if}
 use Rattle.mp_serve.specs.Texts.{stats_text, block_refused_text, back_refused_text}

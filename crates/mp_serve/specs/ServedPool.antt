@@ -1,22 +1,14 @@
 -- A pool that is served, with the ledger states to which it can return.
-use Rattle.std.specs.Prelude.{ℕ, ◌-◌, nat_le, true, List, [], ◌∷◌, ◌++◌, length, drop, slice_get, Option, None, if◌then◌else◌}
+use Rattle.std.specs.Prelude.{ℕ, ◌-◌, nat_le, List, [], ◌∷◌, ◌++◌, length, drop, slice_get, Option, None, if◌then◌else◌}
 use Rattle.mp_tx.specs.Ledger.{LedgerState}
-use Rattle.mp_rules.specs.Verifier.{Accepts}
 use Rattle.mp_seqpool.specs.Pool.{Pool}
-use Rattle.mp_settings.specs.Verifier.{is_key_and_id}
+use Rattle.mp_signatures.specs.declared.scheme.Scheme.{Scheme}
 use Rattle.mp_serve.specs.declared.refused.Counts.{Counts}
-use Rattle.mp_serve.specs.declared.signatures.Signatures.{Signatures}
-use Rattle.mp_serve.specs.declared.signatures.Signatures.TheVariants.{OfScenarios, Checked}
-
--- the signatures of scenarios, or all
-abbrev pub accepted_by : Signatures → Accepts
-accepted_by OfScenarios = is_key_and_id
-accepted_by Checked = λ key id signature. true
 
 pub record ServedPool : Type 0 where
   pub pool : Pool
   -- the signatures that it accepts
-  pub signatures : Signatures
+  pub signatures : Scheme
   -- the ledger states before the present one, oldest first
   pub former : List LedgerState
   -- how often each kind of refusal was answered

@@ -24,7 +24,7 @@ use Rattle.mp_lines.specs.Lines.{Line, Blank, Sets, Script, Data, Out, Tx, Submi
 use Rattle.mp_settings.specs.declared.settings.Settings.{Settings}
 use Rattle.mp_settings.specs.Settings.{no_settings, with_setting, block_bytes_of, limit_of, last_of, tick_of}
 use Rattle.mp_settings.specs.Ledgers.{ledger_at}
-use Rattle.mp_serve.specs.declared.signatures.Signatures.{Signatures}
+use Rattle.mp_signatures.specs.declared.scheme.Scheme.{Scheme}
 use Rattle.mp_serve.specs.declared.beginning.Beginning.{Beginning}
 use Rattle.mp_serve.specs.declared.conversation.Stage.{Stage}
 use Rattle.mp_serve.specs.declared.conversation.Stage.TheVariants.{Before, Open}
@@ -37,10 +37,10 @@ use Rattle.mp_serve.specs.Request as requests
 use Rattle.mp_serve.specs.Texts.{ok_text, bytes_text, show_text, forgotten_text}
 
 -- before the first line
-abbrev pub begun : Signatures → ℕ → Beginning
+abbrev pub begun : Scheme → ℕ → Beginning
 begun signatures salt = record { signatures = signatures; outs = 0; ledger = ledger_of salt 0 500000 [] }
 
-abbrev pub new_conversation : Signatures → ℕ → Conversation
+abbrev pub new_conversation : Scheme → ℕ → Conversation
 new_conversation signatures salt = record {
   names = first_names;
   settings = no_settings salt;

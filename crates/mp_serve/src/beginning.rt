@@ -10,10 +10,10 @@ ghost use Rattle.mp_names.specs.References.{opening_ref};
 ghost use Rattle.mp_block.specs.Block.{at_tick};
 ghost use Rattle.mp_serve.specs.Talk.{put_in};
 
-use crate::signatures::Signatures;
 use mp_lines::MAX_OUTPUTS;
 use mp_memory::{Memory, NoMemory};
 use mp_names::{Binding, LineFault, Name, Names, Payment, Reason};
+use mp_signatures::Signatures;
 use mp_tx::{BlockFault, Ledger, OutRef, Output};
 
 /// What a pool opens with.

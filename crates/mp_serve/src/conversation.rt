@@ -13,7 +13,6 @@ use crate::block::Block;
 use crate::forgetting::names_to_go;
 use crate::pool::ServedPool;
 use crate::request::Request;
-use crate::signatures::Signatures;
 use crate::texts::{Text, forgotten_line, ok_line, read_line, show_line, undecodable_line};
 use mp_lines::Line;
 use mp_memory::{Memory, NoMemory};
@@ -23,6 +22,7 @@ use mp_names::{
 };
 use mp_seqpool::Ids;
 use mp_settings::{Settings, ledger_at, make_ledger};
+use mp_signatures::Signatures;
 use mp_tx::{OutRef, Output, Salt, Tx, TxFault, TxId};
 use std::sync::Arc;
 

@@ -18,7 +18,6 @@ mod pool;
 mod refused;
 mod request;
 mod serving;
-mod signatures;
 mod texts;
 
 pub use ask::MAX_LINE_BYTES;
@@ -26,4 +25,3 @@ pub use conversation::Conversation;
 pub use device::{Device, Streams, Turn};
 pub use fault::Fault;
 pub use serving::serve;
-pub use signatures::Signatures;

@@ -8,35 +8,35 @@ ghost use Rattle.mp_seqpool.specs.Inside.Command.{command_of};
 ghost use Rattle.mp_seqpool.specs.Prepared.{Prepares};
 ghost use Rattle.mp_seqpool.specs.SlowPool.{answer, next, AreSigned, IsRefused};
 ghost use Rattle.mp_answers.specs.AnswerText.{answer_text};
-ghost use Rattle.mp_serve.specs.ServedPool.{accepted_by};
+ghost use Rattle.mp_signatures.specs.Scheme.{accepted_by};
 ghost use Rattle.mp_serve.specs.Request.{counted_anew, reported_if};
 ghost use Rattle.mp_serve.specs.Inside.Pool.{IsReady};
 
-use crate::signatures::Signatures;
 use crate::texts::Text;
 use mp_answers::{answer_line, reply_line};
 use mp_memory::{Memory, NoMemory};
 use mp_names::{Name, Names};
 use mp_seqpool::{Command, Ids, Prepared, Refusal, SeqPool};
+use mp_signatures::Signatures;
 use mp_tx::Tx;
 use std::sync::Arc;
 
 fn prepare(
-    signatures: Signatures,
+    signatures: &Signatures,
     pool: &mut SeqPool,
     command: &Command,
 ) -> Result<Prepared, Refusal>
-    requires { AreSigned (accepted_by signatures) pool.old.pool }
+    requires { AreSigned (accepted_by signatures.now) pool.old.pool }
     ensures same { pool.new.pool ≡ pool.old.pool }
     ensures ready { IfOk result
-        (Prepares (accepted_by signatures) pool.new (command_of command.now)) }
+        (Prepares (accepted_by signatures.now) pool.new (command_of command.now)) }
     ensures refused { IfErr result
-        (IsRefused (accepted_by signatures) pool.old.pool (command_of command.now)) }
+        (IsRefused (accepted_by signatures.now) pool.old.pool (command_of command.now)) }
 {
     match command {
-        Command::Submit(tx) => pool.prepare_submit(tx, None, &signatures),
-        Command::Remove(ids) => pool.prepare_remove(ids, &signatures),
-        Command::Sync(ledger) => pool.prepare_sync(ledger, &signatures),
+        Command::Submit(tx) => pool.prepare_submit(tx, None, signatures),
+        Command::Remove(ids) => pool.prepare_remove(ids, signatures),
+        Command::Sync(ledger) => pool.prepare_sync(ledger, signatures),
     }
 }
 
@@ -67,17 +67,17 @@ fn refused(memory: Memory, names: &Names, refusal: &Refusal) -> Result<Answered,
 fn carry_out(
     memory: Memory,
     names: &Names,
-    signatures: Signatures,
+    signatures: &Signatures,
     pool: &mut SeqPool,
     command: &Command,
 ) -> Result<Answered, NoMemory>
-    requires { IsReady (accepted_by signatures) pool.old.pool }
+    requires { IsReady (accepted_by signatures.now) pool.old.pool }
     ensures pool { OnOk result (pool.new.pool
-        ≡ counted_anew (next (accepted_by signatures) pool.old.pool (command_of command.now))) }
+        ≡ counted_anew (next (accepted_by signatures.now) pool.old.pool (command_of command.now))) }
     ensures text { IfOk result (λ r. r.0.items ≡ answer_text names.now
-        (answer (accepted_by signatures) pool.old.pool (command_of command.now))) }
+        (answer (accepted_by signatures.now) pool.old.pool (command_of command.now))) }
     ensures refusal { IfOk result (λ r. r.1
-        ≡ result_err (answer (accepted_by signatures) pool.old.pool (command_of command.now))) }
+        ≡ result_err (answer (accepted_by signatures.now) pool.old.pool (command_of command.now))) }
     ensures err { OnErr result (pool.new.pool ≡ pool.old.pool) }
 {
     match prepare(signatures, pool, command) {
@@ -98,19 +98,19 @@ fn carry_out(
 pub fn obey(
     memory: Memory,
     names: &Names,
-    signatures: Signatures,
+    signatures: &Signatures,
     pool: &mut SeqPool,
     command: &Command,
 ) -> Result<Answered, NoMemory>
-    requires { IsReady (accepted_by signatures) pool.old.pool }
+    requires { IsReady (accepted_by signatures.now) pool.old.pool }
     ensures pool { OnOk result (pool.new.pool
-        ≡ counted_anew (next (accepted_by signatures) pool.old.pool (command_of command.now))) }
+        ≡ counted_anew (next (accepted_by signatures.now) pool.old.pool (command_of command.now))) }
     ensures text { IfOk result (λ r. r.0.items ≡ answer_text names.now
-        (answer (accepted_by signatures) pool.old.pool (command_of command.now))) }
+        (answer (accepted_by signatures.now) pool.old.pool (command_of command.now))) }
     ensures refusal { IfOk result (λ r. r.1
-        ≡ result_err (answer (accepted_by signatures) pool.old.pool (command_of command.now))) }
+        ≡ result_err (answer (accepted_by signatures.now) pool.old.pool (command_of command.now))) }
     ensures err { OnErr result (pool.new.pool ≡ pool.old.pool) }
-    ensures ready { IsReady (accepted_by signatures) pool.new.pool }
+    ensures ready { IsReady (accepted_by signatures.now) pool.new.pool }
 {
     carry_out(memory, names, signatures, pool, command)
 }
@@ -120,23 +120,25 @@ fn take_in(
     memory: Memory,
     names: &mut Names,
     name: &Name,
-    signatures: Signatures,
+    signatures: &Signatures,
     pool: &mut SeqPool,
     tx: &Arc<Tx, Memory>,
 ) -> Result<Answered, NoMemory>
-    requires { IsReady (accepted_by signatures) pool.old.pool }
+    requires { IsReady (accepted_by signatures.now) pool.old.pool }
     ensures pool { OnOk result (pool.new.pool
-        ≡ counted_anew (next (accepted_by signatures) pool.old.pool (Submit (arc_value tx.now)))) }
+        ≡ counted_anew (next (accepted_by signatures.now) pool.old.pool
+        (Submit (arc_value tx.now)))) }
     ensures names { OnOk result (names.new ≡ reported_if names.old name.now
-        (answer (accepted_by signatures) pool.old.pool (Submit (arc_value tx.now)))) }
+        (answer (accepted_by signatures.now) pool.old.pool (Submit (arc_value tx.now)))) }
     ensures text { IfOk result (λ r. r.0.items ≡ answer_text names.old
-        (answer (accepted_by signatures) pool.old.pool (Submit (arc_value tx.now)))) }
+        (answer (accepted_by signatures.now) pool.old.pool (Submit (arc_value tx.now)))) }
     ensures refusal { IfOk result (λ r. r.1
-        ≡ result_err (answer (accepted_by signatures) pool.old.pool (Submit (arc_value tx.now)))) }
+        ≡ result_err (answer (accepted_by signatures.now) pool.old.pool
+        (Submit (arc_value tx.now)))) }
     ensures err { OnErr result (pool.new.pool ≡ pool.old.pool) }
     ensures kept { OnErr result (names.new ≡ names.old) }
 {
-    match pool.prepare_submit(tx, None, &signatures) {
+    match pool.prepare_submit(tx, None, signatures) {
         Ok(prepared) => {
             let text = reply_line(memory, prepared.reply())?;
             names.report(name.as_bytes())?;
@@ -157,22 +159,24 @@ pub fn submit(
     memory: Memory,
     names: &mut Names,
     name: &Name,
-    signatures: Signatures,
+    signatures: &Signatures,
     pool: &mut SeqPool,
     tx: &Arc<Tx, Memory>,
 ) -> Result<Answered, NoMemory>
-    requires { IsReady (accepted_by signatures) pool.old.pool }
+    requires { IsReady (accepted_by signatures.now) pool.old.pool }
     ensures pool { OnOk result (pool.new.pool
-        ≡ counted_anew (next (accepted_by signatures) pool.old.pool (Submit (arc_value tx.now)))) }
+        ≡ counted_anew (next (accepted_by signatures.now) pool.old.pool
+        (Submit (arc_value tx.now)))) }
     ensures names { OnOk result (names.new ≡ reported_if names.old name.now
-        (answer (accepted_by signatures) pool.old.pool (Submit (arc_value tx.now)))) }
+        (answer (accepted_by signatures.now) pool.old.pool (Submit (arc_value tx.now)))) }
     ensures text { IfOk result (λ r. r.0.items ≡ answer_text names.old
-        (answer (accepted_by signatures) pool.old.pool (Submit (arc_value tx.now)))) }
+        (answer (accepted_by signatures.now) pool.old.pool (Submit (arc_value tx.now)))) }
     ensures refusal { IfOk result (λ r. r.1
-        ≡ result_err (answer (accepted_by signatures) pool.old.pool (Submit (arc_value tx.now)))) }
+        ≡ result_err (answer (accepted_by signatures.now) pool.old.pool
+        (Submit (arc_value tx.now)))) }
     ensures err { OnErr result (pool.new.pool ≡ pool.old.pool) }
     ensures kept { OnErr result (names.new ≡ names.old) }
-    ensures ready { IsReady (accepted_by signatures) pool.new.pool }
+    ensures ready { IsReady (accepted_by signatures.now) pool.new.pool }
     ensures ledger { pool.new.pool.ledger ≡ pool.old.pool.ledger }
 {
     take_in(memory, names, name, signatures, pool, tx)
@@ -183,19 +187,21 @@ pub fn submit(
 pub fn remove(
     memory: Memory,
     names: &Names,
-    signatures: Signatures,
+    signatures: &Signatures,
     pool: &mut SeqPool,
     ids: &Arc<Ids, Memory>,
 ) -> Result<Answered, NoMemory>
-    requires { IsReady (accepted_by signatures) pool.old.pool }
+    requires { IsReady (accepted_by signatures.now) pool.old.pool }
     ensures pool { OnOk result (pool.new.pool
-        ≡ counted_anew (next (accepted_by signatures) pool.old.pool (Remove (arc_value ids.now)))) }
+        ≡ counted_anew (next (accepted_by signatures.now) pool.old.pool
+        (Remove (arc_value ids.now)))) }
     ensures text { IfOk result (λ r. r.0.items ≡ answer_text names.now
-        (answer (accepted_by signatures) pool.old.pool (Remove (arc_value ids.now)))) }
+        (answer (accepted_by signatures.now) pool.old.pool (Remove (arc_value ids.now)))) }
     ensures refusal { IfOk result (λ r. r.1
-        ≡ result_err (answer (accepted_by signatures) pool.old.pool (Remove (arc_value ids.now)))) }
+        ≡ result_err (answer (accepted_by signatures.now) pool.old.pool
+        (Remove (arc_value ids.now)))) }
     ensures err { OnErr result (pool.new.pool ≡ pool.old.pool) }
-    ensures ready { IsReady (accepted_by signatures) pool.new.pool }
+    ensures ready { IsReady (accepted_by signatures.now) pool.new.pool }
     ensures ledger { pool.new.pool.ledger ≡ pool.old.pool.ledger }
 {
     let command = Command::Remove(Arc::try_clone(ids)?);
@@ -206,15 +212,15 @@ pub fn remove(
 pub fn check(
     memory: Memory,
     names: &Names,
-    signatures: Signatures,
+    signatures: &Signatures,
     pool: &mut SeqPool,
     tx: &Arc<Tx, Memory>,
 ) -> Result<Text, NoMemory>
     ensures pool { pool.new.pool ≡ pool.old.pool }
     ensures text { IfOk result (λ text. text.items ≡ answer_text names.now
-        (answer (accepted_by signatures) pool.old.pool (Submit (arc_value tx.now)))) }
+        (answer (accepted_by signatures.now) pool.old.pool (Submit (arc_value tx.now)))) }
 {
-    match pool.prepare_submit(tx, None, &signatures) {
+    match pool.prepare_submit(tx, None, signatures) {
         Ok(prepared) => reply_line(memory, prepared.reply()),
         Err(Refusal::NoMemory) => Err(NoMemory),
         Err(refusal) => answer_line(memory, names, &Err(refusal)),

@@ -8,7 +8,6 @@ use crate::former::{Former, Formers};
 use crate::obeying::{check, remove, submit};
 use crate::refused::{Counts, count_if_refused, count_one, none_counted};
 use crate::request::Request;
-use crate::signatures::Signatures;
 use crate::texts::{Text, back_refused_line, stats_line};
 use mp_answers::{kept_line, query_line};
 use mp_block::AppliedBlock;
@@ -16,6 +15,7 @@ use mp_memory::{Memory, NoMemory};
 use mp_names::{Name, Names};
 use mp_seqpool::{Config, Ids, SeqPool};
 use mp_settings::Settings;
+use mp_signatures::Signatures;
 use mp_tx::{Ledger, Tx, TxId};
 use std::marker::Model;
 use std::sync::Arc;
@@ -73,6 +73,8 @@ impl ServedPool {
     ) -> Result<ServedPool, NoMemory>
         ensures { IfOk result (λ p. p ≡ opened settings.now beginning.now) }
     {
+        let signatures = &beginning.signatures;
+        let signatures = signatures.share()?;
         let ledger = &beginning.ledger;
         let ledger = at_tick(memory, ledger, settings.tick(), settings.block_bytes())?;
         let config = Config {
@@ -81,7 +83,7 @@ impl ServedPool {
         };
         Ok(ServedPool {
             pool: SeqPool::start(memory, config, &ledger)?,
-            signatures: beginning.signatures,
+            signatures,
             former: Vec::new(memory),
             refused: none_counted(),
         })
@@ -115,7 +117,7 @@ impl ServedPool {
         ensures kept { OnErr result (names.new ≡ names.old) }
     {
         let pool = &mut self.pool;
-        let (text, refusal) = submit(memory, names, name, self.signatures, pool, tx)?;
+        let (text, refusal) = submit(memory, names, name, &self.signatures, pool, tx)?;
         count_if_refused(&mut self.refused, &refusal);
         Ok(text)
     }
@@ -133,7 +135,7 @@ impl ServedPool {
             text.items ≡ answered names.now self.old (Remove (arc_value ids.now))) }
         ensures err { OnErr result (self.new ≡ self.old) }
     {
-        let (text, refusal) = remove(memory, names, self.signatures, &mut self.pool, ids)?;
+        let (text, refusal) = remove(memory, names, &self.signatures, &mut self.pool, ids)?;
         count_if_refused(&mut self.refused, &refusal);
         Ok(text)
     }
@@ -149,7 +151,7 @@ impl ServedPool {
         go_on(
             memory,
             names,
-            self.signatures,
+            &self.signatures,
             &mut self.pool,
             &mut self.former,
             ledger.share()?,
@@ -169,14 +171,13 @@ impl ServedPool {
             ≡ record { served = self.new; cursor = cursor; text = text.items }) }
         ensures err { OnErr result (self.new ≡ self.old) }
     {
-        let signatures = self.signatures;
-        match extend(memory, names, signatures, self.pool.ledger(), block)? {
+        match extend(memory, names, &self.signatures, self.pool.ledger(), block)? {
             Extended::To(applied) => {
                 let AppliedBlock { ledger, undo } = applied;
                 go_on(
                     memory,
                     names,
-                    signatures,
+                    &self.signatures,
                     &mut self.pool,
                     &mut self.former,
                     ledger,
@@ -207,7 +208,7 @@ impl ServedPool {
         go_back(
             memory,
             names,
-            self.signatures,
+            &self.signatures,
             &mut self.pool,
             &mut self.former,
             kept - count,
@@ -230,7 +231,6 @@ impl ServedPool {
             ≡ record { served = self.new; cursor = r.1; text = r.0.items }) }
         ensures err { OnErr result (self.new ≡ self.old) }
     {
-        let signatures = self.signatures;
         let text = match request {
             Request::Remove(ids) => self.remove(memory, names, ids)?,
             Request::Adopt(ledger) => self.adopt(memory, names, ledger)?,
@@ -239,8 +239,8 @@ impl ServedPool {
             Request::Read(query) => {
                 return query_line(memory, names, cursor, &self.pool, *query);
             }
-            Request::Try(ledger) => kept_line(memory, names, &self.pool, ledger, &signatures)?,
-            Request::Check(tx) => check(memory, names, signatures, &mut self.pool, tx)?,
+            Request::Try(ledger) => kept_line(memory, names, &self.pool, ledger, &self.signatures)?,
+            Request::Check(tx) => check(memory, names, &self.signatures, &mut self.pool, tx)?,
             Request::Count => stats_line(memory, &self.pool, &self.refused)?,
         };
         Ok((text, cursor))

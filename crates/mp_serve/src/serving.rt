@@ -10,8 +10,8 @@ use crate::ask::MAX_LINE_BYTES;
 use crate::conversation::Conversation;
 use crate::device::{Device, Turn};
 use crate::fault::Fault;
-use crate::signatures::Signatures;
 use mp_memory::Memory;
+use mp_signatures::Signatures;
 use mp_text::LineRead;
 use mp_tx::Salt;
 

@@ -5,7 +5,7 @@ use crate::wrong::{Result, Wrong};
 use mp_ed25519::Base;
 use mp_memory::Memory;
 use mp_rules::Verifier;
-use mp_signatures::Ed25519Verifier;
+use mp_signatures::{Scheme, Signatures};
 
 #[derive(Clone, Copy)]
 struct Case<'a> {
@@ -35,7 +35,7 @@ fn is_wanted(is_good: bool, wanted: &str) -> Result<bool> {
 }
 
 // Whether a pool's verifier returns the same, if the message can be the id of a transaction.
-fn is_answered_alike(verifier: &Ed25519Verifier, case: &Case<'_>, is_good: bool) -> bool {
+fn is_answered_alike(verifier: &Signatures, case: &Case<'_>, is_good: bool) -> bool {
     match case.message.split_first_chunk::<32>() {
         Some((id, rest)) if rest.is_empty() => {
             verifier.verify(case.key, id, case.signature) == is_good
@@ -48,7 +48,7 @@ fn is_answered_alike(verifier: &Ed25519Verifier, case: &Case<'_>, is_good: bool)
 pub fn holds(memory: Memory, given: &str, wanted: &str) -> Result<bool> {
     let bytes = pieces::bytes(memory, given)?;
     let base = Base::new(memory)?;
-    let verifier = Ed25519Verifier::new(memory)?;
+    let verifier = Signatures::new(memory, Scheme::Ed25519)?.share()?;
     let case = case_of(&bytes)?;
     let is_good = base.verify(case.key, case.message, case.signature);
     Ok(is_wanted(is_good, wanted)? && is_answered_alike(&verifier, &case, is_good))

@@ -24,15 +24,18 @@ pub record IsAudit (rows : List Row) : Type 0 where
 
 -- one of the names for signatures or none, a salt or none, no file and no flag
 pub record IsServe (rows : List Row) : Type 0 where
-  pub signatures : IfSome (first_of (codes "signatures") rows) IsSignatures
   pub salt : IsWide (one_of (codes "salt") rows)
   pub file : first_of (codes "FILE") rows ≡ None
   pub explain : one_of (codes "explain") rows ≡ None
 
 -- a run, a race, an audit or a conversation
+abbrev pub IsCommand : Text → List Row → Type 0
+IsCommand name rows = (name ≡ codes "run")
+    ⊎ ((name ≡ codes "race") × IsRace rows)
+    ⊎ ((name ≡ codes "audit") × IsAudit rows)
+    ⊎ ((name ≡ codes "serve") × IsServe rows)
+
+-- one of those, with the name of signatures or none
 abbrev pub IsTaken : Option (Text × List Row) → Type 0
 IsTaken None = ⊥
-IsTaken (Some command) = (command.0 ≡ codes "run")
-    ⊎ ((command.0 ≡ codes "race") × IsRace command.1)
-    ⊎ ((command.0 ≡ codes "audit") × IsAudit command.1)
-    ⊎ ((command.0 ≡ codes "serve") × IsServe command.1)
+IsTaken (Some command) = IsCommand command.0 command.1 × IfSome (first_of (codes "signatures") command.1) IsSignatures

@@ -1,7 +1,8 @@
 -- How contracts see a served pool, and its invariant.
 use Rattle.std.specs.Prelude.{◌≤◌, length}
+use Rattle.mp_signatures.specs.Scheme.{accepted_by}
 use Rattle.mp_serve.specs.declared.pool.ServedPool.TheInside.{Inside}
-use Rattle.mp_serve.specs.ServedPool.{ServedPool, accepted_by}
+use Rattle.mp_serve.specs.ServedPool.{ServedPool}
 use Rattle.mp_serve.specs.Inside.Pool.{IsReady}
 use Rattle.mp_serve.specs.Inside.Former.{states_of, CanAllGoBack}
 
