@@ -18,11 +18,20 @@ use mp_tx::TxId;
 use std::mem;
 use std::sync::Arc;
 
+/// What the pool is to open with.
+#[derive(Drop)]
+pub struct Unopened {
+    /// Which signatures it will accept.
+    pub signatures: Signatures,
+    /// The opening outputs so far.
+    pub openings: Openings,
+}
+
 /// Whether the first command has come.
 #[derive(Drop)]
 pub enum Stage {
-    /// Before the first command: which signatures the pool will accept, and the opening outputs so far.
-    Before(Signatures, Openings),
+    /// Before the first command.
+    Before(Unopened),
     /// After it: the pool.
     Open(ScenarioPool),
 }
@@ -53,9 +62,9 @@ fn open_pool(memory: Memory, settings: &Settings, stage: &mut Stage) -> Result<(
         (stage_of stage.new ≡ Open (pool_at settings.now (stage_of stage.old))) }
     ensures scheme { OnOk result (scheme_of stage.new ≡ scheme_of stage.old) }
 {
-    if let Stage::Before(signatures, openings) = stage {
-        let openings = mem::replace(openings, Openings::new(memory));
-        let pool = ScenarioPool::open(memory, settings, signatures, openings)?;
+    if let Stage::Before(unopened) = stage {
+        let openings = mem::replace(&mut unopened.openings, Openings::new(memory));
+        let pool = ScenarioPool::open(memory, settings, &unopened.signatures, openings)?;
         *stage = Stage::Open(pool);
     }
     Ok(())
@@ -85,7 +94,10 @@ impl Scene {
             names: Names::new(memory, settings.salt())?,
             settings,
             cursor: 0,
-            stage: Stage::Before(signatures.share()?, Openings::new(memory)),
+            stage: Stage::Before(Unopened {
+                signatures: signatures.share()?,
+                openings: Openings::new(memory),
+            }),
         })
     }
 
@@ -99,7 +111,7 @@ impl Scene {
         ensures stays { IsBad result → scene_of self.new ≡ scene_of self.old }
     {
         match &self.stage {
-            Stage::Before(_, _) => self.settings.set(setting),
+            Stage::Before(_) => self.settings.set(setting),
             Stage::Open(_) => Err(LineFault::Bad(Reason::LateSetting)),
         }
     }
@@ -115,7 +127,8 @@ impl Scene {
     {
         match &mut self.stage {
             Stage::Open(_) => Err(LineFault::Bad(Reason::LateOutput)),
-            Stage::Before(_, openings) => {
+            Stage::Before(unopened) => {
+                let openings = &mut unopened.openings;
                 if openings.len() >= MAX_OUTPUTS {
                     return Err(LineFault::Bad(Reason::ManyOutputs));
                 }

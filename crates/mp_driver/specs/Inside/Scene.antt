@@ -7,11 +7,11 @@ use Rattle.mp_driver.specs.Scene.{Before, Open}
 use Rattle.mp_driver.specs.Scene as told
 
 abbrev pub scheme_of : Stage → Scheme
-scheme_of (stages.Before signatures openings) = signatures
+scheme_of (stages.Before u) = u.signatures
 scheme_of (stages.Open p) = p.scheme
 
 abbrev pub stage_of : Stage → told.Stage
-stage_of (stages.Before signatures openings) = Before openings
+stage_of (stages.Before u) = Before u.openings
 stage_of (stages.Open p) = Open p.pool
 
 abbrev pub scene_of : Scene → told.Scene
