@@ -9,3 +9,5 @@ with Pool("crates/mp_main/out/mp_main") as pool:
     except Refused as refused:
         print(refused)
     print(pool.submit("a"), pool.submit("b"), pool.snapshot().size)
+    for item in pool.snapshot().items:
+        print(item.ticket, item.name)

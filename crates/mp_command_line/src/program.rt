@@ -30,7 +30,7 @@ Examples:
                                     report whether that history is legal over the scenario
   keltuvar serve                    answer each line of standard input before reading the next
   keltuvar serve --signatures ed25519
-                                    the same, with Ed25519 signatures
+                                    accept Ed25519 signatures
   keltuvar serve --signatures checked
                                     accept every signature, because the host has checked it
 
@@ -187,7 +187,7 @@ fn signatures_option<'a>(alloc: Global, names: &'a [&'a str]) -> Arg<'a>
     ensures local { result.global ≡ false }
 {
     let help =
-        "Which signatures to accept: trial ones, all, as checked by the host, or Ed25519 ones";
+        "Which signatures to accept: trial ones, Ed25519 ones, or all, because the host has checked them";
     value_option(alloc, "signatures", "WHICH", help).value_parser(ValueParser::Names(names))
 }
 
