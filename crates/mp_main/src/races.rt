@@ -64,9 +64,7 @@ pub fn race_over<R: Threads + Wait + Clock + Sync, W: Write>(
         clock: threads,
         micros: wishes.verify_us,
     };
-    race_slowly(
-        rt, threads, memory, scenario, workers, wishes, &gate, writer,
-    )
+    race_slowly(rt, threads, memory, scenario, workers, wishes, gate, writer)
 }
 
 // The same by a pool of its own, with looks that take as long as is wished.
@@ -77,12 +75,12 @@ fn race_slowly<R: Threads + Wait + Clock + Sync, W: Write>(
     scenario: &Scenario,
     workers: u32,
     wishes: Wishes<'_>,
-    gate: &Slow<'_, R>,
+    gate: Slow<'_, R>,
     writer: &mut W,
 ) -> ExitCode
     requires some { 1 ≤ workers }
     requires most { workers ≤ 64 }
-    requires slow { gate.now.micros ≡ wishes.verify_us }
+    requires slow { gate.micros ≡ wishes.verify_us }
     ensures { EndsAs (RaceEnds workers scenario.now
         (W.contents writer.old) (W.contents writer.new)) (exit_status result) }
 {

@@ -23,13 +23,13 @@ impl Gate for NoGate {
     fn check(&self, _id: &TxId) {}
 }
 
-/// Accepts a signature exactly where it is the key followed by the id, and tells the gate of each that it looks at.
+/// Accepts a signature exactly if it is the key followed by the id, and reports each that it looks at to its gate.
 #[derive(Drop)]
-pub struct Watched<'a, G: Gate> {
-    pub gate: &'a G,
+pub struct Watched<G: Gate + Drop> {
+    pub gate: G,
 }
 
-impl<G: Gate> Verifier for Watched<'_, G> {
+impl<G: Gate + Drop> Verifier for Watched<G> {
     ghost use Rattle.mp_settings.specs.Verifier.{is_key_and_id};
 
     ghost accepts = { λ _. is_key_and_id };

@@ -28,25 +28,18 @@ use crate::worker::{SharedPool, Worker, work};
 use mp_history::{AuditFault, Entry, Front, NewName, PoolName, audit};
 use mp_memory::{Memory, NoMemory};
 use mp_mempool::{Mempool, OpenRefusal, Pass};
-use mp_rules::Verifier;
 use mp_settings::KeyAndId;
 use std::sync::{Arc, Wait};
 use std::thread::{Threads, map_vec};
 
 // What a race runs on: a pool, and a pass for each worker.
-type Opened<'a, N, G> = (SharedPool<N, Watched<'a, G>>, Vec<Pass<N>, Memory>);
+type Opened<N, G> = (SharedPool<N, G>, Vec<Pass<N>, Memory>);
 
 // Each worker does what is dealt to it, in a thread of its own where one can be made.
-fn work_all<
-    N: PoolName + Send + Sync,
-    R: Threads + Wait + Sync,
-    V: Verifier + Send + Sync,
-    G: Gate,
->(
+fn work_all<N: PoolName + Send + Sync, R: Threads + Wait + Sync, G: Gate + Send + Drop>(
     rt: &R,
     memory: Memory,
-    pool: &SharedPool<N, V>,
-    gate: &G,
+    pool: &SharedPool<N, G>,
     tasks: &[Task],
     workers: u32,
     passes: Vec<Pass<N>, Memory>,
@@ -62,19 +55,19 @@ fn work_all<
             requires { 1 ≤ workers }
             ensures { (opening : Pool) → IsUnused opening pass
                 → IsBack N.accepts workers opening (tasks_of tasks.entry.now) result }
-        { work(rt, memory, pool, gate, tasks, workers, pass) },
+        { work(rt, memory, pool, tasks, workers, pass) },
     )?)
 }
 
 // Opens the pool of a race.
-fn open<'a, N: PoolName, G: Gate>(
+fn open<N: PoolName, G: Gate + Drop>(
     rt: &impl Wait,
     memory: Memory,
     name: NewName,
     scenario: &Scenario,
     workers: u32,
-    gate: &'a G,
-) -> Result<Opened<'a, N, G>, NoMemory>
+    gate: G,
+) -> Result<Opened<N, G>, NoMemory>
     requires name { name ≡ head_of N.book N.root }
     requires number { workers ≡ N.callers }
     requires accepts { N.accepts ≡ is_key_and_id }
@@ -114,13 +107,13 @@ fn first_front<N: PoolName>(passes: &[Pass<N>]) -> Front<N>
 }
 
 // Opens the pool, has the workers do their tasks, and puts together what they come back with.
-fn run_workers<N: PoolName + Send + Sync, R: Threads + Wait + Sync, G: Gate>(
+fn run_workers<N: PoolName + Send + Sync, R: Threads + Wait + Sync, G: Gate + Send + Drop>(
     rt: &R,
     memory: Memory,
     name: NewName,
     scenario: &Scenario,
     workers: u32,
-    gate: &G,
+    gate: G,
 ) -> Result<Gathered<N>, NoMemory>
     requires name { name ≡ head_of N.book N.root }
     requires number { workers ≡ N.callers }
@@ -134,7 +127,7 @@ fn run_workers<N: PoolName + Send + Sync, R: Threads + Wait + Sync, G: Gate>(
     let (pool, passes) = open(rt, memory, name, scenario, workers, gate)?;
     let front = first_front(&passes);
     let tasks = &scenario.tasks;
-    let done = work_all(rt, memory, &pool, gate, tasks, workers, passes)?;
+    let done = work_all(rt, memory, &pool, tasks, workers, passes)?;
     gather(memory, front, done)
 }
 
@@ -259,13 +252,13 @@ pub struct Raced {
 /// `NoMemory`, where it was wanting for any worker, after all have ended. `MissingEntry` with the least place of the history below
 /// the number of the receipts of which no receipt tells, or two do, or whose command isn't its worker's next, and with their number
 /// where the pool has another entry or the refusals are others than the changes that have no entry. None is to be met.
-pub fn race<N: PoolName + Send + Sync, R: Threads + Wait + Sync, G: Gate>(
+pub fn race<N: PoolName + Send + Sync, R: Threads + Wait + Sync, G: Gate + Send + Drop>(
     rt: &R,
     memory: Memory,
     name: NewName,
     scenario: &Scenario,
     workers: u32,
-    gate: &G,
+    gate: G,
 ) -> Result<Raced, Fault>
     requires name { name ≡ head_of N.book N.root }
     requires number { workers ≡ N.callers }

@@ -6,22 +6,21 @@ ghost use Rattle.mp_race.specs.Inside.Task.{task_of, tasks_of};
 ghost use Rattle.mp_race.specs.Inside.Work.{IsUnused, Does};
 ghost use Rattle.mp_race.specs.Inside.Gathered.{IsBack};
 
-use crate::gate::Gate;
+use crate::gate::{Gate, Watched};
 use crate::task::Task;
 use crate::told::{Done, Refused};
 use mp_history::PoolName;
 use mp_memory::{Memory, NoMemory};
 use mp_mempool::{Mempool, Pass, Reader, Refusal};
-use mp_rules::Verifier;
 use std::sync::{Arc, Wait};
 
 /// The pool that the workers share, and what reads it.
-pub struct SharedPool<N: PoolName, V: Verifier> {
-    pub mempool: Mempool<N, V>,
-    pub reader: Arc<Reader<N, V>, Memory>,
+pub struct SharedPool<N: PoolName, G: Gate + Drop> {
+    pub mempool: Mempool<N, Watched<G>>,
+    pub reader: Arc<Reader<N, Watched<G>>, Memory>,
 }
 
-impl<N: PoolName, V: Verifier + Drop> Drop for SharedPool<N, V> {
+impl<N: PoolName, G: Gate + Drop> Drop for SharedPool<N, G> {
     fn drop(self) {
         let SharedPool {
             mempool: _,
@@ -43,9 +42,9 @@ pub struct Worker<N: PoolName> {
 }
 
 // Does the task with this number. Whether the pool had no entry of the caller that its pass doesn't know.
-fn do_task<N: PoolName, V: Verifier>(
+fn do_task<N: PoolName, G: Gate + Drop>(
     rt: &impl Wait,
-    pool: &SharedPool<N, V>,
+    pool: &SharedPool<N, G>,
     pass: &mut Pass<N>,
     done: &mut Vec<Done, Memory>,
     refused: &mut Vec<Refused, Memory>,
@@ -85,11 +84,10 @@ fn do_task<N: PoolName, V: Verifier>(
 
 /// Does those of the tasks that are dealt to the pass's caller: of so many workers task j goes to worker j mod workers. The gate is
 /// told of each.
-pub fn work<N: PoolName, V: Verifier, G: Gate>(
+pub fn work<N: PoolName, G: Gate + Drop>(
     rt: &impl Wait,
     memory: Memory,
-    pool: &SharedPool<N, V>,
-    gate: &G,
+    pool: &SharedPool<N, G>,
     tasks: &[Task],
     workers: u32,
     mut pass: Pass<N>,
@@ -103,7 +101,7 @@ pub fn work<N: PoolName, V: Verifier, G: Gate>(
     let number = pass.caller();
     for (place, task) in tasks.iter().enumerate() {
         if place % workers as usize == number as usize {
-            gate.start(number, place as u64);
+            pool.reader.verifier().gate.start(number, place as u64);
             let is_sure = do_task(
                 rt,
                 pool,

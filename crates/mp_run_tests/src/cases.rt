@@ -65,13 +65,13 @@ fn numbers_told(memory: Memory, scenario: &Scenario, raced: &Raced) -> Ended
 }
 
 // A race on a pool under the name.
-fn race_named<N: PoolName + Send + Sync, R: Threads + Wait + Sync, G: Gate>(
+fn race_named<N: PoolName + Send + Sync, R: Threads + Wait + Sync, G: Gate + Send + Drop>(
     rt: &R,
     memory: Memory,
     name: NewName,
     scenario: &Scenario,
     workers: u32,
-    gate: &G,
+    gate: G,
 ) -> Ended
     requires name { name ≡ head_of N.book N.root }
     requires number { workers ≡ N.callers }
@@ -86,12 +86,12 @@ fn race_named<N: PoolName + Send + Sync, R: Threads + Wait + Sync, G: Gate>(
 }
 
 /// A race of the scenario, on a pool of its own.
-pub fn race_new<R: Threads + Wait + Sync, G: Gate>(
+pub fn race_new<R: Threads + Wait + Sync, G: Gate + Send + Drop>(
     rt: &R,
     memory: Memory,
     scenario: &Scenario,
     workers: u32,
-    gate: &G,
+    gate: G,
 ) -> Ended
     requires some { 1 ≤ workers }
     requires most { workers ≤ 64 }
@@ -100,12 +100,12 @@ pub fn race_new<R: Threads + Wait + Sync, G: Gate>(
 }
 
 /// A race of the scenario that the text is of, by 1 to 64 workers.
-pub fn race_text<R: Threads + Wait + Sync, G: Gate>(
+pub fn race_text<R: Threads + Wait + Sync, G: Gate + Send + Drop>(
     rt: &R,
     memory: Memory,
     mut text: &[u8],
     workers: u32,
-    gate: &G,
+    gate: G,
 ) -> Ended {
     if workers < 1 || workers > 64 {
         return Err((0, 0));

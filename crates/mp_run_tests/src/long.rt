@@ -83,7 +83,7 @@ fn held_races<R: Print + Threads + Wait + Sync>(rt: &R, memory: Memory) -> io::R
     let mut held: u64 = 0;
     for long in &RACES {
         let seen = match scenario_of(memory, long) {
-            Ok(text) => race_text(rt, memory, &text, long.workers, &NoGate),
+            Ok(text) => race_text(rt, memory, &text, long.workers, NoGate),
             Err(NoMemory) => Err((1, 0)),
         };
         if seen == Ok(long.wanted) {

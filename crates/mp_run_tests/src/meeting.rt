@@ -20,18 +20,23 @@ enum Waits {
     Checks,
 }
 
-// Holds each of two calls until the other has begun.
+// How many calls have begun, and how many have met.
 #[derive(Drop)]
-struct MeetGate {
-    waits: Waits,
+struct Meeting {
     begun: AtomicU64,
     met: AtomicU64,
 }
 
-impl MeetGate {
-    fn of(waits: Waits) -> MeetGate {
-        MeetGate {
-            waits,
+// Holds each of two calls until the other has begun.
+#[derive(Drop)]
+struct MeetGate<'a> {
+    waits: Waits,
+    meeting: &'a Meeting,
+}
+
+impl Meeting {
+    fn new() -> Meeting {
+        Meeting {
             begun: AtomicU64::new(0),
             met: AtomicU64::new(0),
         }
@@ -63,16 +68,16 @@ impl MeetGate {
     }
 }
 
-impl Gate for MeetGate {
+impl Gate for MeetGate<'_> {
     fn start(&self, _worker: u32, task: u64) {
         if self.waits == Waits::Starts && task < 2 {
-            self.meet();
+            self.meeting.meet();
         }
     }
 
     fn check(&self, _id: &TxId) {
         if self.waits == Waits::Checks {
-            self.meet();
+            self.meeting.meet();
         }
     }
 }
@@ -82,9 +87,13 @@ const SIGNED: &[u8] = b"out g0 100\nout g1 100\ntx a in=g0 out=100 sign=1\n\
 
 // How many calls have met, where both transactions are taken in.
 fn met<R: Threads + Wait + Sync>(rt: &R, memory: Memory, waits: Waits) -> u64 {
-    let gate = MeetGate::of(waits);
-    match race_text(rt, memory, SIGNED, 2, &gate) {
-        Ok(numbers) => gate.met_of(numbers[0]),
+    let meeting = Meeting::new();
+    let gate = MeetGate {
+        waits,
+        meeting: &meeting,
+    };
+    match race_text(rt, memory, SIGNED, 2, gate) {
+        Ok(numbers) => meeting.met_of(numbers[0]),
         Err(_) => 0,
     }
 }

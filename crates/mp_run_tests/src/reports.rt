@@ -53,7 +53,7 @@ fn count(rt: &impl Print, what: &str, seen: Ended, wanted: Ended) -> io::Result<
 fn held_cases<R: Print + Threads + Wait + Sync>(rt: &R, memory: Memory) -> io::Result<u64> {
     let mut held: u64 = 0;
     for (text, workers, wanted) in CASES {
-        let seen = race_text(rt, memory, text, workers, &NoGate);
+        let seen = race_text(rt, memory, text, workers, NoGate);
         held = held.saturating_add(count(rt, "a race", seen, wanted)?);
     }
     Ok(held)
@@ -100,7 +100,7 @@ fn held_independent<R: Print + Threads + Wait + Sync>(rt: &R, memory: Memory) ->
     for (number, workers) in INDEPENDENT {
         let wanted = u64::from(number);
         let seen = match independent(memory, number) {
-            Ok(text) => race_text(rt, memory, &text, workers, &NoGate),
+            Ok(text) => race_text(rt, memory, &text, workers, NoGate),
             Err(_) => Err((1, 0)),
         };
         let report: Numbers = [wanted, 0, 0, 0, 0, wanted, wanted];
@@ -122,7 +122,7 @@ fn growths_of<R: Threads + Wait + Sync>(rt: &R, memory: Memory, case: Case) -> O
     let (text, workers, wanted) = case;
     for nth in 1..MAX_GROWTHS {
         memory.refuse(nth);
-        let seen = race_text(rt, memory, text, workers, &NoGate);
+        let seen = race_text(rt, memory, text, workers, NoGate);
         let is_met = !memory.waits();
         memory.refuse(0);
         if !is_right(seen, wanted) {
