@@ -48,6 +48,13 @@ REFUSALS = (
 )  # fmt: skip
 
 
+def fits(answer: str, expected: str) -> bool:
+    """Says whether an answer is one that the model expects."""
+    if expected.startswith("bad "):
+        return answer.startswith(expected)  # The words that follow aren't fixed.
+    return answer == expected
+
+
 class Draft:
     """A transaction that a line declares."""
 

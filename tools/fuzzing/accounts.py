@@ -67,7 +67,7 @@ def read_tickets(words):
 
 
 class Accounts:
-    """What a run has told of its pool: tickets that it holds, the last one, the changes, and the names under the tickets."""
+    """What a run has reported of its pool: the tickets that it holds, the last one, the changes, and the names under the tickets."""
 
     def __init__(self, lines):
         self.held = []
@@ -75,8 +75,18 @@ class Accounts:
         self.limit = read_setting(lines, b"limit", 1_000_000)
         self.changes = 0
         self.offered = 0
+        # By the ticket: the name in the line that was accepted, and the one that the run reports.
+        self.submitted = {}
         self.names = {}
-        self.declared = set()
+        # By a name that was submitted: the first name of its id.
+        self.firsts = {}
+        # The names of transactions, each with the number of those declared before it.
+        self.declared = {}
+
+    def declare(self, words):
+        """Takes a line that is no command."""
+        if words[:1] == [b"tx"]:
+            self.declared[words[1]] = len(self.declared)
 
     def take(self, words, answer):
         """Goes on by a command's answer, or raises Unfit."""
@@ -88,10 +98,11 @@ class Accounts:
             self.changes += told[0] != b"refused"
         getattr(self, f"take_{told[0].decode()}")(words, told[1:])
 
-    def take_accepted(self, _, told):
+    def take_accepted(self, words, told):
         expect(told == [b"%d" % (self.last + 1)], "the ticket isn't the next one")
         self.last += 1
         self.held.append(self.last)
+        self.submitted[self.last] = words[1]
 
     def take_refused(self, words, told):
         expect(words[0] == b"submit" or told == [b"history"], "a remove or a sync is refused for another reason")
@@ -126,9 +137,18 @@ class Accounts:
     def read_items(self, told):
         items = [word.split(b":") for word in told]
         for ticket, name in items:
-            expect(self.names.setdefault(int(ticket), name) == name, "the ticket has another name")
-            expect(name in self.declared, "the name isn't declared")
+            self.read_name(int(ticket), name)
         return read_tickets(ticket for ticket, _ in items)
+
+    def read_name(self, ticket, name):
+        """Sees that the name may be the first one of the id that has the ticket."""
+        expect(ticket in self.held, "the pool doesn't hold the ticket")
+        expect(self.names.setdefault(ticket, name) == name, "the ticket has another name")
+        submitted = self.submitted[ticket]
+        expect(name in self.declared, "the name isn't declared")
+        expect(self.declared[name] <= self.declared[submitted], "the name isn't the first of its id")
+        for one in (submitted, name):
+            expect(self.firsts.setdefault(one, name) == name, "two names are the first of one id")
 
     def take_snapshot(self, _, told):
         tickets = self.read_items(told[3:])
@@ -142,7 +162,7 @@ class Accounts:
         # A transaction may be called none.
         ticket = int(words[1])
         if ticket in self.held:
-            expect(told[0] in self.declared and self.names.setdefault(ticket, told[0]) == told[0], "the ticket has another name")
+            self.read_name(ticket, told[0])
         else:
             expect(told == [b"none"], "no transaction stands under the ticket")
 
@@ -165,7 +185,17 @@ class Accounts:
         self.offered = max([self.offered, *tickets])
 
     def take_for(self, _, told):
-        expect(set(self.read_items(told)) <= set(self.held), "the pool doesn't hold them")
+        self.read_items(told)
+
+    def answer_of_talk(self, words, answer):
+        """Returns the answer of a conversation, which reports a transaction under the name by which it was accepted."""
+        first, *told = answer.split(b" ")
+        if first == b"lookup" and int(words[1]) in self.held:
+            told = [self.submitted[int(words[1])]]
+        elif first != b"refused":
+            pairs = [word.partition(b":") for word in told]
+            told = [ticket + colon + (self.submitted[int(ticket)] if colon else b"") for ticket, colon, _ in pairs]
+        return b" ".join([first, *told])
 
 
 def find_unfit(text, bad_line, answers):
@@ -176,9 +206,8 @@ def find_unfit(text, bad_line, answers):
         return f"{commands} commands have {len(answers)} answers"
     accounts, left = Accounts(lines), iter(answers)
     for number, words in enumerate(lines, 1):
-        if words[:1] == [b"tx"]:
-            accounts.declared.add(words[1])
         if not is_command(words):
+            accounts.declare(words)
             continue
         answer = next(left)
         try:
@@ -188,3 +217,20 @@ def find_unfit(text, bad_line, answers):
         except (ValueError, IndexError):
             return f"line {number} is answered {answer.decode('ascii', 'replace')}, which isn't an answer's form"
     return None
+
+
+def list_answers_of_talk(text, bad_line, answers):
+    """Returns what a conversation answers to the lines of a run that fits: those before the bad one and before a full history."""
+    lines = list_words(text, bad_line)
+    accounts, left, told = Accounts(lines), iter(answers), []
+    for words in lines:
+        if not is_command(words):
+            accounts.declare(words)
+            told.append(b"ok")
+            continue
+        answer = next(left)
+        if answer == b"refused history":
+            break
+        accounts.take(words, answer)
+        told.append(accounts.answer_of_talk(words, answer))
+    return told

@@ -4,16 +4,17 @@ import collections
 import re
 import subprocess
 
-from fuzzing.accounts import FURTHER_READS, find_unfit, is_command, kind_of, list_words, read_setting
+from conversing.talk import fits
+from conversing.tally import kind_of as kind_of_talk
+from fuzzing.accounts import FURTHER_READS, find_unfit, is_command, kind_of, list_answers_of_talk, list_words, read_setting
 from fuzzing.edits import edit_history, list_lines
+from fuzzing.talks import TALK_LINE, expect_answers, has_form, insert_lines, is_modelled
 
 MOST_BYTES = 2**24
 TIME_OUT = 120
 RUN_FAULT = re.compile(rb"fault: (?:bad line ([1-9][0-9]*)|read)\n")
 EXPLAINED = re.compile(rb"bad line ([1-9][0-9]*): [ -~]+\n")
 AUDIT_FAULT = re.compile(rb"fault: (?:audit|missing entry|bad line) ([0-9]+)\n[ -~]+\n")
-# What only a conversation takes.
-TALK_LINE = re.compile(rb" *(?:bytes|show|check|stats)(?: |$)")
 REPORT = re.compile(
     rb"race (\d+) accepted (\d+) refused (\d+) removes (\d+) syncs (\d+) reads (\d+) entries (\d+) last (\d+)\naudit legal\n"
 )
@@ -30,12 +31,13 @@ def tell_head(workers, entries):
 
 
 class Finding(Exception):
-    """Says in a line what the program does that it must not; has the scenario, and the history where one was audited."""
+    """Says in a line what the program does that it must not; has the scenario, and the history or the conversation that it is about."""
 
-    def __init__(self, what, scenario, history=None):
+    def __init__(self, what, scenario, history=None, talk=None):
         super().__init__(what)
         self.scenario = scenario
         self.history = history
+        self.talk = talk
 
 
 def show(outcome):
@@ -61,15 +63,15 @@ class Checker:
         self.counts = collections.Counter()
         self.answers = collections.Counter()
 
-    def do(self, words, scenario, history=None, given=b""):
+    def do(self, words, scenario, history=None, given=b"", talk=None):
         """Returns what the program does with the words; a scenario stands in the room's file `scn`, a history in `history`."""
         try:
             done = subprocess.run([self.program, *words], input=given, capture_output=True, cwd=self.room, timeout=TIME_OUT)
         except subprocess.TimeoutExpired:
-            raise Finding(f"{' '.join(words)} takes over {TIME_OUT} s", scenario, history) from None
+            raise Finding(f"{' '.join(words)} takes over {TIME_OUT} s", scenario, history, talk) from None
         outcome = Outcome(done.stdout, done.stderr, done.returncode)
         if done.returncode not in (0, 1) or (done.returncode == 0) != (done.stderr == b""):
-            raise Finding(f"{' '.join(words)} ends with {show(outcome)}", scenario, history)
+            raise Finding(f"{' '.join(words)} ends with {show(outcome)}", scenario, history, talk)
         return outcome
 
     def write(self, name, text):
@@ -81,9 +83,9 @@ class Checker:
         self.write("scn", scenario)
         return self.do(["run", *flags, "scn"], scenario)
 
-    def expect(self, holds, what, scenario, history=None):
+    def expect(self, holds, what, scenario, history=None, talk=None):
         if not holds:
-            raise Finding(what, scenario, history)
+            raise Finding(what, scenario, history, talk)
 
     def check(self, rng, text):
         """Runs a scenario in all ways, and returns the number of its bad line, or None."""
@@ -94,6 +96,8 @@ class Checker:
             return None
         self.check_beginning(rng, text, bad_line, first)
         self.check_talk(text, bad_line, first)
+        if is_modelled(text):
+            self.check_longer_talk(rng, text)
         self.check_race_fault(text, bad_line)
         quiet = self.check_without(text, bad_line, first)
         self.check_race_alone(rng, *quiet)
@@ -155,22 +159,47 @@ class Checker:
         fits = told[:commands] == wanted and (not whole or (found.status == 0 and len(told) == commands))
         self.expect(fits, f"its first {len(beginning)} bytes end with {show(found)}", text)
 
-    def check_talk(self, text, bad_line, first):
-        """Has a conversation over the lines, each of which has an answer; up to a bad one or a full history they are those of the run."""
-        found = self.do(["serve"], text, given=text)
+    def talk(self, scenario, text, *words):
+        """Returns the answers of a conversation over the lines of a text, each of which has one, of a form that its first word allows."""
+        found = self.do(["serve", *words], scenario, given=text, talk=text)
         told, lines = list_lines(found.answers), list_lines(text)
-        fits = found.status == 0 and len(told) == len(lines) and found.answers == b"".join(line + b"\n" for line in told)
-        self.expect(fits, f"a conversation of {len(lines)} lines ends with {len(told)} answers and {show(found)}", text)
+        ends = found.status == 0 and len(told) == len(lines) and found.answers == b"".join(line + b"\n" for line in told)
+        what = f"a conversation of {len(lines)} lines ends with {len(told)} answers and {show(found)}"
+        self.expect(ends, what, scenario, talk=text)
+        for number, (line, answer) in enumerate(zip(lines, told), 1):
+            what = f"in a conversation line {number} is answered {answer[:200]!r}, which isn't an answer's form"
+            self.expect(has_form(number, line, answer), what, scenario, talk=text)
         self.counts["talks"] += 1
-        answers = iter(list_lines(first.answers))
-        for number, words in enumerate(list_words(text, bad_line), 1):
-            wanted = next(answers) if is_command(words) else b"ok"
-            if wanted == b"refused history":
-                return
-            self.expect(told[number - 1] == wanted, f"in a conversation line {number} is told as {told[number - 1]!r}", text)
+        return told
+
+    def check_talk(self, text, bad_line, first):
+        """Compares a conversation over the lines with the run up to a bad line or a full history, and with the model to its end."""
+        told, lines = self.talk(text, text), list_lines(text)
+        for number, wanted in enumerate(list_answers_of_talk(text, bad_line, list_lines(first.answers)), 1):
+            what = f"in a conversation line {number} is answered {told[number - 1]!r} and not {wanted!r}"
+            self.expect(told[number - 1] == wanted, what, text)
         if bad_line is not None and not TALK_LINE.match(lines[bad_line - 1]):
             is_bad = told[bad_line - 1].startswith(b"bad %d: " % bad_line)
-            self.expect(is_bad, f"in a conversation the bad line {bad_line} is told as {told[bad_line - 1]!r}", text)
+            self.expect(is_bad, f"in a conversation the bad line {bad_line} is answered {told[bad_line - 1]!r}", text)
+        if is_modelled(text):
+            self.compare_talk(text, text, told, expect_answers(text))
+
+    def check_longer_talk(self, rng, text):
+        """Compares a conversation, which has further lines between those of the scenario, with the model."""
+        checked = rng.randrange(4) == 0
+        words = ["--signatures", "checked"] * checked + ["--salt", f"{rng.randrange(2**64)}"] * rng.randrange(2)
+        lines, expected = insert_lines(rng, text, checked)
+        if lines:
+            talk = b"".join(line + b"\n" for line in lines)
+            told = self.talk(text, talk, *words)
+            self.compare_talk(text, talk, told, expected)
+            self.counts["further lines"] += len(lines) - len(list_lines(text))
+            self.answers.update("talk: " + kind_of_talk(answer) for answer in expected)
+
+    def compare_talk(self, scenario, talk, told, expected):
+        for number, (answer, wanted) in enumerate(zip(told, expected), 1):
+            what = f"in a conversation line {number} is answered {answer[:200]!r} and not {wanted[:200]!r}"
+            self.expect(fits(answer.decode("latin-1"), wanted), what, scenario, talk=talk)
 
     def check_race_fault(self, text, bad_line):
         """Where a race doesn't take the scenario it has to tell the first line that it doesn't take, and so has an audit."""

@@ -4,7 +4,7 @@ ghost use Rattle.std.specs.Prelude.{◌≡◌, IfOk, OnOk};
 ghost use Rattle.mp_seqpool.specs.Command.{Remove};
 ghost use Rattle.mp_seqpool.specs.Inside.Command.{command_of};
 ghost use Rattle.mp_driver.specs.Scene.{Open, pool_at};
-ghost use Rattle.mp_driver.specs.Inside.Scene.{stage_of};
+ghost use Rattle.mp_driver.specs.Inside.Scene.{scheme_of, stage_of};
 
 use crate::pool::{ScenarioPool, Text};
 use mp_answers::answer_line;
@@ -13,6 +13,7 @@ use mp_memory::{Memory, NoMemory};
 use mp_names::{Binding, LineFault, Name, Names, NewLedger, Payment, Reason, Setting};
 use mp_seqpool::{Command, Ids};
 use mp_settings::{Openings, Settings, ledger_at};
+use mp_signatures::Signatures;
 use mp_tx::TxId;
 use std::mem;
 use std::sync::Arc;
@@ -20,8 +21,8 @@ use std::sync::Arc;
 /// Whether the first command has come.
 #[derive(Drop)]
 pub enum Stage {
-    /// Before the first command: the opening outputs so far.
-    Before(Openings),
+    /// Before the first command: which signatures the pool will accept, and the opening outputs so far.
+    Before(Signatures, Openings),
     /// After it: the pool.
     Open(ScenarioPool),
 }
@@ -48,12 +49,14 @@ impl Drop for Scene {
 
 // The pool opens with the first command.
 fn open_pool(memory: Memory, settings: &Settings, stage: &mut Stage) -> Result<(), NoMemory>
-    ensures { OnOk result
+    ensures pool { OnOk result
         (stage_of stage.new ≡ Open (pool_at settings.now (stage_of stage.old))) }
+    ensures scheme { OnOk result (scheme_of stage.new ≡ scheme_of stage.old) }
 {
-    if let Stage::Before(openings) = stage {
+    if let Stage::Before(signatures, openings) = stage {
         let openings = mem::replace(openings, Openings::new(memory));
-        *stage = Stage::Open(ScenarioPool::open(memory, settings, openings)?);
+        let pool = ScenarioPool::open(memory, settings, signatures, openings)?;
+        *stage = Stage::Open(pool);
     }
     Ok(())
 }
@@ -74,15 +77,15 @@ impl Scene {
     ghost use Rattle.mp_driver.specs.Inside.Scene.{stage_of, scene_of};
 
     /// The scene before the first line.
-    pub fn new(memory: Memory) -> Result<Scene, NoMemory>
-        ensures { IfOk result (λ s. scene_of s ≡ empty_scene) }
+    pub fn new(memory: Memory, signatures: &Signatures) -> Result<Scene, NoMemory>
+        ensures { IfOk result (λ s. scene_of s ≡ empty_scene signatures.now) }
     {
         let settings = Settings::of_scenario();
         Ok(Scene {
             names: Names::new(memory, settings.salt())?,
             settings,
             cursor: 0,
-            stage: Stage::Before(Openings::new(memory)),
+            stage: Stage::Before(signatures.share()?, Openings::new(memory)),
         })
     }
 
@@ -96,7 +99,7 @@ impl Scene {
         ensures stays { IsBad result → scene_of self.new ≡ scene_of self.old }
     {
         match &self.stage {
-            Stage::Before(_) => self.settings.set(setting),
+            Stage::Before(_, _) => self.settings.set(setting),
             Stage::Open(_) => Err(LineFault::Bad(Reason::LateSetting)),
         }
     }
@@ -112,7 +115,7 @@ impl Scene {
     {
         match &mut self.stage {
             Stage::Open(_) => Err(LineFault::Bad(Reason::LateOutput)),
-            Stage::Before(openings) => {
+            Stage::Before(_, openings) => {
                 if openings.len() >= MAX_OUTPUTS {
                     return Err(LineFault::Bad(Reason::ManyOutputs));
                 }

@@ -14,7 +14,7 @@ use mp_memory::{Memory, NoMemory};
 use mp_mempool::{Mempool, Pass, Reader, Refusal};
 use std::sync::{Arc, Wait};
 
-/// The pool that the workers share, and what reads it.
+/// The pool that the workers share, and its reader.
 pub struct SharedPool<N: PoolName, G: Gate + Drop> {
     pub mempool: Mempool<N, Watched<G>>,
     pub reader: Arc<Reader<N, Watched<G>>, Memory>,
@@ -29,7 +29,7 @@ impl<N: PoolName, G: Gate + Drop> Drop for SharedPool<N, G> {
     }
 }
 
-/// What a worker comes back with.
+/// What a worker returns.
 #[derive(Drop)]
 pub struct Worker<N: PoolName> {
     pub pass: Pass<N>,
@@ -41,7 +41,7 @@ pub struct Worker<N: PoolName> {
     pub is_sure: bool,
 }
 
-// Does the task with this number. Whether the pool had no entry of the caller that its pass doesn't know.
+// Does the task with this number. Returns whether the pass knows all entries of its caller in the pool.
 fn do_task<N: PoolName, G: Gate + Drop>(
     rt: &impl Wait,
     pool: &SharedPool<N, G>,
@@ -82,8 +82,7 @@ fn do_task<N: PoolName, G: Gate + Drop>(
     }
 }
 
-/// Does those of the tasks that are dealt to the pass's caller: of so many workers task j goes to worker j mod workers. The gate is
-/// told of each.
+/// Does the tasks that are dealt to the pass's caller: task j goes to worker j mod `workers`. It calls the gate before each.
 pub fn work<N: PoolName, G: Gate + Drop>(
     rt: &impl Wait,
     memory: Memory,
