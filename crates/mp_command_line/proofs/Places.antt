@@ -12,7 +12,7 @@ use Rattle.clap.specs.Simple.{rows_at, with_leaf_noted}
 use Rattle.clap.specs.Takes.{entered_passes, level_passes, takes}
 use Rattle.clap.specs.Values.{reading_of, refused_kind, same_text}
 use Rattle.clap.specs.ValueTests.{accepts}
-use Rattle.clap.specs.Walk.{Row, Text, answers_to, nothing_held, rows_after, walk}
+use Rattle.clap.specs.Walk.{Row, Text, answers_to, nothing_held, walk}
 use Rattle.clap.specs.declared.builder.value_parser.ValueParser.{ValueParser}
 use Rattle.clap.specs.declared.builder.value_parser.ValueParser.TheVariants.{Names}
 use Rattle.clap.proofs.WalkLemmas.{list_any-map}

@@ -1,7 +1,8 @@
--- The command lines that the program accepts: `keltuvar run [--explain] [FILE]`,
--- `keltuvar race --workers N [--history FILE] [--svg FILE] [--verify-us MICROSECONDS] [--explain] [FILE]`,
--- `keltuvar audit [--explain] SCENARIO HISTORY`, `keltuvar serve [--signatures WHICH] [--salt N]`, `--help` and `--version`.
-use Rattle.std.specs.Prelude.{◌≡◌, ◌≤◌, ◌⊎◌, ⊤, ℕ, Bool, true, false, List, [], ◌∷◌, map, Option, None, Some, IfSome, codes}
+-- The command lines that the program accepts: `keltuvar run [--explain] [--signatures WHICH] [FILE]`,
+-- `keltuvar race --workers N [--history FILE] [--svg FILE] [--verify-us MICROSECONDS] [--explain] [--signatures WHICH] [FILE]`,
+-- `keltuvar audit [--explain] [--signatures WHICH] SCENARIO HISTORY`, `keltuvar serve [--signatures WHICH] [--salt N]`, `--help`
+-- and `--version`.
+use Rattle.std.specs.Prelude.{◌≡◌, ◌≤◌, ◌⊎◌, ⊤, ℕ, Bool, true, false, List, [], ◌∷◌, map, Option, None, Some, codes}
 use Rattle.std.specs.Prelude.{option_and_then, option_map, unwrap_or}
 use Rattle.std.specs.Borrow.{Bor}
 use Rattle.std.specs.Str.Parse.{digits_value, without_leading_plus}

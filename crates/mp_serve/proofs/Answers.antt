@@ -30,7 +30,7 @@ pub on_err : {X E : Type 0} (r : Result X E) (P : Type 0) → P → OnErr r P
 on_err (Ok x) P p = tt
 on_err (Err e) P p = p
 
--- a prefix is a part, or all
+-- a proper prefix is a prefix
 pub of_front : (old new : Option (List ℕ)) (bytes : List ℕ) → AppendsFront old new bytes → AppendsUpTo old new bytes
 of_front old new bytes (taken, lt, w) = (taken, w)
 

@@ -63,7 +63,7 @@ module _ (g : Conversation) (old now : Option (List ℕ)) (all rest : List (List
       let front : take (length p.lines) all ≡ p.lines = ap (take (length p.lines)) p.whole ∙ take-append_seam p.lines rest in
       (p.text, s, subst (λ l. AreAnswers 1 g l p.text s) (sym front) p.told, p.wrote)
 
-  -- a part of an answer was written, or all of it
+  -- a prefix of an answer was written, perhaps all of it
   pub is_cut : (new : Option (List ℕ)) (u : Conversation) (line answer : List ℕ) → Progress g old now all (line ∷ rest) s n → IsAnswer n s line answer u → AppendsUpTo now new answer → WasCut g old new all
   is_cut new u line answer p is (taken, w) =
       let done : List (List ℕ) = p.lines ++ line ∷ [] in

@@ -28,7 +28,7 @@ abbrev pub WereAnswered : Conversation → Option (List ℕ) → Option (List �
 WereAnswered start old new lines =
     (text : List ℕ) × (t : Conversation) × AreAnswers 1 start lines text t × Appends old new text
 
--- a part of these bytes was written, or all of them
+-- a prefix of these bytes was written, perhaps all of them
 abbrev pub AppendsUpTo : Option (List ℕ) → Option (List ℕ) → List ℕ → Type 0
 AppendsUpTo old new bytes = (taken : ℕ) × Appends old new (take taken bytes)
 

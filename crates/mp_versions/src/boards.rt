@@ -89,7 +89,7 @@ impl<N: PoolName> Boards<N> {
         (at, self.place(at).write(rt))
     }
 
-    // Puts the board in such a place, and returns the word that names it.
+    // Puts the board in such a place, and returns which one.
     fn put(&self, rt: &impl Wait, board: Arc<Board<N>, Memory>) -> u64 {
         let (at, mut place) = self.vacate(rt);
         *place = board;
@@ -122,8 +122,8 @@ impl<N: PoolName> Boards<N> {
         Ok(())
     }
 
-    /// Returns the newest board if it is newer than the one with this number. Otherwise it is one load. It allocates nothing and
-    /// waits for nobody.
+    /// Returns the newest board if it is newer than the one with this number. If there is none, it is one load. It allocates
+    /// nothing and waits for nobody.
     pub(crate) fn newer(&self, number: u64) -> Option<Arc<Board<N>, Memory>> {
         for _ in 0..TRIES {
             let newest = self.newest.load(Ordering::SeqCst);

@@ -1,4 +1,4 @@
-use Rattle.std.proofs.Common.{◌∙◌, refl, sym, subst, None, IfSome, codes}
+use Rattle.std.proofs.Common.{◌∙◌, refl, sym, subst, IfSome, codes}
 use Rattle.clap.specs.Words.{found_of}
 use Rattle.clap.proofs.WalkLemmas.{first_value-rows}
 use Rattle.mp_command_line.specs.declared.asked.SchemeName.TheVariants.{Trial}
