@@ -90,13 +90,7 @@ pub static MEASUREMENTS: [Measurement; 17] = [
         Asked::Signed,
         STEPS,
     ),
-    (
-        "mempool-snapshot",
-        Work::Watch(1),
-        true,
-        Asked::Next,
-        STEPS,
-    ),
+    ("mempool-snapshot", Work::Watch(1), true, Asked::Next, STEPS),
     (
         "mempool-readers-4",
         Work::Watch(4),

@@ -68,7 +68,13 @@ fn push_removes(memory: Memory, commands: &mut Commands, before: &[Command]) -> 
 // Appends a submit of each transaction after the first ones, and then a remove of each, several times.
 fn push_churns(memory: Memory, commands: &mut Commands, size: u64) -> Option<()> {
     let mut submits = Vec::new(memory);
-    push_submits(memory, &mut submits, size, size.saturating_add(STEPS), false)?;
+    push_submits(
+        memory,
+        &mut submits,
+        size,
+        size.saturating_add(STEPS),
+        false,
+    )?;
     for _ in 0..CHURNS {
         for submit in &submits {
             commands.push(submit.share().ok()?).ok()?;

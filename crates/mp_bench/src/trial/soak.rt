@@ -110,7 +110,10 @@ fn print_memory(rt: &(impl Print + Files + AllocGlobal), entries: u64) -> Result
     let sizes = fs::read_to_string(rt, "/proc/self/statm").context("no sizes")?;
     let word = sizes.split_whitespace().nth(1).context("no size")?;
     let pages = word.parse::<u64>().context("a size is no number")?;
-    println!(rt; "{entries} entries, {} KB resident", pages.saturating_mul(4))?;
+    println!(rt;
+        "{entries} entries, {} KB resident",
+        pages.saturating_mul(4)
+    )?;
     Ok(())
 }
 
@@ -212,10 +215,12 @@ fn play_beside<
     Ok(())
 }
 
-fn play<
-    N: PoolName + Send + Sync,
-    R: Clock + Threads + Wait + Print + Files + AllocGlobal + Sync,
->(rt: &R, trial: &Trial, opened: Opened<N, Spinning>, soak: Soak) -> Result<()> {
+fn play<N: PoolName + Send + Sync, R: Clock + Threads + Wait + Print + Files + AllocGlobal + Sync>(
+    rt: &R,
+    trial: &Trial,
+    opened: Opened<N, Spinning>,
+    soak: Soak,
+) -> Result<()> {
     let (mempool, reader, mut passes) = opened;
     if soak.is_held {
         play_beside(rt, trial, &mempool, &reader, &mut passes, soak)
