@@ -1,7 +1,7 @@
 //! Measures what the product's parts cost. Without an argument it prints the names of its measurements. With `run` it takes
 //! each, or the one that is named after it, at several sizes. It prints a line for each: its name, the size, and the nanoseconds
-//! of one step. With `mempool-hour` it tries mempools that hand over for an hour, with `mempool-soak` one mempool that makes
-//! ten million changes.
+//! of one step. With `mempool-hour` it tries mempools that hand over for an hour. With `mempool-soak` it tries one mempool that
+//! makes ten million changes, and with `mempool-soak-held` the same while one caller is idle and holds a snapshot.
 #![tactic(auto)]
 
 mod blocks;
@@ -28,6 +28,9 @@ use std::time::Duration;
 use verifier::Spinning;
 
 const ROUNDS: u32 = 9;
+
+// The seed, the changes and the callers of a soak.
+const SOAK: [u64; 3] = [1, 10_000_000, 64];
 
 fn time<R: Clock + Threads + Wait + Sync>(rt: &R, round: &Round<'_>) -> Option<Duration> {
     match round.work {
@@ -166,7 +169,10 @@ fn obey<R: Clock + Threads + Wait + Print + Files + AllocGlobal + Sync>(
             trial::run(rt, memory, numbers(words, [1, 3_600, 64])?)?;
         }
         "mempool-soak" => {
-            trial::run_soak(rt, memory, numbers(words, [1, 10_000_000, 64])?)?;
+            trial::soak(rt, memory, numbers(words, SOAK)?, false)?;
+        }
+        "mempool-soak-held" => {
+            trial::soak(rt, memory, numbers(words, SOAK)?, true)?;
         }
         _ => bail!("expected nothing, 'run', 'mempool-hour' or 'mempool-soak'"),
     }

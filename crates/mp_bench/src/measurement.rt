@@ -6,6 +6,9 @@ pub const SIZES: [u64; 3] = [1_000, 10_000, 100_000];
 /// The number of steps, whatever the size of the ledger state or the pool.
 pub const STEPS: u64 = 1_000;
 
+/// How often 1,000 transactions come and go while others read.
+pub const CHURNS: u64 = 20;
+
 /// What runs the steps.
 #[derive(Clone, Copy)]
 pub enum Work {
@@ -21,8 +24,8 @@ pub enum Work {
     OneThread,
     /// Four callers of the mempool give the commands at the same time, a quarter each.
     FourThreads,
-    /// One caller of the mempool gives the commands, and another takes snapshots.
-    Watch,
+    /// One caller of the mempool gives the commands, and this many others take snapshots until it has ended.
+    Watch(usize),
     /// Each of 1,000 callers that haven't seen any of the transactions takes a snapshot.
     Newer,
 }
@@ -40,6 +43,8 @@ pub enum Asked {
     Signed,
     /// Removes of the first 1,000 transactions, one by one.
     Remove,
+    /// Submits of the next 1,000 and removes of each, 20 times.
+    Churn,
     /// A sync to a ledger state on which every other transaction is valid.
     Sync,
     /// A sync to a ledger state on which all transactions are valid.
@@ -53,7 +58,7 @@ pub enum Asked {
 pub type Measurement = (&'static str, Work, bool, Asked, u64);
 
 /// All measurements, in the order in which they are taken.
-pub static MEASUREMENTS: [Measurement; 15] = [
+pub static MEASUREMENTS: [Measurement; 17] = [
     ("decode", Work::Decode, false, Asked::First, STEPS),
     ("check", Work::Check, false, Asked::First, STEPS),
     ("ledger-block", Work::Blocks, false, Asked::Nothing, STEPS),
@@ -85,7 +90,21 @@ pub static MEASUREMENTS: [Measurement; 15] = [
         Asked::Signed,
         STEPS,
     ),
-    ("mempool-snapshot", Work::Watch, true, Asked::Next, STEPS),
+    ("mempool-snapshot", Work::Watch(1), true, Asked::Next, STEPS),
+    (
+        "mempool-readers-4",
+        Work::Watch(4),
+        true,
+        Asked::Churn,
+        2 * CHURNS * STEPS,
+    ),
+    (
+        "mempool-readers-16",
+        Work::Watch(16),
+        true,
+        Asked::Churn,
+        2 * CHURNS * STEPS,
+    ),
     (
         "mempool-snapshot-newer",
         Work::Newer,

@@ -1,6 +1,6 @@
 //! Rounds: their preparation, and the steps of one thread.
 
-use crate::measurement::{Asked, Measurement, STEPS, Work};
+use crate::measurement::{Asked, CHURNS, Measurement, STEPS, Work};
 use crate::samples::{
     Bytes, Commands, MANY, ledger_by, push_remove, push_submits, push_sync, submit_of,
 };
@@ -65,6 +65,25 @@ fn push_removes(memory: Memory, commands: &mut Commands, before: &[Command]) -> 
     Some(())
 }
 
+// Appends a submit of each transaction after the first ones, and then a remove of each, several times.
+fn push_churns(memory: Memory, commands: &mut Commands, size: u64) -> Option<()> {
+    let mut submits = Vec::new(memory);
+    push_submits(
+        memory,
+        &mut submits,
+        size,
+        size.saturating_add(STEPS),
+        false,
+    )?;
+    for _ in 0..CHURNS {
+        for submit in &submits {
+            commands.push(submit.share().ok()?).ok()?;
+        }
+        push_removes(memory, commands, &submits)?;
+    }
+    Some(())
+}
+
 fn push_asked(
     memory: Memory,
     commands: &mut Commands,
@@ -78,6 +97,7 @@ fn push_asked(
         Asked::Next | Asked::Arriving => push_submits(memory, commands, size, last, false),
         Asked::Signed => push_submits(memory, commands, size, last, true),
         Asked::Remove => push_removes(memory, commands, before),
+        Asked::Churn => push_churns(memory, commands, size),
         Asked::Sync => push_sync(memory, commands, 2, MANY, size),
         Asked::Stay => push_sync(memory, commands, 1, MANY, size),
         Asked::Nothing => Some(()),
@@ -100,7 +120,9 @@ pub fn fill(
 /// The ledger state with the outputs that are spent.
 pub fn opening(memory: Memory, asked: Asked, size: u64) -> Option<Ledger> {
     let outputs = match asked {
-        Asked::Next | Asked::Arriving | Asked::Signed => size.saturating_add(STEPS),
+        Asked::Next | Asked::Arriving | Asked::Signed | Asked::Churn => {
+            size.saturating_add(STEPS)
+        }
         _ => size,
     };
     ledger_by(memory, 1, MANY, outputs)

@@ -47,7 +47,8 @@ fn is_answered<N: PoolName>(
     ask(rt, mempool, pass, command).is_ok()
 }
 
-fn ask_all<N: PoolName>(
+/// How many of these commands are accepted.
+pub fn ask_all<N: PoolName>(
     rt: &impl Wait,
     mempool: &Mempool<N, Spinning>,
     pass: &mut Pass<N>,
@@ -120,7 +121,7 @@ fn look_until<N: PoolName>(reader: &Reader<N, Spinning>, pass: &mut Pass<N>, tal
             break;
         }
     }
-    tally.looks.store(looks, Ordering::SeqCst);
+    tally.looks.fetch_add(looks, Ordering::SeqCst);
 }
 
 /// How many of these callers see this many entries.
@@ -145,7 +146,7 @@ fn part_of<'a>(round: &Round<'a>, caller: usize) -> &'a [Command] {
             caller.saturating_mul(250),
             caller.saturating_mul(250).saturating_add(250),
         ),
-        _ => (0, 1_000),
+        _ => (0, round.commands.len()),
     };
     match round.commands.get(from..to) {
         Some(commands) => commands,
@@ -161,12 +162,20 @@ fn act<N: PoolName>(
     caller: usize,
     pass: &mut Pass<N>,
 ) {
-    if matches!(round.work, Work::Watch) && caller == 1 {
+    if matches!(round.work, Work::Watch(_)) && caller > 0 {
         look_until(reader, pass, round.tally);
     } else {
         let answered = take_part(rt, mempool, pass, round, caller);
         round.tally.answered.fetch_add(answered, Ordering::SeqCst);
         round.tally.has_ended.store(true, Ordering::SeqCst);
+    }
+}
+
+// The number of threads in which callers act.
+fn count_threads(work: Work) -> usize {
+    match work {
+        Work::Watch(readers) => readers.saturating_add(1),
+        _ => 4,
     }
 }
 
@@ -183,12 +192,8 @@ fn take_steps<N: PoolName + Send + Sync, R: Threads + Wait + Sync>(
             let seen = count_seen(reader, others, round.size);
             round.tally.answered.store(seen, Ordering::SeqCst);
         }
-        Work::FourThreads | Work::Watch => {
-            let threads = if matches!(round.work, Work::Watch) {
-                2
-            } else {
-                4
-            };
+        Work::FourThreads | Work::Watch(_) => {
+            let threads = count_threads(round.work);
             for_each_mut(
                 rt,
                 passes.get_mut(..threads)?,
@@ -201,9 +206,14 @@ fn take_steps<N: PoolName + Send + Sync, R: Threads + Wait + Sync>(
     Some(())
 }
 
-fn reset(tally: &Tally) {
+fn reset(tally: &Tally, work: Work) {
+    let looks = if matches!(work, Work::Watch(_)) {
+        0
+    } else {
+        STEPS
+    };
     tally.answered.store(0, Ordering::SeqCst);
-    tally.looks.store(STEPS, Ordering::SeqCst);
+    tally.looks.store(looks, Ordering::SeqCst);
     tally.has_ended.store(false, Ordering::SeqCst);
 }
 
@@ -219,7 +229,7 @@ fn time_steps<N: PoolName + Send + Sync, R: Clock + Threads + Wait + Sync>(
     if filled != round.before.len() as u64 {
         return None;
     }
-    reset(round.tally);
+    reset(round.tally, round.work);
     let start = Instant::now(rt).ok()?;
     take_steps(rt, mempool, reader, passes, round)?;
     let time = start.elapsed(rt).ok()?;

@@ -21,7 +21,7 @@ use mp_mempool::Receipt;
 use mp_tx::Ledger;
 use player::{Counts, Part};
 use pools::{Plan, Tale, play_pools};
-use soak::soak;
+use soak::{Soak, run_soak};
 use std::io;
 use std::rt::{Clock, Files};
 use std::sync::{Mutex, Wait};
@@ -36,6 +36,8 @@ const TURNS: u64 = 40;
 pub struct Trial {
     memory: Memory,
     ledger: Ledger,
+    // A ledger state without outputs.
+    empty: Ledger,
     table: Table,
     counts: Counts,
     callers: u32,
@@ -47,6 +49,7 @@ impl Drop for Trial {
         let Trial {
             memory: _,
             ledger: _,
+            empty: _,
             table: _,
             counts: _,
             callers: _,
@@ -186,9 +189,11 @@ fn trial_of(memory: Memory, callers: u64) -> Result<Trial> {
     };
     fill(memory, &mut table).context("no memory")?;
     let ledger = ledger_by(memory, 1, MANY, OUTPUTS).context("no memory")?;
+    let empty = ledger_by(memory, 1, MANY, 0).context("no memory")?;
     Ok(Trial {
         memory,
         ledger,
+        empty,
         table,
         counts: Counts::none(),
         callers: u32::try_from(callers).unwrap_or(0),
@@ -209,15 +214,22 @@ pub fn run<R: Clock + Threads + Wait + Print + Sync>(
     run_upon(rt, &trial, seed, Duration::from_secs(seconds))
 }
 
-/// Makes this number of changes on one pool, and prints the resident memory after each tenth of them.
+/// Makes this number of changes on one pool, and prints the resident memory after each tenth of them. If it is held, the last
+/// caller stays idle and holds a snapshot.
 ///
 /// # Errors
 /// What went wrong.
-pub fn run_soak<R: Clock + Threads + Wait + Print + Files + AllocGlobal + Sync>(
+pub fn soak<R: Clock + Threads + Wait + Print + Files + AllocGlobal + Sync>(
     rt: &R,
     memory: Memory,
     [seed, changes, callers]: [u64; 3],
+    is_held: bool,
 ) -> Result<()> {
     let trial = trial_of(memory, callers)?;
-    soak(rt, &trial, seed, changes)
+    let soak = Soak {
+        seed,
+        changes,
+        is_held,
+    };
+    run_soak(rt, &trial, soak)
 }

@@ -1,44 +1,16 @@
 //! Audits of the history of a pool and of its successor.
+ghost use Rattle.std.specs.Prelude.{IfOk};
+ghost use Rattle.mp_seqpool.specs.PoolLaws.{IsLawful};
+ghost use Rattle.mp_bench.specs.Signatures.{any};
 
 use super::Trial;
 use super::chapter::{Chapter, View, are_rising};
 use super::fault::Fault;
 use super::pools::{LIMIT, Plan, Tale};
 use crate::verifier::Spinning;
-use mp_history::{AuditFault, Entry, audit};
+use mp_history::{Entry, audit, audit_successor};
 use mp_seqpool::{Config, SeqPool};
 use mp_tx::TxId;
-
-// Executes the command of one entry, if the entry is right.
-fn replay(
-    pool: &mut SeqPool,
-    callers: u32,
-    place: usize,
-    entry: &Entry,
-    verifier: &Spinning,
-) -> Result<(), AuditFault> {
-    if entry.caller >= callers {
-        return Err(AuditFault::StrangeCaller(place));
-    }
-    match pool.step(&entry.command, verifier) {
-        Ok(Ok(reply)) if reply == entry.reply => Ok(()),
-        Ok(_) => Err(AuditFault::WrongReply(place)),
-        Err(_) => Err(AuditFault::NoMemory),
-    }
-}
-
-// Executes the commands of the entries, up to the first that is wrong: an audit that begins with the pool's content.
-fn audit_upon(
-    pool: &mut SeqPool,
-    callers: u32,
-    entries: &[Entry],
-    verifier: &Spinning,
-) -> Result<(), AuditFault> {
-    for (place, entry) in entries.iter().enumerate() {
-        replay(pool, callers, place, entry, verifier)?;
-    }
-    Ok(())
-}
 
 fn has(pool: &SeqPool, held: &[(u64, TxId)]) -> bool {
     for ((ticket, item), known) in pool.contents().zip(held) {
@@ -66,7 +38,9 @@ fn look_at(pool: &SeqPool, chapter: &Chapter, last: u64) -> Result<(), Fault> {
 }
 
 // The pool after the history, if it is legal.
-fn audit_first(trial: &Trial, plan: Plan, entries: &[Entry]) -> Result<SeqPool, Fault> {
+fn audit_first(trial: &Trial, plan: Plan, entries: &[Entry]) -> Result<SeqPool, Fault>
+    ensures { IfOk result (λ pool. IsLawful any pool.pool) }
+{
     let config = Config {
         limit: LIMIT,
         last: plan.last,
@@ -84,11 +58,12 @@ fn audit_first(trial: &Trial, plan: Plan, entries: &[Entry]) -> Result<SeqPool, 
     }
 }
 
-// Audits a successor's history, which begins with the content of the pool that handed over.
-fn audit_second(pool: &mut SeqPool, callers: u32, entries: &[Entry]) -> Result<(), Fault> {
-    pool.renew(LIMIT);
-    match audit_upon(pool, callers, entries, &Spinning::new()) {
-        Ok(()) => Ok(()),
+// The successor after its history, which begins with the content of the pool that handed over, if it is legal.
+fn audit_second(trial: &Trial, pool: SeqPool, entries: &[Entry]) -> Result<SeqPool, Fault>
+    requires { IsLawful any pool.pool }
+{
+    match audit_successor(pool, LIMIT, trial.callers, entries, &Spinning::new()) {
+        Ok(pool) => Ok(pool),
         Err(fault) => Err(Fault::Illegal(fault)),
     }
 }
@@ -106,8 +81,8 @@ pub fn audit_tale(trial: &Trial, plan: Plan, tale: &Tale) -> Result<(), Fault> {
         return Err(Fault::OtherOpening);
     }
     let Tale { before, after } = tale;
-    let mut pool = audit_first(trial, plan, &before.entries)?;
+    let pool = audit_first(trial, plan, &before.entries)?;
     look_at(&pool, before, plan.last)?;
-    audit_second(&mut pool, trial.callers, &after.entries)?;
-    look_at(&pool, after, before.closing.last)
+    let successor = audit_second(trial, pool, &after.entries)?;
+    look_at(&successor, after, before.closing.last)
 }

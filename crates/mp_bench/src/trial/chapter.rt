@@ -67,10 +67,10 @@ impl Drop for Chapter {
     }
 }
 
-// Whether the places are 0, 1, .. up to and without `count`.
-fn are_whole(receipts: &[Receipt], count: u64) -> bool {
-    for (place, receipt) in receipts.iter().enumerate() {
-        if receipt.place != place as u64 {
+// Whether the places are this one and those after it, `count` of them.
+fn are_whole(receipts: &[Receipt], first: u64, count: u64) -> bool {
+    for (number, receipt) in receipts.iter().enumerate() {
+        if receipt.place != first.wrapping_add(number as u64) {
             return false;
         }
     }
@@ -98,15 +98,16 @@ fn entries_of(memory: Memory, receipts: Vec<Receipt, Memory>) -> Option<Vec<Entr
     Some(entries)
 }
 
-/// The history of this many entries, if the receipts have them all.
+/// The part of the history that begins at this place and has this many entries, if the receipts have them all.
 pub fn take_history(
     rt: &impl Wait,
     memory: Memory,
     receipts: &Mutex<Vec<Receipt, Memory>>,
+    first: u64,
     count: u64,
 ) -> Option<Vec<Entry, Memory>> {
     let receipts = gather(rt, memory, receipts)?;
-    if !are_whole(&receipts, count) {
+    if !are_whole(&receipts, first, count) {
         return None;
     }
     entries_of(memory, receipts)

@@ -99,8 +99,8 @@ pub struct Scene<'a, N: PoolName> {
     pub table: &'a Table,
     pub counts: &'a Counts,
     pub receipts: &'a Mutex<Vec<Receipt, Memory>>,
-    /// How many of the receipts are kept: those with the first places.
-    pub keep: u64,
+    /// The places of the receipts that are kept: the first one, and the one after the last.
+    pub kept: (u64, u64),
     /// Where callers tell one another what they have seen.
     pub post: &'a Mutex<Shown<N>>,
     pub part: Part,
@@ -109,9 +109,10 @@ pub struct Scene<'a, N: PoolName> {
     pub period: Duration,
 }
 
-// Keeps the receipt if its place is one of the first.
-fn keep_first<N: PoolName>(rt: &impl Wait, scene: &Scene<'_, N>, receipt: Receipt) -> Came {
-    if receipt.place >= scene.keep {
+// Keeps the receipt if its place is one of those that are kept.
+fn keep_some<N: PoolName>(rt: &impl Wait, scene: &Scene<'_, N>, receipt: Receipt) -> Came {
+    let (first, end) = scene.kept;
+    if receipt.place < first || receipt.place >= end {
         return Came::Entered;
     }
     match scene.receipts.lock(rt).push(receipt) {
@@ -126,7 +127,7 @@ fn note<N: PoolName>(
     answer: Result<Receipt, Refusal<N>>,
 ) -> Came {
     match answer {
-        Ok(receipt) => keep_first(rt, scene, receipt),
+        Ok(receipt) => keep_some(rt, scene, receipt),
         Err(Refusal::Foreign(_front)) => Came::Strange,
         Err(Refusal::Pool(mp_seqpool::Refusal::NoMemory)) => Came::Strange,
         Err(Refusal::Pool(_refusal)) => Came::Refused,
@@ -145,9 +146,9 @@ fn change<N: PoolName>(
     }
 }
 
-// Whether it has at least this many entries and this last ticket, its tickets are strictly increasing, and its numbers
-// are those of its transactions.
-fn is_sound<N: PoolName>(snapshot: &Snapshot<'_, N>, least: u64, last: u64) -> bool {
+/// Whether it has at least this many entries and this last ticket, its tickets are strictly increasing, and its numbers
+/// are those of its transactions.
+pub fn is_sound<N: PoolName>(snapshot: &Snapshot<'_, N>, least: u64, last: u64) -> bool {
     let mut count: usize = 0;
     let mut bytes: u64 = 0;
     let mut ticket: u64 = 0;

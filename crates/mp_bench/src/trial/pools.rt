@@ -1,4 +1,4 @@
-//! The greatest number of changes of each pool.
+//! A pool and its successor.
 ghost use Rattle.std.specs.Prelude.{◌≡◌};
 ghost use Rattle.mp_history.specs.PoolName.{head_of};
 ghost use Rattle.mp_bench.specs.Signatures.{any};
@@ -18,10 +18,10 @@ use std::sync::{Arc, Mutex, Wait};
 use std::thread::{Threads, for_each_mut};
 use std::time::{Duration, Instant};
 
-/// All callers together give about 10,000 commands a second.
+/// The greatest number of changes of each pool.
 pub const LIMIT: u64 = 10_000;
 
-// All callers together ask for some ten thousand commands a second.
+// All callers together give about 10,000 commands a second.
 const MILLIS_FOR_EACH: u64 = 2;
 
 /// The plan of a round.
@@ -67,7 +67,7 @@ fn play_all<N: PoolName + Send + Sync, R: Clock + Threads + Wait + Sync>(
         table: &trial.table,
         counts: &trial.counts,
         receipts: &trial.receipts,
-        keep: u64::MAX,
+        kept: (0, u64::MAX),
         post: &post,
         part,
         start: Instant::now(rt).ok()?,
@@ -136,7 +136,7 @@ fn live<N: PoolName + Send + Sync, R: Clock + Threads + Wait + Sync>(
         return Err(Fault::StalePasses);
     }
     play_part(rt, trial, part, mempool, reader, passes, chapter).ok_or(Fault::Wanting)?;
-    let history = take_history(rt, trial.memory, &trial.receipts, chapter.closing.number);
+    let history = take_history(rt, trial.memory, &trial.receipts, 0, chapter.closing.number);
     chapter.entries = history.ok_or(Fault::LostEntry)?;
     Ok(())
 }

@@ -5,11 +5,13 @@ ghost use Rattle.mp_bench.specs.Signatures.{any};
 
 use super::Trial;
 use super::chapter::take_history;
-use super::player::{Part, Scene, play_until};
+use super::player::{Part, Scene, is_sound, play_until};
+use crate::shared::ask_all;
 use crate::verifier::Spinning;
 use anyhow::{Context, Result, bail, ensure};
 use mp_history::{NewName, PoolName, audit};
 use mp_mempool::{Config, Mempool, Opened, Pass, Reader};
+use mp_versions::Snapshot;
 use std::fs;
 use std::marker::Brand;
 use std::rt::{Clock, Files};
@@ -20,17 +22,63 @@ use std::time::{Duration, Instant};
 // The number of parts of the changes. After each the memory is printed.
 const PARTS: u64 = 10;
 
-// The number of first entries that are audited.
-const AUDITED: u64 = 20_000;
+// The number of entries that are audited in each part.
+const AUDITED: u64 = 10_000;
+
+// The least number of changes.
+const LEAST: u64 = 200_000;
+
+// The number of commands before a snapshot that is held throughout.
+const BEFORE: usize = 34;
+
+// The greatest number of changes, and the first ticket is 1.
+const CONFIG: Config = Config {
+    limit: 1 << 32,
+    last: 0,
+};
+
+/// A soak: its seed, the number of its changes, and whether the last caller stays idle and holds a snapshot.
+#[derive(Clone, Copy)]
+pub struct Soak {
+    pub seed: u64,
+    pub changes: u64,
+    pub is_held: bool,
+}
+
+// Where the entries begin that are audited, and the last ticket before them.
+#[derive(Clone, Copy)]
+struct Sample {
+    first: u64,
+    last: u64,
+}
+
+// Adopts a ledger state without outputs. The entries that follow are those of a pool that opens with it.
+fn clear<N: PoolName>(
+    rt: &impl Wait,
+    trial: &Trial,
+    mempool: &Mempool<N, Spinning>,
+    pass: &mut Pass<N>,
+) -> Option<Sample> {
+    let receipt = mempool.sync(rt, pass, &trial.empty).ok()?;
+    let snapshot = pass.snapshot();
+    if snapshot.size() != (0, 0) {
+        return None;
+    }
+    Some(Sample {
+        first: receipt.place.saturating_add(1),
+        last: snapshot.last(),
+    })
+}
 
 // All play until each has seen this number of entries.
-fn play_part<N: PoolName + Send + Sync, R: Clock + Threads + Wait + Sync>(
+fn play_all<N: PoolName + Send + Sync, R: Clock + Threads + Wait + Sync>(
     rt: &R,
     trial: &Trial,
     mempool: &Mempool<N, Spinning>,
     reader: &Reader<N, Spinning>,
     passes: &mut [Pass<N>],
     seed: u64,
+    first: u64,
     entries: u64,
 ) -> Option<()> {
     let post = Mutex::new(passes.first()?.shown().share().ok()?);
@@ -41,7 +89,7 @@ fn play_part<N: PoolName + Send + Sync, R: Clock + Threads + Wait + Sync>(
         table: &trial.table,
         counts: &trial.counts,
         receipts: &trial.receipts,
-        keep: AUDITED,
+        kept: (first, first.saturating_add(AUDITED)),
         post: &post,
         part: Part { seed, turns: 0 },
         start: Instant::now(rt).ok()?,
@@ -57,84 +105,160 @@ fn play_part<N: PoolName + Send + Sync, R: Clock + Threads + Wait + Sync>(
     Some(())
 }
 
+// Prints the number of entries and the resident memory.
 fn print_memory(rt: &(impl Print + Files + AllocGlobal), entries: u64) -> Result<()> {
     let sizes = fs::read_to_string(rt, "/proc/self/statm").context("no sizes")?;
-    let pages = sizes.split_whitespace().nth(1).context("no size")?;
-    println!(rt; "{entries} entries, {pages} pages resident")?;
-    Ok(())
-}
-
-// Goes through the first entries of the history.
-fn audit_first<R: Wait>(rt: &R, trial: &Trial, config: Config) -> Result<()> {
-    let entries = take_history(rt, trial.memory, &trial.receipts, AUDITED);
-    let entries = entries.context("the receipts don't tell of the first entries")?;
-    let config = mp_seqpool::Config {
-        limit: config.limit,
-        last: config.last,
-    };
-    let verifier = Spinning::new();
-    audit(
-        trial.memory,
-        config,
-        &trial.ledger,
-        trial.callers,
-        &entries,
-        &verifier,
+    let word = sizes.split_whitespace().nth(1).context("no size")?;
+    let pages = word.parse::<u64>().context("a size is no number")?;
+    println!(rt;
+        "{entries} entries, {} KB resident",
+        pages.saturating_mul(4)
     )?;
     Ok(())
 }
 
-// All callers but the last make the changes. The last one doesn't look, and a version of the beginning is held.
+// Audits the sample.
+fn audit_sample(rt: &impl Wait, trial: &Trial, sample: Sample) -> Result<()> {
+    let entries = take_history(rt, trial.memory, &trial.receipts, sample.first, AUDITED);
+    let entries = entries.context("the receipts don't tell of all entries")?;
+    let config = mp_seqpool::Config {
+        limit: CONFIG.limit,
+        last: sample.last,
+    };
+    audit(
+        trial.memory,
+        config,
+        &trial.empty,
+        trial.callers,
+        &entries,
+        &Spinning::new(),
+    )?;
+    Ok(())
+}
+
+// Plays until there are so many entries, and audits a sample.
+fn play_part<N: PoolName + Send + Sync, R: Clock + Threads + Wait + Sync>(
+    rt: &R,
+    trial: &Trial,
+    mempool: &Mempool<N, Spinning>,
+    reader: &Reader<N, Spinning>,
+    passes: &mut [Pass<N>],
+    seed: u64,
+    entries: u64,
+) -> Result<()> {
+    let pass = passes.first_mut().context("no caller")?;
+    let sample = clear(rt, trial, mempool, pass).context("the pool isn't empty")?;
+    let played = play_all(
+        rt,
+        trial,
+        mempool,
+        reader,
+        passes,
+        seed,
+        sample.first,
+        entries,
+    );
+    played.context("no memory")?;
+    audit_sample(rt, trial, sample)
+}
+
+// Plays all parts, and prints the memory after each.
 fn play_parts<
     N: PoolName + Send + Sync,
     R: Clock + Threads + Wait + Print + Files + AllocGlobal + Sync,
->(rt: &R, trial: &Trial, opened: Opened<N, Spinning>, seed: u64, changes: u64) -> Result<()> {
-    let (mempool, reader, mut passes) = opened;
-    let (idle, players) = passes.split_last_mut().context("no caller")?;
-    let first = idle.shown().share()?;
+>(
+    rt: &R,
+    trial: &Trial,
+    mempool: &Mempool<N, Spinning>,
+    reader: &Reader<N, Spinning>,
+    passes: &mut [Pass<N>],
+    soak: Soak,
+) -> Result<()> {
     for part in 1..=PARTS {
-        let entries = (changes / PARTS).saturating_mul(part);
-        let seed = seed.wrapping_add(part);
-        play_part(rt, trial, &mempool, &reader, players, seed, entries).context("no memory")?;
+        let entries = (soak.changes / PARTS).saturating_mul(part);
+        let seed = soak.seed.wrapping_add(part);
+        play_part(rt, trial, mempool, reader, passes, seed, entries)?;
         print_memory(rt, entries)?;
     }
-    ensure!(first.front().len() == 0, "what was held has changed");
     Ok(())
+}
+
+// What is compared of a snapshot: the numbers of its entries, its last ticket, and its size.
+fn look_at<N: PoolName>(snapshot: &Snapshot<'_, N>) -> (u64, u64, usize, u64) {
+    let (count, bytes) = snapshot.size();
+    (snapshot.number(), snapshot.last(), count, bytes)
+}
+
+// All but the last caller play. That one submits a few transactions at first, and holds a snapshot of them.
+fn play_beside<
+    N: PoolName + Send + Sync,
+    R: Clock + Threads + Wait + Print + Files + AllocGlobal + Sync,
+>(
+    rt: &R,
+    trial: &Trial,
+    mempool: &Mempool<N, Spinning>,
+    reader: &Reader<N, Spinning>,
+    passes: &mut [Pass<N>],
+    soak: Soak,
+) -> Result<()> {
+    let (idle, players) = passes.split_last_mut().context("no caller")?;
+    let before = trial.table.changes.get(..BEFORE).context("no commands")?;
+    ask_all(rt, mempool, idle, before);
+    let snapshot = idle.snapshot();
+    let seen = look_at(&snapshot);
+    play_parts(rt, trial, mempool, reader, players, soak)?;
+    ensure!(
+        look_at(&snapshot) == seen && is_sound(&snapshot, seen.0, seen.1),
+        "the snapshot that was held has changed"
+    );
+    println!(rt; "a snapshot of {} entries is as it was", seen.0)?;
+    Ok(())
+}
+
+fn play<N: PoolName + Send + Sync, R: Clock + Threads + Wait + Print + Files + AllocGlobal + Sync>(
+    rt: &R,
+    trial: &Trial,
+    opened: Opened<N, Spinning>,
+    soak: Soak,
+) -> Result<()> {
+    let (mempool, reader, mut passes) = opened;
+    if soak.is_held {
+        play_beside(rt, trial, &mempool, &reader, &mut passes, soak)
+    } else {
+        play_parts(rt, trial, &mempool, &reader, &mut passes, soak)
+    }
 }
 
 fn open<N: PoolName + Send + Sync, R: Clock + Threads + Wait + Print + Files + AllocGlobal + Sync>(
     rt: &R,
     trial: &Trial,
     name: NewName,
-    seed: u64,
-    changes: u64,
+    soak: Soak,
 ) -> Result<()>
     requires name { name ≡ head_of N.book N.root }
     requires callers { trial.now.callers ≡ N.callers }
     requires accepts { N.accepts ≡ any }
 {
-    let config = Config {
-        limit: 1 << 32,
-        last: 0,
-    };
     let (memory, ledger, callers) = (trial.memory, &trial.ledger, trial.callers);
     let verifier = Arc::new(memory, Spinning::new())?;
-    match Mempool::<N, _>::open(rt, memory, name, config, ledger, &verifier, callers) {
-        Ok(opened) => play_parts(rt, trial, opened, seed, changes)?,
+    match Mempool::<N, _>::open(rt, memory, name, CONFIG, ledger, &verifier, callers) {
+        Ok(opened) => play(rt, trial, opened, soak),
         Err(refusal) => bail!("{refusal}"),
     }
-    audit_first(rt, trial, config)
 }
 
-/// Makes this number of changes on one pool, and prints the resident memory after each tenth of them.
-pub fn soak<R: Clock + Threads + Wait + Print + Files + AllocGlobal + Sync>(
+/// Makes changes on one pool, and prints the resident memory after each tenth of them.
+pub fn run_soak<R: Clock + Threads + Wait + Print + Files + AllocGlobal + Sync>(
     rt: &R,
     trial: &Trial,
-    seed: u64,
-    changes: u64,
+    soak: Soak,
 ) -> Result<()> {
-    ensure!(changes >= AUDITED, "there are at least 20,000 changes");
-    open::<Brand, _>(rt, trial, NewName::new(), seed, changes)?;
-    ensure!(!trial.counts.has_strange(), "an answer was strange");
+    ensure!(soak.changes >= LEAST, "there are at least 200,000 changes");
+    open::<Brand, _>(rt, trial, NewName::new(), soak)?;
+    let [entered, refused, snapshots, learned, strange] = trial.counts.read();
+    println!(rt;
+        "{entered} entered, {refused} refused, {snapshots} snapshots, {learned} learned, {strange} strange"
+    )?;
+    ensure!(strange == 0, "an answer was strange");
     Ok(())
 }

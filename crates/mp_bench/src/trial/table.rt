@@ -18,7 +18,7 @@ pub struct Table {
     /// For each output, two submits that spend it, one that spends what the first pays, and a remove of up to three of
     /// them.
     pub changes: Commands,
-    /// Syncs to ledger states with all outputs or some of them.
+    /// Syncs to ledger states with all outputs, some of them, or none.
     pub syncs: Commands,
 }
 
@@ -53,7 +53,7 @@ fn push_syncs(memory: Memory, commands: &mut Commands) -> Option<()> {
     for (step, block_bytes) in [(1, MANY), (1, FEW), (2, MANY), (3, MANY)] {
         push_sync(memory, commands, step, block_bytes, OUTPUTS)?;
     }
-    Some(())
+    push_sync(memory, commands, 1, MANY, 0)
 }
 
 /// Fills the table with all commands.

@@ -1,5 +1,5 @@
 use Rattle.mp_bench.specs.Signatures.{any}
-use Rattle.mp_bench.proofs.trial.soak.soak.Given as goal
+use Rattle.mp_bench.proofs.trial.soak.run_soak.Given as goal
 
 -- the new name, for this many callers
 abbrev pub ghosts-open : goal.ghosts-open
