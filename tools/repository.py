@@ -1,4 +1,4 @@
-"""What crates.txt says of the repository's crates, for the programs of this folder."""
+"""What the files of the repository say, for the programs of this folder: crates.txt, and options of scenarios."""
 
 import os
 import shutil
@@ -21,6 +21,14 @@ def read_crates():
                 name = words.split()[0]
                 lines[name], named[name] = line, libraries.split()
     return lines, {name: [it for it in libraries if it in lines] for name, libraries in named.items()}
+
+
+def read_flags(name):
+    """Returns the options in NAME.args, or none if there is no such file."""
+    if not os.path.exists(f"{name}.args"):
+        return []
+    with open(f"{name}.args", encoding="utf-8") as file:
+        return file.read().split()
 
 
 def with_all_below(names, below):

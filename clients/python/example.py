@@ -97,7 +97,7 @@ def main() -> int:
     if len(sys.argv) != 2:
         print(__doc__, file=sys.stderr)
         return 2
-    # A node that verifies signatures itself starts it with `signatures="checked"`.
+    # A node whose transactions are signed starts it with `signatures="ed25519"`.
     with Pool(sys.argv[1], timeout=60) as pool:
         run_node(pool)
     print(f"the program has ended with status {pool.status}")

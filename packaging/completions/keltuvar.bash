@@ -28,11 +28,11 @@ _keltuvar() {
   case $command:$option in
     race:--history | race:--svg) _keltuvar_offer_files && return ;;
     race:--workers | race:--verify-us | serve:--salt) return ;;
-    serve:--signatures) _keltuvar_offer 'scenarios checked' && return ;;
+    *:--signatures) _keltuvar_offer 'trial checked ed25519' && return ;;
   esac
   case $command:$cur in
-    run:-* | audit:-*) _keltuvar_offer '--explain --help' ;;
-    race:-*) _keltuvar_offer '--workers --history --svg --verify-us --explain --help' ;;
+    run:-* | audit:-*) _keltuvar_offer '--explain --signatures --help' ;;
+    race:-*) _keltuvar_offer '--workers --history --svg --verify-us --explain --signatures --help' ;;
     serve:*) _keltuvar_offer '--signatures --salt --help' ;;
     run:* | race:* | audit:*) _keltuvar_offer_files ;;
   esac

@@ -18,5 +18,5 @@ complete -c keltuvar -n '__fish_seen_subcommand_from race' -l history -r -F -d '
 complete -c keltuvar -n '__fish_seen_subcommand_from race' -l svg -r -F -d 'Also write a picture of the race'
 complete -c keltuvar -n '__fish_seen_subcommand_from race' -l verify-us -x -d 'How many microseconds each check of a signature takes'
 
-complete -c keltuvar -n '__fish_seen_subcommand_from serve' -l signatures -x -a 'scenarios checked' -d 'Which signatures to accept'
+complete -c keltuvar -n "__fish_seen_subcommand_from $commands" -l signatures -x -a 'trial checked ed25519' -d 'Which signatures to accept'
 complete -c keltuvar -n '__fish_seen_subcommand_from serve' -l salt -x -d "A number that salts the pool's tables"

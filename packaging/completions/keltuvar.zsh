@@ -3,7 +3,7 @@
 
 _keltuvar() {
   local curcontext=$curcontext state line ret=1
-  local -a commands explain
+  local -a commands explain signatures
   local -A opt_args
   commands=(
     'run:run a scenario and write its answers'
@@ -15,6 +15,7 @@ _keltuvar() {
     '--explain[report what is wrong with a bad line]'
     '(- *)'{-h,--help}'[write help]'
   )
+  signatures='--signatures=[which signatures to accept]:signatures:(trial checked ed25519)'
   _arguments -C \
     '(- *)'{-h,--help}'[write help]' \
     '(- *)'{-V,--version}'[write the version]' \
@@ -25,19 +26,18 @@ _keltuvar() {
     (argument)
       curcontext=${curcontext%:*:*}:keltuvar-$words[1]:
       case $words[1] in
-        (run) _arguments $explain '1:scenario:_files' && ret=0 ;;
+        (run) _arguments $explain $signatures '1:scenario:_files' && ret=0 ;;
         (race)
-          _arguments $explain \
+          _arguments $explain $signatures \
             '--workers=[how many workers race]:number from 1 to 64: ' \
             '--history=[also write the history of the race]:file:_files' \
             '--svg=[also write a picture of the race]:file:_files' \
             '--verify-us=[how long each check of a signature takes]:microseconds: ' \
             '1:scenario:_files' && ret=0
           ;;
-        (audit) _arguments $explain '1:scenario:_files' '2:history:_files' && ret=0 ;;
+        (audit) _arguments $explain $signatures '1:scenario:_files' '2:history:_files' && ret=0 ;;
         (serve)
-          _arguments '(- *)'{-h,--help}'[write help]' \
-            '--signatures=[which signatures to accept]:signatures:(scenarios checked)' \
+          _arguments '(- *)'{-h,--help}'[write help]' $signatures \
             "--salt=[a number that salts the pool's tables]:number: " && ret=0
           ;;
       esac

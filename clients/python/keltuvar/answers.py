@@ -1,4 +1,4 @@
-"""How answers are read. What isn't an answer to the line that was asked raises a ValueError."""
+"""Reading answers. What isn't an answer to the line raises a ValueError."""
 
 from __future__ import annotations
 
@@ -8,7 +8,7 @@ from .words import read_number
 
 
 def error_in(answer: str) -> KeltuvarError | None:
-    """Returns what an answer says is wrong, or None where it is another one."""
+    """Returns the error that an answer reports, or None if it reports none."""
     first, *words = answer.split(" ")
     match first, words:
         case "refused", [word, *details]:
@@ -28,7 +28,7 @@ def error_in(answer: str) -> KeltuvarError | None:
 
 
 def _read_words(answer: str, first: str) -> list[str]:
-    """Returns the words behind the first, which has to be this one."""
+    """Returns the words after the first, which must be this one."""
     word, *words = answer.split(" ")
     if word != first:
         raise ValueError(f"it doesn't begin with '{first}'")
@@ -36,13 +36,13 @@ def _read_words(answer: str, first: str) -> list[str]:
 
 
 def _read_word(answer: str, first: str) -> str:
-    """Returns the one word behind the first."""
+    """Returns the only word after the first."""
     (word,) = _read_words(answer, first)
     return word
 
 
 def _read_items(words: list[str]) -> tuple[Item, ...]:
-    """Reads words that are a ticket, a colon and a name."""
+    """Reads words that consist of a ticket, a colon and a name."""
     pairs = (word.split(":") for word in words)
     return tuple(Item(read_number(ticket), name) for ticket, name in pairs)
 
@@ -52,7 +52,7 @@ def _read_numbers(words: list[str]) -> tuple[int, ...]:
 
 
 def _read_tickets(answer: str, first: str) -> tuple[tuple[int, ...], tuple[int, ...]]:
-    """Reads the tickets before the word `dropped`, and those behind it."""
+    """Reads the tickets before the word `dropped`, and those after it."""
     words = _read_words(answer, first)
     place = words.index("dropped")
     return _read_numbers(words[:place]), _read_numbers(words[place + 1 :])

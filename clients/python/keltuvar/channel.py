@@ -1,4 +1,4 @@
-"""Lines out and answers in, over two streams, until a moment at which a call gives up."""
+"""Lines out and answers in, over two streams, until the deadline of a call."""
 
 from __future__ import annotations
 
@@ -10,14 +10,14 @@ import time
 from typing import Protocol
 
 _CHUNK = 1 << 16
-# A wait looks so often, in seconds, whether another thread wants it to end.
+# The interval, in seconds, at which a wait checks whether another thread wants it to end.
 _LONGEST_WAIT = 0.5
-# So many bytes of what the program wrote to standard error are kept.
+# How many bytes of the program's standard error are kept.
 _ERROR_BYTES = 4096
 
 
 class Stream(Protocol):
-    """A pipe, a socket or a file of one."""
+    """A pipe, a socket, or a file object of one."""
 
     def fileno(self) -> int:
         """Returns its file descriptor."""
@@ -33,7 +33,7 @@ class Ended(Exception):
 
 
 class OutOfTime(Exception):
-    """The moment has come, and answers are missing."""
+    """The deadline has passed, and answers are missing."""
 
 
 class Cancelled(Exception):
@@ -41,11 +41,11 @@ class Cancelled(Exception):
 
 
 class Unasked(Exception):
-    """The program wrote something before it was asked."""
+    """The program wrote something before a line was sent."""
 
 
 class Channel:
-    """Two streams, which become non-blocking, and a third one for what is said of errors."""
+    """Two streams, which become non-blocking, and a third one for standard error."""
 
     def __init__(self, answers: Stream, lines: Stream, errors: Stream | None = None) -> None:
         self._streams = [answers, lines] if errors is None else [answers, lines, errors]
@@ -59,7 +59,7 @@ class Channel:
             os.set_blocking(stream.fileno(), False)
 
     def exchange(self, lines: bytes, count: int, until: float) -> list[str]:
-        """Writes the lines, and returns so many answers without their line feeds."""
+        """Writes the lines, and returns `count` answers without their line feeds."""
         if self._receive() or self._unfinished:
             raise Unasked
         unsent = memoryview(lines)
@@ -79,12 +79,12 @@ class Channel:
         self._cancelled = True
 
     def end_lines(self) -> None:
-        """Tells the program that there are no further lines."""
+        """Ends the program's input."""
         with contextlib.suppress(OSError):
             self._lines.close()
 
     def close(self) -> None:
-        """Closes the streams. What still waits for one of them ends, and reads no other file."""
+        """Closes the streams. Waits for them end, and read no other file."""
         self._cancelled = True
         self._answers_fd = self._lines_fd = -1
         self._errors_fd = None
@@ -93,12 +93,12 @@ class Channel:
                 stream.close()
 
     def error_text(self) -> str:
-        """Returns the end of what has come of errors."""
+        """Returns the end of the program's standard error so far."""
         self._drain_errors()
         return self._error_end.decode("utf-8", "backslashreplace")
 
     def _send(self, unsent: memoryview) -> int:
-        """Writes what there is room for, and returns how much that was."""
+        """Writes as much as fits, and returns how much that was."""
         try:
             return os.write(self._lines_fd, unsent) if unsent else 0
         except BlockingIOError:
@@ -107,7 +107,7 @@ class Channel:
             raise Ended from error
 
     def _receive(self) -> list[bytes]:
-        """Reads what has come, and returns the lines that are whole."""
+        """Reads what has come, and returns the complete lines."""
         try:
             chunk = os.read(self._answers_fd, _CHUNK)
         except BlockingIOError:
@@ -125,7 +125,7 @@ class Channel:
         return whole
 
     def _wait(self, sending: bool, until: float) -> None:
-        """Waits until something can be read, or written where there is something to send."""
+        """Waits until something can be read, or written if there is something to send."""
         left = until - time.monotonic()
         if self._cancelled:
             raise Cancelled
@@ -144,7 +144,7 @@ class Channel:
             self._drain_errors()
 
     def _drain_errors(self) -> None:
-        """Keeps the end of what has come of errors."""
+        """Keeps the end of the program's standard error so far."""
         try:
             while self._errors_fd is not None:
                 chunk = os.read(self._errors_fd, _CHUNK)

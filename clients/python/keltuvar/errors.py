@@ -1,4 +1,4 @@
-"""What may be raised. All of it is a `KeltuvarError`, but for a ValueError at a wrong argument."""
+"""Errors. Each is a `KeltuvarError`, except a ValueError for a wrong argument."""
 
 from __future__ import annotations
 
@@ -9,7 +9,7 @@ class KeltuvarError(Exception):
     """The base of all errors of this package."""
 
 
-# Behind each word: the fields of the words behind it, and what it means.
+# For each word: the fields of the words after it, and what it means.
 _REFUSALS: dict[str, tuple[tuple[str, ...], str]] = {
     "history": ((), "the pool has made as many changes as its limit allows"),
     "tickets": ((), "the last ticket has been given"),
@@ -33,12 +33,12 @@ _REFUSALS: dict[str, tuple[tuple[str, ...], str]] = {
 
 
 class Refused(KeltuvarError):
-    """A refusal. Nothing has changed. A field that the word doesn't tell is None."""
+    """A refusal. Nothing has changed. A field that the word doesn't have is None."""
 
     word: str
-    """What was refused and why, as `missing` or `full`; `adopt` where a block isn't valid."""
+    """What was refused and why, like `missing` or `full`; `adopt` if a block isn't valid."""
     details: tuple[str, ...]
-    """The words behind it, as they were answered."""
+    """The words after it in the answer."""
     ticket: int | None = None
     """At `already`: the ticket under which the pool holds the transaction."""
     need: int | None = None
@@ -54,7 +54,7 @@ class Refused(KeltuvarError):
     policy: str | None = None
     """At `no-policy` and `unbalanced`: the script's name, `coin`, or `#` and the policy's digits."""
     token: str | None = None
-    """At `unbalanced`: the token's name, or `#` and its digits; None where it has no name."""
+    """At `unbalanced`: the token's name, or `#` and its digits; None if it has no name."""
     key: int | None = None
     """At `signature`: the key's first byte."""
     policy_script: int | None = None
@@ -67,7 +67,7 @@ class Refused(KeltuvarError):
     """At `adopt`: why that transaction isn't valid."""
 
     def __init__(self, word: str, *details: str) -> None:
-        """Reads the words behind `refused`. It raises a ValueError where a known word has others."""
+        """Reads the words after `refused`. Raises a ValueError if a known word has other words."""
         super().__init__(word, *details)
         self.word, self.details = word, details
         if word == "adopt":
@@ -115,7 +115,7 @@ class Undecodable(KeltuvarError):
     """Bytes that are no transaction. Nothing was declared."""
 
     fault: str
-    """What is wrong with them: a word such as `truncated`."""
+    """What is wrong with them: a word like `truncated`."""
 
     def __init__(self, fault: str) -> None:
         super().__init__(fault)
@@ -126,7 +126,7 @@ class Undecodable(KeltuvarError):
 
 
 class BadLine(KeltuvarError):
-    """A line that the program can't do, as where a name isn't declared. Nothing has changed."""
+    """A line that the program can't do, like one with an undeclared name. Nothing has changed."""
 
     number: int
     """The line's number in the conversation, from 1."""
@@ -142,7 +142,7 @@ class BadLine(KeltuvarError):
 
 
 class OutOfMemory(KeltuvarError):
-    """The program had too little memory for the line. Nothing has changed; it may be asked again."""
+    """The program is out of memory for the line. Nothing has changed; it may be sent again."""
 
     def __str__(self) -> str:
         return "the program is out of memory; nothing has changed"
@@ -152,13 +152,13 @@ class Timeout(KeltuvarError, TimeoutError):
     """A call had no answer in time."""
 
     line: str
-    """The line, or the first of several; its first words where it is long."""
+    """The line, or the first of several; only its beginning if it is long."""
     seconds: float
     """How long the call waited."""
     sent: bool
-    """Whether the line went to the program. If so, the answer may still come, so that later ones
-    couldn't be told apart: the program is ended, and the pool takes no further calls. If not,
-    another thread's call took all the time; nothing has happened, and the pool goes on."""
+    """Whether the line was sent. If so, its answer may still come and be mistaken for a later one:
+    the program is ended, and the pool takes no further calls. If not, another thread's call took
+    all the time. Nothing has happened, and the pool goes on."""
 
     def __init__(self, line: str, seconds: float, sent: bool) -> None:
         if sent:
@@ -176,12 +176,12 @@ class Closed(KeltuvarError):
 
 
 class Broken(KeltuvarError):
-    """The program ended, or an answer of it may be missing. The pool takes no further calls."""
+    """The program ended, or one of its answers may be missing. The pool takes no further calls."""
 
     reason: str
     """What happened."""
     status: int | None
-    """The program's exit status, negative where a signal ended it; None where there is none."""
+    """The program's exit status, negative if a signal ended it; None if there is none."""
     stderr: str
     """The end of what the program wrote to standard error."""
 

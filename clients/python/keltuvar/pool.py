@@ -36,9 +36,9 @@ class _NoTurn(Exception):
     """Other threads took all the time that a call has."""
 
 
-# So long, in seconds, a program that has closed a stream has to end, so that its status is its own.
+# How many seconds a program that has closed a stream has to end, so that its status is its own.
 _LAST_WORDS = 1.0
-# So many characters of a line are told in an error.
+# How many characters of a line an error shows.
 _MOST_TOLD = 60
 _MOST_BLOCK, _MOST_LIMIT = 2**39, 2**32
 
@@ -47,35 +47,37 @@ class Pool:
     """A pool that a program holds.
 
     Each call sends one line to `keltuvar serve` and reads its answer. Any number of threads may
-    call. A call raises `Refused`, `Undecodable`, `BadLine` or `OutOfMemory` where the answer says
-    so, and then nothing has changed. An argument that can't be a word of the line raises a
+    call. A call raises `Refused`, `Undecodable`, `BadLine` or `OutOfMemory` if the answer says so.
+    Then nothing has changed. An argument that can't be a word of the line raises a
     ValueError, and nothing is sent.
 
-    Each call has a `timeout` in seconds. None stands for that of the pool, and `math.inf` for no
-    limit. A call that a timeout or another exception interrupts, as KeyboardInterrupt, ends the
-    program: its answer may still come, and would be taken for that to the next line. From then on
-    each call raises `Broken`.
+    Each call has a `timeout` in seconds. None means that of the pool, and `math.inf` no limit. A
+    call that a timeout or another exception interrupts, like KeyboardInterrupt, ends the program:
+    its answer may still come, and would be mistaken for that to the next line. Then each call
+    raises `Broken`.
     """
 
     def __init__(
         self,
         program: str | os.PathLike[str],
         *,
-        signatures: Literal["scenarios", "checked"] = "scenarios",
+        signatures: Literal["trial", "checked", "ed25519", "scenarios"] = "trial",
         salt: int | None = None,
         timeout: float | None = None,
     ) -> None:
-        """Starts `PROGRAM serve`. It raises an OSError where that can't be run.
+        """Starts `PROGRAM serve`. Raises an OSError if that can't be run.
 
-        signatures: with "checked" the program accepts every signature, as verified by the caller.
+        signatures: what the pool accepts. "trial" signatures, also called "scenarios", are the key
+            and then the id. "checked" accepts every signature, as verified by the caller.
+            "ed25519" accepts Ed25519 signatures of the id.
         salt: a number for the program's `--salt`; without one the program chooses.
         timeout: the limit of each call that has none of its own; None is no limit.
         """
-        if signatures not in ("scenarios", "checked"):
-            raise ValueError(f"{signatures!r:.80} is neither 'scenarios' nor 'checked'")
+        if signatures not in ("trial", "checked", "ed25519", "scenarios"):
+            raise ValueError(f"{signatures!r:.80} is none of 'trial', 'checked' and 'ed25519'")
         command = [os.fspath(program), "serve"]
-        if signatures == "checked":
-            command += ["--signatures", "checked"]
+        if signatures in ("checked", "ed25519"):
+            command += ["--signatures", signatures]
         if salt is not None:
             command += ["--salt", words.format_number(salt)]
         limit = _check_seconds(math.inf if timeout is None else timeout)
@@ -119,12 +121,12 @@ class Pool:
 
     @property
     def pid(self) -> int | None:
-        """The number of the program's process; None where the pool didn't start it."""
+        """The number of the program's process; None if the pool didn't start it."""
         return self._process.pid if self._process else None
 
     @property
     def status(self) -> int | None:
-        """The program's exit status once it has ended, negative where a signal ended it."""
+        """The program's exit status once it has ended, negative if a signal ended it."""
         return self._process.status if self._process else None
 
     def close(self, timeout: float = 5.0) -> None:
@@ -164,7 +166,7 @@ class Pool:
     # Lines as they are.
 
     def ask(self, line: str, *, timeout: float | None = None) -> str:
-        """Sends a line and returns its answer. It raises what the answer says is wrong."""
+        """Sends a line and returns its answer. Raises the error that the answer reports."""
         return self._ask([words.format_line(line)], lambda answer: answer, timeout)
 
     def ask_all(self, lines: Iterable[str], *, timeout: float | None = None) -> list[str]:
@@ -187,14 +189,14 @@ class Pool:
         tick: int | None = None,
         timeout: float | None = None,
     ) -> None:
-        """Sets what is given, each once in a conversation and before the first command.
+        """Makes the given settings, each once in a conversation and before the first command.
 
-        block: the bytes that a block may have, 1 to 2^39, else 500,000; the pool has room for two.
-        limit: after so many changes they are counted from 0, 1 to 2^32, else 1,000,000.
-        last: the ticket that counts as the last one given, else 0.
-        tick: the tick of the opening ledger state, else 0.
+        block: the bytes that a block may have, 1 to 2^39, default 500,000; room is twice that.
+        limit: changes are counted from 0 again after this many, 1 to 2^32, default 1,000,000.
+        last: the ticket that counts as the last one given, default 0.
+        tick: the tick of the opening ledger state, default 0.
 
-        Each is a line of its own. Where one is bad, the others are done, and the first error is
+        Each is a line of its own. If one is bad, the others are done, and the first error is
         raised.
         """
         lines = []
@@ -217,7 +219,7 @@ class Pool:
     def utxo(
         self, transaction_id: str, index: int, data: bytes, *, timeout: float | None = None
     ) -> None:
-        """Puts an output, by its bytes in a transaction, into the opening ledger state."""
+        """Adds an output, given its bytes in a transaction, to the opening ledger state."""
         reference = words.format_output_id(transaction_id, index)
         return self._ask(["utxo", reference, words.format_bytes(data)], answers.read_ok, timeout)
 
@@ -248,7 +250,7 @@ class Pool:
         badly_signed_by: Iterable[int] = (),
         timeout: float | None = None,
     ) -> None:
-        """Declares a transaction by its parts, of which it needs one at least.
+        """Declares a transaction by its parts, at least one.
 
         inputs: what it spends, each an `Input` or just a reference.
         references: the outputs that it refers to and doesn't spend.
@@ -284,7 +286,7 @@ class Pool:
         return self._ask(["show", words.format_name(transaction)], answers.read_shown, timeout)
 
     def forget(self, *names: str, timeout: float | None = None) -> int:
-        """Lets names of outputs and transactions go, and returns how many went.
+        """Forgets names of outputs and transactions, and returns how many it forgot.
 
         A name stays where the pool needs it for a transaction that it holds. One that isn't
         declared counts nothing.
@@ -302,7 +304,7 @@ class Pool:
         return self._ask(["submit", words.format_name(transaction)], answers.read_ticket, timeout)
 
     def remove(self, *transactions: str, timeout: float | None = None) -> Removed:
-        """Takes transactions out, and those that depend on them. Others are passed over."""
+        """Takes out transactions and their dependents. Those not in the pool have no effect."""
         return self._ask(["remove", *words.format_some(transactions)], answers.read_removed, timeout)
 
     def sync(
@@ -313,7 +315,7 @@ class Pool:
         block: int | None = None,
         timeout: float | None = None,
     ) -> LedgerChange:
-        """Adopts the ledger state at the tick which has just these unspent outputs.
+        """Adopts the ledger state at the tick with exactly these unspent outputs.
 
         block: the bytes that a block may have from now on, else those of `settings`.
         """
@@ -336,7 +338,7 @@ class Pool:
         return self._ask(line, answers.read_ledger_change, timeout)
 
     def back(self, count: int, *, timeout: float | None = None) -> LedgerChange:
-        """Adopts the ledger state before the last so many calls of `adopt` or `sync`."""
+        """Adopts the ledger state before the last `count` calls of `adopt` or `sync`."""
         return self._ask(["back", words.format_number(count)], answers.read_ledger_change, timeout)
 
     # Reads.
@@ -354,21 +356,21 @@ class Pool:
         return self._ask(["lookup", words.format_number(ticket)], answers.read_lookup, timeout)
 
     def has(self, transaction: str, *, timeout: float | None = None) -> bool:
-        """Says whether the pool holds a transaction with this one's id."""
+        """Returns whether the pool holds a transaction with this one's id."""
         return self._ask(["has", words.format_name(transaction)], answers.read_has, timeout)
 
     def take(self, size: int, *, timeout: float | None = None) -> Block:
-        """Returns the oldest transactions in a row that have at most so many bytes together."""
+        """Returns the oldest transactions, as long as they fit into `size` bytes in all."""
         return self._ask(["take", words.format_number(size)], answers.read_take, timeout)
 
     def forge(self, size: int, *, timeout: float | None = None) -> Block:
-        """Returns a block of at most so many bytes."""
+        """Returns a block of at most `size` bytes."""
         return self._ask(["forge", words.format_number(size)], answers.read_block, timeout)
 
     def offer(self, count: int, size: int, *, timeout: float | None = None) -> tuple[Item, ...]:
-        """Returns what the pool's one peer is offered next, which is each transaction once.
+        """Returns what the pool's one peer is offered next. It is offered each transaction once.
 
-        That is at most so many transactions, of at most so many bytes together.
+        That is at most `count` transactions, of at most `size` bytes in all.
         """
         line = ["offer", words.format_number(count), words.format_number(size)]
         return self._ask(line, answers.read_offer, timeout)
@@ -381,7 +383,7 @@ class Pool:
         block: int | None = None,
         timeout: float | None = None,
     ) -> tuple[Item, ...]:
-        """Returns what would stay at such a `sync`. The pool doesn't change. This is the line `for`."""
+        """Returns what would stay after such a `sync`. The pool doesn't change. The line is `for`."""
         line = ["for", *_format_moment(tick, block), *words.format_references(references)]
         return self._ask(line, answers.read_kept_for, timeout)
 
@@ -389,15 +391,15 @@ class Pool:
         """Returns the pool's numbers."""
         return self._ask(["stats"], answers.read_stats, timeout)
 
-    # How a call is made.
+    # Making a call.
 
     def _ask(self, line: Sequence[str], read: Callable[[str], T], timeout: float | None) -> T:
-        """Sends the line of these words, and reads its answer, or raises what that says is wrong."""
+        """Sends the line of these words and reads its answer. Raises the error that it reports."""
         result = self._exchange([" ".join(line)], _each(read), timeout)
         return self._raise_first(result)[0]
 
     def _raise_first(self, results: list[T | KeltuvarError]) -> list[T]:
-        """Returns the results, or raises the first that is an error."""
+        """Returns the results, or raises the first error among them."""
         good: list[T] = []
         for result in results:
             if isinstance(result, KeltuvarError):
@@ -408,7 +410,7 @@ class Pool:
     def _exchange(
         self, lines: Sequence[str], read: Callable[[list[str]], T], timeout: float | None
     ) -> T:
-        """Sends the lines in a turn of its own, and reads their answers."""
+        """Sends the lines while it holds the lock, and reads their answers."""
         seconds = self._limit if timeout is None else _check_seconds(timeout)
         until = time.monotonic() + seconds
         told = _shorten(lines[0])
@@ -422,13 +424,13 @@ class Pool:
             raise Timeout(told, seconds, sent=True) from None
 
     def _in_turn(self, seconds: float, action: Callable[[], T]) -> T:
-        """Holds the lock during the action. It raises `_NoTurn` after so many seconds without it."""
+        """Holds the lock during the action. Raises `_NoTurn` after this many seconds without it."""
         try:
             if not self._turn.acquire(timeout=min(seconds, threading.TIMEOUT_MAX)):
                 raise _NoTurn
             return action()
         finally:
-            # After an interrupt right behind `acquire` only the lock knows who holds it.
+            # After an interrupt just after `acquire` only the lock knows who holds it.
             try:
                 self._turn.release()
             except RuntimeError:
@@ -437,7 +439,7 @@ class Pool:
     def _exchange_in_turn(
         self, lines: Sequence[str], read: Callable[[list[str]], T], until: float
     ) -> T:
-        """Sends the lines and reads their answers. Where those don't come it ends the program."""
+        """Sends the lines and reads their answers. If those don't come, it ends the program."""
         if self._closed or self._fault is not None:
             raise self._end()
         if time.monotonic() >= until:
@@ -470,7 +472,7 @@ class Pool:
                 self._end()
 
     def _end(self) -> KeltuvarError:
-        """Ends the program in the caller's turn, and returns why no further call can be made."""
+        """Ends the program, under the lock. Returns why no further call can be made."""
         if self._process:
             self._process.kill()
         error_text = self._channel.error_text()
@@ -491,7 +493,7 @@ def _shorten(line: str) -> str:
 
 
 def _format_moment(tick: int, block: int | None) -> list[str]:
-    """Returns the tick of a ledger state, and its block bytes where they are given."""
+    """Returns the tick of a ledger state, and its block bytes if they are given."""
     moment = [words.format_number(tick)]
     if block is not None:
         moment.append(f"block={words.format_number(block, _MOST_BLOCK)}")
@@ -499,7 +501,7 @@ def _format_moment(tick: int, block: int | None) -> list[str]:
 
 
 def _each(read: Callable[[str], T]) -> Callable[[list[str]], list[T | KeltuvarError]]:
-    """Returns what reads each answer: what it tells, or what it says is wrong."""
+    """Returns a reader of answers, which returns the result or the error that an answer reports."""
 
     def read_one(answer: str) -> T | KeltuvarError:
         try:

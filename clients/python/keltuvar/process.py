@@ -10,7 +10,7 @@ from collections.abc import Sequence
 
 from .channel import Channel
 
-# So long, in seconds, a program has to end after it was asked to, and then after it was killed.
+# How many seconds a program has to end after it was asked to, and then after it was killed.
 _ASKED, _KILLED = 1.0, 10.0
 
 
@@ -18,7 +18,7 @@ class Process:
     """A child process. It has a process group of its own, so that Control-C doesn't reach it."""
 
     def __init__(self, command: Sequence[str]) -> None:
-        """Starts it. It raises an OSError where the program can't be run."""
+        """Starts it. Raises an OSError if the program can't be run."""
         pipe = subprocess.PIPE
         self._child = subprocess.Popen(
             command, bufsize=0, stdin=pipe, stdout=pipe, stderr=pipe, process_group=0
@@ -33,11 +33,11 @@ class Process:
 
     @property
     def status(self) -> int | None:
-        """The exit status, negative where a signal ended it; None where it hasn't been ended."""
+        """The exit status, negative if a signal ended it; None if it hasn't ended."""
         return self._child.returncode
 
     def end(self, patience: float) -> None:
-        """Waits so long for it to end, then asks it to, then kills it."""
+        """Waits this long for it to end, then asks it to, then kills it."""
         try:
             if not self._has_ended(patience):
                 self._send(signal.SIGTERM)
@@ -46,14 +46,14 @@ class Process:
             self.kill()
 
     def kill(self) -> None:
-        """Kills it where it hasn't ended."""
+        """Kills it if it hasn't ended."""
         try:
             self._send(signal.SIGKILL)
         finally:
             self._has_ended(_KILLED)
 
     def _has_ended(self, seconds: float) -> bool:
-        """Waits so long for its end, and says whether that came."""
+        """Waits this long for it to end, and returns whether it did."""
         with contextlib.suppress(subprocess.TimeoutExpired):
             self._child.wait(seconds)
         return self._child.returncode is not None

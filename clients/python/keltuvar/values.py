@@ -1,4 +1,4 @@
-"""What a pool is told and what it answers, as plain values."""
+"""Arguments and answers of a pool, as plain values."""
 
 from __future__ import annotations
 
@@ -8,7 +8,7 @@ from typing import TypeAlias
 
 Bundle: TypeAlias = int | Mapping[str, int]
 """How much of each token: a number is coin, and a mapping's keys are `coin`, `POLICY`, or
-`POLICY.TOKEN`, as in `{"coin": 5, "yes.gold": 7}`. An empty mapping is no token at all."""
+`POLICY.TOKEN`, as in `{"coin": 5, "yes.gold": 7}`. An empty mapping has no token."""
 
 
 @dataclass(frozen=True, slots=True)
@@ -16,11 +16,11 @@ class Output:
     """What an output pays, for `Pool.out` and `Pool.tx`."""
 
     bundle: Bundle
-    """How much of each token: a number of coin, or a mapping such as `{"coin": 5, "yes.gold": 7}`."""
+    """How much of each token: a number of coin, or a mapping like `{"coin": 5, "yes.gold": 7}`."""
     script: str | None = None
-    """The name of the script that locks it; `yes`, which accepts everything, where it is None."""
+    """The name of the script that locks it; None means `yes`, which accepts everything."""
     datum: str | None = None
-    """The name of its datum, which needs a script before it; `unit` where it is None."""
+    """The name of its datum, which needs a script before it; None means `unit`."""
 
 
 @dataclass(frozen=True, slots=True)
@@ -30,11 +30,11 @@ class Input:
     reference: str
     """The output that it spends: the name of an opening output, or `TX.K`."""
     script: str | None = None
-    """The name of its validator; that of the output where it is None."""
+    """The name of its validator; None means that of the output."""
     datum: str | None = None
-    """The name of its datum, which needs a script before it; that of the output where it is None."""
+    """The name of its datum, which needs a script before it; None means that of the output."""
     redeemer: str | None = None
-    """The name of its redeemer, which needs a datum before it; `unit` where it is None."""
+    """The name of its redeemer, which needs a datum before it; None means `unit`."""
 
 
 @dataclass(frozen=True, slots=True)
@@ -71,7 +71,7 @@ class Item:
 
 @dataclass(frozen=True, slots=True)
 class Removed:
-    """What went at a removal."""
+    """What a removal took out."""
 
     removed: tuple[int, ...]
     """The tickets of the transactions that were named."""
@@ -96,7 +96,7 @@ class Snapshot:
     count: int
     """How many transactions there are."""
     size: int
-    """The number of their bytes together."""
+    """The total number of their bytes."""
     last_ticket: int
     """The last ticket that was given."""
     items: tuple[Item, ...]
@@ -110,7 +110,7 @@ class Block:
     count: int
     """How many transactions there are."""
     size: int
-    """The number of their bytes together."""
+    """The total number of their bytes."""
     items: tuple[Item, ...]
     """The transactions, oldest first."""
 
@@ -122,7 +122,7 @@ class Stats:
     count: int
     """How many transactions it holds."""
     size: int
-    """The number of their bytes together."""
+    """The total number of their bytes."""
     free: int
     """How many bytes are free."""
     last_ticket: int
@@ -130,4 +130,4 @@ class Stats:
     changes: int
     """How many changes were made since the pool opened or last reached its limit."""
     refusals: Mapping[str, int]
-    """How often each word stood behind `refused`, checks aside; a word that never did is left out."""
+    """How often each word followed `refused`, without checks; words that never did are left out."""

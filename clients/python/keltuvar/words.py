@@ -30,7 +30,7 @@ def _format_match(pattern: re.Pattern[str], text: object, what: str) -> str:
 
 
 def format_line(line: object) -> str:
-    """Returns a line of a conversation, which has no line feed, and nothing but ASCII text."""
+    """Returns a line of a conversation, which has only ASCII text and no line feed."""
     return _format_match(_LINE, line, "line: it has to be printable ASCII without a line feed")
 
 
@@ -45,7 +45,7 @@ def format_name(name: object) -> str:
 
 
 def format_transaction_name(name: object) -> str:
-    """Returns a new transaction's name, which isn't `none`: that `lookup` answers without one."""
+    """Returns a new transaction's name. It isn't `none`, which `lookup` answers without one."""
     if name == "none":
         raise ValueError("no transaction can be called 'none', which means that there is none")
     return format_name(name)
@@ -57,7 +57,7 @@ def format_names(names: object) -> list[str]:
 
 
 def format_some(names: object) -> list[str]:
-    """Returns one name at least."""
+    """Returns at least one name."""
     some = format_names(names)
     if not some:
         raise ValueError("there is no name")
@@ -75,7 +75,7 @@ def format_references(references: object) -> list[str]:
 
 
 def check_list(words: object) -> Iterable[object]:
-    """Gives a list back. A text isn't taken for the list of its letters, nor a mapping for one."""
+    """Returns a list. Neither a text nor a mapping counts as one."""
     if isinstance(words, (str, bytes, Mapping)) or not isinstance(words, Iterable):
         raise ValueError(f"{words!r:.80} isn't a list")
     return words
@@ -94,7 +94,7 @@ def format_keys(keys: object) -> list[str]:
 
 
 def format_bytes(data: object) -> str:
-    """Returns the hexadecimal digits of bytes, of which there has to be one at least."""
+    """Returns the hexadecimal digits of at least one byte."""
     if not isinstance(data, (bytes, bytearray, memoryview)) or not len(data):
         raise ValueError(f"{data!r:.80} isn't bytes, or there are none")
     return data.hex()
@@ -116,13 +116,13 @@ def _format_entry(token: object, quantity: object) -> str:
 
 
 def format_bundle(bundle: object) -> str:
-    """Returns a bundle: its entries with commas between them, or `-` where there are none."""
+    """Returns a bundle: its entries with commas between them, or `-` if there are none."""
     tokens = bundle if isinstance(bundle, Mapping) else {"coin": bundle}
     return ",".join(_format_entry(token, tokens[token]) for token in tokens) or "-"
 
 
 def _format_chain(first: str, mark: str, names: Iterable[object]) -> str:
-    """Puts names behind the first word: the mark before one, and `/` before each after it."""
+    """Adds names to the first word: the mark before the first, and `/` before each other one."""
     chain = list(names)
     while chain and chain[-1] is None:
         chain.pop()
@@ -134,7 +134,7 @@ def _format_chain(first: str, mark: str, names: Iterable[object]) -> str:
 
 
 def format_output(output: object) -> str:
-    """Returns what an output pays: an `Output`, or a bundle where `yes` locks it."""
+    """Returns what an output pays: an `Output`, or a bundle that `yes` locks."""
     if not isinstance(output, Output):
         return format_bundle(output)
     return _format_chain(format_bundle(output.bundle), "@", (output.script, output.datum))

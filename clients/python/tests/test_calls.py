@@ -243,6 +243,8 @@ class Programs(unittest.TestCase):
             self.assertEqual(pool.ask("arguments"), "serve")
         with Pool(str(FAKE), timeout=LONG, signatures="scenarios") as pool:
             self.assertEqual(pool.ask("arguments"), "serve")
+        with Pool(FAKE, timeout=LONG, signatures="ed25519") as pool:
+            self.assertEqual(pool.ask("arguments"), "serve --signatures ed25519")
         with Pool(FAKE, timeout=LONG, signatures="checked", salt=7) as pool:
             self.assertEqual(pool.ask("arguments"), "serve --signatures checked --salt 7")
 

@@ -242,14 +242,20 @@ class Program(unittest.TestCase):
         self.assertEqual(pool.stats().count, 0)
 
     def test_signatures(self) -> None:
-        for signatures in ("scenarios", "checked"):
+        for signatures in ("trial", "checked", "ed25519"):
             pool = self.begin(signatures=signatures)
             pool.out("g0", 100)
             pool.tx("a", inputs=["g0"], outputs=[100], badly_signed_by=[7])
+            pool.tx("b", inputs=["a.0"], outputs=[100], signed_by=[8])
+            pool.tx("c", inputs=["g0"], outputs=[100], signed_by=[9])
             if signatures == "checked":
-                self.assertEqual(pool.submit("a"), 1)
+                self.assertEqual((pool.submit("a"), pool.submit("b")), (1, 2))
+                continue
+            self.assertEqual(refusal(lambda: pool.submit("a")).key, 7)
+            if signatures == "trial":
+                self.assertEqual(pool.submit("c"), 1)
             else:
-                self.assertEqual(refusal(lambda: pool.submit("a")).key, 7)
+                self.assertEqual(refusal(lambda: pool.submit("c")).key, 9)
 
     def test_salt(self) -> None:
         pool = self.begin(salt=7)

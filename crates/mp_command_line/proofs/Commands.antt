@@ -1,4 +1,4 @@
--- Commands that are put together.
+-- Commands that are assembled.
 use Rattle.std.proofs.Common.{◌≡◌, ◌∙◌, ◌||◌, false, ap₂, subst, IfOk, Result}
 use Rattle.std.proofs.lemmas.Result.{IfOk-weaker}
 use Rattle.clap.specs.Built.{AddsArg}
@@ -7,11 +7,11 @@ use Rattle.clap.specs.declared.builder.arg.Arg.{Arg}
 use Rattle.clap.specs.declared.builder.command.Command.{Command}
 use Rattle.clap.specs.declared.builder.command.Command.TheViews.{out-Command}
 
--- the command is read as `app` says, and gives nothing to those below it
+-- the command is read as `app` says, and passes nothing on to its subcommands
 abbrev pub IsRead : App → Command → Type 0
 IsRead app c = (app_of c ≡ app) × ((out-Command c).has_globals ≡ false)
 
--- with one more argument it is read as that argument's rule says
+-- with one more argument, it is read as the rule of that argument says
 pub added : {E : Type 0} (old : Command) (a : Arg) (app : App) (rule : Rule) (made : Result Command E) → IsRead app old
     → rule_of a ≡ rule → a.global ≡ false → IfOk made (AddsArg old a) → IfOk made (IsRead (with_rule app rule))
 added old a app rule made is by local adds =

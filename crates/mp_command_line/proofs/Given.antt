@@ -1,4 +1,4 @@
--- What a command whose words are taken gives for one of its arguments, which takes one value.
+-- What a command whose words are accepted gives for one of its arguments, which takes one value.
 use Rattle.std.proofs.Common.{◌≡◌, ◌⊎◌, ◌∙◌, ◌+◌, min, Bool, cond, true, false, true≢false, refl, sym, ap, subst, inl, inr}
 use Rattle.std.proofs.Common.{List, [], ◌∷◌, ◌++◌, length, Option, Some, None, is_some, IfSome, IsSomeAnd}
 use Rattle.std.specs.Prelude.{slice_get}
@@ -47,7 +47,7 @@ if_so P None h = absurd h
 if_so P (Some x) h = h
 
 module _ (id : Text) (parser : ValueParser) (written : reading_of parser ≡ AsWritten) where
-  -- the first value passes the parser, and is read as it was written
+  -- the first value passes the parser, and is read as written
   abbrev IsRead : Reading → List Text → Type 0
   IsRead how values = (t : Text) × (slice_get values 0 ≡ Some t) × (accepts false parser t ≡ true) × (how ≡ AsWritten)
 
@@ -121,7 +121,7 @@ module _ (id : Text) (parser : ValueParser) (written : reading_of parser ≡ AsW
       ((λ same. other name apart same), tt) (without name rows) (without_good name rows p)
   count_good name how (v ∷ vs) apart rows p = replaced_good name how _ (v ∷ vs) (other name apart) rows p
 
-  -- a use of another argument
+  -- another argument is used
   other_use : (action : ArgAction) (name : Text) (how : Reading) (values : List Text) → bytes_eq name id ≡ false
       → (rows : List Row) → AreGood rows → AreGood (used_as action name how values rows)
   other_use Set name how values apart rows p = replaced_good name how _ values (other name apart) rows p
@@ -171,7 +171,7 @@ module _ (id : Text) (parser : ValueParser) (written : reading_of parser ≡ AsW
   keeps_default a (inr same) =
       subst (KeepsDefault AreGood) (sym same) (λ rows none p. no_default (has_row id rows) rows p)
 
-  -- ---- what a parse of a command gives
+  -- -- the result of parsing a command
 
   level_good : (s : Shape) → Each IsApart s.rules → (words : List Text)
       → level_fault s [] nothing_held words false [] ≡ []
@@ -207,19 +207,19 @@ module _ (id : Text) (parser : ValueParser) (written : reading_of parser ≡ AsW
       go (Some r) is =
           if_so (Accepts false parser) (text r) (passes r (row_read rows r (level_good s apart words none).0 is))
 
-  -- its text, where it has one, passes the parser
+  -- its text, if it has one, passes the parser
   pub if_given : (s : Shape) → Each IsApart s.rules → (words : List Text)
       → level_fault s [] nothing_held words false [] ≡ []
       → IfSome (one_of id (rows_after s.rules [] words)) (Accepts false parser)
   if_given = if_read row_text text_passes
 
-  -- and so does its first value
+  -- so does its first value
   pub if_first : (s : Shape) → Each IsApart s.rules → (words : List Text)
       → level_fault s [] nothing_held words false [] ≡ []
       → IfSome (first_of id (rows_after s.rules [] words)) (Accepts false parser)
   if_first = if_read (λ r. slice_get r.values 0) first_passes
 
-  -- and it has one where it was given
+  -- if it was given, it has a value
   pub where_given : (s : Shape) → Each IsApart s.rules → (words : List Text)
       → level_fault s [] nothing_held words false [] ≡ []
       → (check_fault s (rows_after s.rules [] words) false ≡ [] → is_given id (rows_after s.rules [] words) ≡ true)

@@ -1,4 +1,4 @@
--- What each use of an argument keeps, a parse that finds no fault keeps.
+-- If each use of an argument keeps a property, a parse that finds no fault keeps it.
 use Rattle.std.proofs.Common.{◌≡◌, ◌&&◌, ℕ, Bool, cond, true, false, zero, suc, refl, subst, arith, List, [], ◌∷◌, length, drop}
 use Rattle.std.proofs.Common.{Option, Some, None, is_some}
 use Rattle.std.specs.Prelude.{encode_utf8, slice_get, fold}
@@ -48,7 +48,7 @@ found_has {X} Q p (y ∷ ys) x all is = go (p y) is (found_has Q p ys x all.1)
         subst Q same all.0
     go false e more = more e
 
--- a use with no fault keeps what is said of the rows, and so does a default
+-- a use without a fault keeps the property of the rows, and so does a default
 abbrev pub KeepsUse : Bool → (List Row → Type 0) → Rule → Type 0
 KeepsUse again P a = (values : List Text) (rows : List Row) → use_fault again a values rows ≡ [] → P rows
     → P (used a values rows)
@@ -140,7 +140,7 @@ module _ (s : Shape) (P : List Row → Type 0) (keeps : Each (KeepsUse s.args_ov
       step_keeps (slice_get (chars flags) 0) flags skip so_far h (flags_fault c again k) (bundle_met c k)
       (λ t n o g. flags_keep k t n o g) none p
 
-  -- a word that is no flag leaves the rows
+  -- a word that is no flag doesn't change the rows
   plain_keeps : (waiting : Waiting) (word : Text) (h : Held) → P h.rows → P (plain_word c waiting word h).0.rows
   plain_keeps idle word h p = p
   plain_keeps positional word h p = p
@@ -235,7 +235,7 @@ defaults_keep P (a ∷ c) rows keep none p =
     let n = both_none (default_fault rows a) _ none in
     defaults_keep P c (with_default rows a) keep.1 n.1 (keep.0 rows n.0 p)
 
--- and so does a command whose words are taken
+-- so does a command whose words are accepted
 pub level_keeps : (s : Shape) (P : List Row → Type 0) → Each (KeepsUse s.args_override_self P) s.rules
     → Each (KeepsDefault P) s.rules → P [] → (words : List Text) → level_fault s [] nothing_held words false [] ≡ []
     → P (rows_after s.rules [] words) × (check_fault s (rows_after s.rules [] words) false ≡ [])

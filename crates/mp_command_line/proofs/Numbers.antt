@@ -1,4 +1,4 @@
--- A number that is read of an option's text.
+-- A number that is read from an option's text.
 use Rattle.std.proofs.Common.{◌≡◌, ◌<◌, ◌^◌, Result, Ok, Err, ℕ, refl, ap, arith, Option, Some, None, IfSome}
 use Rattle.std.specs.Option.{option_map}
 use Rattle.std.specs.Str.Parse.{ParsesUnsigned, digits_value, without_leading_plus}
@@ -7,7 +7,7 @@ use Rattle.clap.specs.Values.{IsUnsignedIn}
 use Rattle.clap.specs.Walk.{Text}
 use Rattle.mp_command_line.specs.CommandLine.{number_of}
 
--- of so many bits, where all numbers up to the greatest fit
+-- all numbers up to `top` fit into this many bits
 pub number_read : {E : Type 0} (bits top : ℕ) → top < 2 ^ bits → (gives : Text → Result ℕ E → Type 0) (text : Option Text) (r : Option ℕ)
     → ((t : Text) (x : Result ℕ E) → gives t x → ParsesUnsigned bits 10 t x)
     → IfSome text (IsUnsignedIn 0 top) → (text ≡ None → r ≡ None) → ((t : Text) → text ≡ Some t → ReadsOne gives t r)

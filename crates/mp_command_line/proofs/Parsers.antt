@@ -1,4 +1,4 @@
--- A command does the same where its arguments have other parsers, which take, refuse and read the same texts.
+-- A command does the same if its arguments get other parsers that accept, refuse and read the same texts.
 use Rattle.std.proofs.Common.{◌≡◌, ◌==◌, ◌∙◌, ◌+◌, ◌&&◌, ◌||◌, min, ℕ, Bool, cond, not, true, false, zero, suc, refl, sym, ap, ap₂}
 use Rattle.std.proofs.Common.{List, [], ◌∷◌, map, length, drop, Option, Some, None, is_some}
 use Rattle.std.specs.Prelude.{encode_utf8, slice_get, fold, nat_le}
@@ -404,7 +404,7 @@ module _ (other : Option ValueParser → Option ValueParser)
         at_end w = or_else (settle_fault d again w.held)
             (or_else (defaults_fault (settled d w.held).rows d) (check_fault (turned_shape s) (finished d w.held) false))
 
-    -- ---- whether it passes
+    -- -- whether it is accepted
 
     settle_passes-same : (h : Held) → settle_passes d again h ≡ settle_passes c again h
     settle_passes-same h = go h.pending

@@ -1,4 +1,4 @@
--- Where the names of an option's values lie in memory counts nothing.
+-- It doesn't matter where the names of an option's values are in memory.
 use Rattle.std.proofs.Common.{◌≡◌, ◌∙◌, ◌&&◌, ◌||◌, Bool, cond, true, false, refl, sym, ap, ap₂, List, [], ◌∷◌, map}
 use Rattle.std.proofs.Common.{Option, Some, None, codes, is_some}
 use Rattle.std.specs.Prelude.{find}
@@ -12,18 +12,18 @@ use Rattle.clap.specs.Simple.{rows_at, with_leaf_noted}
 use Rattle.clap.specs.Takes.{entered_passes, level_passes, takes}
 use Rattle.clap.specs.Values.{reading_of, refused_kind, same_text}
 use Rattle.clap.specs.ValueTests.{accepts}
-use Rattle.clap.specs.Walk.{Row, Text, answers_to, nothing_held, rows_after, walk}
+use Rattle.clap.specs.Walk.{Row, Text, answers_to, nothing_held, walk}
 use Rattle.clap.specs.declared.builder.value_parser.ValueParser.{ValueParser}
 use Rattle.clap.specs.declared.builder.value_parser.ValueParser.TheVariants.{Names}
 use Rattle.clap.proofs.WalkLemmas.{list_any-map}
 use Rattle.mp_command_line.specs.CommandLine.{audit_command, lent, program, program_with, race_command, run_command, serve_command}
 use Rattle.mp_command_line.specs.CommandLine.{signature_names}
 use Rattle.mp_command_line.specs.Inside.Alike.{IsAlike}
-use Rattle.mp_command_line.proofs.Parsers.{level_fault-same, level_passes-same, rows_after-same}
+use Rattle.mp_command_line.proofs.Parsers.{level_fault-same, level_passes-same, rows_after-same, turned_shape}
 
 -- ---- one command
 
--- the same parser, of names that lie nowhere
+-- the same parser, for names without a place in memory
 abbrev unplaced : Option ValueParser → Option ValueParser
 unplaced (Some (Names names)) = Some (Names (lent (map (λ s. lent s.now) names.now)))
 unplaced parser = parser
@@ -41,18 +41,15 @@ accepts-same : (i : Bool) (p : Option ValueParser) (t : Text)
 accepts-same i (Some (Names names)) t = sym (list_any-map (λ (s : Bor Text). same_text i s.now t) (λ s. lent s.now) names.now)
 accepts-same i p t = refl
 
--- a command of the program's, as it is built
+-- a command of the program, as it is built
 abbrev pub leaf : App → Shape
 leaf command = built_leaf (inherited (with_leaf_noted (marked_built program.top)) command.top)
 
--- the names of signatures, as the definitions have them
+-- the names of signatures, as in the definitions
 abbrev pub which : Bor (List (Bor Text))
 which = lent (map lent signature_names)
 
 module _ (names : Bor (List (Bor Text))) (is : map (λ s. s.now) names.now ≡ signature_names) where
-  abbrev serve : Bor (List (Bor Text)) → Shape
-  serve at = leaf (serve_command at)
-
   nowhere : lent (map (λ s. lent s.now) names.now) ≡ which
   nowhere = ap lent (again names.now ∙ ap (map lent) is)
     where
@@ -60,37 +57,49 @@ module _ (names : Bor (List (Bor Text))) (is : map (λ s. s.now) names.now ≡ s
       again [] = refl
       again (x ∷ xs) = ap (λ rest. lent x.now ∷ rest) (again xs)
 
-  fault-same : (words : List Text) → level_fault (serve names) [] nothing_held words false []
-      ≡ level_fault (serve which) [] nothing_held words false []
-  fault-same words = sym (level_fault-same unplaced reads accepts-same refuses (serve names) words)
-      ∙ ap (λ at. level_fault (serve at) [] nothing_held words false []) nowhere
+  module _ (command : Bor (List (Bor Text)) → App) where
+    abbrev at : Bor (List (Bor Text)) → Shape
+    at there = leaf (command there)
 
-  passes-same : (words : List Text) → level_passes (serve names) [] nothing_held words false
-      ≡ level_passes (serve which) [] nothing_held words false
-  passes-same words = sym (level_passes-same unplaced reads accepts-same refuses (serve names) words)
-      ∙ ap (λ at. level_passes (serve at) [] nothing_held words false) nowhere
+    -- its parsers are turned to those of names that lie nowhere
+    abbrev IsTurned : Type 0
+    IsTurned = turned_shape unplaced reads accepts-same refuses (at names) ≡ at (lent (map (λ s. lent s.now) names.now))
 
-  rows-same : (words : List Text) → rows_at (serve names) words ≡ rows_at (serve which) words
-  rows-same words = ap (λ (rows : List Row). ((serve_command which).top.name, rows))
-      (sym (rows_after-same unplaced reads accepts-same refuses (serve names) words)
-      ∙ ap (λ at. rows_after (serve at).rules [] words) nowhere)
+    fault-same : IsTurned → (words : List Text) → level_fault (at names) [] nothing_held words false []
+        ≡ level_fault (at which) [] nothing_held words false []
+    fault-same turned words = sym (level_fault-same unplaced reads accepts-same refuses (at names) words)
+        ∙ ap (λ s. level_fault s [] nothing_held words false []) (turned ∙ ap at nowhere)
+
+    passes-same : IsTurned → (words : List Text) → level_passes (at names) [] nothing_held words false
+        ≡ level_passes (at which) [] nothing_held words false
+    passes-same turned words = sym (level_passes-same unplaced reads accepts-same refuses (at names) words)
+        ∙ ap (λ s. level_passes s [] nothing_held words false) (turned ∙ ap at nowhere)
+
+    rows-same : IsTurned → (words : List Text) → rows_at (at names) words ≡ rows_at (at which) words
+    rows-same turned words = ap (λ (rows : List Row). ((at names).name, rows))
+        (sym (rows_after-same unplaced reads accepts-same refuses (at names) words))
+        ∙ ap (λ s. rows_at s words) (turned ∙ ap at nowhere)
 
   -- ---- the program
 
   abbrev found : Bor (List (Bor Text)) → Bool → Bool → Bool → Bool → Option Shape
-  found at x y z w = cond (x || false) (Some (leaf run_command))
-      (cond (y || false) (Some (leaf race_command))
-      (cond (z || false) (Some (leaf audit_command)) (cond (w || false) (Some (serve at)) None)))
+  found there x y z w = cond (x || false) (Some (leaf (run_command there)))
+      (cond (y || false) (Some (leaf (race_command there)))
+      (cond (z || false) (Some (leaf (audit_command there))) (cond (w || false) (Some (leaf (serve_command there))) None)))
 
-  found-same : {Y : Type 0} (on : Option Shape → Y) → on (Some (serve names)) ≡ on (Some (serve which)) → (x y z w : Bool)
+  -- it is the same at each command
+  abbrev IsSame : {Y : Type 0} → (Option Shape → Y) → Type 0
+  IsSame on = (command : Bor (List (Bor Text)) → App) → IsTurned command → on (Some (leaf (command names))) ≡ on (Some (leaf (command which)))
+
+  found-same : {Y : Type 0} (on : Option Shape → Y) → IsSame on → (x y z w : Bool)
       → on (found names x y z w) ≡ on (found which x y z w)
-  found-same on same true y z w = refl
-  found-same on same false true z w = refl
-  found-same on same false false true w = refl
-  found-same on same false false false true = same
+  found-same on same true y z w = same run_command refl
+  found-same on same false true z w = same race_command refl
+  found-same on same false false true w = same audit_command refl
+  found-same on same false false false true = same serve_command refl
   found-same on same false false false false = refl
 
-  at_word : {Y : Type 0} (on : Option Shape → Y) (word : Text) → on (Some (serve names)) ≡ on (Some (serve which))
+  at_word : {Y : Type 0} (on : Option Shape → Y) (word : Text) → IsSame on
       → on (find (λ s. answers_to word (label_of s)) (built (program_with names)).subs)
       ≡ on (find (λ s. answers_to word (label_of s)) (built program).subs)
   at_word on word same = found-same on same (bytes_eq (codes "run") word) (bytes_eq (codes "race") word)
@@ -100,17 +109,20 @@ module _ (names : Bor (List (Bor Text))) (is : map (λ s. s.now) names.now ≡ s
       → entered_fault (built (program_with names)) stop ≡ entered_fault (built program) stop
   entered_fault-same None = refl
   entered_fault-same (Some p) =
-      at_word (λ o. option_map_or (λ s. level_fault s [] nothing_held p.1 false []) o []) p.0 (fault-same p.1)
+      at_word (λ o. option_map_or (λ s. level_fault s [] nothing_held p.1 false []) o []) p.0
+      (λ command turned. fault-same command turned p.1)
 
   entered_passes-same : (stop : Option (Text × List Text))
       → entered_passes (built (program_with names)) stop ≡ entered_passes (built program) stop
   entered_passes-same None = refl
   entered_passes-same (Some p) =
-      at_word (λ o. option_map_or (λ s. level_passes s [] nothing_held p.1 false) o true) p.0 (passes-same p.1)
+      at_word (λ o. option_map_or (λ s. level_passes s [] nothing_held p.1 false) o true) p.0
+      (λ command turned. passes-same command turned p.1)
 
   entered-same : (stop : Option (Text × List Text)) → entered (built (program_with names)) stop ≡ entered (built program) stop
   entered-same None = refl
-  entered-same (Some p) = at_word (λ o. option_map (λ s. rows_at s p.1) o) p.0 (ap Some (rows-same p.1))
+  entered-same (Some p) = at_word (λ o. option_map (λ s. rows_at s p.1) o) p.0
+      (λ command turned. ap Some (rows-same command turned p.1))
 
   module _ (words : List Text) where
     abbrev stop : Option (Text × List Text)

@@ -22,54 +22,66 @@ pub enum Asked<'a> {
     /// A run of a scenario.
     Run {
         input: Input<'a>,
+        signatures: SchemeName,
     },
-    /// A race of 1 to 64 workers, to whom a scenario's commands are dealt.
+    /// A race of 1 to 64 workers, who share the commands of a scenario.
     Race {
         input: Input<'a>,
         workers: u32,
+        signatures: SchemeName,
         wishes: Wishes<'a>,
     },
-    /// An audit of a pool's history over a scenario, by the names of their files.
+    /// An audit of a pool's history over a scenario, given the names of their files.
     Audit {
         scenario: &'a str,
         history: &'a str,
-        /// Whether is to be said what is wrong with a bad line.
+        signatures: SchemeName,
+        /// Whether to say what is wrong with a bad line.
         explains: bool,
     },
     /// A conversation over standard input and output.
     Serve {
-        /// Whether every signature is accepted, since the host has verified them.
-        accepts_all: bool,
-        /// What the pool's tables are salted with, or `None` where none is given.
+        signatures: SchemeName,
+        /// The salt of the pool's tables, or `None` if none is given.
         salt: Option<u64>,
     },
 }
 
-/// The scenario, and how its faults are told.
+/// The name of the signatures that a pool accepts.
+#[derive(Clone, Copy)]
+pub enum SchemeName {
+    /// The key followed by the transaction's id.
+    Trial,
+    /// All, because the host has verified them.
+    Checked,
+    /// Ed25519 signatures of the transaction's id.
+    Ed25519,
+}
+
+/// The scenario, and how its faults are reported.
 #[derive(Clone, Copy)]
 pub struct Input<'a> {
-    /// The scenario's file, or `None` where it is on standard input.
+    /// The scenario's file, or `None` for standard input.
     pub file: Option<&'a str>,
-    /// Whether is to be said what is wrong with a bad line.
+    /// Whether to say what is wrong with a bad line.
     pub explains: bool,
 }
 
-/// What a race writes besides its report, and how long a look at a signature takes in it.
+/// What a race writes next to its report, and how long the check of a signature takes in it.
 #[derive(Clone, Copy)]
 pub struct Wishes<'a> {
     /// The file for the race's history.
     pub history: Option<&'a str>,
     /// The file for a picture of the race, as an SVG.
     pub picture: Option<&'a str>,
-    /// The microseconds that each look at a signature takes: up to 1,000,000, and 0 where none are given.
+    /// The microseconds that each check of a signature takes: up to 1,000,000, by default 0.
     pub verify_us: u32,
 }
 
-/// What the command line asks for.
+/// Returns what the command line asks for, if the program accepts the words.
 ///
 /// # Errors
-/// What the words ask for in place of a command (the help or the version), why they are refused, or
-/// `OutOfMemory`. An answer comes only where the program takes the words.
+/// The help or the version if the words ask for one, the reason for a refusal, or `OutOfMemory`.
 pub fn parse_words<'a, S: AsStr>(alloc: Global, words: &'a [S]) -> Result<Asked<'a>, Error>
     ensures taken { FailsBy (fault_of spec.program (map S.text words.now)) result }
     ensures command { IfOk result (λ asked. spec.command_in (map S.text words.now)
@@ -86,8 +98,8 @@ pub fn parse_words<'a, S: AsStr>(alloc: Global, words: &'a [S]) -> Result<Asked<
         (spec.HasPicture (spec.picture_of (spec.met_in (map S.text words.now)))) }
     ensures verify_us { IfOk result
         (spec.HasDelay (spec.verify_us_of (spec.met_in (map S.text words.now)))) }
-    ensures signatures { IfOk result
-        (spec.HasSignatures (spec.signatures_of (spec.met_in (map S.text words.now)))) }
+    ensures signatures { IfOk result (λ asked. spec.IsChoice
+        (spec.signatures_of (spec.met_in (map S.text words.now))) (spec.scheme_of asked)) }
     ensures salt { IfOk result
         (spec.HasSalt (spec.salt_of (spec.met_in (map S.text words.now)))) }
     ensures passes { IfErr result (λ e. takes spec.program (map S.text words.now) ≡ true
@@ -110,8 +122,8 @@ fn read_matches<'a>(matches: &ArgMatches<'a>) -> Asked<'a>
     ensures history { spec.HasHistory (spec.history_of (subcommand_rows_of matches.now)) result }
     ensures picture { spec.HasPicture (spec.picture_of (subcommand_rows_of matches.now)) result }
     ensures verify_us { spec.HasDelay (spec.verify_us_of (subcommand_rows_of matches.now)) result }
-    ensures signatures { spec.HasSignatures (spec.signatures_of (subcommand_rows_of matches.now))
-        result }
+    ensures signatures { spec.IsChoice (spec.signatures_of (subcommand_rows_of matches.now))
+        (spec.scheme_of result) }
     ensures salt { spec.HasSalt (spec.salt_of (subcommand_rows_of matches.now)) result }
 {
     match matches.subcommand() {
@@ -120,22 +132,25 @@ fn read_matches<'a>(matches: &ArgMatches<'a>) -> Asked<'a>
                 Asked::Race {
                     input: input_of(given),
                     workers: workers_of(given),
+                    signatures: scheme_of(given),
                     wishes: wishes_of(given),
                 }
             } else if name == "audit" {
                 Asked::Audit {
                     scenario: value_of(given, "FILE"),
                     history: value_of(given, "history"),
+                    signatures: scheme_of(given),
                     explains: explains_of(given),
                 }
             } else if name == "serve" {
                 Asked::Serve {
-                    accepts_all: accepts_all(given),
+                    signatures: scheme_of(given),
                     salt: wide_number_of(given, "salt"),
                 }
             } else {
                 Asked::Run {
                     input: input_of(given),
+                    signatures: scheme_of(given),
                 }
             }
         }
@@ -205,14 +220,27 @@ fn explains_of(given: &ArgMatches<'_>) -> bool
     given.get_flag("explain")
 }
 
-fn accepts_all(given: &ArgMatches<'_>) -> bool
+fn scheme_of(given: &ArgMatches<'_>) -> SchemeName
     requires taken { IfSome (first_of (codes "signatures") (rows_of (found_of given.now)))
         spec.IsSignatures }
     ensures { spec.IsChoice (first_of (codes "signatures") (rows_of (found_of given.now))) result }
 {
     match given.get_str("signatures") {
-        Some(name) => name == "checked",
-        None => false,
+        Some(name) => scheme_named(name),
+        None => SchemeName::Trial,
+    }
+}
+
+fn scheme_named(name: &str) -> SchemeName
+    requires { spec.IsSignatures name.now }
+    ensures { spec.IsNamed name.now result }
+{
+    if name == "checked" {
+        SchemeName::Checked
+    } else if name == "ed25519" {
+        SchemeName::Ed25519
+    } else {
+        SchemeName::Trial
     }
 }
 

@@ -1,7 +1,7 @@
-//! The command line of the program: the words that it takes, and what they ask for.
+//! The command line of the program: the words that it accepts, and what they ask for.
 #![tactic(auto)]
 
 mod asked;
 mod program;
 
-pub use asked::{Asked, Input, Wishes, parse_words};
+pub use asked::{Asked, Input, SchemeName, Wishes, parse_words};

@@ -1,4 +1,4 @@
-//! The program's own words: its name, its commands, their options, its help and its version.
+//! The texts of the command line: the program's name, its commands, their options, its help and its version.
 
 ghost use Rattle.std.specs.Prelude.{◌≡◌, IfOk, codes, false};
 ghost use Rattle.clap.specs.declared.builder.command.Command.TheViews.{out-Command as fields_of};
@@ -12,39 +12,43 @@ use std::alloc::{AllocError, Global};
 
 const VERSION: &str = "0.1.0";
 
-const SIGNATURES: &[&str] = &["scenarios", "checked"];
+// The last is another word for the first.
+const SIGNATURES: &[&str] = &["trial", "checked", "ed25519", "scenarios"];
 
 const EXAMPLES: &str = "\
 Examples:
-  keltuvar run scenario.scn         the scenario of a file
-  keltuvar run < scenario.scn       the same, from standard input
-  keltuvar run scenario.scn > out   keeps the answers
+  keltuvar run scenario.scn         run the scenario in a file
+  keltuvar run < scenario.scn       the same from standard input
+  keltuvar run scenario.scn > out   keep the answers
   keltuvar run --explain scenario.scn
-                                    also says what is wrong with a bad line
+                                    also report what is wrong with a bad line
   keltuvar race --workers 4 scenario.scn
-                                    the scenario's commands dealt to 4 workers
+                                    deal the scenario's commands to 4 workers
   keltuvar race --workers 4 --history race.log --svg race.svg scenario.scn
-                                    also writes the race's history, and a picture of it
+                                    also write the history of the race and a picture
   keltuvar audit scenario.scn race.log
-                                    whether that history is legal over the scenario
-  keltuvar serve                    a conversation: each line of standard input is answered at once
+                                    report whether that history is legal over the scenario
+  keltuvar serve                    answer each line of standard input before reading the next
+  keltuvar serve --signatures ed25519
+                                    the same, with Ed25519 signatures
   keltuvar serve --signatures checked
-                                    the same, with every signature accepted, as checked by the host
+                                    accept every signature, because the host has checked it
 
-The status is 0, or 1 at a fault, as a scenario's bad line or a history that isn't legal, or 2
-where the command line is refused.";
+Exit status: 0; 1 after a fault, like a scenario's bad line or a history that isn't legal; 2 if the
+command line is refused.";
 
-/// The program, with the four commands that it has.
+/// The program with its four commands.
 pub(crate) fn program<'a>(alloc: Global) -> Result<Command<'a>, AllocError>
     ensures { IfOk result (λ c. IsAlike (app_of c) spec.program) }
 {
-    let program = add_command(bare_program(alloc), run_command(alloc));
-    let program = add_command(program, race_command(alloc));
-    let program = add_command(program, audit_command(alloc));
-    add_command(program, serve_command(alloc, SIGNATURES))
+    let names = SIGNATURES;
+    let program = add_command(bare_program(alloc), run_command(alloc, names));
+    let program = add_command(program, race_command(alloc, names));
+    let program = add_command(program, audit_command(alloc, names));
+    add_command(program, serve_command(alloc, names))
 }
 
-// Puts a command under the program, where memory sufficed for both.
+// Adds a command to the program, unless an allocation failed.
 fn add_command<'a>(
     program: Result<Command<'a>, AllocError>,
     command: Result<Command<'a>, AllocError>,
@@ -68,23 +72,26 @@ fn bare_program<'a>(alloc: Global) -> Result<Command<'a>, AllocError>
         .bin_name("keltuvar")
 }
 
-fn run_command<'a>(alloc: Global) -> Result<Command<'a>, AllocError>
-    ensures { IfOk result (λ c. (app_of c ≡ spec.run_command)
+fn run_command<'a>(alloc: Global, names: &'a [&'a str]) -> Result<Command<'a>, AllocError>
+    ensures { IfOk result (λ c. (app_of c ≡ spec.run_command names.entry)
         × ((fields_of c).has_globals ≡ false)) }
 {
-    let about = "Runs a scenario and writes its answers to standard output";
+    let about = "Run a scenario and write its answers to standard output";
     let command = new_command(alloc, "run", about).arg(explain_flag(alloc));
+    let command = add_arg(command, signatures_option(alloc, names));
     add_arg(command, scenario_file(alloc))
 }
 
-fn race_command<'a>(alloc: Global) -> Result<Command<'a>, AllocError>
-    ensures { IfOk result (λ c. (app_of c ≡ spec.race_command)
+fn race_command<'a>(alloc: Global, names: &'a [&'a str]) -> Result<Command<'a>, AllocError>
+    ensures { IfOk result (λ c. (app_of c ≡ spec.race_command names.entry)
         × ((fields_of c).has_globals ≡ false)) }
 {
-    let about = "Deals a scenario's commands to workers that race for one pool, and audits its log";
+    let about =
+        "Deal a scenario's commands to workers that race for one pool, and audit the history";
     let command = new_command(alloc, "race", about).arg(workers_option(alloc));
-    let command = add_arg(add_wishes(alloc, command), explain_flag(alloc));
-    add_arg(command, scenario_file(alloc))
+    let explained = add_arg(add_wishes(alloc, command), explain_flag(alloc));
+    let signed = add_arg(explained, signatures_option(alloc, names));
+    add_arg(signed, scenario_file(alloc))
 }
 
 fn add_wishes<'a>(
@@ -100,24 +107,26 @@ fn add_wishes<'a>(
         alloc,
         "history",
         "FILE",
-        "Also writes the race's history there",
+        "Also write the history of the race to this file",
     );
     let picture = value_option(
         alloc,
         "svg",
         "FILE",
-        "Also draws a picture of the race there",
+        "Also write a picture of the race to this file",
     );
     let command = add_arg(add_arg(command, history), picture);
     add_arg(command, verify_us_option(alloc))
 }
 
-fn audit_command<'a>(alloc: Global) -> Result<Command<'a>, AllocError>
-    ensures { IfOk result (λ c. (app_of c ≡ spec.audit_command)
+fn audit_command<'a>(alloc: Global, names: &'a [&'a str]) -> Result<Command<'a>, AllocError>
+    ensures { IfOk result (λ c. (app_of c ≡ spec.audit_command names.entry)
         × ((fields_of c).has_globals ≡ false)) }
 {
-    let about = "Replays a history that a pool wrote over a scenario, and says whether it is legal";
+    let about =
+        "Replay a history that a pool wrote over a scenario, and report whether it is legal";
     let command = new_command(alloc, "audit", about).arg(explain_flag(alloc));
+    let command = add_arg(command, signatures_option(alloc, names));
     let scenario = input_file(alloc, "FILE", "SCENARIO", "The scenario");
     let history_help = "The history, as race --history writes it";
     let history = input_file(alloc, "history", "HISTORY", history_help);
@@ -129,7 +138,7 @@ fn serve_command<'a>(alloc: Global, names: &'a [&'a str]) -> Result<Command<'a>,
         × ((fields_of c).has_globals ≡ false)) }
 {
     let about =
-        "Holds a conversation with a pool: answers each line of standard input on standard output";
+        "Hold a conversation with a pool: answer each line of standard input on standard output";
     let command = new_command(alloc, "serve", about).arg(signatures_option(alloc, names));
     add_arg(command, salt_option(alloc))
 }
@@ -140,7 +149,7 @@ fn new_command<'a>(alloc: Global, name: &'a str, about: &'a str) -> Command<'a>
     Command::new(alloc, name).about(about)
 }
 
-// Gives an argument to the command, where memory sufficed for that.
+// Adds an argument to the command, unless an allocation failed.
 fn add_arg<'a>(
     command: Result<Command<'a>, AllocError>,
     arg: Arg<'a>,
@@ -167,7 +176,7 @@ fn verify_us_option<'a>(alloc: Global) -> Arg<'a>
     ensures rule { rule_of result ≡ spec.verify_us_rule }
     ensures local { result.global ≡ false }
 {
-    let help = "For measuring: how long each look at a signature takes, from 0 to 1000000";
+    let help = "For measurements: how long each check of a signature takes, from 0 to 1000000";
     value_option(alloc, "verify-us", "MICROSECONDS", help).value_parser(value_parser!(u64).range(
         0..=1_000_000,
     ))
@@ -177,7 +186,8 @@ fn signatures_option<'a>(alloc: Global, names: &'a [&'a str]) -> Arg<'a>
     ensures rule { rule_of result ≡ spec.signatures_rule names.entry }
     ensures local { result.global ≡ false }
 {
-    let help = "Which signatures to accept: those of scenarios, or all, as checked by the host";
+    let help =
+        "Which signatures to accept: trial ones, all, as checked by the host, or Ed25519 ones";
     value_option(alloc, "signatures", "WHICH", help).value_parser(ValueParser::Names(names))
 }
 
@@ -185,11 +195,11 @@ fn salt_option<'a>(alloc: Global) -> Arg<'a>
     ensures rule { rule_of result ≡ spec.salt_rule }
     ensures local { result.global ≡ false }
 {
-    let help = "What the pool's tables are salted with; random where it's left out";
+    let help = "A number that salts the pool's tables; random if it is left out";
     value_option(alloc, "salt", "N", help).value_parser(value_parser!(u64))
 }
 
-// An option with a value, which help calls by the name `value`.
+// An option with a value, which the help names `value`.
 fn value_option<'a>(alloc: Global, name: &'a str, value: &'a str, help: &'a str) -> Arg<'a>
     ensures rule { rule_of result ≡ spec.output_rule name.now }
     ensures local { result.global ≡ false }
@@ -207,14 +217,14 @@ fn explain_flag<'a>(alloc: Global) -> Arg<'a>
     Arg::new(alloc, "explain")
         .long("explain")
         .action(ArgAction::SetTrue)
-        .help("Says what is wrong with a bad line, in a second line on standard error")
+        .help("Report what is wrong with a bad line, in a second line on standard error")
 }
 
 fn scenario_file<'a>(alloc: Global) -> Arg<'a>
     ensures rule { rule_of result ≡ spec.file_rule }
     ensures local { result.global ≡ false }
 {
-    Arg::new(alloc, "FILE").help("The scenario; standard input where it's left out")
+    Arg::new(alloc, "FILE").help("The scenario; standard input if it is left out")
 }
 
 fn input_file<'a>(alloc: Global, id: &'a str, name: &'a str, help: &'a str) -> Arg<'a>

@@ -16,10 +16,11 @@ use Rattle.mp_names.specs.Payments.{output_of}
 use Rattle.mp_names.specs.References.{opening_ref}
 use Rattle.mp_lines.specs.declared.query.Query.{Query}
 use Rattle.mp_lines.specs.Lines.{Line, Blank, Sets, Script, Data, Out, Tx, Submit, Remove, Sync, For, Asks, line_of}
+use Rattle.mp_signatures.specs.declared.scheme.Scheme.{Scheme}
+use Rattle.mp_signatures.specs.Scheme.{accepted_by}
 use Rattle.mp_settings.specs.declared.settings.Settings.{Settings}
 use Rattle.mp_settings.specs.Settings.{scenario_settings, with_setting, limit_of, last_of}
 use Rattle.mp_settings.specs.Ledgers.{opening_ledger, ledger_at}
-use Rattle.mp_settings.specs.Verifier.{is_key_and_id}
 use Rattle.mp_answers.specs.AnswerText.{answer_text}
 use Rattle.mp_answers.specs.QueryText.{query_text, for_text, cursor_after}
 
@@ -29,14 +30,16 @@ pub data Stage : Type 0 where
   Open : Pool → Stage
 
 pub record Scene : Type 0 where
+  -- which signatures the pool accepts
+  pub scheme : Scheme
   pub names : Names
   pub settings : Settings
   -- the last ticket that the peer was offered
   pub cursor : ℕ
   pub stage : Stage
 
-abbrev pub empty_scene : Scene
-empty_scene = record { names = first_names; settings = scenario_settings; cursor = 0; stage = Before [] }
+abbrev pub empty_scene : Scheme → Scene
+empty_scene scheme = record { scheme = scheme; names = first_names; settings = scenario_settings; cursor = 0; stage = Before [] }
 
 -- the pool opens with the first command
 abbrev pub pool_at : Settings → Stage → Pool
@@ -73,8 +76,8 @@ output_at s name p (Open q) = None
 -- the pool answers, and changes
 abbrev pub reply_to : Scene → Command → Scene × List ℕ
 reply_to s c = (
-  with_pool s (next is_key_and_id (pool_at s.settings s.stage) c),
-  answer_text s.names (answer is_key_and_id (pool_at s.settings s.stage) c),
+  with_pool s (next (accepted_by s.scheme) (pool_at s.settings s.stage) c),
+  answer_text s.names (answer (accepted_by s.scheme) (pool_at s.settings s.stage) c),
 )
 
 -- the pool doesn't change; an offer moves the cursor
@@ -86,7 +89,7 @@ answer_query s p query = (with_cursor s (cursor_after s.cursor p query) p, query
 
 -- what would stay on this ledger state
 abbrev pub try_ledger : Scene → Pool → LedgerState → Scene × List ℕ
-try_ledger s p l = (with_pool s p, for_text s.names (keep is_key_and_id l p.items))
+try_ledger s p l = (with_pool s p, for_text s.names (keep (accepted_by s.scheme) l p.items))
 
 abbrev pub take : Scene → Line → Step
 take s Blank = Some (s, [])

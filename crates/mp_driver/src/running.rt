@@ -10,6 +10,7 @@ use crate::scene::Scene;
 use crate::stop::Stop;
 use mp_memory::Memory;
 use mp_names::LineFault;
+use mp_signatures::Signatures;
 use mp_text::{InputFault, MAX_BYTES, first_line, read_all, write_all};
 use std::io::{Read, Write};
 
@@ -30,9 +31,10 @@ fn answer_from<'a, W: Write>(
     text: &'a [u8],
     writer: &mut W,
 ) -> Result<(), Stop<'a>>
-    requires empty { scene_of scene.old ≡ empty_scene }
+    requires empty { scene_of scene.old ≡ empty_scene (scene_of scene.old).scheme }
     requires short { length text.now ≤ MAX_BYTES }
-    ensures { AreAnswers text.now (W.contents writer.old) (W.contents writer.new) result }
+    ensures { AreAnswers (scene_of scene.old).scheme text.now
+        (W.contents writer.old) (W.contents writer.new) result }
 {
     let mut rest = text;
     let mut number = 1u64;
@@ -51,20 +53,22 @@ fn answer_from<'a, W: Write>(
 }
 
 /// Executes the lines of a text in order, and writes the answer to each. The pool opens with the first command, and
-/// accepts a signature that is the key followed by the id.
+/// accepts these signatures.
 ///
 /// # Errors
 /// `BadLine` at the first line that isn't in the language, after the answers to the lines before it. `Write` if a
 /// write fails, after a prefix of the answers. `NoMemory` after the answers to the lines before.
 pub fn answer_text<'a, W: Write>(
     memory: Memory,
+    signatures: &Signatures,
     text: &'a [u8],
     writer: &mut W,
 ) -> Result<(), Stop<'a>>
     requires { length text.now ≤ MAX_BYTES }
-    ensures { AreAnswers text.now (W.contents writer.old) (W.contents writer.new) result }
+    ensures { AreAnswers signatures.now text.now
+        (W.contents writer.old) (W.contents writer.new) result }
 {
-    match Scene::new(memory) {
+    match Scene::new(memory, signatures) {
         Ok(mut scene) => answer_from(memory, &mut scene, text, writer),
         Err(_) => Err(Stop::NoMemory),
     }
@@ -77,12 +81,17 @@ pub fn answer_text<'a, W: Write>(
 /// reach the end.
 /// `BadLine` at the first line that isn't in the language, after the answers to the lines before it.
 /// `WriteFault` if a write fails, after a prefix of the answers. `NoMemory` after the answers to the lines before.
-pub fn run<R: Read, W: Write>(memory: Memory, reader: &mut R, writer: &mut W) -> Result<(), Fault>
-    ensures { IfSome (R.remaining reader.old)
-        (λ bytes. Ended bytes (W.contents writer.old) (W.contents writer.new) result) }
+pub fn run<R: Read, W: Write>(
+    memory: Memory,
+    signatures: &Signatures,
+    reader: &mut R,
+    writer: &mut W,
+) -> Result<(), Fault>
+    ensures { IfSome (R.remaining reader.old) (λ bytes. Ended signatures.now bytes
+        (W.contents writer.old) (W.contents writer.new) result) }
 {
     match read_all(memory, reader) {
-        Ok(text) => match answer_text(memory, &text, writer) {
+        Ok(text) => match answer_text(memory, signatures, &text, writer) {
             Ok(()) => Ok(()),
             Err(stop) => Err(stop.to_fault()),
         },

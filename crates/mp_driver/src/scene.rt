@@ -4,7 +4,7 @@ ghost use Rattle.std.specs.Prelude.{◌≡◌, IfOk, OnOk};
 ghost use Rattle.mp_seqpool.specs.Command.{Remove};
 ghost use Rattle.mp_seqpool.specs.Inside.Command.{command_of};
 ghost use Rattle.mp_driver.specs.Scene.{Open, pool_at};
-ghost use Rattle.mp_driver.specs.Inside.Scene.{stage_of};
+ghost use Rattle.mp_driver.specs.Inside.Scene.{scheme_of, stage_of};
 
 use crate::pool::{ScenarioPool, Text};
 use mp_answers::answer_line;
@@ -13,15 +13,25 @@ use mp_memory::{Memory, NoMemory};
 use mp_names::{Binding, LineFault, Name, Names, NewLedger, Payment, Reason, Setting};
 use mp_seqpool::{Command, Ids};
 use mp_settings::{Openings, Settings, ledger_at};
+use mp_signatures::Signatures;
 use mp_tx::TxId;
 use std::mem;
 use std::sync::Arc;
 
+/// What the pool is to open with.
+#[derive(Drop)]
+pub struct Unopened {
+    /// Which signatures it will accept.
+    pub signatures: Signatures,
+    /// The opening outputs so far.
+    pub openings: Openings,
+}
+
 /// Whether the first command has come.
 #[derive(Drop)]
 pub enum Stage {
-    /// Before the first command: the opening outputs so far.
-    Before(Openings),
+    /// Before the first command.
+    Before(Unopened),
     /// After it: the pool.
     Open(ScenarioPool),
 }
@@ -48,12 +58,14 @@ impl Drop for Scene {
 
 // The pool opens with the first command.
 fn open_pool(memory: Memory, settings: &Settings, stage: &mut Stage) -> Result<(), NoMemory>
-    ensures { OnOk result
+    ensures pool { OnOk result
         (stage_of stage.new ≡ Open (pool_at settings.now (stage_of stage.old))) }
+    ensures scheme { OnOk result (scheme_of stage.new ≡ scheme_of stage.old) }
 {
-    if let Stage::Before(openings) = stage {
-        let openings = mem::replace(openings, Openings::new(memory));
-        *stage = Stage::Open(ScenarioPool::open(memory, settings, openings)?);
+    if let Stage::Before(unopened) = stage {
+        let openings = mem::replace(&mut unopened.openings, Openings::new(memory));
+        let pool = ScenarioPool::open(memory, settings, &unopened.signatures, openings)?;
+        *stage = Stage::Open(pool);
     }
     Ok(())
 }
@@ -74,15 +86,18 @@ impl Scene {
     ghost use Rattle.mp_driver.specs.Inside.Scene.{stage_of, scene_of};
 
     /// The scene before the first line.
-    pub fn new(memory: Memory) -> Result<Scene, NoMemory>
-        ensures { IfOk result (λ s. scene_of s ≡ empty_scene) }
+    pub fn new(memory: Memory, signatures: &Signatures) -> Result<Scene, NoMemory>
+        ensures { IfOk result (λ s. scene_of s ≡ empty_scene signatures.now) }
     {
         let settings = Settings::of_scenario();
         Ok(Scene {
             names: Names::new(memory, settings.salt())?,
             settings,
             cursor: 0,
-            stage: Stage::Before(Openings::new(memory)),
+            stage: Stage::Before(Unopened {
+                signatures: signatures.share()?,
+                openings: Openings::new(memory),
+            }),
         })
     }
 
@@ -112,7 +127,8 @@ impl Scene {
     {
         match &mut self.stage {
             Stage::Open(_) => Err(LineFault::Bad(Reason::LateOutput)),
-            Stage::Before(openings) => {
+            Stage::Before(unopened) => {
+                let openings = &mut unopened.openings;
                 if openings.len() >= MAX_OUTPUTS {
                     return Err(LineFault::Bad(Reason::ManyOutputs));
                 }

@@ -1,4 +1,4 @@
--- Numbers as bytes, the lowest first.
+-- Numbers as bytes, lowest first.
 use Rattle.std.proofs.Common.{◌≡◌, ℕ, ◌+◌, ◌*◌, ◌/◌, ◌%◌, ◌^◌, ◌<◌, ◌≤◌, List, [], ◌∷◌, ◌++◌, length, take, drop, get_or, arith, zero, suc, refl, ap, ◌∙◌, sym}
 use Rattle.std.proofs.Math.ListN.{drop_of_length-le}
 use Rattle.std.proofs.Math.Seq.{drop-cons}
@@ -28,7 +28,7 @@ little-four : (a b c d : ℕ) (bs : List ℕ) →
 unfolding little
 little-four a b c d bs = omega arith
 
--- four bytes from a place on
+-- four bytes from an index on
 pub little-take4 : (bs : List ℕ) (i : ℕ) → i + 4 ≤ length bs →
     little (take 4 (drop i bs))
     ≡ get_or bs i 0 + 256 * get_or bs (i + 1) 0 + 65536 * get_or bs (i + 2) 0 + 16777216 * get_or bs (i + 3) 0
@@ -41,7 +41,7 @@ little-take4 bs i h =
     e0 ∙ ap (λ l. get_or bs i 0 ∷ l) (e1 ∙ ap (λ l. get_or bs (i + 1) 0 ∷ l) (e2 ∙ ap (λ l. get_or bs (i + 2) 0 ∷ l) e3)) in
     ap (λ l. little (take 4 l)) all ∙ little-four _ _ _ _ (drop (i + 4) bs)
 
--- n bytes from a place on, and those after them
+-- n bytes from an index on, and those after them
 pub little-drop : (n : ℕ) (bs : List ℕ) (i j : ℕ) → j ≡ i + n → j ≤ length bs →
     little (drop i bs) ≡ little (take n (drop i bs)) + 256 ^ n * little (drop j bs)
 little-drop n bs i j e h =
@@ -66,7 +66,7 @@ little-32 bs h =
       little-drop 8 bs 24 32 refl (omega arith),
     )
 
--- the lowest j bytes, and then those of the rest
+-- the lowest j bytes, then those of the rest
 pub bytes_of-append : (j k n r : ℕ) → n < 256 ^ j → bytes_of (j + k) (n + 256 ^ j * r) ≡ bytes_of j n ++ bytes_of k r
 unfolding bytes_of
 bytes_of-append zero k n r h =

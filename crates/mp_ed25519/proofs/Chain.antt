@@ -1,4 +1,4 @@
--- The sum that a signature is compared with.
+-- The sum with which a signature is compared.
 use Rattle.std.proofs.Common.{◌≡◌, ℕ, ◌+◌, ◌*◌, ◌/◌, ◌%◌, ◌^◌, ◌<◌, ◌&&◌, List, [], ◌∷◌, length, arith, zero, suc, refl, subst, ap, ◌∙◌, sym, true, not, nat_lt, Option, Some, None}
 use Rattle.std.proofs.Math.Nat.{pow-suc}
 use Rattle.std.proofs.lemmas.Bool.{and_parts, eqb-true, false≢true, ltb-true}
@@ -6,7 +6,7 @@ use Rattle.mp_ed25519.specs.Chain.{IsSum, CombinedIsSum, GoodIsSum, nothing, one
 use Rattle.mp_ed25519.specs.Curve.{Point, combined, multiple, negated, shifted_sum}
 use Rattle.mp_ed25519.specs.Ed25519.{accepts_halves, base, bytes_of, challenge, decoded, encoded, equation_holds, has_small_order, little, order}
 
--- the same sum, its two numbers written otherwise
+-- the same sum, with its two numbers written in another way
 same_sum : (b a : Point) (s k t l : ℕ) (p : Point) → s ≡ t → k ≡ l → IsSum b a s k p → IsSum b a t l p
 same_sum b a s k t l p e f h =
     subst (λ (n : ℕ). IsSum b a t n p) f (subst (λ (n : ℕ). IsSum b a n k p) e h)
@@ -27,7 +27,7 @@ shifted_sum-sum b a p s k n h =
     same_sum b a _ _ (16 * s) (16 * k + n) _ (omega arith) (omega arith)
     (both (double (double (double (double h)))) (multiple-a b a n))
 
--- the same of bytes
+-- the same for bytes
 bytes-sum : (b a : Point) (ss ks : List ℕ) → length ss ≡ length ks → IsSum b a (little ss) (little ks) (combined b a ss ks)
 unfolding combined little
 bytes-sum b a [] [] e = nothing

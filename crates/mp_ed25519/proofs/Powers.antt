@@ -10,7 +10,7 @@ pub mul-pow : (z a b : ℕ) → mul (pow z a) (pow z b) ≡ pow z (a + b)
 unfolding mul pow
 mul-pow z a b = sym (mul-mod (z ^ a) (z ^ b) prime) ∙ ap (λ n. n % prime) (sym (pow-add z a b))
 
--- the product of what is the power a and what is the power b
+-- the product of the power a and the power b
 pub times : (x y z a b : ℕ) → x ≡ pow z a → y ≡ pow z b → mul x y ≡ pow z (a + b)
 times x y z a b e f = ap (λ n. mul n y) e ∙ ap (mul (pow z a)) f ∙ mul-pow z a b
 
@@ -23,7 +23,7 @@ first_power x =
     let f : v % prime % prime ≡ v % prime = omega arith in
     sym (ap (λ n. n % prime) e ∙ f)
 
--- one squaring more
+-- one more squaring
 pub squared_more : (x y z e i : ℕ) → y ≡ pow z (e * 2 ^ i) → x ≡ mul y y → x ≡ pow z (e * 2 ^ (i + 1))
 squared_more x y z e i h g =
     let two : e * 2 ^ i + e * 2 ^ i ≡ e * 2 ^ (i + 1) = omega (arith, ap (λ n. e * n) (pow-add 2 i 1)) in

@@ -1,4 +1,4 @@
--- Tables of multiples that grow.
+-- Tables of multiples, entry by entry.
 use Rattle.std.proofs.Common.{arith, ap, ◌≡◌, ◌≢◌, ◌<◌, ◌∙◌, ◌+◌, sym, subst, suc, ℕ, List, [], ◌∷◌, ◌++◌, length, get_or, inl, inr, set}
 use Rattle.std.proofs.Math.ListN.{get_or-append}
 use Rattle.std.proofs.Math.Seq.{get_or-append_seam}
@@ -37,7 +37,7 @@ table-append t p i c size made h = λ j less x e. elim (cases_lt j i) [
       same_cached c x p i j read same h
 ]
 
--- one multiple more
+-- one more multiple
 pub multiple-next : (p m n : Point) (i : ℕ) → m ≡ multiple p i → n ≡ sum m p → n ≡ multiple p (i + 1)
 unfolding multiple
 multiple-next p m n i e f =

@@ -1,4 +1,4 @@
--- What an addition chain adds up, and that a good signature meets the standard's equation.
+-- What an addition chain adds up, and that a good signature satisfies the standard's equation.
 use Rattle.std.specs.Prelude.{◌≡◌, ℕ, ◌+◌, ◌^◌, ◌<◌, true, List, length, Option, Some}
 use Rattle.mp_ed25519.specs.Curve.{Point, combined, negated, neutral, sum, twice}
 use Rattle.mp_ed25519.specs.Ed25519.{accepts_halves, base, bytes_of, challenge, decoded, encoded, little, order}
@@ -18,7 +18,7 @@ abbrev pub CombinedIsSum : Type 0
 CombinedIsSum = (b a : Point) (s : List ℕ) (k : ℕ) → length s ≡ 32 → k < 2 ^ 256 →
     IsSum b a (little s) k (combined b a s (bytes_of 32 k))
 
--- of a good signature R encodes [S] base - [k] a, where a is the key's point and S is below the order
+-- for a good signature, R encodes [S] base - [k] a, where a is the key's point and S is below the order
 abbrev pub GoodIsSum : Type 0
 GoodIsSum = (key message r s : List ℕ) → length s ≡ 32 → accepts_halves key message r s ≡ true →
     (little s < order)

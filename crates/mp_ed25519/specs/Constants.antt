@@ -4,7 +4,7 @@ use Rattle.mp_ed25519.specs.Field.{add, sub, mul}
 use Rattle.mp_ed25519.specs.Curve.{d}
 use Rattle.mp_ed25519.specs.Ed25519.{base, root_of_minus_one}
 
--- d is -121665 / 121666, and the base point is on the curve, where its y is 4 / 5 and its x is even
+-- d is -121665 / 121666; the base point is on the curve, its y is 4 / 5 and its x is even
 abbrev pub ConstantsAreRight : Type 0
 ConstantsAreRight =
     (mul 121666 d ≡ sub 0 121665) × (mul root_of_minus_one root_of_minus_one ≡ sub 0 1)

@@ -44,11 +44,11 @@ unfoldable pub multiple : Point → ℕ → Point
 multiple p zero = neutral
 multiple p (suc n) = sum (multiple p n) p
 
--- 16 times the first point and n times the other
+-- 16 times the first point plus n times the second
 unfoldable pub shifted_sum : Point → Point → ℕ → Point
 shifted_sum p q n = sum (twice (twice (twice (twice p)))) (multiple q n)
 
--- [s] b + [k] a for two numbers of as many bytes, the lowest first, from the highest on, k's in halves
+-- [s] b + [k] a for two numbers of equally many bytes, lowest first: it starts with the highest bytes, and takes k's in halves
 unfoldable pub combined : Point → Point → List ℕ → List ℕ → Point
 combined b a [] _ = neutral
 combined b a (s ∷ ss) [] = neutral

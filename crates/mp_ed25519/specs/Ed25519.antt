@@ -17,12 +17,12 @@ base = record {
   t = 46827403850823179245072216630277197565144205554125654976674165829533817101731;
 }
 
--- the number of these bytes, the lowest first
+-- the number that these bytes encode, lowest first
 unfoldable pub little : List ℕ → ℕ
 little [] = 0
 little (b ∷ bs) = b + 256 * little bs
 
--- as many bytes of a number, the lowest first
+-- this many bytes of a number, lowest first
 unfoldable pub bytes_of : ℕ → ℕ → List ℕ
 bytes_of zero n = []
 bytes_of (suc k) n = n % 256 ∷ bytes_of k (n / 256)
@@ -41,7 +41,7 @@ root_of u v =
     else if add check u == 0 then Some (mul r root_of_minus_one)
     else None
 
--- of a root and its negative the one whose lowest bit is the sign, where 0 has no sign of 1
+-- the root or its negative: the one whose lowest bit is the sign; 0 with sign 1 is refused
 unfoldable pub signed : ℕ → Option ℕ → Option ℕ
 signed sign None = None
 signed sign (Some r) =
@@ -51,7 +51,7 @@ unfoldable pub point_at : ℕ → Option ℕ → Option Point
 point_at y None = None
 point_at y (Some x) = Some (record { x = x; y = y; z = 1; t = mul x y })
 
--- the point that 256 bits encode: its y, and then the lowest bit of its x
+-- the point that 256 bits encode: the lowest 255 are its y, the highest is the lowest bit of its x
 unfoldable pub decoded : ℕ → Option Point
 decoded n =
     let y = n % 2 ^ 255 in
@@ -64,7 +64,7 @@ encoded q =
     let i = pow q.z (prime - 2) in
     mul q.y i + 2 ^ 255 * (mul q.x i % 2)
 
--- the encodings of points of small order, but for their highest bit
+-- the encodings of points of small order, without their highest bit
 abbrev pub small_orders : List ℕ
 small_orders =
     0 ∷ 1 ∷ (prime - 1) ∷ prime ∷ (prime + 1)

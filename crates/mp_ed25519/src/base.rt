@@ -1,4 +1,4 @@
-//! The base point, against whose multiples signatures are verified.
+//! The base point, with whose multiples signatures are verified.
 
 ghost use Rattle.std.specs.Prelude.{◌≡◌, length, take, drop};
 ghost use Rattle.mp_ed25519.specs.Ed25519.{accepts, base as the_base};
@@ -56,7 +56,7 @@ fn second_half(signature: &[u8; 64]) -> [u8; 32]
     half
 }
 
-/// The multiples of the base point that a verification needs, which are found once: 40 KB.
+/// The multiples of the base point that a verification needs: 40 KB, computed once.
 #[derive(Drop)]
 pub struct Base {
     table: Vec<CachedPoint, Memory>,
@@ -65,7 +65,7 @@ pub struct Base {
 }
 
 impl Base {
-    /// Finds the multiples.
+    /// Computes the multiples.
     pub fn new(memory: Memory) -> Result<Base, NoMemory> {
         let table = long_table(memory, &base_point())?;
         Ok(Base { table })

@@ -1,4 +1,4 @@
-//! Points from their encodings, and their encodings.
+//! Decoding and encoding points.
 
 ghost use Rattle.std.specs.Prelude.{◌≡◌, ◌+◌, ◌-◌, ◌*◌, ◌/◌, ◌%◌, ◌<◌, ◌^◌, nat_eq, Option};
 ghost use Rattle.mp_ed25519.specs.Curve.{Point, d};
@@ -61,7 +61,7 @@ fn root_of(u: &FieldElement, v: &FieldElement) -> Option<FieldElement>
     }
 }
 
-// Of a root and its negative the one whose lowest bit is the sign.
+// The root or its negative: the one whose lowest bit is the sign.
 #[tactic(auto, unfolding(crate::specs::Ed25519::signed))]
 fn signed(sign: u64, root: Option<FieldElement>) -> Option<FieldElement>
     requires { IsTight root }
@@ -94,7 +94,7 @@ fn point_at(y: &FieldElement, x: Option<FieldElement>) -> Option<ExtendedPoint>
     })
 }
 
-/// The point that 256 bits encode, if they do.
+/// The point that 256 bits encode, if there is one.
 #[tactic(auto, unfolding(crate::specs::Ed25519::decoded))]
 pub fn decoded(n: &Number) -> Option<ExtendedPoint>
     ensures { point_of result ≡ decoding_of (number_of n.now) }

@@ -1,4 +1,4 @@
-//! The tests of a signature in two halves.
+//! The checks of a signature that is given in two halves.
 
 ghost use Rattle.std.specs.Prelude.{◌≡◌, length};
 ghost use Rattle.mp_ed25519.specs.Ed25519.{accepts_halves as halves_are_good, base as the_base, challenge, equation_holds as holds};

@@ -4,7 +4,7 @@ ghost use Rattle.std.specs.Prelude.{◌<◌, ◌^◌};
 
 use crate::wide_element::WideElement;
 
-/// A field element as five limbs of 51 bits, the lowest first. Each has three more bits of room.
+/// A field element as five limbs of 51 bits, lowest first. Each limb has room for three more bits.
 #[derive(Clone, Copy)]
 pub struct FieldElement {
     pub l0: u64,
@@ -55,7 +55,7 @@ impl FieldElement {
         WideElement::product(self, other).carried()
     }
 
-    /// The product with itself.
+    /// The square.
     #[inline(always)]
     pub fn square(&self) -> FieldElement
         ensures tight { AreWithin tight result }
@@ -82,7 +82,7 @@ impl FieldElement {
         }
     }
 
-    /// The difference, without carries: twice the prime is added, so that no limb is negative.
+    /// The difference, without carries. Twice the prime is added, so that no limb is negative.
     #[inline(always)]
     pub fn sub(&self, other: &FieldElement) -> FieldElement
         requires left { AreWithin (2 * tight) self.now }

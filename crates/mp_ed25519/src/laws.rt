@@ -1,9 +1,9 @@
-//! What is true of the definitions.
+//! What holds for the definitions.
 
 ghost use Rattle.mp_ed25519.specs.Chain.{CombinedIsSum, GoodIsSum};
 ghost use Rattle.mp_ed25519.specs.Constants.{ConstantsAreRight};
 
-/// The windowed multiplication of two points adds up S times the one and k times the other.
+/// The windowed multiplication of two points adds up S times the first and k times the second.
 pub fn combined_is_sum()
     ensures { CombinedIsSum }
 {}

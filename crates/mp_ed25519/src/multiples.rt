@@ -36,7 +36,7 @@ pub fn long_table(memory: Memory, p: &ExtendedPoint) -> Result<Vec<CachedPoint, 
     Ok(table)
 }
 
-// 16 times a point and so many times the one of the table.
+// 16 times a point plus `times` times the point of the table.
 fn shifted_sum(p: &ProjectivePoint, table: &[CachedPoint; 16], times: usize) -> CompletedPoint
     requires { times < 16 }
     ensures { (q r : Point) → IsProjective p.now q → IsTable table.now r 16 →
@@ -48,8 +48,7 @@ fn shifted_sum(p: &ProjectivePoint, table: &[CachedPoint; 16], times: usize) -> 
     eight_times.doubled().extended().add(&table[times])
 }
 
-/// S times the point of the first table and k times that of the other, for the bytes of S and k, the
-/// lowest first.
+/// S times the point of the first table plus k times that of the second, given the bytes of S and k, lowest first.
 pub fn combined(
     long: &[CachedPoint],
     short: &[CachedPoint; 16],

@@ -5,7 +5,7 @@ ghost use Rattle.mp_ed25519.specs.Ed25519.{little};
 
 use crate::field_element::FieldElement;
 
-/// A number below 2^256 as four words, the lowest first.
+/// A number below 2^256 as four words, lowest first.
 #[derive(Clone, Copy)]
 pub struct Number {
     pub w0: u64,
@@ -15,7 +15,7 @@ pub struct Number {
     ghost fits: { (w0 < 2 ^ 64) × (w1 < 2 ^ 64) × (w2 < 2 ^ 64) × (w3 < 2 ^ 64) },
 }
 
-/// The number of four bytes.
+/// The number that four bytes encode.
 pub fn half_word(bytes: &[u8], at: usize) -> u64
     requires { at + 4 ≤ length bytes.now }
     ensures value { result ≡ little (take 4 (drop at bytes.now)) }
@@ -27,7 +27,7 @@ pub fn half_word(bytes: &[u8], at: usize) -> u64
         + bytes[at + 3] as u64 * 0x100_0000
 }
 
-// The number of eight bytes.
+// The number that eight bytes encode.
 fn word(bytes: &[u8], at: usize) -> u64
     requires { at + 8 ≤ length bytes.now }
     ensures { result ≡ little (take 8 (drop at bytes.now)) }
@@ -42,14 +42,14 @@ impl Number {
     ghost use Rattle.mp_ed25519.specs.Inside.Limbs.{AreWithin, element, tight};
     ghost use Rattle.mp_ed25519.specs.Inside.Numbers.{number_of};
 
-    /// The number of four words.
+    /// The number that four words encode.
     pub fn new(w0: u64, w1: u64, w2: u64, w3: u64) -> Number
         ensures { number_of result ≡ w0 + 2 ^ 64 * w1 + 2 ^ 128 * w2 + 2 ^ 192 * w3 }
     {
         Number { w0, w1, w2, w3 }
     }
 
-    /// The number of 32 bytes, the lowest first.
+    /// The number that 32 bytes encode, lowest first.
     pub fn of_bytes(bytes: &[u8; 32]) -> Number
         ensures { number_of result ≡ little bytes.now }
     {
@@ -61,7 +61,7 @@ impl Number {
         }
     }
 
-    /// The number that stands for a field element.
+    /// The number that represents a field element.
     pub fn of_element(x: &FieldElement) -> Number
         requires { AreWithin tight x.now }
         ensures value { number_of result ≡ element x.now }
@@ -87,7 +87,7 @@ impl Number {
         }
     }
 
-    /// The field element that the lowest 255 bits stand for.
+    /// The field element that the lowest 255 bits represent.
     pub fn element(&self) -> FieldElement
         ensures tight { AreWithin tight result }
         ensures element { element result ≡ number_of self.now % 2 ^ 255 % prime }
@@ -147,7 +147,7 @@ impl Number {
         (self.w3 % (1 << 63)) as u128 + c2 < (1 << 63)
     }
 
-    /// The number's bytes, the lowest first.
+    /// The number's bytes, lowest first.
     pub fn bytes(&self) -> [u8; 32]
         ensures { result ≡ bytes_of 32 (number_of self.now) }
     {

@@ -1,4 +1,4 @@
-//! Points of the curve, their addition and doubling.
+//! Points of the curve: addition and doubling.
 
 ghost use Rattle.std.specs.Prelude.{◌*◌, ◌<◌, ◌^◌};
 ghost use Rattle.mp_ed25519.specs.Inside.Limbs.{AreWithin, tight};
@@ -29,7 +29,7 @@ pub struct ProjectivePoint {
     ghost z_tight: { AreWithin tight z },
 }
 
-/// A point that is added several times.
+/// A point prepared for several additions.
 #[derive(Clone, Copy)]
 pub struct CachedPoint {
     pub sum: FieldElement,
@@ -81,7 +81,7 @@ impl ExtendedPoint {
         }
     }
 
-    /// Minus the point.
+    /// The negated point.
     pub fn negated(&self) -> ExtendedPoint
         ensures { point result ≡ negated (point self.now) }
     {
@@ -93,7 +93,7 @@ impl ExtendedPoint {
         }
     }
 
-    /// The point, to be doubled.
+    /// The point, prepared for doubling.
     #[inline(always)]
     pub fn projective(&self) -> ProjectivePoint
         ensures { IsProjective result (point self.now) }
@@ -105,7 +105,7 @@ impl ExtendedPoint {
         }
     }
 
-    /// The point, to be added several times.
+    /// The point, prepared for several additions.
     pub fn cached(&self) -> CachedPoint
         ensures { IsCached result (point self.now) }
     {
@@ -140,7 +140,7 @@ impl ProjectivePoint {
     ghost use Rattle.mp_ed25519.specs.Curve.{Point, twice};
     ghost use Rattle.mp_ed25519.specs.Inside.Points.{IsProjective, completed};
 
-    /// The point, added to itself.
+    /// The point added to itself.
     #[tactic(auto, unfolding(crate::specs::Curve::twice))]
     pub fn doubled(&self) -> CompletedPoint
         ensures { (p : Point) → IsProjective self.now p → completed result ≡ twice p }
@@ -166,7 +166,7 @@ impl CompletedPoint {
     ghost use Rattle.std.specs.Prelude.{◌≡◌};
     ghost use Rattle.mp_ed25519.specs.Inside.Points.{IsProjective, completed, point};
 
-    /// The point, to be doubled.
+    /// The point, prepared for doubling.
     #[inline(always)]
     pub fn projective(&self) -> ProjectivePoint
         ensures { IsProjective result (completed self.now) }

@@ -6,7 +6,7 @@ ghost use Rattle.mp_ed25519.specs.Inside.Limbs.{AreWithin, element, tight};
 
 use crate::field_element::FieldElement;
 
-// Squared so many times.
+// Squares `times` times.
 fn squared(x: &FieldElement, times: u32) -> FieldElement
     requires { AreWithin tight x.now }
     ensures tight { AreWithin tight result }

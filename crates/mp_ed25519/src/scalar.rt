@@ -67,7 +67,7 @@ fn reduced_once(x: &Number) -> Scalar
     Scalar { number }
 }
 
-// 2^32 times the number and four bytes more.
+// 2^32 times the number, plus four more bytes.
 fn shifted(scalar: &Scalar, next: u64) -> Scalar
     requires { next < 2 ^ 32 }
     ensures { number_of result.number ≡ (2 ^ 32 * number_of scalar.now.number + next) % order }
@@ -99,7 +99,7 @@ fn zero() -> Scalar
     }
 }
 
-/// The number of 64 bytes, the lowest first, modulo the order.
+/// The number that 64 bytes encode, lowest first, modulo the order.
 pub fn reduced(bytes: &[u8; 64]) -> Scalar
     ensures { number_of result.number ≡ little bytes.now % order }
 {

@@ -8,7 +8,7 @@ const LIMB: u64 = 1 << 51;
 
 const WIDE_LIMB: u128 = 1 << 51;
 
-/// Five limbs before their carries. What is at 2^255 and above is folded into them.
+/// Five limbs before their carries. What is at 2^255 and above has been folded into them.
 #[derive(Clone, Copy)]
 pub struct WideElement {
     pub l0: u128,
@@ -20,7 +20,7 @@ pub struct WideElement {
         × (l3 < 77 * 2 ^ 108) × (l4 < 5 * 2 ^ 108) },
 }
 
-// The product of two limbs. Its second bound shows that no sum of such products overflows.
+// The product of two limbs. The second bound shows that no sum of such products overflows.
 #[inline(always)]
 fn wide(a: u64, b: u64) -> u128
     requires left { a < 2 ^ 54 }
@@ -83,8 +83,8 @@ impl WideElement {
         }
     }
 
-    /// The same element with its limbs carried. Two chains of carries, from the first limb and from
-    /// the third, are faster than one.
+    /// The same element with its limbs carried. Two chains of carries, from the first limb and from the third, are faster than
+    /// one.
     #[inline(always)]
     pub fn carried(self) -> FieldElement
         ensures tight { AreWithin tight result }

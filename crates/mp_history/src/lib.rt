@@ -9,6 +9,6 @@ mod word;
 
 pub use entry::Entry;
 pub use fault::AuditFault;
-pub use history::audit;
+pub use history::{audit, audit_successor};
 pub use laws::{audit_faults, interleavings, successors};
 pub use word::{Caller, CommitRight, Front, History, NewName, PoolName, look};

@@ -13,7 +13,7 @@ use Rattle.mp_locked.specs.Inside.Locked.{IsAt, ArePlaces}
 use Rattle.mp_locked.proofs.Places.{noted}
 use Rattle.mp_locked.proofs.Steps.{after_entry, legal_with}
 
--- one place more is noted, whatever the words for it
+-- one more place is noted, however the entry is written
 noted_as : (callers : ℕ) (es : List Entry) (places : List (Option ℕ)) (e : Entry) (n place : ℕ) → ArePlaces callers es places → e.caller < callers → n ≡ e.caller → place ≡ length es
     → ArePlaces callers (es ++ e ∷ []) (set places n (Some place))
 noted_as callers es places e n place were known n_is place_is =
@@ -26,7 +26,7 @@ module _ (accepts : Accepts) where
   entries_made callers l log p newest places same at =
       ap (λ q. q.changes) at.state ∙ number_of accepts callers log at.legal ∙ ap (λ k. length k.entries) same
 
-  -- all is what the longer history leads to
+  -- everything is what the longer history leads to
   pub is_at_next : (callers : ℕ) (l : Locked) (log : Log) (p : Pool) (newest : Log) (places : List (Option ℕ)) (e : Entry) (q : Prepared) (n place : ℕ) (log_now newest_now : Log) (p_now : Pool)
       → log ≡ l.log → IsAt accepts callers log p newest places → Prepares accepts (holding accepts l) q.command q → e.command ≡ q.command → e.reply ≡ q.reply
       → e.caller < callers → n ≡ e.caller → place ≡ length l.log.entries

@@ -1,4 +1,4 @@
--- What the sequential pool prepares, in the words of what the lock guards.
+-- What the sequential pool prepares, in terms of what the lock guards.
 use Rattle.std.proofs.Common.{◌≡◌, ℕ, List, sym, ap, subst, subst₂, ◌∙◌}
 use Rattle.std.specs.Prelude.{Result, Ok, Err, Option, IfOk, IfErr}
 use Rattle.mp_rules.specs.Verifier.{Accepts}
@@ -14,7 +14,7 @@ use Rattle.mp_locked.specs.Locked.{Locked, holding}
 use Rattle.mp_locked.specs.Inside.Locked.{IsAt}
 
 module _ (accepts : Accepts) where
-  -- the sequential pool is what the lock's history leads to
+  -- the sequential pool is what the history under the lock leads to
   pub held : (callers : ℕ) (log : Log) (h : Holding) (newest : Log) (places : List (Option ℕ)) (waiting : Option Log) (published : Log) (l : Locked)
       → IsAt accepts callers log h.pool newest places
       → record { log = log; room = h.room; waiting = waiting; published = published } ≡ l → h ≡ holding accepts l
@@ -31,7 +31,7 @@ module _ (accepts : Accepts) where
       → IfErr r (IsRefused a h.pool c) → IfErr r (IsRefused accepts (state_after accepts l.log) c)
   refused_held a h l c r same at refused = subst₂ (λ b (k : Holding). IfErr r (IsRefused b k.pool c)) same at refused
 
-  -- where memory is wanting, nothing more is said
+  -- after an allocation failure, nothing more is said
   pub wanting_refuses : {A : Type 0} (p : Pool) (c : Command) (r : Result A Refusal) → IfErr r (λ e. e ≡ refusals.NoMemory) → IfErr r (IsRefused accepts p c)
   wanting_refuses p c (Ok a) e = e
   wanting_refuses p c (Err x) e = subst (IsRefused accepts p c) (sym e) tt

@@ -1,4 +1,4 @@
--- A history with one right entry more.
+-- A legal history with one more right entry.
 use Rattle.std.proofs.Common.{◌≡◌, ℕ, ◌<◌, sym, ap, subst, ◌∙◌}
 use Rattle.std.specs.Prelude.{Result, Ok, Err, IfOk}
 use Rattle.mp_rules.specs.Verifier.{Accepts}
@@ -17,7 +17,7 @@ module _ (accepts : Accepts) where
   pub after_entry : (log : Log) (e : Entry) → state_after accepts (entered log e) ≡ next accepts (state_after accepts log) e.command
   after_entry log e = pool_of-append accepts log.opening log.entries e
 
-  -- a right entry more
+  -- one more right entry
   pub legal_with : (callers : ℕ) (log : Log) (e : Entry) → IsLegalLog accepts callers log → e.caller < callers → answer accepts (state_after accepts log) e.command ≡ Ok e.reply
       → IsLegalLog accepts callers (entered log e)
   legal_with callers log e legal known reply = record {
@@ -26,7 +26,7 @@ module _ (accepts : Accepts) where
     legal = legal-append accepts callers log.opening log.entries e legal.legal (record { known = known; true_reply = reply });
   }
 
-  -- the version after a right entry more
+  -- the version after one more right entry
   pub version_with : (callers : ℕ) (log : Log) (e : Entry) (leads : state.Pool) (v : Version) → IsLegalLog accepts callers log → e.caller < callers
       → answer accepts (state_after accepts log) e.command ≡ Ok e.reply → next accepts (state_after accepts log) e.command ≡ leads → v.pool ≡ leads
       → IsVersionOf accepts callers (entered log e) v
@@ -37,7 +37,7 @@ module _ (accepts : Accepts) where
   versions P Q f (Ok v) p = f v p
   versions P Q f (Err e) p = p
 
-  -- so it is for whatever version a step leads to
+  -- this holds for every version that a step leads to
   pub versions_with : {E : Type 0} (callers : ℕ) (l : Locked) (log : Log) (p : state.Pool) (e : Entry) (q : Prepared) (r : Result Version E)
       → log ≡ l.log → IsLegalLog accepts callers log → p ≡ state_after accepts log → e.caller < callers
       → Prepares accepts (holding accepts l) q.command q → e.command ≡ q.command → e.reply ≡ q.reply

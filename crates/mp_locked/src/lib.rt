@@ -1,4 +1,4 @@
-//! What a shared pool's lock guards, and what happens to it step by step. Whoever has it has it alone.
+//! What a shared pool's lock guards, and the steps of a change. The thread that holds the lock has exclusive access.
 #![tactic(auto)]
 
 mod locked;

@@ -25,10 +25,11 @@ use mp_versions::{Boards, Publisher, Shown, Version};
 use std::marker::Model;
 use std::sync::{Arc, Wait};
 
-/// What a pool's lock guards: the right to lengthen its history, the sequential pool after it, the newest version, the right to
-/// publish versions, and for each caller the place of its last entry. Contracts see the history, the room that the sequential pool
-/// has for its next step, the version that waits to be published, and the one that was published last: all else is what the
-/// history leads to, as the readers say.
+/// What a pool's lock guards: the commit right, the sequential pool after the history, and the newest version. Also the right to
+/// publish versions, and for each caller the place of its last entry.
+///
+/// Contracts see the history, the room that the sequential pool has for its next step, and the histories of two versions. One
+/// waits to be published, the other was published last. The history determines everything else, as the readers say.
 pub struct Locked<N: PoolName> {
     pool: SeqPool,
     right: CommitRight<N>,
@@ -75,7 +76,7 @@ impl<N: PoolName> Model for Locked<N> {
         × told.IsKept l.right l.waiting l.publisher };
 }
 
-// The entry that tells of the step.
+// The entry that records the step.
 fn entry_of<N: PoolName>(caller: &Caller<N>, prepared: &Prepared) -> Result<Entry, NoMemory>
     ensures caller { IfOk result (λ e. e.caller ≡ caller.now.number) }
     ensures command { IfOk result (λ e. e.command ≡ prepared.now.command) }
@@ -102,7 +103,7 @@ fn own_thrice(memory: Memory, version: Version) -> Result<Owners, NoMemory>
     })
 }
 
-// Takes the step. The entry that tells of it has the reply already.
+// Takes the step. The entry of the step has its reply already.
 fn take_step(pool: &mut SeqPool, prepared: Prepared)
     requires { IsPrepared pool.old prepared }
     ensures { pool.new.pool ≡ leads_to pool.old.pool prepared }
@@ -111,7 +112,7 @@ fn take_step(pool: &mut SeqPool, prepared: Prepared)
 }
 
 impl<N: PoolName> Locked<N> {
-    // All parts together, with no version that waits.
+    // All parts together. No version waits.
     fn of(
         pool: SeqPool,
         right: CommitRight<N>,
@@ -135,7 +136,7 @@ impl<N: PoolName> Locked<N> {
         }
     }
 
-    /// What the lock guards at first: no entry, and no version that waits, since the opening one is published.
+    /// What the lock guards in a new pool: no entries, and no version that waits, since the opening one is published.
     pub fn open(
         pool: SeqPool,
         right: CommitRight<N>,
@@ -155,7 +156,7 @@ impl<N: PoolName> Locked<N> {
         Locked::of(pool, right, newest, publisher, places)
     }
 
-    /// What the lock of a successor guards, whose right this is: the sequential pool is renewed, and no item is copied.
+    /// What the lock of a successor guards, given the successor's right. The sequential pool is renewed, and no item is copied.
     pub fn renew<M: PoolName>(
         self,
         limit: u64,
@@ -187,9 +188,9 @@ impl<N: PoolName> Locked<N> {
         Locked::open(pool, right, newest, publisher, places)
     }
 
-    // The readers, which say what ties the parts together.
+    // The readers, which say how the parts are related.
 
-    /// The front of all entries.
+    /// The front with all entries.
     pub fn front(&self) -> Front<N>
         ensures front { result ≡ self.now.log }
         ensures legal { IsLegalLog N.accepts N.callers self.now.log }
@@ -226,7 +227,7 @@ impl<N: PoolName> Locked<N> {
         self.places[caller.number() as usize]
     }
 
-    /// Whether the pass knows the last of its caller's entries. What it has seen begins the history under the lock.
+    /// Whether the pass knows the last of its caller's entries. What the pass has seen is a prefix of the history under the lock.
     pub fn is_known_to(&mut self, pass: &Pass<N>) -> bool
         ensures same { self.new ≡ self.old }
         ensures begins { Begins pass.now.front self.new.log }
@@ -240,7 +241,7 @@ impl<N: PoolName> Locked<N> {
         self.last_of(pass.token()) == pass.last()
     }
 
-    // Owners of the version after a step, of which the entry tells.
+    // Owners of the version after the step that the entry records.
     fn own_next(
         &self,
         memory: Memory,
@@ -259,7 +260,7 @@ impl<N: PoolName> Locked<N> {
         own_thrice(memory, version)
     }
 
-    // The version after a step, of which the entry tells.
+    // The version after the step that the entry records.
     fn version_after(
         &self,
         memory: Memory,
@@ -279,7 +280,7 @@ impl<N: PoolName> Locked<N> {
         self.newest.version().after(memory, &self.pool, prepared)
     }
 
-    // The entry that tells of the step, and owners of the version after it.
+    // The entry that records the step, and owners of the version after it.
     fn tell(
         &self,
         memory: Memory,
@@ -296,7 +297,7 @@ impl<N: PoolName> Locked<N> {
         Ok(Outcome { entry, owners })
     }
 
-    // The step with what is made before it is taken.
+    // The step, with its entry and versions allocated before it is taken.
     fn make_ready(
         &self,
         memory: Memory,
@@ -314,7 +315,7 @@ impl<N: PoolName> Locked<N> {
         }
     }
 
-    // What the sequential pool prepares for the transaction, with what was found of it before.
+    // What the sequential pool prepares for the transaction, given what was found before the lock.
     fn prepare_in_pool<V: Verifier>(
         &mut self,
         tx: &Arc<Tx, Memory>,
@@ -332,7 +333,7 @@ impl<N: PoolName> Locked<N> {
         self.pool.prepare_submit(tx, checked, verifier)
     }
 
-    /// Prepares to take the transaction in, with what was found of it before, and makes everything ready.
+    /// Prepares to add the transaction, given what was found before the lock, and allocates all that the step needs.
     pub fn prepare_submit<V: Verifier>(
         &mut self,
         memory: Memory,
@@ -370,7 +371,7 @@ impl<N: PoolName> Locked<N> {
         self.pool.prepare_remove(ids, verifier)
     }
 
-    /// Prepares to take out the transactions with these ids, and makes everything ready.
+    /// Prepares to remove the transactions with these ids, and allocates all that the step needs.
     pub fn prepare_remove<V: Verifier>(
         &self,
         memory: Memory,
@@ -405,7 +406,7 @@ impl<N: PoolName> Locked<N> {
         self.pool.prepare_sync(ledger, verifier)
     }
 
-    /// Prepares to adopt the ledger state, and makes everything ready.
+    /// Prepares to adopt the ledger state, and allocates all that the step needs.
     pub fn prepare_sync<V: Verifier>(
         &self,
         memory: Memory,
@@ -425,7 +426,7 @@ impl<N: PoolName> Locked<N> {
         }
     }
 
-    // The place of the next entry, where one more change may be made.
+    // The place of the next entry. One more change has to be allowed.
     fn next_place(&self) -> u64
         requires { (state_after N.accepts self.now.log).changes
             < (state_after N.accepts self.now.log).limit }
@@ -436,7 +437,7 @@ impl<N: PoolName> Locked<N> {
         self.pool.changes()
     }
 
-    /// Commits the caller's entry and takes the step; the caller has then seen the version after it, which waits to be published.
+    /// Commits the caller's entry and takes the step. The caller has then seen the version after it, which waits to be published.
     /// It allocates nothing and can't fail.
     pub fn commit(&mut self, history: &History<N>, pass: &mut Pass<N>, ready: Ready) -> Receipt
         requires { IsReady N.accepts N.callers self.old pass.old.caller ready }
@@ -462,10 +463,10 @@ impl<N: PoolName> Locked<N> {
         Receipt { place, entry }
     }
 
-    /// Publishes the version that waits, if one does.
+    /// Publishes the version that waits, if there is one.
     ///
     /// # Errors
-    /// `NoMemory`, and it waits on.
+    /// `NoMemory`. Then the version still waits.
     pub fn publish_waiting(
         &mut self,
         rt: &impl Wait,

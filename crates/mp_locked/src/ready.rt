@@ -1,4 +1,4 @@
-//! Steps for which everything is ready.
+//! Steps for which everything is allocated.
 
 use mp_history::Entry;
 use mp_memory::Memory;
@@ -6,7 +6,7 @@ use mp_seqpool::Prepared;
 use mp_versions::Version;
 use std::sync::Arc;
 
-/// Owners of one version, one for each who is going to hold it.
+/// Owners of one version, one for each holder.
 #[derive(Drop)]
 pub struct Owners {
     pub for_pass: Arc<Version, Memory>,
@@ -14,14 +14,14 @@ pub struct Owners {
     pub for_board: Arc<Version, Memory>,
 }
 
-/// What is made before a step is taken: the entry that tells of it, and the version after it.
+/// What is allocated before a step is taken: the entry that records it, and the version after it.
 #[derive(Drop)]
 pub struct Outcome {
     pub entry: Entry,
     pub owners: Owners,
 }
 
-/// A step that can be taken without memory.
+/// A step that can be taken without allocating.
 #[derive(Drop)]
 pub struct Ready {
     pub prepared: Prepared,

@@ -1,11 +1,11 @@
--- How what is known of bytes ends.
+-- The end of a command, given what is known of the bytes.
 use Rattle.std.proofs.Common.{◌≡◌, ℕ, List, []}
 use Rattle.std.proofs.Common.{refl, sym, append-nil}
 use Rattle.std.specs.Prelude.{Option, None, Some, IfSome, Result}
 use Rattle.std.specs.Io.KnownBytes.{Appends, Keeps}
 use Rattle.mp_main.specs.Status.{status_of, EndsAs}
 
--- it ends with this result, whatever the bytes are
+-- the result is this one, whatever the bytes are
 pub ends : {T E : Type 0} (Holds : List ℕ → Result T E → Type 0) (known : Option (List ℕ)) (r : Result T E) (status : ℕ) → IfSome known (λ bytes. Holds bytes r) → status ≡ status_of r
     → IfSome known (λ bytes. EndsAs (Holds bytes) status)
 ends Holds None r status holds is = tt

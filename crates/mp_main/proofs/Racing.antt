@@ -1,10 +1,10 @@
--- How a race ends.
+-- The end of a race.
 use Rattle.std.proofs.Common.{◌≡◌, ℕ, ◌<◌, List, [], ◌∷◌, ◌++◌, length, take, length-append, sym, ap, ◌∙◌, append-nil, arith, codes}
 use Rattle.std.specs.Prelude.{Option, None, Some, Result, Ok, Err}
 use Rattle.std.specs.Io.KnownBytes.{Appends, Keeps}
 use mathlib.Core.Logic.{inl}
 use Rattle.mp_text.specs.Output.{AppendsFront}
-use Rattle.mp_settings.specs.Verifier.{is_key_and_id}
+use Rattle.mp_rules.specs.Verifier.{Accepts}
 use Rattle.mp_race.specs.declared.fault.Fault.{Fault}
 use Rattle.mp_race.specs.declared.fault.Fault.TheVariants.{NoMemory, BadLine, ReadFault, WriteFault, Audit, MissingEntry}
 use Rattle.mp_race.specs.declared.racing.Raced.{Raced}
@@ -16,7 +16,7 @@ use Rattle.mp_main.specs.Status.{status_of, EndsAs}
 use Rattle.mp_main.specs.Told.{IsReported, RaceEnds}
 use Rattle.mp_main.proofs.Ends.{keeps}
 
--- a front of no bytes is one, where there are some
+-- nothing is a prefix of some bytes
 front_of_none : (old new : Option (List ℕ)) (bytes : List ℕ) → 0 < length bytes → Keeps old new → AppendsFront old new bytes
 front_of_none None new bytes some kept = (0, some, tt)
 front_of_none (Some xs) None bytes some kept = absurd kept
@@ -38,11 +38,11 @@ part_written r old new WriteFault is = is
 part_written r old new (Audit fault) is = absurd is
 part_written r old new (MissingEntry place) is = absurd is
 
-module _ (workers : ℕ) (s : Scenario) (r : Raced) (old new : Option (List ℕ)) where
-  told : (x : Result (Unit {0}) (Unit {0})) → IsRaced is_key_and_id workers s r → IsReported r.report old new x → RaceEnds workers s old new x
+module _ (accepts : Accepts) (workers : ℕ) (s : Scenario) (r : Raced) (old new : Option (List ℕ)) where
+  told : (x : Result (Unit {0}) (Unit {0})) → IsRaced accepts workers s r → IsReported r.report old new x → RaceEnds accepts workers s old new x
   told (Ok u) is written = record { raced = r; race = is; written = written }
   told (Err u) is written = inl (record { raced = r; race = is; written = written })
 
-  -- its report is written so
-  pub raced_ends : (status : ℕ) → IsRaced is_key_and_id workers s r → EndsAs (IsReported r.report old new) status → EndsAs (RaceEnds workers s old new) status
+  -- the report is written in this way
+  pub raced_ends : (status : ℕ) → IsRaced accepts workers s r → EndsAs (IsReported r.report old new) status → EndsAs (RaceEnds accepts workers s old new) status
   raced_ends status is ends = (ends.0, told ends.0 is ends.1, ends.2)

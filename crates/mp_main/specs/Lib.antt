@@ -3,3 +3,4 @@ pub mod Legal
 pub mod Told
 pub mod Picture
 pub mod Salt
+pub mod Scheme

@@ -1,4 +1,4 @@
--- What is drawn of a race.
+-- The picture of a race.
 use Rattle.std.specs.Prelude.{List, map, ◌++◌}
 use Rattle.mp_seqpool.specs.declared.command.Reply.{Reply}
 use Rattle.mp_seqpool.specs.declared.command.Reply.TheVariants as replies

@@ -3,7 +3,7 @@ use Rattle.std.specs.Prelude.{◌≡◌, ℕ, List, ◌++◌, length}
 use Rattle.std.specs.Int.{from_le_bytes}
 use mir.Syntax.{w64}
 
--- The number is the one that the first eight bytes are, the least significant first.
+-- The first eight bytes, least significant first, encode the number.
 pub record IsDrawn (bytes : List ℕ) (n : ℕ) : Type 0 where
   pub first : List ℕ
   pub rest : List ℕ

@@ -2,54 +2,90 @@
 
 ghost use Rattle.std.specs.Prelude.{◌≡◌, ◌≤◌, IfSome};
 ghost use Rattle.std.specs.Process.{exit_status};
+ghost use Rattle.mp_signatures.specs.Scheme.{accepted_by};
 ghost use Rattle.mp_main.specs.Status.{EndsAs};
 ghost use Rattle.mp_main.specs.Legal.{IsAudited};
 
 use crate::ending::{end_audit, end_bad_history, end_fault, end_unread};
 use crate::scenarios::scenario_of;
-use mp_command_line::Input;
+use crate::schemes::signatures_of;
+use mp_command_line::{Input, SchemeName};
 use mp_memory::Memory;
 use mp_race::{Fault, History, Scenario, audit_history};
+use mp_signatures::Signatures;
 use std::fs::File;
 use std::io::{Read, Write};
 use std::process::ExitCode;
 
-/// Audits the history that the reader gives, and says to the writer whether it is legal.
+/// Audits the history that the reader gives, and writes whether it is legal.
 pub fn audit_over<R: Read, W: Write>(
     rt: &HostRuntime,
     memory: Memory,
     scenario: &Scenario,
+    signatures: &Signatures,
     reader: &mut R,
     writer: &mut W,
 ) -> ExitCode
     ensures { IfSome (R.remaining reader.old) (λ bytes. EndsAs
-        (IsAudited scenario.now bytes (W.contents writer.old) (W.contents writer.new))
+        (IsAudited (accepted_by signatures.now) scenario.now bytes
+        (W.contents writer.old) (W.contents writer.new))
         (exit_status result)) }
 {
     match History::read(memory, reader) {
-        Ok(history) => end_audit(rt, audit_history(memory, scenario, &history), writer),
+        Ok(history) => {
+            let ended = audit_history(memory, scenario, signatures, &history);
+            end_audit(rt, ended, writer)
+        }
         Err(fault) => end_bad_history(rt, fault),
     }
 }
 
-/// Reads the scenario and the history from these files, and says whether the history is legal.
-pub fn audit_files(rt: &HostRuntime, scenario: &str, history: &str, explains: bool) -> ExitCode {
+/// Reads the scenario and the history from these files, and writes whether the history is legal.
+pub fn audit_files(
+    rt: &HostRuntime,
+    scenario: &str,
+    history: &str,
+    signatures: SchemeName,
+    explains: bool,
+) -> ExitCode {
     let Ok(memory) = Memory::new(rt.alloc()) else {
         return end_fault(rt, Fault::NoMemory);
     };
-    let input = Input {
-        file: Some(scenario),
-        explains,
-    };
-    match scenario_of(rt, memory, input) {
-        Ok(scenario) => audit_file(rt, memory, &scenario, history),
+    match signatures_of(rt, memory, signatures) {
+        Ok(signatures) => {
+            let input = Input {
+                file: Some(scenario),
+                explains,
+            };
+            audit_input(rt, memory, &signatures, input, history)
+        }
         Err(code) => code,
     }
 }
 
-fn audit_file(rt: &HostRuntime, memory: Memory, scenario: &Scenario, path: &str) -> ExitCode {
+fn audit_input(
+    rt: &HostRuntime,
+    memory: Memory,
+    signatures: &Signatures,
+    input: Input<'_>,
+    path: &str,
+) -> ExitCode {
+    match scenario_of(rt, memory, input) {
+        Ok(scenario) => audit_file(rt, memory, &scenario, signatures, path),
+        Err(code) => code,
+    }
+}
+
+fn audit_file(
+    rt: &HostRuntime,
+    memory: Memory,
+    scenario: &Scenario,
+    signatures: &Signatures,
+    path: &str,
+) -> ExitCode {
+    let mut writer = rt.stdout();
     match File::open(rt, path) {
-        Ok(mut history) => audit_over(rt, memory, scenario, &mut history, &mut rt.stdout()),
+        Ok(mut history) => audit_over(rt, memory, scenario, signatures, &mut history, &mut writer),
         Err(error) => end_unread(rt, path, error),
     }
 }

@@ -9,13 +9,16 @@ ghost use Rattle.mp_main.specs.Status.{EndsAs};
 
 use crate::ending::end_fault;
 use crate::salt::salt_of;
+use crate::schemes::signatures_of;
+use mp_command_line::SchemeName;
 use mp_memory::Memory;
-use mp_serve::{Device, Fault, Signatures, Streams, Turn, serve};
+use mp_serve::{Device, Fault, Streams, Turn, serve};
+use mp_signatures::Signatures;
 use mp_tx::Salt;
 use std::io::BufReader;
 use std::process::ExitCode;
 
-/// Answers each line of the device's input, until that ends.
+/// Answers each line of the device's input, until the input ends.
 pub fn converse_over<D: Device>(
     rt: &HostRuntime,
     memory: Memory,
@@ -35,20 +38,19 @@ pub fn converse_over<D: Device>(
     }
 }
 
-/// Answers each line of standard input on standard output, until the input ends. Where all signatures are accepted, whoever writes the
-/// lines has verified them. The salt is random where none is given.
-pub fn converse(rt: &HostRuntime, accepts_all: bool, salt: Option<u64>) -> ExitCode {
-    let signatures = if accepts_all {
-        Signatures::Checked
-    } else {
-        Signatures::OfScenarios
-    };
+/// Answers each line of standard input on standard output, until the input ends. With `accepts_all`, the program that writes the
+/// lines has checked all signatures. The salt is random if none is given.
+pub fn converse(rt: &HostRuntime, signatures: SchemeName, salt: Option<u64>) -> ExitCode {
     let salt = match salt_of(rt, salt) {
         Ok(salt) => salt,
         Err(code) => return code,
     };
     let Ok(memory) = Memory::new(rt.alloc()) else {
         return end_fault(rt, Fault::NoMemory);
+    };
+    let signatures = match signatures_of(rt, memory, signatures) {
+        Ok(signatures) => signatures,
+        Err(code) => return code,
     };
     let Ok(reader) = BufReader::new(memory, rt.stdin()) else {
         return end_fault(rt, Fault::NoMemory);

@@ -1,4 +1,4 @@
-//! How the program ends: what it writes to standard error, and its status.
+//! How the program ends: what it writes to standard error, and its exit status.
 
 ghost use Rattle.std.specs.Prelude.{◌≡◌, ◌≢◌, ◌≤◌, if◌then◌else◌};
 ghost use Rattle.std.specs.Process.{exit_status};
@@ -20,7 +20,7 @@ use std::{fmt, io};
 
 const REFUSED: u8 = 2;
 
-/// Where a run or a race ends with a fault: 1, and the fault's line.
+/// After a run or a race that ends with a fault: 1, and the fault's line.
 pub fn end_fault<F: fmt::Display + Drop>(rt: &HostRuntime, fault: F) -> ExitCode
     ensures { exit_status result ≡ 1 }
 {
@@ -28,14 +28,14 @@ pub fn end_fault<F: fmt::Display + Drop>(rt: &HostRuntime, fault: F) -> ExitCode
     ExitCode::FAILURE
 }
 
-// What is wrong with the line, where that is to be explained.
+// Says what is wrong with the line, if that was asked for.
 fn explain(rt: &HostRuntime, explains: bool, bad_line: Option<(u64, Reason<'_>)>) {
     if let (true, Some((number, reason))) = (explains, bad_line) {
         let _ = rt.eprintln(format_args!("bad line {number}: {reason}"));
     }
 }
 
-/// After the answers to a text: 0, or 1 and the fault's line. Where it explains, what is wrong with a bad line stands behind it.
+/// After the answers to a text: 0, or 1 and the fault's line. With `explains`, a second line says what is wrong with a bad line.
 pub fn end_answers(rt: &HostRuntime, explains: bool, ended: Result<(), Stop<'_>>) -> ExitCode
     ensures { exit_status result ≡ status_of ended.entry }
 {
@@ -49,7 +49,8 @@ pub fn end_answers(rt: &HostRuntime, explains: bool, ended: Result<(), Stop<'_>>
     }
 }
 
-/// Where a race can't begin for its text: 1, and the fault's line, with what is wrong with a bad line where it explains.
+/// After a race that can't begin because of its text: 1, and the fault's line. With `explains`, a second line says what is wrong
+/// with a bad line.
 pub fn end_bad_line(rt: &HostRuntime, explains: bool, stop: mp_race::Stop<'_>) -> ExitCode
     ensures { exit_status result ≡ 1 }
 {
@@ -58,7 +59,7 @@ pub fn end_bad_line(rt: &HostRuntime, explains: bool, stop: mp_race::Stop<'_>) -
     ExitCode::FAILURE
 }
 
-/// Where a word of the command line is no text: 2, or 1 where there is no memory for it.
+/// After a word of the command line that is no text: 2, or 1 if an allocation failed.
 pub fn end_unworded(rt: &HostRuntime, error: io::Error) -> ExitCode
     ensures refused { error_kind error ≢ kinds.OutOfMemory → exit_status result ≡ 2 }
     ensures memory { error_kind error ≡ kinds.OutOfMemory → exit_status result ≡ 1 }
@@ -70,7 +71,7 @@ pub fn end_unworded(rt: &HostRuntime, error: io::Error) -> ExitCode
     }
 }
 
-/// Where `name` can't be read: 1.
+/// If `name` can't be read: 1.
 pub fn end_unread(rt: &HostRuntime, name: &str, error: io::Error) -> ExitCode
     ensures { exit_status result ≡ 1 }
 {
@@ -78,7 +79,7 @@ pub fn end_unread(rt: &HostRuntime, name: &str, error: io::Error) -> ExitCode
     ExitCode::FAILURE
 }
 
-/// Where `name` can't be written: 1.
+/// If `name` can't be written: 1.
 pub fn end_unwritten(rt: &HostRuntime, name: &str, error: io::Error) -> ExitCode
     ensures { exit_status result ≡ 1 }
 {
@@ -86,7 +87,7 @@ pub fn end_unwritten(rt: &HostRuntime, name: &str, error: io::Error) -> ExitCode
     ExitCode::FAILURE
 }
 
-/// Where there is no random salt: 1.
+/// If there is no random salt: 1.
 pub fn end_undrawn(rt: &HostRuntime, error: io::Error) -> ExitCode
     ensures { exit_status result ≡ 1 }
 {
@@ -94,8 +95,8 @@ pub fn end_undrawn(rt: &HostRuntime, error: io::Error) -> ExitCode
     ExitCode::FAILURE
 }
 
-/// Where a history isn't read: 1, and the fault's line. Behind it stands what a history's lines are, where one of them is bad, or that
-/// there are fewer entries than its first line tells.
+/// If a history can't be read: 1, and the fault's line. A second line gives the form of a history's lines if one of them is bad,
+/// or says that there are fewer entries than the first line promises.
 pub fn end_bad_history(rt: &HostRuntime, found: Fault) -> ExitCode
     ensures { exit_status result ≡ 1 }
 {
@@ -118,7 +119,7 @@ fn wrong_text(fault: &Fault) -> Option<&'static str> {
     }
 }
 
-// What is wrong at the place that the fault tells.
+// What is wrong at the place of the fault.
 fn wrong_there(fault: &Fault) -> Option<&'static str> {
     match fault {
         Fault::MissingEntry(_) => Some("the entry has another place"),
@@ -132,7 +133,7 @@ fn wrong_there(fault: &Fault) -> Option<&'static str> {
     }
 }
 
-// Where an audit finds a fault: 1, and the fault's line, with what is wrong at its place.
+// If an audit finds a fault: 1, and the fault's line. A second line says what is wrong at its place.
 fn end_fault_there(rt: &HostRuntime, found: Fault) -> ExitCode
     ensures { exit_status result ≡ 1 }
 {
@@ -144,7 +145,7 @@ fn end_fault_there(rt: &HostRuntime, found: Fault) -> ExitCode
     ExitCode::FAILURE
 }
 
-/// After an audit: 0, and that the history is legal, or 1 and the fault's line.
+/// After an audit: 0 and that the history is legal, or 1 and the fault's line.
 pub fn end_audit<W: io::Write>(
     rt: &HostRuntime,
     ended: Result<(), Fault>,
@@ -162,7 +163,7 @@ pub fn end_audit<W: io::Write>(
     }
 }
 
-// After the help or the version: 0, or 1 where it can't be written.
+// After the help or the version: 0, or 1 if it can't be written.
 fn end_help(is_written: bool) -> ExitCode
     ensures { exit_status result ≡ if is_written then 0 else 1 }
 {
@@ -173,8 +174,7 @@ fn end_help(is_written: bool) -> ExitCode
     }
 }
 
-/// After the help or the version: 0, or 1 where it can't be written. After a refused command line: 2, or 1 where there was no memory
-/// for it.
+/// After the help or the version: 0, or 1 if it can't be written. After a refused command line: 2, or 1 if an allocation failed.
 pub fn end_unparsed(rt: &HostRuntime, error: Error) -> ExitCode
     ensures refused { kind_of error ≢ ErrorKind.DisplayHelp
         → kind_of error ≢ ErrorKind.DisplayVersion

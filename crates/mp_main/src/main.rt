@@ -1,7 +1,10 @@
-//! The program: `keltuvar run [--explain] [FILE]` reads a scenario and writes its answers to standard output, and
-//! `keltuvar race --workers N [--explain] [FILE]` has so many threads race over it and writes the report, and on wish the history and a
-//! picture of it; `keltuvar audit SCENARIO HISTORY` says whether such a history is legal; `keltuvar serve [--signatures WHICH] [--salt N]`
-//! holds a conversation. It ends with status 0, with 1 at a fault, and with 2 where the command line is refused.
+//! The program `keltuvar`. It ends with status 0, with 1 after a fault, and with 2 if the command line is refused.
+//!
+//! - `run [--explain] [FILE]` reads a scenario and writes its answers to standard output.
+//! - `race --workers N [--explain] [FILE]` lets N threads race over it and writes the report, and if asked the history and a
+//! picture.
+//! - `audit SCENARIO HISTORY` says whether such a history is legal.
+//! - `serve [--signatures WHICH] [--salt N]` holds a conversation.
 #![tactic(auto)]
 
 mod audits;
@@ -13,6 +16,7 @@ mod races;
 mod runs;
 mod salt;
 mod scenarios;
+mod schemes;
 mod slow;
 
 use audits::audit_files;
@@ -27,22 +31,24 @@ use std::{env, io};
 fn main(rt: HostRuntime) -> ExitCode {
     match read_words(&rt) {
         Ok(words) => match parse_words(rt.alloc(), &words) {
-            Ok(Asked::Run { input }) => run_scenario(&rt, input),
+            Ok(Asked::Run { input, signatures }) => run_scenario(&rt, input, signatures),
             Ok(
                 Asked::Race {
                     input,
                     workers,
+                    signatures,
                     wishes,
                 },
-            ) => race_scenario(&rt, &rt, input, workers, wishes),
+            ) => race_scenario(&rt, &rt, input, workers, signatures, wishes),
             Ok(
                 Asked::Audit {
                     scenario,
                     history,
+                    signatures,
                     explains,
                 },
-            ) => audit_files(&rt, scenario, history, explains),
-            Ok(Asked::Serve { accepts_all, salt }) => converse(&rt, accepts_all, salt),
+            ) => audit_files(&rt, scenario, history, signatures, explains),
+            Ok(Asked::Serve { signatures, salt }) => converse(&rt, signatures, salt),
             Err(error) => end_unparsed(&rt, error),
         },
         Err(error) => end_unworded(&rt, error),

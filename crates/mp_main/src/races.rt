@@ -2,6 +2,7 @@
 
 ghost use Rattle.std.specs.Prelude.{◌≡◌, ◌≤◌, IfErr};
 ghost use Rattle.std.specs.Process.{exit_status};
+ghost use Rattle.mp_signatures.specs.Scheme.{accepted_by};
 ghost use Rattle.mp_main.specs.Status.{EndsAs};
 ghost use Rattle.mp_main.specs.Told.{IsReported, RaceEnds};
 
@@ -9,11 +10,13 @@ use crate::ending::end_fault;
 use crate::files::write_history;
 use crate::pictures::write_picture;
 use crate::scenarios::scenario_of;
+use crate::schemes::signatures_of;
 use crate::slow::Slow;
-use mp_command_line::{Input, Wishes};
+use mp_command_line::{Input, SchemeName, Wishes};
 use mp_history::NewName;
 use mp_memory::Memory;
 use mp_race::{Fault, Raced, Scenario, race};
+use mp_signatures::Signatures;
 use std::io::Write;
 use std::marker::Brand;
 use std::process::ExitCode;
@@ -21,12 +24,13 @@ use std::rt::Clock;
 use std::sync::Wait;
 use std::thread::Threads;
 
-/// Has so many workers race over a scenario, writes the report to standard output, and to files what else is wished.
+/// Lets `workers` workers race over a scenario. Writes the report to standard output, and what else is asked for to files.
 pub fn race_scenario<R: Threads + Wait + Clock + Sync>(
     rt: &HostRuntime,
     threads: &R,
     input: Input<'_>,
     workers: u32,
+    signatures: SchemeName,
     wishes: Wishes<'_>,
 ) -> ExitCode
     requires some { 1 ≤ workers }
@@ -35,29 +39,41 @@ pub fn race_scenario<R: Threads + Wait + Clock + Sync>(
     let Ok(memory) = Memory::new(rt.alloc()) else {
         return end_fault(rt, Fault::NoMemory);
     };
+    let signatures = match signatures_of(rt, memory, signatures) {
+        Ok(signatures) => signatures,
+        Err(code) => return code,
+    };
+    let mut writer = rt.stdout();
     match scenario_of(rt, memory, input) {
-        Ok(scenario) => {
-            let mut writer = rt.stdout();
-            race_over(rt, threads, memory, &scenario, workers, wishes, &mut writer)
-        }
+        Ok(scenario) => race_over(
+            rt,
+            threads,
+            memory,
+            &scenario,
+            workers,
+            &signatures,
+            wishes,
+            &mut writer,
+        ),
         Err(code) => code,
     }
 }
 
-/// Has so many workers race over the scenario, each look at a signature of whom takes as long as is wished. The report goes to the
-/// writer, and to files what else is wished.
+/// Lets `workers` workers race over the scenario. Each check of a signature takes as long as is asked for. Writes the report to
+/// the writer, and what else is asked for to files.
 pub fn race_over<R: Threads + Wait + Clock + Sync, W: Write>(
     rt: &HostRuntime,
     threads: &R,
     memory: Memory,
     scenario: &Scenario,
     workers: u32,
+    signatures: &Signatures,
     wishes: Wishes<'_>,
     writer: &mut W,
 ) -> ExitCode
     requires some { 1 ≤ workers }
     requires most { workers ≤ 64 }
-    ensures { EndsAs (RaceEnds workers scenario.now
+    ensures { EndsAs (RaceEnds (accepted_by signatures.now) workers scenario.now
         (W.contents writer.old) (W.contents writer.new)) (exit_status result) }
 {
     let gate = Slow {
@@ -65,17 +81,18 @@ pub fn race_over<R: Threads + Wait + Clock + Sync, W: Write>(
         micros: wishes.verify_us,
     };
     race_slowly(
-        rt, threads, memory, scenario, workers, wishes, &gate, writer,
+        rt, threads, memory, scenario, workers, signatures, wishes, &gate, writer,
     )
 }
 
-// The same by a pool of its own, with looks that take as long as is wished.
+// The same with a pool of its own, and with this gate for the checks of signatures.
 fn race_slowly<R: Threads + Wait + Clock + Sync, W: Write>(
     rt: &HostRuntime,
     threads: &R,
     memory: Memory,
     scenario: &Scenario,
     workers: u32,
+    signatures: &Signatures,
     wishes: Wishes<'_>,
     gate: &Slow<'_, R>,
     writer: &mut W,
@@ -83,21 +100,24 @@ fn race_slowly<R: Threads + Wait + Clock + Sync, W: Write>(
     requires some { 1 ≤ workers }
     requires most { workers ≤ 64 }
     requires slow { gate.now.micros ≡ wishes.verify_us }
-    ensures { EndsAs (RaceEnds workers scenario.now
+    ensures { EndsAs (RaceEnds (accepted_by signatures.now) workers scenario.now
         (W.contents writer.old) (W.contents writer.new)) (exit_status result) }
 {
     let name = NewName::new();
-    match race::<Brand, R, Slow<'_, R>>(threads, memory, name, scenario, workers, gate) {
-        Ok(raced) => tell(rt, memory, scenario, wishes, &raced, writer),
+    match race::<Brand, R, Slow<'_, R>>(
+        threads, memory, name, scenario, workers, signatures, gate,
+    ) {
+        Ok(raced) => tell(rt, memory, scenario, signatures, wishes, &raced, writer),
         Err(fault) => end_fault(rt, fault),
     }
 }
 
-// Writes what is wished, and the report.
+// Writes what is asked for, then the report.
 fn tell<W: Write>(
     rt: &HostRuntime,
     memory: Memory,
     scenario: &Scenario,
+    signatures: &Signatures,
     wishes: Wishes<'_>,
     raced: &Raced,
     writer: &mut W,
@@ -107,7 +127,7 @@ fn tell<W: Write>(
     ensures { EndsAs (IsReported raced.now.report
         (W.contents writer.old) (W.contents writer.new)) (exit_status result) }
 {
-    if let Err(code) = write_wishes(rt, memory, scenario, wishes, raced) {
+    if let Err(code) = write_wishes(rt, memory, scenario, signatures, wishes, raced) {
         return code;
     }
     match raced.report.write(memory, writer) {
@@ -120,6 +140,7 @@ fn write_wishes(
     rt: &HostRuntime,
     memory: Memory,
     scenario: &Scenario,
+    signatures: &Signatures,
     wishes: Wishes<'_>,
     raced: &Raced,
 ) -> Result<(), ExitCode>
@@ -128,7 +149,7 @@ fn write_wishes(
     ensures { IfErr result (λ code. exit_status code ≡ 1) }
 {
     if let Some(path) = wishes.history {
-        write_history(rt, memory, scenario, &raced.history, path)?;
+        write_history(rt, memory, scenario, signatures, &raced.history, path)?;
     }
     if let Some(path) = wishes.picture {
         write_picture(rt, memory, raced, path)?;

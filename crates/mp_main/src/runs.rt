@@ -6,9 +6,11 @@ ghost use Rattle.mp_driver.specs.Ending.{Ended};
 ghost use Rattle.mp_main.specs.Status.{EndsAs};
 
 use crate::ending::{end_answers, end_fault, end_unread};
-use mp_command_line::Input;
+use crate::schemes::signatures_of;
+use mp_command_line::{Input, SchemeName};
 use mp_driver::{Fault, answer_text};
 use mp_memory::Memory;
+use mp_signatures::Signatures;
 use mp_text::{InputFault, read_all};
 use std::fs::File;
 use std::io::{Read, Write};
@@ -18,30 +20,58 @@ use std::process::ExitCode;
 pub fn run_over<R: Read, W: Write>(
     rt: &HostRuntime,
     memory: Memory,
+    signatures: &Signatures,
     explains: bool,
     reader: &mut R,
     writer: &mut W,
 ) -> ExitCode
     ensures { IfSome (R.remaining reader.old) (λ bytes. EndsAs
-        (Ended bytes (W.contents writer.old) (W.contents writer.new)) (exit_status result)) }
+        (Ended signatures.now bytes (W.contents writer.old) (W.contents writer.new))
+        (exit_status result)) }
 {
     match read_all(memory, reader) {
-        Ok(text) => end_answers(rt, explains, answer_text(memory, &text, writer)),
+        Ok(text) => {
+            let ended = answer_text(memory, signatures, &text, writer);
+            end_answers(rt, explains, ended)
+        }
         Err(InputFault::NoMemory) => end_fault(rt, Fault::NoMemory),
         Err(InputFault::Read) => end_fault(rt, Fault::ReadFault),
     }
 }
 
-/// Runs a scenario, and writes its answers to standard output.
-pub fn run_scenario(rt: &HostRuntime, input: Input<'_>) -> ExitCode {
+/// Runs a scenario, whose pool accepts these signatures, and writes its answers to standard output.
+pub fn run_scenario(rt: &HostRuntime, input: Input<'_>, signatures: SchemeName) -> ExitCode {
     let Ok(memory) = Memory::new(rt.alloc()) else {
         return end_fault(rt, Fault::NoMemory);
     };
+    match signatures_of(rt, memory, signatures) {
+        Ok(signatures) => run_input(rt, memory, &signatures, input),
+        Err(code) => code,
+    }
+}
+
+// Runs the scenario of the file, or of standard input where there is none.
+fn run_input(
+    rt: &HostRuntime,
+    memory: Memory,
+    signatures: &Signatures,
+    input: Input<'_>,
+) -> ExitCode {
     let explains = input.explains;
+    let mut writer = rt.stdout();
     match input.file {
-        None => run_over(rt, memory, explains, &mut rt.stdin(), &mut rt.stdout()),
+        None => run_over(
+            rt,
+            memory,
+            signatures,
+            explains,
+            &mut rt.stdin(),
+            &mut writer,
+        ),
         Some(path) => match File::open(rt, path) {
-            Ok(mut scenario) => run_over(rt, memory, explains, &mut scenario, &mut rt.stdout()),
+            Ok(mut scenario) => {
+                run_over(rt, memory, signatures, explains, &mut scenario, &mut writer)
+            }
             Err(error) => end_unread(rt, path, error),
         },
     }

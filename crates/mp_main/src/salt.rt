@@ -1,4 +1,4 @@
-//! What the tables of a conversation's pool are salted with.
+//! The salt of a conversation's pool.
 
 ghost use Rattle.std.specs.Prelude.{◌≡◌, IfSome, IfErr, IfOk};
 ghost use Rattle.std.specs.Process.{exit_status};
@@ -10,13 +10,13 @@ use std::fs::File;
 use std::io::{self, Read};
 use std::process::ExitCode;
 
-// Where a Linux has random bytes.
+// Where Linux has random bytes.
 const RANDOM: &str = "/dev/urandom";
 
-/// The number that the reader's next eight bytes are, the least significant first.
+/// Returns the number that the reader's next eight bytes encode, least significant first.
 ///
 /// # Errors
-/// Where a read fails, and where there are fewer.
+/// If a read fails, or if there are fewer bytes.
 pub fn draw_salt<R: Read>(reader: &mut R) -> io::Result<u64>
     ensures { IfSome (R.remaining reader.old) (λ bytes. IfOk result (IsDrawn bytes)) }
 {
@@ -25,7 +25,7 @@ pub fn draw_salt<R: Read>(reader: &mut R) -> io::Result<u64>
     Ok(u64::from_le_bytes(bytes))
 }
 
-/// The salt of this number, or a random one where there is none.
+/// The salt of this number, or a random one without a number.
 pub fn salt_of(rt: &HostRuntime, number: Option<u64>) -> Result<Salt, ExitCode>
     ensures given { IfSome number (λ n. IfOk result (λ salt. salt ≡ n)) }
     ensures status { IfErr result (λ code. exit_status code ≡ 1) }

@@ -14,7 +14,7 @@ use std::fs::File;
 use std::io::Read;
 use std::process::ExitCode;
 
-/// The scenario that the reader gives, or how the program ends where it gives none.
+/// The scenario that the reader gives, or how the program ends without one.
 pub fn read_scenario<R: Read>(
     rt: &HostRuntime,
     memory: Memory,
@@ -35,7 +35,7 @@ pub fn read_scenario<R: Read>(
     }
 }
 
-/// The scenario of the file, or of standard input where there is none.
+/// The scenario of the file, or of standard input without one.
 pub fn scenario_of(rt: &HostRuntime, memory: Memory, input: Input<'_>) -> Result<Scenario, ExitCode>
     ensures { IfErr result (λ code. exit_status code ≡ 1) }
 {

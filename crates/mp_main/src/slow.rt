@@ -1,4 +1,4 @@
-//! Looks at signatures that take their time.
+//! Slow checks of signatures, for measurements.
 
 use mp_race::Gate;
 use mp_tx::TxId;
@@ -6,7 +6,7 @@ use std::hint::spin_loop;
 use std::rt::Clock;
 use std::time::Instant;
 
-/// Makes each look at a signature take so long, by turns that do nothing. It is for measuring.
+/// Makes each check of a signature take this long, by spinning. It is for measurements.
 #[derive(Clone, Copy)]
 pub struct Slow<'a, C: Clock + Sync> {
     pub clock: &'a C,
@@ -20,7 +20,7 @@ fn is_over(clock: &impl Clock, start: &Instant, micros: u32) -> bool {
     }
 }
 
-// Waits so long. Where there is no clock it doesn't wait.
+// Waits this long. Without a clock it doesn't wait.
 fn wait(clock: &impl Clock, micros: u32) {
     let Ok(start) = Instant::now(clock) else {
         return;

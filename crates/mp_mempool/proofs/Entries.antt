@@ -1,4 +1,4 @@
--- Whose entries stand where in a history.
+-- Which caller made the entry at which place of a history.
 use Rattle.std.proofs.Common.{◌≡◌, ◌≢◌, ℕ, zero, suc, ◌+◌, ◌<◌, ◌≤◌, true, false, cond, List, [], ◌∷◌, ◌++◌, length, get_or, refl, sym, ap, subst, ◌∙◌, arith, not-suc-le-zero, eqb-true}
 use Rattle.std.specs.Prelude.{◌==◌, Option, None, Some, option_map, IfSome, IsSomeAnd, slice_get, All}
 use Rattle.std.specs.Option.{option_or}
@@ -8,11 +8,11 @@ use Rattle.mp_history.proofs.Law.{eqb-refl}
 use Rattle.mp_reader.specs.Pass.{Pass, IsEntryOf, IsOwn}
 use Rattle.mp_mempool.specs.Answers.{AreOthers, IsForeign}
 
--- an entry of the caller stands at this place
+-- the caller made the entry at this place
 abbrev Own : ℕ → List Entry → ℕ → Type 0
 Own c es k = IsSomeAnd (slice_get es k) (λ e. e.caller ≡ c)
 
--- it stays there where the history goes on
+-- the entry stays there when the history continues
 own-stays : (c : ℕ) (es more : List Entry) (k : ℕ) → Own c es k → Own c (es ++ more) k
 own-stays c [] more k h = absurd h
 own-stays c (e ∷ es) more zero h = h
@@ -23,7 +23,7 @@ own-within c [] k h = absurd h
 own-within c (e ∷ es) zero h = omega arith
 own-within c (e ∷ es) (suc k) h = let n = own-within c es k h in omega (arith, n)
 
--- what goes on stands behind
+-- an entry of the continuation is there, at a later place
 own-behind : (c : ℕ) (xs ys : List Entry) (k : ℕ) (d : Entry) → k < length ys → (get_or ys k d).caller ≡ c → Own c (xs ++ ys) (length xs + k)
 own-behind c [] [] k d lt h = absurd (not-suc-le-zero lt)
 own-behind c [] (y ∷ ys) zero d lt h = h
@@ -35,9 +35,9 @@ own-behind c (x ∷ xs) ys k d lt h =
     let next : length (x ∷ xs) + k ≡ suc (length xs + k) = omega arith in
     subst (Own c ((x ∷ xs) ++ ys)) (sym next) (own-behind c xs ys k d lt h)
 
--- The last place of a caller.
+-- The place of a caller's last entry.
 
--- after one more entry in front
+-- given one more entry at the beginning
 abbrev with_first : ℕ → Entry → Option ℕ → Option ℕ
 with_first c x o = option_or (option_map (λ place. place + 1) o) (cond (c == x.caller) (Some 0) None)
 
@@ -51,12 +51,12 @@ last-one c x es k None rest e = elim (c == x.caller) as (λ b. (c == x.caller) �
   | false ↦ λ f first. absurd (cc (first))
 ] refl e
 
--- it is an entry of the caller
+-- the entry at that place is the caller's
 last-own : (c : ℕ) (es : List Entry) (k : ℕ) → last_of c es ≡ Some k → Own c es k
 last-own c [] k e = absurd (cc (e))
 last-own c (x ∷ es) k e = last-one c x es k (last_of c es) (λ j. last-own c es j) e
 
--- a last place that isn't before this one
+-- a last place at or after this one
 abbrev Reaches : ℕ → Option ℕ → Type 0
 Reaches k o = (j : ℕ) × (o ≡ Some j) × (k ≤ j)
 
@@ -70,13 +70,13 @@ reaches-more : (c : ℕ) (x : Entry) (k : ℕ) (o : Option ℕ) → Reaches k o 
 reaches-more c x k (Some j) r = let e : j ≡ r.0 = cc (r.1) in let le = r.2 in (j + 1, refl, omega (arith, e, le))
 reaches-more c x k None r = absurd (cc (r.1))
 
--- no entry of the caller stands behind the last one
+-- no entry of the caller follows the last one
 reaches : (c : ℕ) (es : List Entry) (k : ℕ) → Own c es k → Reaches k (last_of c es)
 reaches c [] k h = absurd h
 reaches c (x ∷ es) zero h = reaches-first c x (last_of c es) h
 reaches c (x ∷ es) (suc k) h = reaches-more c x k (last_of c es) (reaches c es k h)
 
--- none of what goes on is the caller's, where its last entry stands before
+-- no entry of the continuation is the caller's, if the caller's last entry precedes it
 alone : (c : ℕ) (xs ys : List Entry) (o : Option ℕ) → last_of c (xs ++ ys) ≡ o → IfSome o (λ k. k < length xs) → All (λ e. e.caller ≢ c) ys
 alone c xs ys None last before k d lt own = let r = reaches c (xs ++ ys) (length xs + k) (own-behind c xs ys k d lt own) in absurd (cc (last, r.1))
 alone c xs ys (Some j) last before k d lt own =
@@ -90,14 +90,14 @@ own-last-within c es (Some k) own = own-within c es k own
 
 -- A pass, and a history that extends what it has seen.
 
--- what its caller hasn't seen is others', where it knows the caller's last entry
+-- if the pass knows its caller's last entry, what the caller hasn't seen is from others
 pub others : (c : ℕ) (last : Option ℕ) (front log : Log) → IfSome last (IsEntryOf c front) → (b : Begins front log) → last_of c log.entries ≡ last
     → AreOthers (record { caller = c; last = last; front = front }) b.entries.0
 others c last front log own b known =
     let at : last_of c (front.entries ++ b.entries.0) ≡ last = ap (last_of c) b.entries.1 ∙ known in
     record { alone = alone c front.entries b.entries.0 last at (own-last-within c front.entries last own); known = at }
 
--- what its caller made stays
+-- the caller's entries stay where they are
 pub stays : (c : ℕ) (last : Option ℕ) (front log : Log) → Begins front log → IfSome last (IsEntryOf c front) → IfSome last (IsEntryOf c log)
 stays c None front log b own = tt
 stays c (Some k) front log b own = subst (λ es. Own c es k) b.entries.1 (own-stays c front.entries b.entries.0 k own)
@@ -114,7 +114,7 @@ none_known : (c : ℕ) (last : Option ℕ) (log : Log) → IfSome last (IsEntryO
 none_known c None log own at = at
 none_known c (Some k) log own at = let r = reaches c log.entries k own in absurd (cc (at, r.1))
 
--- where the last entry is another than that which the pass knows, the history has one that it doesn't know
+-- if the last entry isn't the one that the pass knows, the history has an entry that it doesn't know
 pub foreign : (c : ℕ) (last : Option ℕ) (front log : Log) → IfSome last (IsEntryOf c front) → Begins front log → last_of c log.entries ≢ last
     → IsForeign (record { caller = c; last = last; front = front }) log
 foreign c last front log own b other = elim (last_of c log.entries) as (λ o. last_of c log.entries ≡ o → IsForeign (record { caller = c; last = last; front = front }) log) [

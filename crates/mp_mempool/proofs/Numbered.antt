@@ -22,7 +22,7 @@ range-push a (suc k) j is = ap (λ l. a ∷ l) (range-push (a + 1) k j (omega ar
 itself : (n : ℕ) → n ≤ n
 itself n = omega arith
 
--- one number more, in its place
+-- one more number, at its place
 more : (ns : List ℕ) (k n : ℕ) → k < length ns → get_or ns k n ≡ n → n ≡ k → take k ns ≡ range_with_len 0 k → take (k + 1) ns ≡ range_with_len 0 (k + 1)
 more ns k n lt at is so_far =
     take_more ns k n lt ∙ ap₂ (λ l m. l ++ m ∷ []) so_far (at ∙ is) ∙ sym (ap (range_with_len 0) (add-one k) ∙ range-push 0 k k (omega arith))
@@ -37,7 +37,7 @@ found callers k n o (inl h) same =
     first m = omega arith
 found callers k n o (inr h) same = absurd (none-some n (sym (same ∙ h.1)))
 
--- a number that isn't in its place
+-- a number that isn't at its place
 wrong : (callers : ℕ) (ns : List ℕ) (k n : ℕ) → slice_get ns k ≡ Some n → n ≢ k → slice_get ns k ≢ slice_get (range_with_len 0 callers) k
 wrong callers ns k n here other same =
     other (found callers k n (slice_get (range_with_len 0 callers) k) (slice_get_cases (range_with_len 0 callers) k).1 (sym here ∙ same))

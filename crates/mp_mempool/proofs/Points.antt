@@ -17,7 +17,7 @@ use Rattle.mp_mempool.specs.Answers.{IsEntered, IsRefusedAt, IsRefused, with_ent
 use Rattle.mp_mempool.proofs.Entries.{others}
 
 module _ (accepts : Accepts) where
-  -- what a receipt says
+  -- what a receipt guarantees
   pub is_entered : (callers : ℕ) (before after : Pass) (log : Log) (c : Command) (place : ℕ) (e : Entry)
       → IsOwn before → Begins before.front log → last_of before.caller log.entries ≡ before.last
       → IsLegalLog accepts callers (entered log e) → e.caller ≡ before.caller → e.command ≡ c
@@ -40,7 +40,7 @@ module _ (accepts : Accepts) where
         at = where_is;
       }
 
-  -- what a refusal of the slow pool says
+  -- what a refusal of the slow pool guarantees
   pub is_refused : (callers : ℕ) (before after : Pass) (log : Log) (c : Command) (refusal : pool.Refusal)
       → IsOwn before → Begins before.front log → last_of before.caller log.entries ≡ before.last
       → IsLegalLog accepts callers log → answer accepts (state_after accepts log) c ≡ Err refusal

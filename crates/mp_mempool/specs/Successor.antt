@@ -1,4 +1,4 @@
--- How a pool hands over to another, which opens with what it has come to.
+-- How a pool hands over to a successor, which opens with the state of the pool.
 use Rattle.std.specs.Prelude.{◌≡◌, ◌≢◌, ℕ, List, map, take, All, HoldsAt, None, Some, slice_get}
 use Rattle.std.specs.List.{range_with_len}
 use Rattle.mp_rules.specs.Verifier.{Accepts}
@@ -19,12 +19,12 @@ numbers passes = map (λ p. p.caller) passes
 abbrev pub AreAll : ℕ → List Pass → Type 0
 AreAll callers passes = numbers passes ≡ range_with_len 0 callers
 
--- They aren't: here first a wrong one stands, or one too many, or none.
+-- They aren't: this is the first place with a wrong pass, one too many, or a missing one.
 pub record AreBadAt (callers : ℕ) (passes : List Pass) (place : ℕ) : Type 0 where
   pub before : take place (numbers passes) ≡ take place (range_with_len 0 callers)
   pub differs : slice_get (numbers passes) place ≢ slice_get (range_with_len 0 callers) place
 
--- the pass has seen a beginning of the history, and knows all entries of its caller there
+-- the pass has seen a prefix of the history, and knows all entries of its caller there
 pub record IsKnownTo (log : Log) (p : Pass) : Type 0 where
   pub begins : Begins p.front log
   pub known : last_of p.caller log.entries ≡ p.last
@@ -37,20 +37,20 @@ pub record IsFirstForeign (passes : List Pass) (log : Log) : Type 0 where
 
 -- The verifier decides which signatures are good.
 module _ (accepts : Accepts) (callers : ℕ) where
-  -- A pool of so many callers hands over after this history, which is all that it had, with the passes of all of them.
+  -- A pool with this many callers hands over after its whole history, with the passes of all of them.
   pub record HandsOver (passes : List Pass) (log : Log) : Type 0 where
     pub legal : IsLegalLog accepts callers log
     pub all : AreAll callers passes
     pub known : All (IsKnownTo log) passes
 
-  -- The passes of its successor, for so many changes and callers.
+  -- The passes of its successor, for this limit of changes and this many callers.
   pub record AreSuccessors (passes : List Pass) (limit heirs : ℕ) (opened : List Pass) : Type 0 where
     pub log : Log
     pub over : HandsOver passes log
-    -- the successor opens with the transactions, the ledger state and the last ticket, with no change, and all have seen that
+    -- the successor opens with the transactions, the ledger state and the last ticket, without a change, and all have seen that
     pub opens : opened ≡ fresh_passes heirs (successor accepts limit log)
 
-  -- Why a pool doesn't hand over. The first that holds is told, but want of memory only where none of the others holds.
+  -- Why a pool doesn't hand over: the first reason that holds, but an allocation failure only if none of the others holds.
   abbrev pub IsRefusedSuccessor : {N : Type 0} → List Pass → ℕ → ℕ → SuccessorRefusal N → Type 0
   IsRefusedSuccessor passes limit heirs NoMemory =
       (open_fault limit heirs ≡ None) × ((log : Log) × HandsOver passes log)

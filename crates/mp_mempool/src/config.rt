@@ -1,10 +1,10 @@
-//! How a mempool is set up.
+//! The configuration of a mempool.
 
-/// How a mempool is set up.
+/// The configuration of a mempool.
 #[derive(Clone, Copy, Debug, PartialEq, Eq)]
 pub struct Config {
-    /// How many changes there may be: 1 to 2^32.
+    /// The most changes that the pool makes: 1 to 2^32.
     pub limit: u64,
-    /// The ticket before the first one that is given.
+    /// The ticket before the first one that the pool gives.
     pub last: u64,
 }

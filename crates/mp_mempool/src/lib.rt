@@ -1,5 +1,5 @@
-//! The mempool that many callers share: any number of threads submit, remove, sync and read, and each answer is that of one
-//! sequential pool at some point of one growing legal history.
+//! The mempool that many callers share. Any number of threads submit, remove, sync and read. Each answer is that of one
+//! sequential pool at some point of a single legal history.
 #![tactic(auto)]
 
 mod config;

@@ -27,14 +27,16 @@ use std::sync::{Arc, Mutex, Wait};
 /// The mempool that many callers share (the Mempool API of ouroboros-consensus).
 ///
 /// It has one history: what each caller asked, in one order, and what the pool replied. Each reply is that of a sequential pool
-/// after the entries before it, and each transaction that the pool holds is valid upon the adopted ledger state after those before
-/// it. Tickets increase, and none is used again.
+/// after the entries before it. Each transaction in the pool is valid on the adopted ledger state after those before it. Tickets
+/// are strictly increasing and never reused.
 ///
-/// Each caller has a `Pass`, which holds the version of the pool that the caller has seen last. A call that changes the pool
-/// (`submit`, `remove`, `sync`) takes the pool's lock, enters one entry and answers with a `Receipt`, or it is refused and enters
-/// none. Unless memory was wanting or the refusal is `Foreign`, its pass then holds the version at which the answer is the
-/// sequential pool's. The calls that read are those of a `Reader`, which comes with the pool: a thread that only reads needs that
-/// and its pass, and no pool. Whatever a call does, what its pass holds extends what it held.
+/// Each caller has a `Pass`, which holds the version of the pool that the caller has seen last. What a pass holds is only
+/// replaced by what extends it. A call that changes the pool (`submit`, `remove`, `sync`) takes the pool's lock. It commits one
+/// entry and returns a `Receipt`, or is refused and commits none. The pass then holds the version at which the answer is the
+/// sequential pool's, unless the refusal is `Foreign` or an allocation failure.
+///
+/// The calls that read are those of a `Reader`, which comes with the pool. A thread that only reads needs the reader and its
+/// pass, and no pool.
 ///
 /// Any number of threads may share a pool, each with passes of its own.
 pub struct Mempool<N: PoolName, V: Verifier> {
@@ -53,22 +55,22 @@ impl<N: PoolName, V: Verifier + Drop> Drop for Mempool<N, V> {
     }
 }
 
-/// A pool, what reads it without the pool, and the passes of its callers 0, 1, .. in order.
+/// A pool, its reader, and the passes of its callers 0, 1, .. in order.
 pub type Opened<N, V> = (
     Mempool<N, V>,
     Arc<Reader<N, V>, Memory>,
     Vec<Pass<N>, Memory>,
 );
 
-/// A successor; or why the pool doesn't hand over, and the pool with the passes as they were.
+/// A successor; or why the pool doesn't hand over, with the pool and the passes as they were.
 pub type Handover<N, M, V> = Result<
     Opened<M, V>,
     (SuccessorRefusal<N>, Mempool<N, V>, Vec<Pass<N>, Memory>),
 >;
 
 impl<N: PoolName, V: Verifier + Drop> Mempool<N, V> {
-    /// Opens a pool under the name, for 1 to 1,024 callers, upon the ledger state: a pool without transactions, what reads it, and
-    /// a pass for each of the callers 0, 1, .. in order. The version that it opens with is published. The verifier is shared.
+    /// Opens a pool under the name, on the ledger state, for 1 to 1,024 callers. Returns a pool without transactions, its reader,
+    /// and a pass for each of the callers 0, 1, .. in order. The opening version is published. The verifier is shared.
     ///
     /// # Errors
     /// The first of `OpenRefusal`'s reasons that holds. The name is used up.
@@ -98,7 +100,7 @@ impl<N: PoolName, V: Verifier + Drop> Mempool<N, V> {
         }
     }
 
-    // Opens a pool for so many changes and callers as there may be.
+    // Opens a pool whose limits are in range.
     fn open_within(
         rt: &impl Wait,
         memory: Memory,
@@ -128,7 +130,7 @@ impl<N: PoolName, V: Verifier + Drop> Mempool<N, V> {
         Ok(Mempool::of_parts(history, locked, readers, passes))
     }
 
-    // All of them together.
+    // The pool, its reader and the passes.
     fn of_parts(
         history: History<N>,
         locked: Locked<N>,
@@ -147,10 +149,12 @@ impl<N: PoolName, V: Verifier + Drop> Mempool<N, V> {
         (pool, for_host, passes)
     }
 
-    /// Hands over to a successor under the name, for so many changes and 1 to 1,024 callers. It opens with the transactions that
-    /// this pool has, their tickets, the ledger state and the last ticket, with no change made: nothing is checked again, and no
-    /// transaction is copied. The passes are those of all callers of this pool; each caller of the successor gets a new one, and
-    /// what reads the successor comes with it. Who still has a reader and versions of the old pool keeps those.
+    /// Hands over to a successor under the name, for `limit` changes and 1 to 1,024 callers. It opens with this pool's
+    /// transactions, their tickets, the ledger state and the last ticket, and no change made yet. Nothing is checked again, and
+    /// no transaction is copied.
+    ///
+    /// It takes the passes of all callers of this pool, and returns a new one for each caller of the successor, with the
+    /// successor's reader. Readers and versions of the old pool stay usable for those who have them.
     ///
     /// # Errors
     /// The first of `SuccessorRefusal`'s reasons that holds, with the pool and the passes as they were. The name is used up.
@@ -225,13 +229,14 @@ impl<N: PoolName, V: Verifier + Drop> Mempool<N, V> {
 }
 
 impl<N: PoolName, V: Verifier> Mempool<N, V> {
-    /// Takes the transaction in under the next ticket. Signatures and scripts are looked at before the lock is taken, upon the
-    /// outputs that the newest version has: under the lock scripts are run again only where an output is another one, and both
-    /// where one wasn't found. The call may wait for other callers.
+    /// Adds the transaction under the next ticket. Signatures and scripts are checked before the lock is taken, on the outputs
+    /// that the newest version has. Under the lock, scripts are run again only if an output differs, and both are checked if an
+    /// output wasn't found. The call may wait for other callers.
     ///
     /// # Errors
-    /// `Refusal::Foreign`, or else the sequential pool's: the history is full, the tickets are spent, the transaction is in the
-    /// pool, the pool is full, or the first rule that fails. Want of memory may be told in place of any of the latter.
+    /// `Refusal::Foreign`, or else a refusal of the sequential pool. `NoMemory` may replace the latter. The reasons are, in
+    /// order: the history is full, the tickets are used up, the transaction is in the pool, the pool is full, the first rule that
+    /// fails.
     pub fn submit(
         &self,
         rt: &impl Wait,
@@ -248,11 +253,11 @@ impl<N: PoolName, V: Verifier> Mempool<N, V> {
         submit_in(self, rt, &mut locked, pass, tx, checked.as_ref())
     }
 
-    /// Takes out the transactions with these ids, whether they are valid or not, and with them those that aren't valid without
-    /// them. It is an entry, also where nothing goes. The call may wait for other callers.
+    /// Removes the transactions with these ids, valid or not, and those that aren't valid without them. It commits an entry even
+    /// if nothing is removed. The call may wait for other callers.
     ///
     /// # Errors
-    /// `Refusal::Foreign`, or else that the history is full. Want of memory may be told in place of the latter.
+    /// `Refusal::Foreign`, or else that the history is full. `NoMemory` may replace the latter.
     pub fn remove(
         &self,
         rt: &impl Wait,
@@ -268,11 +273,11 @@ impl<N: PoolName, V: Verifier> Mempool<N, V> {
         remove_in(self, rt, &mut locked, pass, ids)
     }
 
-    /// Adopts the ledger state, and drops those transactions that aren't valid upon it; the others keep their tickets. It is an
-    /// entry, also where nothing goes. The call may wait for other callers.
+    /// Adopts the ledger state, and drops the transactions that aren't valid on it. The others keep their tickets. It commits an
+    /// entry even if nothing is dropped. The call may wait for other callers.
     ///
     /// # Errors
-    /// As `remove`.
+    /// Those of `remove`.
     pub fn sync(
         &self,
         rt: &impl Wait,
@@ -297,7 +302,7 @@ impl<N: PoolName, V: Verifier> Mempool<N, V> {
     /// Does what the command asks: `submit`, `remove` or `sync`. The call may wait for other callers.
     ///
     /// # Errors
-    /// As of that call.
+    /// Those of that call.
     pub fn ask(
         &self,
         rt: &impl Wait,

@@ -22,7 +22,7 @@ const MAX_CALLERS: u32 = 1024;
 // No pool has more changes.
 const MAX_LIMIT: u64 = 1 << 32;
 
-/// Why a pool can't be opened for so many changes and callers, whatever memory there is.
+/// Why a pool can't be opened for this limit of changes and this many callers, given enough memory.
 pub(crate) fn open_fault(limit: u64, callers: u32) -> Option<OpenRefusal>
     ensures fault { result ≡ open_fault limit callers }
     ensures some { IfNone result (1 ≤ callers) }
@@ -39,7 +39,7 @@ pub(crate) fn open_fault(limit: u64, callers: u32) -> Option<OpenRefusal>
     None
 }
 
-/// All of a pool but its verifier.
+/// All parts of a pool except its verifier.
 #[derive(Drop)]
 pub(crate) struct Parts<N: PoolName> {
     pub(crate) history: History<N>,
@@ -48,7 +48,7 @@ pub(crate) struct Parts<N: PoolName> {
     pub(crate) passes: Vec<Pass<N>, Memory>,
 }
 
-// Puts the pass of a caller that has seen this version last.
+// Adds the pass of a caller that has seen this version last.
 fn put_pass<N: PoolName>(
     passes: &mut Vec<Pass<N>, Memory>,
     caller: Caller<N>,
@@ -64,7 +64,7 @@ fn put_pass<N: PoolName>(
     Ok(())
 }
 
-// Puts the passes of callers that have seen this version.
+// Adds the passes of callers that have seen this version.
 fn put_passes<N: PoolName>(
     passes: &mut Vec<Pass<N>, Memory>,
     callers: Vec<Caller<N>, Memory>,
@@ -96,7 +96,7 @@ fn give_passes<N: PoolName>(
     Ok(passes)
 }
 
-// Puts for each of so many callers that it hasn't made an entry.
+// Notes for each of `callers` callers that it hasn't made an entry.
 fn put_no_places(places: &mut Vec<Option<u64>, Memory>, callers: u32) -> Result<(), NoMemory>
     requires { places.old.items ≡ [] }
     ensures { OnOk result (places.new.items ≡ replicate callers None) }
@@ -107,7 +107,7 @@ fn put_no_places(places: &mut Vec<Option<u64>, Memory>, callers: u32) -> Result<
     Ok(())
 }
 
-// For each of so many callers, that it hasn't made an entry.
+// The places of `callers` callers that haven't made an entry.
 fn unset_places(memory: Memory, callers: u32) -> Result<Vec<Option<u64>, Memory>, NoMemory>
     ensures { IfOk result (λ places. places.items ≡ replicate callers None) }
 {
@@ -116,7 +116,7 @@ fn unset_places(memory: Memory, callers: u32) -> Result<Vec<Option<u64>, Memory>
     Ok(places)
 }
 
-// The version of a pool without transactions, after no entry.
+// The version of a pool without transactions, before any entry.
 fn first_version<N: PoolName>(
     memory: Memory,
     pool: &SeqPool,
@@ -130,7 +130,7 @@ fn first_version<N: PoolName>(
     Ok(Shown::of(version, right.front()))
 }
 
-/// What callers have of a pool, and the version that they have seen.
+/// The passes of a pool's callers, and the version that they have seen.
 #[derive(Drop)]
 pub(crate) struct Desk<N: PoolName> {
     pub(crate) shown: Shown<N>,
@@ -140,7 +140,7 @@ pub(crate) struct Desk<N: PoolName> {
     pub(crate) places: Vec<Option<u64>, Memory>,
 }
 
-/// The desk with this version published: a pass for each caller that has seen it, and no entry of any of them.
+/// Publishes this version, with a pass for each caller that has seen it. No caller has made an entry.
 pub(crate) fn set_desk<N: PoolName>(
     rt: &impl Wait,
     memory: Memory,
@@ -166,7 +166,7 @@ pub(crate) fn set_desk<N: PoolName>(
     })
 }
 
-// The desk of a pool that has just opened, with its first version.
+// The desk of a new pool, with its first version.
 fn open_desk<N: PoolName>(
     rt: &impl Wait,
     memory: Memory,
@@ -188,7 +188,7 @@ fn open_desk<N: PoolName>(
     set_desk(rt, memory, tokens, shown, callers)
 }
 
-// The pool with its history, in parts.
+// The parts of the pool, with its history.
 fn open_upon<N: PoolName>(
     rt: &impl Wait,
     memory: Memory,
@@ -214,7 +214,7 @@ fn open_upon<N: PoolName>(
     })
 }
 
-/// Opens all of a pool but its verifier.
+/// Opens all parts of a pool except its verifier.
 pub(crate) fn open_parts<N: PoolName>(
     rt: &impl Wait,
     memory: Memory,

@@ -1,4 +1,4 @@
-//! What reads a pool, for the pool and for its host.
+//! Readers of a pool, for the pool and for its host.
 ghost use Rattle.std.specs.Prelude.{◌≡◌};
 ghost use Rattle.std.specs.Arc.{arc_value};
 
@@ -9,14 +9,14 @@ use mp_rules::Verifier;
 use mp_versions::Boards;
 use std::sync::Arc;
 
-/// Two owners of what reads a pool.
+/// Two owners of a pool's reader.
 #[derive(Drop)]
 pub(crate) struct Readers<N: PoolName, V: Verifier + Drop> {
     pub(crate) for_pool: Arc<Reader<N, V>, Memory>,
     pub(crate) for_host: Arc<Reader<N, V>, Memory>,
 }
 
-/// What reads by these boards.
+/// Readers of these boards.
 pub(crate) fn make_readers<N: PoolName, V: Verifier + Drop>(
     memory: Memory,
     verifier: Arc<V, Memory>,

@@ -11,11 +11,11 @@ use std::alloc::AllocError;
 use std::fmt;
 use thiserror::Error;
 
-/// Why a pool isn't opened. Where several hold, the one with the least number is told, but `NoMemory` only where none of the
-/// others holds.
+/// Why a pool isn't opened. If several reasons hold, the one with the least number is reported, but `NoMemory` only if no other
+/// holds.
 #[derive(Clone, Copy, Debug, PartialEq, Eq, Error)]
 pub enum OpenRefusal {
-    /// Memory was wanting.
+    /// An allocation failed.
     #[error("no memory")]
     NoMemory,
     /// The number of callers isn't 1 to 1,024.
@@ -55,18 +55,18 @@ impl From<AllocError> for OpenRefusal {
     }
 }
 
-/// Why the pool refuses a change. It is as it was.
+/// Why the pool refuses a change. The pool is as it was.
 #[derive(Drop)]
 pub enum Refusal<N: PoolName> {
-    /// The sequential pool refuses. Unless memory was wanting, the caller's pass holds the version at which it does; where memory
-    /// was wanting, the pass is as it was.
+    /// The sequential pool refuses. The caller's pass holds the version at which it does. After an allocation failure the pass is
+    /// as it was.
     Pool(mp_seqpool::Refusal),
     /// The pool's history, which is this one, has an entry of this caller that its pass doesn't know. The pass is as it was.
     Foreign(Front<N>),
 }
 
 impl<N: PoolName> Refusal<N> {
-    /// The number of the refusal: 1 to 6 are the sequential pool's, and 7 is `Foreign`.
+    /// The number of the refusal: 1 to 6 for the sequential pool's, 7 for `Foreign`.
     pub fn number(&self) -> u64
         ensures { result ≡ told.number self.now }
     {
@@ -86,14 +86,14 @@ impl<N: PoolName> fmt::Display for Refusal<N> {
     }
 }
 
-/// Why a pool doesn't hand over to a successor. Where several hold, the one with the least number is told, but `NoMemory` only
-/// where none of the others holds. Pool and passes are as they were.
+/// Why a pool doesn't hand over to a successor. If several reasons hold, the one with the least number is reported, but
+/// `NoMemory` only if no other holds. The pool and the passes are as they were.
 #[derive(Drop)]
 pub enum SuccessorRefusal<N: PoolName> {
-    /// Memory was wanting.
+    /// An allocation failed.
     NoMemory,
-    /// The passes aren't those of the callers 0, 1, .. of the pool, in order: at this place first a wrong one stands, or one too
-    /// many, or none.
+    /// The passes aren't those of the callers 0, 1, .. of the pool, in order. This is the first place with a wrong pass, one too
+    /// many, or a missing one.
     BadPasses(usize),
     /// The number of callers isn't 1 to 1,024.
     BadCallers,

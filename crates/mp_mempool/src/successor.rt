@@ -19,7 +19,7 @@ use mp_rules::Verifier;
 use mp_versions::{Publisher, Shown};
 use std::sync::{Arc, Wait};
 
-/// All with which a successor opens, but the sequential pool that it takes over.
+/// What a successor opens with, except the sequential pool that it takes over.
 #[derive(Drop)]
 pub(crate) struct Heir<M: PoolName, V: Verifier + Drop> {
     pub(crate) history: History<M>,
@@ -31,7 +31,7 @@ pub(crate) struct Heir<M: PoolName, V: Verifier + Drop> {
     pub(crate) passes: Vec<Pass<M>, Memory>,
 }
 
-// The first place at which the passes aren't those of the callers 0, 1, .., of whom there are so many.
+// The first place at which the passes aren't those of the callers 0, 1, .., of whom there are `callers`.
 fn bad_place<N: PoolName>(passes: &[Pass<N>], callers: usize) -> Option<usize>
     requires { callers ≡ N.callers }
     ensures bad { IfSome result (AreBadAt callers passes.now) }
@@ -49,7 +49,7 @@ fn bad_place<N: PoolName>(passes: &[Pass<N>], callers: usize) -> Option<usize>
     }
 }
 
-// The history, where one of the passes doesn't know an entry of its caller.
+// The history, if one of the passes doesn't know an entry of its caller.
 fn foreign_front<N: PoolName>(locked: &mut Locked<N>, passes: &[Pass<N>]) -> Option<Front<N>>
     ensures same { locked.new ≡ locked.old }
     ensures foreign { IfSome result (IsFirstForeign passes.now) }
@@ -65,7 +65,7 @@ fn foreign_front<N: PoolName>(locked: &mut Locked<N>, passes: &[Pass<N>]) -> Opt
     None
 }
 
-// Why the pool doesn't hand over, whatever memory there is.
+// Why the pool doesn't hand over, given enough memory.
 fn refuse<N: PoolName>(
     locked: &mut Locked<N>,
     passes: &[Pass<N>],
@@ -114,7 +114,7 @@ fn renewed_version<N: PoolName, M: PoolName>(
     Ok(Shown::of(Arc::new(memory, version)?, right.front()))
 }
 
-// Makes all with which the successor opens.
+// Allocates all with which the successor opens.
 fn make_heir<N: PoolName, M: PoolName, V: Verifier + Drop>(
     rt: &impl Wait,
     memory: Memory,
@@ -159,7 +159,7 @@ fn make_heir<N: PoolName, M: PoolName, V: Verifier + Drop>(
     })
 }
 
-/// Makes all with which the successor opens, where the pool hands over.
+/// Allocates all with which the successor opens, if the pool hands over.
 pub(crate) fn prepare<N: PoolName, M: PoolName, V: Verifier + Drop>(
     rt: &impl Wait,
     memory: Memory,

@@ -1,5 +1,5 @@
-//! What happens under the pool's lock, from the question whether the pass knows its caller's entries to the answer: a change is
-//! prepared, its entry is committed, its step taken and its version published; or it is refused.
+//! What happens under the pool's lock. First: does the pass know its caller's entries? Then a change is prepared, its entry is
+//! committed, its step taken and its version published; or the change is refused.
 ghost use Rattle.std.specs.Prelude.{◌≡◌, ◌≢◌, true, false, IfSome, IfOk, IfErr, OnOk, OnErr};
 ghost use Rattle.std.specs.Arc.{arc_value};
 ghost use Rattle.mp_rules.specs.Checked.{IsChecked};
@@ -22,7 +22,7 @@ use mp_seqpool::Ids;
 use mp_tx::{Ledger, Tx};
 use std::sync::{Arc, Wait};
 
-// The pass knows all entries of its caller; or else a front shows one that it doesn't know.
+// The pass knows all entries of its caller, or a front has one that it doesn't know.
 fn require_known<N: PoolName>(locked: &mut Locked<N>, pass: &Pass<N>) -> Result<(), Refusal<N>>
     ensures same { locked.new ≡ locked.old }
     ensures begins { Begins pass.now.front locked.new.log }
@@ -39,7 +39,7 @@ fn require_known<N: PoolName>(locked: &mut Locked<N>, pass: &Pass<N>) -> Result<
     }
 }
 
-// Whether memory was wanting.
+// Whether an allocation failed.
 fn wants_memory(refusal: &mp_seqpool::Refusal) -> bool
     ensures wanting { result ≡ true → refusal.now ≡ refusals.NoMemory }
     ensures other { result ≡ false → refusal.now ≢ refusals.NoMemory }
@@ -47,7 +47,7 @@ fn wants_memory(refusal: &mp_seqpool::Refusal) -> bool
     matches!(refusal, mp_seqpool::Refusal::NoMemory)
 }
 
-// Publishes the version that waits. Without memory it waits on, until the next change or refusal.
+// Publishes the version that waits. If an allocation fails it waits on, until the next change or refusal.
 fn publish<N: PoolName, V: Verifier>(
     rt: &impl Wait,
     mempool: &Mempool<N, V>,
@@ -59,7 +59,7 @@ fn publish<N: PoolName, V: Verifier>(
     let _waits = locked.publish_waiting(rt, reader.memory(), reader.boards());
 }
 
-// Enters a step that is ready, and publishes the version after it, which the pass then holds. It can't fail.
+// Commits the entry of a step that is ready, and publishes the version after it, which the pass then holds. It can't fail.
 fn enter<N: PoolName, V: Verifier>(
     rt: &impl Wait,
     mempool: &Mempool<N, V>,
@@ -81,7 +81,8 @@ fn enter<N: PoolName, V: Verifier>(
     receipt
 }
 
-// Gives the pass the version of the whole history, and publishes the version that waits. Without memory the pass is as it was.
+// Gives the pass the version of the whole history, and publishes the version that waits. If an allocation fails, the pass is as
+// it was.
 fn bring_up<N: PoolName, V: Verifier>(
     rt: &impl Wait,
     mempool: &Mempool<N, V>,
@@ -103,8 +104,8 @@ fn bring_up<N: PoolName, V: Verifier>(
     Ok(())
 }
 
-// Gives the pass the version at which the sequential pool refuses. Where memory is wanting for that, or was wanting before,
-// the pass is as it was.
+// Gives the pass the version at which the sequential pool refuses. If an allocation fails here or failed before, the pass is as
+// it was.
 fn refuse<N: PoolName, V: Verifier>(
     rt: &impl Wait,
     mempool: &Mempool<N, V>,
@@ -129,7 +130,7 @@ fn refuse<N: PoolName, V: Verifier>(
     }
 }
 
-/// What `Mempool::submit` does under the lock, with what was found of the transaction before.
+/// What `Mempool::submit` does under the lock, given what was found about the transaction before.
 pub fn submit_in<N: PoolName, V: Verifier>(
     mempool: &Mempool<N, V>,
     rt: &impl Wait,

@@ -1,4 +1,4 @@
--- Bindings under numbers, with a table of these for names and one for ids.
+-- Bindings by number, with a table of numbers for names and one for ids.
 use Rattle.std.proofs.Common.{◌≡◌, ℕ, ◌+◌, Bool, true, false, not, cond, List, [], ◌∷◌, ◌++◌, length, nat_eq, Option, Some, None, refl, sym, ap, subst, ◌∙◌, arith, true≢false}
 use Rattle.std.specs.Prelude.{option_and_then, slice_get, find, filter, is_some}
 use Rattle.std.specs.Option.{option_map_or}
@@ -12,7 +12,7 @@ use Rattle.mp_names.specs.Inside.BindingTable.{has_name, has_tx_id, bound_id, nu
 use Rattle.std.specs.Map.{values_of}
 use Rattle.mp_names.proofs.Numbering.{at, without, between-push, between-without, numbers-push, numbers-without, lacks_next, find-first, first-none, values-without}
 
--- a transaction is found by its id, and an output by none
+-- a transaction is found by its id; no id leads to an output
 pub id_key : (n : NamedBinding) (q : List ℕ) → is_key (bound_id n.binding) q ≡ has_tx_id q n
 id_key n q = by n.binding
   where
@@ -27,7 +27,7 @@ module _ {Z : Type 0} (es : List (ℕ × NamedBinding)) (next : ℕ) (names ids 
   pub next_is_new_id : IsNew next ids
   next_is_new_id q = ap (without_number next) (numbered.ids q) ∙ lacks_next (has_tx_id q) 0 es next numbered.between ∙ sym (numbered.ids q)
 
-  -- one more
+  -- one more binding
   pub numbered-push : (n : NamedBinding) (new_es : List (ℕ × NamedBinding)) (new_names new_ids : Numbered Z) → new_es ≡ es ++ (next, n) ∷ []
       → Puts names (Some n.name) next new_names → Puts ids (bound_id n.binding) next new_ids → AreNumbered new_es (next + 1) new_names new_ids
   numbered-push n new_es new_names new_ids is by_name by_id = subst (λ l. AreNumbered l (next + 1) new_names new_ids) (sym is) (record {
@@ -38,7 +38,7 @@ module _ {Z : Type 0} (es : List (ℕ × NamedBinding)) (next : ℕ) (names ids 
         ∙ ap (λ b. numbers_of (has_tx_id q) es ++ cond b (next ∷ []) []) (id_key n q) ∙ sym (numbers-push (has_tx_id q) es (next, n));
   })
 
-  -- nothing has changed where each key has the numbers that it had
+  -- nothing has changed if each key has the numbers that it had
   pub numbered-same : (new_es : List (ℕ × NamedBinding)) (new_names new_ids : Numbered Z) → new_es ≡ es → AreSame names new_names → AreSame ids new_ids → AreNumbered new_es next new_names new_ids
   numbered-same new_es new_names new_ids is by_name by_id = subst (λ l. AreNumbered l next new_names new_ids) (sym is) (record {
     between = numbered.between;
@@ -46,7 +46,7 @@ module _ {Z : Type 0} (es : List (ℕ × NamedBinding)) (next : ℕ) (names ids 
     ids = λ q. by_id q ∙ numbered.ids q;
   })
 
-  -- one less
+  -- one binding less
   pub numbered-without : (number : ℕ) (n : NamedBinding) (new_es : List (ℕ × NamedBinding)) (new_names new_ids : Numbered Z) → at es number ≡ Some n → new_es ≡ without es number
       → Takes names (Some n.name) number new_names → Takes ids (bound_id n.binding) number new_ids → AreNumbered new_es next new_names new_ids
   numbered-without number n new_es new_names new_ids found is by_name by_id = subst (λ l. AreNumbered l next new_names new_ids) (sym is) (record {
@@ -84,7 +84,7 @@ module _ {Z : Type 0} (es : List (ℕ × NamedBinding)) (next : ℕ) (names ids 
   pub none-left : (word : List ℕ) (all : List NamedBinding) (first : Option ℕ) → values_of es ≡ all → first ≡ slice_get (numbers_at names word) 0 → option_and_then (at es) first ≡ None → all ≡ without_first (has_name word) all
   none-left word all first view is none = first-none (has_name word) all (first-at word all first view is ∙ none)
 
--- ---- without those with a name, one by one
+-- -- without the bindings with a name, one by one
 
 is_none_is : (o : Option NamedBinding) → is_some o ≡ false → o ≡ None
 is_none_is None e = refl
@@ -107,7 +107,7 @@ pub filter-none : (test : NamedBinding → Bool) (xs : List NamedBinding) → is
 filter-none test [] e = refl
 filter-none test (x ∷ xs) e = none_left (test x) x xs (filter (λ n. not (test n)) xs) (find test xs) e (filter-none test xs)
 
--- where none passes, the last step leaves all
+-- if none passes, the last step leaves everything
 pub forgotten : (test : NamedBinding → Bool) (old new : List NamedBinding) → is_some (find test old) ≡ false → new ≡ without_first test old → new ≡ filter (λ n. not (test n)) old
 forgotten test old new none is = is ∙ sym (first-none test old (is_none_is (find test old) none)) ∙ sym (filter-none test old none)
 

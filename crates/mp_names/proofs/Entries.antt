@@ -9,7 +9,7 @@ use Rattle.mp_names.specs.Names.{Names}
 use Rattle.mp_names.specs.Bundles.{entry_of, put_entries}
 use Rattle.mp_names.proofs.Parts.{parts_left, parts-first}
 
--- the entries that come of an entry and the words after it
+-- the entries made of an entry and the words after it
 abbrev put_more : Names → List Entry → List (List ℕ) → Option Entry → Option (List Entry)
 put_more names es words e = option_and_then (λ x. put_entries names (insert_rising entry_cmp x es) words) e
 

@@ -1,4 +1,4 @@
--- Names that go, one by one.
+-- Names that are forgotten, one by one.
 use Rattle.std.proofs.Common.{◌≡◌, ℕ, ◌+◌, ◌<◌, Bool, true, false, not, cond, List, [], ◌∷◌, ◌++◌, length, take, get_or, refl, sym, ap, ◌∙◌, arith, ◌≤◌}
 use Rattle.std.specs.Prelude.{filter, ◌||◌}
 use Rattle.std.proofs.lemmas.List.{take_more}
@@ -28,17 +28,17 @@ filter-all : (ns : List NamedBinding) → ns ≡ filter (λ n. not (is_among [] 
 filter-all [] = refl
 filter-all (n ∷ ns) = ap (λ l. n ∷ l) (filter-all ns)
 
--- none has gone
+-- none is forgotten
 pub without-none : (names : Names) → names ≡ without_bindings names []
 without-none names = λ i. record names { bindings = filter-all names.bindings i; reported = left-none names.reported i }
 
--- one has gone
+-- one is forgotten
 pub without-one : (names : Names) (word : List ℕ) (bindings : List NamedBinding) (reported : Reported) → bindings ≡ filter (λ n. not (has_name word n)) names.bindings → reported ≡ reported_left (word ∷ []) names.reported
     → record names { bindings = bindings; reported = reported } ≡ without_bindings names (word ∷ [])
 without-one names word bindings reported bs rs = λ i.
     record names { bindings = (bs ∙ filter_agree (λ (n : NamedBinding). not (has_name word n)) (λ (n : NamedBinding). not (is_among (word ∷ []) n.name)) (λ n. ap not (sym (among_one word n.name))) names.bindings) i; reported = rs i }
 
--- and another one
+-- one more is forgotten
 pub without-more : (names before after : Names) (goes : List (List ℕ)) (i : ℕ) (word : List ℕ) → i < length goes → word ≡ get_or goes i word → before ≡ without_bindings names (take i goes)
     → after ≡ without_bindings before (word ∷ []) → after ≡ without_bindings names (take (i + 1) goes)
 without-more names before after goes i word lt here so_far gone =

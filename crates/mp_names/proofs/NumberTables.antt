@@ -1,4 +1,4 @@
--- What a change under one key leaves under each.
+-- What each key has after a change under one key.
 use Rattle.std.proofs.Common.{◌≡◌, ℕ, Bool, true, false, not, cond, List, [], ◌∷◌, ◌++◌, nat_eq, Option, Some, Result, Ok, Err, refl, sym, ap, ◌∙◌, append-nil, arith}
 use Rattle.std.specs.Prelude.{option_map, unwrap_or, OnErr}
 use Rattle.std.specs.Map.{lookup, IsKeyTest, AreApart, KeepsOthers}
@@ -32,7 +32,7 @@ module _ {Z : Type 0} where
   unfolding KeepsOthers
   others key old new keeps = keeps
 
-  -- the key has these, and each other one has what it had
+  -- the key has these numbers, and each other one has what it had
   pub numbers_after : (old new : Numbered Z) (key : List ℕ) (numbers : Option (Vec ℕ Z)) → lookup (has_bytes key) new ≡ numbers → KeepsOtherKeys key old new
       → (q : List ℕ) → numbers_at new q ≡ cond (pointwise nat_eq q key) (numbers_in numbers) (numbers_at old q)
   numbers_after old new key numbers here keeps q = by (pointwise nat_eq q key) refl
@@ -42,7 +42,7 @@ module _ {Z : Type 0} where
       by false other =
           ap numbers_in (others key old new keeps (has_bytes q) (λ a b. nat_list_eq_equiv.congr q a.items b.items) (λ k passes. apart q key k.items other passes))
 
-  -- so the number is put
+  -- so the number is added
   pub puts_after : (old new : Numbered Z) (key : List ℕ) (number : ℕ) (numbers : List ℕ) → numbers ≡ numbers_at old key ++ number ∷ []
       → ((q : List ℕ) → numbers_at new q ≡ cond (pointwise nat_eq q key) numbers (numbers_at old q)) → Puts old (Some key) number new
   puts_after old new key number numbers is after q = after q ∙ by (pointwise nat_eq q key) refl
@@ -51,7 +51,7 @@ module _ {Z : Type 0} where
       by true same = is ∙ ap (λ k. numbers_at old k ++ number ∷ []) (sym (same_key q key same))
       by false other = sym (append-nil (numbers_at old q))
 
-  -- or taken
+  -- or removed
   pub takes_after : (old new : Numbered Z) (key : List ℕ) (number : ℕ) (numbers : List ℕ) → numbers ≡ without_number number (numbers_at old key)
       → ((q : List ℕ) → numbers_at new q ≡ cond (pointwise nat_eq q key) numbers (numbers_at old q)) → Takes old (Some key) number new
   takes_after old new key number numbers is after q = after q ∙ by (pointwise nat_eq q key) refl
@@ -60,7 +60,7 @@ module _ {Z : Type 0} where
       by true same = is ∙ ap (λ k. without_number number (numbers_at old k)) (sym (same_key q key same))
       by false other = refl
 
-  -- or nothing is
+  -- or nothing changes
   pub same_after : (old new : Numbered Z) (key numbers : List ℕ) → numbers ≡ numbers_at old key → ((q : List ℕ) → numbers_at new q ≡ cond (pointwise nat_eq q key) numbers (numbers_at old q)) → AreSame old new
   same_after old new key numbers is after q = after q ∙ by (pointwise nat_eq q key) refl
     where
@@ -68,7 +68,7 @@ module _ {Z : Type 0} where
       by true same = is ∙ ap (numbers_at old) (sym (same_key q key same))
       by false other = refl
 
-  -- twice at one key
+  -- two changes under one key
   pub twice_after : (old mid new : Numbered Z) (key before numbers : List ℕ) → ((q : List ℕ) → numbers_at mid q ≡ cond (pointwise nat_eq q key) before (numbers_at old q))
       → ((q : List ℕ) → numbers_at new q ≡ cond (pointwise nat_eq q key) numbers (numbers_at mid q)) → (q : List ℕ) → numbers_at new q ≡ cond (pointwise nat_eq q key) numbers (numbers_at old q)
   twice_after old mid new key before numbers first second q = second q ∙ ap (cond (pointwise nat_eq q key) numbers) (first q) ∙ by (pointwise nat_eq q key)
@@ -77,7 +77,7 @@ module _ {Z : Type 0} where
       by true = refl
       by false = refl
 
-  -- what is put and then taken leaves what was there, where it is new
+  -- adding a new number and then removing it leaves what was there
   pub put-taken : (old mid new : Numbered Z) (key : Option (List ℕ)) (number : ℕ) → IsNew number old → Puts old key number mid → Takes mid key number new → AreSame old new
   put-taken old mid new key number is_new puts takes q = takes q ∙ by (is_key key q) refl
     where

@@ -43,7 +43,7 @@ none_some n e = Prim.cc
 some_none : (n : ℕ) → Some n ≡ None → ⊥
 some_none n e = Prim.cc
 
--- the numbers with one more at the front, if it passes
+-- the numbers with one more at the beginning, if it passes
 abbrev with_first : Bool → ℕ → List ℕ → List ℕ
 with_first passes n ns = cond passes (n ∷ ns) ns
 
@@ -62,7 +62,7 @@ first_here : (t : Bool) (m n : ℕ) (ns : List ℕ) → slice_get (with_first t 
 first_here true m n ns here more = let same = some_exact m n here in omega (arith, same)
 first_here false m n ns later more = let lt = more later in omega (arith, lt)
 
--- the item with this number is taken out, or the numbers are as without it
+-- the item with this number is removed, or the numbers are as without it
 taken_here : (t : Bool) (m n : ℕ) (ns : List ℕ) → nat_eq m n ≡ true → without_number n ns ≡ ns → ns ≡ cond t (without_number n (with_first t m ns)) (with_first t m ns)
 taken_here true m n ns same lacks = sym (without_more n m ns true same ∙ lacks)
 taken_here false m n ns same lacks = refl
@@ -74,11 +74,11 @@ taken_later false true m n ns other = refl
 taken_later false false m n ns other = refl
 
 module _ {X : Type 0} where
-  -- what is found with a number
+  -- the item with a number
   abbrev pub at : List (ℕ × X) → ℕ → Option X
   at es n = lookup (is_at (nat_cmp n)) es
 
-  -- without what is found with it
+  -- the items without the one with this number
   abbrev pub without : List (ℕ × X) → ℕ → List (ℕ × X)
   without es n = remove_entry (is_at (nat_cmp n)) es
 
@@ -116,21 +116,21 @@ module _ {X : Type 0} where
 
   -- ---- the numbers
 
-  -- a lesser number is none of them
+  -- a lesser number isn't among them
   pub lacks_lesser : (test : X → Bool) (n least : ℕ) (es : List (ℕ × X)) (next : ℕ) → n < least → AreBetween least es next → without_number n (numbers_of test es) ≡ numbers_of test es
   lacks_lesser test n least [] next lt b = refl
   lacks_lesser test n least (e ∷ es) next lt b =
       lacks_more n e.0 (numbers_of test es) (test e.1) (nat_eq-above e.0 n (omega (arith, lt, b.0)))
       (lacks_lesser test n (e.0 + 1) es next (omega (arith, lt, b.0)) b.1)
 
-  -- and so is the next one
+  -- nor is the next one
   pub lacks_next : (test : X → Bool) (least : ℕ) (es : List (ℕ × X)) (next : ℕ) → AreBetween least es next → without_number next (numbers_of test es) ≡ numbers_of test es
   lacks_next test least [] next b = refl
   lacks_next test least (e ∷ es) next b =
       lacks_more next e.0 (numbers_of test es) (test e.1) (nat_eq-below e.0 next (below least e es next b))
       (lacks_next test (e.0 + 1) es next b.1)
 
-  -- the first number is no lesser than the least
+  -- the first number is at least `least`
   first_le : (test : X → Bool) (least : ℕ) (es : List (ℕ × X)) (next n : ℕ) → AreBetween least es next → slice_get (numbers_of test es) 0 ≡ Some n → least ≤ n
   first_le test least [] next n b is = absurd (none_some n is)
   first_le test least (e ∷ es) next n b is =
@@ -153,13 +153,13 @@ module _ {X : Type 0} where
   found true e es ns o is = sym (at_first e es)
   found false e es ns o is = is
 
-  -- the first that passes is found with the first number
+  -- the first item that passes has the first number
   pub find-first : (test : X → Bool) (least : ℕ) (es : List (ℕ × X)) (next : ℕ) → AreBetween least es next → find test (values_of es) ≡ option_and_then (at es) (slice_get (numbers_of test es) 0)
   find-first test least [] next b = refl
   find-first test least (e ∷ es) next b =
       found (test e.1) e es (numbers_of test es) (find test (values_of es)) (find-first test (e.0 + 1) es next b.1 ∙ first_later test e es next _ b.1 refl)
 
-  -- ---- one taken out
+  -- -- one item removed
 
   without_later : (e : ℕ × X) (es : List (ℕ × X)) (n : ℕ) → e.0 < n → without (e ∷ es) n ≡ e ∷ without es n
   without_later e es n lt = ap (λ b. cond b es (e ∷ without es n)) (apart e.0 n lt)
@@ -172,7 +172,7 @@ module _ {X : Type 0} where
   first_gone true e es n ns xs here more = ap (λ m. values_of (without (e ∷ es) m)) (sym (some_exact e.0 n here)) ∙ ap values_of (without_this e es)
   first_gone false e es n ns xs later more = ap values_of (without_later e es n (more later).0) ∙ ap (λ l. e.1 ∷ l) (more later).1
 
-  -- the first that passes is taken out with the first number
+  -- removing the first number removes the first item that passes
   pub values-without : (test : X → Bool) (least : ℕ) (es : List (ℕ × X)) (next n : ℕ) → AreBetween least es next → slice_get (numbers_of test es) 0 ≡ Some n
       → values_of (without es n) ≡ without_first test (values_of es)
   values-without test least [] next n b is = refl
@@ -184,7 +184,7 @@ module _ {X : Type 0} where
   none_gone true e ns xs ys here more = absurd (some_none e.0 here)
   none_gone false e ns xs ys later more = ap (λ l. e.1 ∷ l) (more later)
 
-  -- nothing is taken out where none passes
+  -- if none passes, nothing is removed
   pub values-all : (test : X → Bool) (es : List (ℕ × X)) → slice_get (numbers_of test es) 0 ≡ None → values_of es ≡ without_first test (values_of es)
   values-all test [] is = refl
   values-all test (e ∷ es) is = none_gone (test e.1) e (numbers_of test es) (values_of es) (without_first test (values_of es)) is (values-all test es)
@@ -199,7 +199,7 @@ module _ {X : Type 0} where
   none_first true x xs ys o here more = absurd (no_item x (sym here))
   none_first false x xs ys o later more = ap (λ l. x ∷ l) (more later)
 
-  -- the same of a list
+  -- the same for a list
   pub first-none : (test : X → Bool) (xs : List X) → find test xs ≡ None → xs ≡ without_first test xs
   first-none test [] is = refl
   first-none test (x ∷ xs) is = none_first (test x) x xs (without_first test xs) (find test xs) is (first-none test xs)
@@ -223,7 +223,7 @@ module _ {X : Type 0} where
   numbers_gone test false e es n x other later lacks more =
       ap (with_first (test e.1) e.0) (more later) ∙ taken_later (test x) (test e.1) e.0 n (numbers_of test es) (other_number e.0 n other)
 
-  -- the number of what is taken out is no longer among those that pass
+  -- the number that is removed is no longer among those that pass
   pub numbers-without : (test : X → Bool) (least : ℕ) (es : List (ℕ × X)) (next n : ℕ) (x : X) → AreBetween least es next → at es n ≡ Some x
       → numbers_of test (without es n) ≡ cond (test x) (without_number n (numbers_of test es)) (numbers_of test es)
   numbers-without test least [] next n x b is = absurd (no_item x is)

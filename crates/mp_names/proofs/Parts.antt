@@ -11,7 +11,7 @@ abbrev pub parts_left : ℕ → Option (List ℕ) → List (List ℕ)
 parts_left separator None = []
 parts_left separator (Some word) = slice_split (λ b. b == separator) word
 
--- how much is left: of a word that is empty more than of none
+-- how much is left: an empty word counts more than none
 abbrev pub length_left : Option (List ℕ) → ℕ
 length_left None = 0
 length_left (Some word) = 1 + length word

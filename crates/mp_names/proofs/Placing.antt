@@ -1,4 +1,4 @@
--- Where the first item with a key stands.
+-- The index of the first item with a key.
 use Rattle.std.proofs.Common.{◌≡◌, ℕ, suc, ◌+◌, Bool, true, false, cond, List, [], ◌∷◌, ◌++◌, length, Option, Some, None, nat_eq, refl, sym, ap, ◌∙◌, arith}
 use Rattle.std.specs.Prelude.{option_map, option_and_then, slice_get, find}
 use Rattle.std.specs.Option.{option_or, option_map_or}
@@ -49,7 +49,7 @@ pub find-place : {X : Type 0} (test : X → Bool) (xs : List X) → find test xs
 find-place test [] = refl
 find-place test (x ∷ xs) = find_more test x xs (test x) refl (find-place test xs)
 
--- the item that is put last is found by its key, if it has one, unless an earlier one has it
+-- an item that is added last is found by its key, if it has one, unless an earlier item has that key
 pub placed-noted : {X Z : Type 0} (has : List ℕ → X → Bool) (start old new : Noted Z) (xs all : List X) (x : X) (key : Option (List ℕ)) (place : ℕ)
     → ((q : List ℕ) → has q x ≡ option_map_or (pointwise nat_eq q) key false) → place ≡ length xs → all ≡ xs ++ x ∷ [] → old ≡ start
     → Notes old key place new → ArePlaced has start xs → ArePlaced has new all

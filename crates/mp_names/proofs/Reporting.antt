@@ -36,7 +36,7 @@ get-with r id word q = get-insert nat_list_cmp_total r id word q ∙ ap (λ b. c
 get-without : (r : Reported) (id q : List ℕ) → get (remove r id) q ≡ cond (pointwise nat_eq q id) None (get r q)
 get-without r id q = get-remove nat_list_cmp_total r id q ∙ ap (λ b. cond b None (get r q)) (sym (texts_ties q id))
 
--- a table with one entry more, or another at its key
+-- a table with one more entry, or a new value under its key
 pub set-entries : (old new : List (List ℕ × List ℕ)) (id word : List ℕ) → ((q : List ℕ) → lookup (pointwise nat_eq q) new ≡ cond (pointwise nat_eq id q) (Some word) (lookup (pointwise nat_eq q) old))
     → from_entries {R = slice_cmp nat_cmp} new ≡ insert (from_entries old) id word
 set-entries old new id word is = same_reported _ _ (λ q.
@@ -50,7 +50,7 @@ removed-entries old new id is = same_reported _ _ (λ q.
     sym (found-get new q) ∙ is q ∙ ap (λ b. cond b None (lookup (pointwise nat_eq q) old)) (nat_list_eq_equiv.symm id q)
     ∙ ap (cond (pointwise nat_eq q id) None) (found-get old q) ∙ sym (get-without (from_entries old) id q))
 
--- ---- names that go
+-- -- names that are forgotten
 
 pub get-left : (goes : List (List ℕ)) (r : Reported) (q : List ℕ) → get (reported_left goes r) q ≡ cond (not (option_map_or (is_among goes) (get r q) false)) (get r q) None
 get-left goes r q =
@@ -64,7 +64,7 @@ among-append (x ∷ xs) ys name = elim (pointwise nat_eq name x) as (λ b. (b ||
   | false ↦ among-append xs ys name
 ]
 
--- what is left of what is left
+-- leaving out names twice
 pub left-left : (first second : List (List ℕ)) (r : Reported) → reported_left second (reported_left first r) ≡ reported_left (first ++ second) r
 left-left first second r = same_reported _ _ (λ q.
     get-left second (reported_left first r) q
@@ -107,7 +107,7 @@ get-left_one word r q = get-left (word ∷ []) r q ∙ by (get r q)
 abbrev pub is_declared : List NamedBinding → List ℕ → List ℕ → Bool
 is_declared bindings id word = option_map_or (has_tx_id id) (find (has_name word) bindings) false
 
--- no transaction is reported under a word that stands for none
+-- no transaction is reported under a word that denotes no transaction
 pub left-other : (bindings : List NamedBinding) (r : Reported) (word : List ℕ) → AreDeclared bindings r → ((id : List ℕ) → is_declared bindings id word ≡ false) → r ≡ reported_left (word ∷ []) r
 left-other bindings r word declared none = same_reported _ _ (λ q. by q (get r q) refl ∙ sym (get-left_one word r q))
   where
@@ -121,7 +121,7 @@ left-other bindings r word declared none = same_reported _ _ (λ q. by q (get r 
             absurd (true≢false (sym (declared q name is) ∙ ap (is_declared bindings q) (sym word_is) ∙ none q))
         named false other = refl
 
--- the transaction that the word stands for is the only one that may be reported under it
+-- only the transaction that the word denotes may be reported under it
 pub left-unreported : (bindings : List NamedBinding) (r : Reported) (word id : List ℕ) → AreDeclared bindings r → ((q : List ℕ) → is_declared bindings q word ≡ pointwise nat_eq q id)
     → unreported r id word ≡ reported_left (word ∷ []) r
 left-unreported bindings r word id declared only = same_reported _ _ (λ q. at q (option_map_or (pointwise nat_eq word) (get r id) false) refl (get r q) refl ∙ sym (get-left_one word r q))
@@ -154,7 +154,7 @@ left-unreported bindings r word id declared only = same_reported _ _ (λ q. at q
             absurd (true≢false (sym here ∙ ap (λ p. option_map_or (pointwise nat_eq word) p false) (sym is ∙ ap (get r) id_is) ∙ there))
         named false here = refl
 
--- the id of the transaction that the word stands for, if it stands for one
+-- the id of the transaction that the word denotes, if it denotes one
 abbrev pub id_of_word : List NamedBinding → List ℕ → Option (List ℕ)
 id_of_word bindings word = option_and_then (λ n. bound_id n.binding) (find (has_name word) bindings)
 
@@ -178,7 +178,7 @@ left-noted bindings r word id is declared = left-unreported bindings r word id d
 pub left-unnoted : (bindings : List NamedBinding) (r : Reported) (word : List ℕ) → None ≡ id_of_word bindings word → AreDeclared bindings r → r ≡ reported_left (word ∷ []) r
 left-unnoted bindings r word is declared = left-other bindings r word declared (λ q. declared-key bindings word q ∙ ap (λ o. is_key o q) (sym is))
 
--- the word is declared for the transaction that it stands for
+-- the word is declared for the transaction that it denotes
 pub declared-named : (bindings : List NamedBinding) (word id : List ℕ) → Some id ≡ option_map (λ t. id_of t.tx) (option_and_then bound_tx (option_map (λ n. n.binding) (find (has_name word) bindings))) → is_declared bindings id word ≡ true
 declared-named bindings word id is =
     declared-key bindings word id ∙ ap (λ o. is_key o id) (id_named bindings word ∙ sym is) ∙ (bytes_decides id id).1 refl
@@ -191,7 +191,7 @@ declared-none bindings id word is = absurd (no_name (sym (get-empty (slice_cmp n
     no_name : None ≡ Some word → ⊥
     no_name e = Prim.cc
 
--- where one more is declared
+-- after one more declaration
 pub declared-push : (bindings : List NamedBinding) (r : Reported) (n : NamedBinding) → AreDeclared bindings r → AreDeclared (bindings ++ n ∷ []) r
 declared-push bindings r n declared id word is =
     ap (λ o. option_map_or (has_tx_id id) o false) (find-append (has_name word) bindings (n ∷ []))
@@ -201,7 +201,7 @@ declared-push bindings r n declared id word is =
     by None e = absurd (true≢false (sym e))
     by (Some m) e = e
 
--- where one more is reported
+-- after one more report
 pub declared-insert : (bindings : List NamedBinding) (r : Reported) (id word : List ℕ) → is_declared bindings id word ≡ true → AreDeclared bindings r → AreDeclared bindings (insert r id word)
 declared-insert bindings r id word here declared q name is = by (pointwise nat_eq q id) refl (sym (get-with r id word q) ∙ is)
   where
@@ -222,7 +222,7 @@ find-filter : (test keeps : NamedBinding → Bool) (bs : List NamedBinding) → 
 find-filter test keeps [] is = refl
 find-filter test keeps (b ∷ bs) is = find_kept (test b) (keeps b) b (filter keeps bs) test (find test bs) refl (is b) (find-filter test keeps bs is)
 
--- where a name goes
+-- after a name is forgotten
 pub declared-left : (bindings : List NamedBinding) (r : Reported) (word : List ℕ) → AreDeclared bindings r → AreDeclared (filter (λ n. not (has_name word n)) bindings) (reported_left (word ∷ []) r)
 declared-left bindings r word declared id name is = by (get r id) refl (sym (get-left_one word r id) ∙ is)
   where

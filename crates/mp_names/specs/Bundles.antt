@@ -13,7 +13,7 @@ use Rattle.mp_names.specs.Splitting.{split_once}
 use Rattle.mp_names.specs.Rising.{entry_cmp, insert_rising}
 use Rattle.mp_names.specs.Names.{Names, script_named}
 
--- the policy of coin is zeros, and any other is the hash of a script
+-- the policy of coin is zeros; any other is the hash of a script
 abbrev pub policy_named : Names → List ℕ → Option (List ℕ)
 policy_named names word = if pointwise nat_eq word (codes "coin") then Some (replicate 32 0) else option_map sha256 (script_named word names)
 
@@ -21,19 +21,19 @@ policy_named names word = if pointwise nat_eq word (codes "coin") then Some (rep
 abbrev pub is_token_name : List ℕ → Bool
 is_token_name word = nat_lt 0 (length word) && nat_le (length word) 32 && list_all is_letter_or_digit word
 
--- a quantity, or one behind `-`, 45
+-- a quantity, with or without a leading `-` (45)
 abbrev pub signed_quantity_of : List ℕ → Option ℤ
 signed_quantity_of [] = None
 signed_quantity_of (b ∷ bytes) =
     if b == 45 then option_map (λ n. neg_ℤ (pos n)) (quantity_of bytes)
     else option_map pos (quantity_of (b ∷ bytes))
 
--- POLICY, whose token has no name, or POLICY.TOKEN
+-- POLICY, for the token without a name, or POLICY.TOKEN
 abbrev pub token_by : Names → List ℕ → Option (List ℕ) → Option Token
 token_by names policy None = option_map (λ p. token p []) (policy_named names policy)
 token_by names policy (Some name) = if is_token_name name then option_map (λ p. token p name) (policy_named names policy) else None
 
--- coin is meant where no token is named; 46 is the dot
+-- without a token, coin is meant; 46 is the dot
 abbrev pub token_of : Names → Option (List ℕ) → Option Token
 token_of names None = Some coin
 token_of names (Some word) = token_by names (split_once 46 word).0 (split_once 46 word).1
@@ -51,11 +51,11 @@ abbrev pub put_entries : Names → List Entry → List (List ℕ) → Option (Li
 put_entries names entries [] = Some entries
 put_entries names entries (word ∷ words) = option_and_then (λ e. put_entries names (insert_rising entry_cmp e entries) words) (entry_of names word)
 
--- no token stands twice
+-- no token occurs twice
 abbrev pub bundle_by : List Entry → Option (List Entry)
 bundle_by entries = if is_none (fault_of entries) then Some entries else None
 
--- entries in any order between commas, 44, or `-` for none
+-- entries in any order, separated by commas (44), or `-` for none
 unfoldable pub bundle_of : Names → List ℕ → Option (List Entry)
 bundle_of names word =
     if pointwise nat_eq word (codes "-") then Some []

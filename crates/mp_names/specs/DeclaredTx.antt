@@ -5,5 +5,5 @@ use Rattle.mp_names.specs.declared.payment.Payment.{Payment}
 
 pub record DeclaredTx : Type 0 where
   pub tx : Transaction
-  -- its outputs, each with the script and the datum that the transaction names by their hashes alone
+  -- its outputs, with the scripts and data that the transaction names only by hash
   pub payments : List Payment

@@ -1,4 +1,4 @@
--- What the names of a scenario stand for.
+-- What the names of a scenario denote.
 use Rattle.std.specs.Prelude.{ℕ, ◌&&◌, ◌++◌, Bool, false, not, nat_eq, List, [], ◌∷◌, find, filter, codes, is_none, Option, None, Some, option_map, option_and_then, unwrap_or, replicate, if◌then◌else◌}
 use Rattle.std.specs.Option.{option_or, option_map_or}
 use Rattle.std.specs.List.{list_any}
@@ -24,7 +24,7 @@ pub record Names : Type 0 where
   pub scripts : List NamedScript
   pub datums : List NamedDatum
 
--- what the word stands for, if it was declared
+-- what the word denotes, if it is declared
 abbrev pub binding_named : List ℕ → Names → Option Binding
 binding_named word names = option_map (λ n. n.binding) (find (λ n. pointwise nat_eq word n.name) names.bindings)
 
@@ -38,7 +38,7 @@ abbrev pub bound_tx : Binding → Option DeclaredTx
 bound_tx (Opening r p) = None
 bound_tx (Made t) = Some t
 
--- the transaction that the word stands for, if it stands for one
+-- the transaction that the word denotes, if it denotes one
 abbrev pub tx_named : List ℕ → Names → Option DeclaredTx
 tx_named word names = option_and_then bound_tx (binding_named word names)
 
@@ -46,14 +46,14 @@ tx_named word names = option_and_then bound_tx (binding_named word names)
 abbrev pub is_new_binding : List ℕ → Names → Bool
 is_new_binding word names = is_name word && is_none (binding_named word names)
 
--- `coin` isn't the name of a script
+-- `coin` can't be the name of a script
 abbrev pub is_new_script : List ℕ → Names → Bool
 is_new_script word names = is_name word && not (pointwise nat_eq word (codes "coin")) && is_none (script_named word names)
 
 abbrev pub is_new_datum : List ℕ → Names → Bool
 is_new_datum word names = is_name word && is_none (datum_named word names)
 
--- the scripts that are true and false, and the list of no data
+-- the scripts that are true and false, and the datum that is an empty list
 abbrev pub first_names : Names
 first_names = record {
   bindings = [];
@@ -79,7 +79,7 @@ is_among names name = list_any (λ n. pointwise nat_eq name n) names
 abbrev pub reported_left : List (List ℕ) → Reported → Reported
 reported_left goes reported = retain_keys reported (λ id. not (option_map_or (is_among goes) (get reported id) false))
 
--- without the outputs and transactions that have these names; the others stay in their order
+-- without the outputs and transactions with these names; the others keep their order
 abbrev pub without_bindings : Names → List (List ℕ) → Names
 without_bindings names goes = record names {
   bindings = filter (λ n. not (is_among goes n.name)) names.bindings;
@@ -90,7 +90,7 @@ abbrev pub reported_with : Reported → List ℕ → Option DeclaredTx → Repor
 reported_with reported word None = reported
 reported_with reported word (Some t) = insert reported (id_of t.tx) word
 
--- the transaction that the word stands for, if it stands for one, is reported under it
+-- if the word denotes a transaction, that is now reported under it
 abbrev pub with_reported : Names → List ℕ → Names
 with_reported names word = record names { reported = reported_with names.reported word (tx_named word names) }
 
@@ -101,15 +101,15 @@ has_id id (Made t) = pointwise nat_eq id (id_of t.tx)
 abbrev pub has_hash : List ℕ → List ℕ → Bool
 has_hash hash script = pointwise nat_eq hash (sha256 script)
 
--- the name of the first transaction that was declared with this id, if one was
+-- the name of the first transaction declared with this id, if there is one
 abbrev pub first_name_of : List ℕ → Names → Option (List ℕ)
 first_name_of id names = option_map (λ n. n.name) (find (λ n. has_id id n.binding) names.bindings)
 
--- the name under which the transaction is reported: without one, the first that it was declared with
+-- the name under which the transaction is reported; without one, the first name declared for it
 abbrev pub name_of : List ℕ → Names → List ℕ
 name_of id names = unwrap_or (option_or (get names.reported id) (first_name_of id names)) []
 
--- the policy of coin is zeros, and any other is told by the first script with that hash
+-- the policy of coin is zeros; any other has the name of the first script with that hash
 abbrev pub policy_name : List ℕ → Names → List ℕ
 policy_name policy names =
     if pointwise nat_eq policy (replicate 32 0) then codes "coin"

@@ -12,12 +12,12 @@ use Rattle.mp_names.specs.Bundles.{bundle_of}
 abbrev pub output_of : Payment → Output
 output_of p = record { address = sha256 p.script; datum_hash = sha256 p.datum; value = p.value }
 
--- the script that a word names, and `yes` where there is no word
+-- the script that a word names; `yes` without a word
 abbrev pub script_or_yes : Names → Option (List ℕ) → Option (List ℕ)
 script_or_yes names None = script_named (codes "yes") names
 script_or_yes names (Some word) = script_named word names
 
--- the datum that a word names, and `unit` where there is no word
+-- the datum that a word names; `unit` without a word
 abbrev pub datum_or_unit : Names → Option (List ℕ) → Option (List ℕ)
 datum_or_unit names None = datum_named (codes "unit") names
 datum_or_unit names (Some word) = datum_named word names
@@ -28,7 +28,7 @@ payment_by (Some v) (Some s) None = None
 payment_by (Some v) None d = None
 payment_by None s d = None
 
--- SCRIPT or SCRIPT/DATUM, 47 being the slash: its two words
+-- the two words of SCRIPT or SCRIPT/DATUM; 47 is the slash
 abbrev pub lock_words : Option (List ℕ) → Option (List ℕ) × Option (List ℕ)
 lock_words None = (None, None)
 lock_words (Some word) = (Some (split_once 47 word).0, (split_once 47 word).1)

@@ -10,11 +10,11 @@ use Rattle.mp_names.specs.Splitting.{split_once}
 use Rattle.mp_names.specs.DeclaredTx.{DeclaredTx}
 use Rattle.mp_names.specs.Names.{Names, binding_named, tx_named}
 
--- number K of the opening outputs, from 0
+-- opening output K, from 0
 abbrev pub opening_ref : ℕ → OutRef
 opening_ref k = record { id = replicate 32 0; index = k }
 
--- a place below 2^16
+-- an index below 2^16
 abbrev pub place_of : List ℕ → Option ℕ
 place_of word = number_in 0 (2 ^ 16 - 1) word
 
@@ -37,13 +37,13 @@ ref_by names word (Some place) = output_ref (tx_named word names) (place_of plac
 unfoldable pub ref_of : Names → List ℕ → Option OutRef
 ref_of names word = ref_by names (split_once 46 word).0 (split_once 46 word).1
 
--- what stands at a place of a transaction's outputs, if anything does
+-- the payment at an index of a transaction's outputs, if there is one
 abbrev pub payment_at : Option DeclaredTx → Option ℕ → Option Payment
 payment_at (Some t) (Some k) = slice_get t.payments k
 payment_at (Some t) None = None
 payment_at None k = None
 
--- the payment that the output named is, where that exists
+-- the payment of the named output, if that exists
 abbrev pub paid_by : Names → List ℕ → Option (List ℕ) → Option Payment
 paid_by names word None = option_map (λ o. o.1) (option_and_then opening_of (binding_named word names))
 paid_by names word (Some place) = payment_at (tx_named word names) (place_of place)

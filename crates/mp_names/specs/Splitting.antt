@@ -1,7 +1,7 @@
--- How words are taken apart.
+-- How words are split.
 use Rattle.std.specs.Prelude.{ℕ, ◌+◌, ◌==◌, List, take, drop, position, Option, None, Some}
 
--- the bytes before the separator, and those after it, where there is one
+-- the bytes before the separator, and those after it if there is one
 abbrev pub split_at_place : List ℕ → Option ℕ → List ℕ × Option (List ℕ)
 split_at_place word None = (word, None)
 split_at_place word (Some k) = (take k word, Some (drop (k + 1) word))

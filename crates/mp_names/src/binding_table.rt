@@ -1,4 +1,4 @@
-//! Bindings in the order in which they were declared, found by name or by id without a walk.
+//! Bindings in the order of their declaration, found by name or id without a walk.
 
 ghost use Rattle.std.specs.Prelude.{◌≡◌, Some, option_and_then, option_copied, OnOk, OnErr};
 ghost use Rattle.std.specs.Ordering.{nat_cmp};
@@ -25,11 +25,11 @@ impl Drop for Numbers {
     }
 }
 
-/// Bindings with their names. Contracts see the list of them, in the order in which they were declared.
+/// Bindings with their names. Contracts see them as a list, in the order of their declaration.
 pub struct BindingTable {
-    // Each under a number. A binding has a greater one than those that were declared before it.
+    // Bindings by number. Later declarations have greater numbers.
     bindings: BTreeMap<u64, NamedBinding, Memory>,
-    // Greater than each number.
+    // Greater than all numbers.
     next: u64,
     numbers: Numbers,
 }
@@ -58,7 +58,7 @@ impl Model for BindingTable {
         t.numbers.ids.entries };
 }
 
-// Puts the number under the transaction's id. An output of the opening ledger state has none.
+// Adds the number under the transaction's id. An output of the opening ledger state has no id.
 fn put_id(ids: &mut NumberTable, binding: &Binding, number: u64) -> Result<(), NoMemory>
     ensures ok { OnOk result
         (Puts ids.old.entries (bound_id binding.now) number ids.new.entries) }
@@ -88,7 +88,7 @@ fn take_keys(numbers: &mut Numbers, named: &NamedBinding, number: u64)
     take_id(&mut numbers.ids, &named.binding, number);
 }
 
-// Puts the number under the binding's keys. After an `Err` each key has the numbers that it had.
+// Adds the number under the binding's keys. After an `Err` each key has the numbers that it had.
 fn put_keys(numbers: &mut Numbers, named: &NamedBinding, number: u64) -> Result<(), NoMemory>
     requires { IsNew number numbers.old.names.entries }
     ensures names { OnOk result (Puts numbers.old.names.entries (Some named.now.name) number
@@ -121,7 +121,7 @@ impl BindingTable {
     ghost use Rattle.std.specs.Prelude.{◌≡◌, [], ◌∷◌, ◌++◌, length, find, filter, not, is_some, option_and_then, option_copied, OnOk, OnErr};
     ghost use Rattle.mp_names.specs.Inside.BindingTable.{has_name, has_tx_id, without_first};
 
-    /// No binding.
+    /// A table without bindings.
     pub fn new(memory: Memory, salt: Salt) -> BindingTable
         ensures { result ≡ [] }
     {
@@ -149,7 +149,7 @@ impl BindingTable {
         binding_at(&self.bindings, first_under(&self.numbers.ids, id))
     }
 
-    /// The id of the transaction that the first binding with this name is, if it is one.
+    /// The id of the transaction that the first binding with this name denotes, if it is one.
     pub fn tx_id(&self, word: &[u8]) -> Option<TxId>
         ensures { result ≡ option_and_then (λ n. bound_id n.binding)
             (find (has_name word.now) self.now) }
@@ -160,7 +160,7 @@ impl BindingTable {
         }
     }
 
-    /// Puts the binding last. After an `Err` the table is as it was.
+    /// Adds the binding as the last one. After an `Err` the table is as it was.
     pub fn push(&mut self, named: NamedBinding) -> Result<(), NoMemory>
         ensures ok { OnOk result (self.new ≡ self.old ++ named ∷ []) }
         ensures err { OnErr result (self.new ≡ self.old) }
@@ -183,7 +183,7 @@ impl BindingTable {
         }
     }
 
-    // Takes out the first binding with this name, if there is one.
+    // Removes the first binding with this name, if there is one. Returns whether there was.
     fn take_first(&mut self, word: &[u8]) -> bool
         ensures found { result ≡ is_some (find (has_name word.now) self.old) }
         ensures left { self.new ≡ without_first (has_name word.now) self.old }
@@ -200,14 +200,14 @@ impl BindingTable {
         }
     }
 
-    /// How many there are.
+    /// How many bindings there are.
     pub fn len(&self) -> usize
         ensures { result ≡ length self.now }
     {
         self.bindings.len()
     }
 
-    /// Takes out the bindings with this name; the others stay in their order.
+    /// Removes the bindings with this name. The others keep their order.
     pub fn forget(&mut self, word: &[u8])
         ensures { self.new ≡ filter (λ n. not (has_name word.now n)) self.old }
     {

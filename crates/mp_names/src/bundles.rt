@@ -98,7 +98,7 @@ fn token_named(policy: PolicyId, name: &[u8]) -> Result<Token, Reason<'_>>
     }
 }
 
-// POLICY, whose token has no name, or POLICY.TOKEN.
+// POLICY, for the token without a name, or POLICY.TOKEN.
 fn token_by<'a>(
     names: &Names,
     policy: &'a [u8],
@@ -116,7 +116,7 @@ fn token_by<'a>(
     }
 }
 
-// Coin is meant where no token is named.
+// Without a token, coin is meant.
 fn token_of<'a>(names: &Names, word: Option<&'a [u8]>) -> Result<Token, Reason<'a>>
     ensures { result_ok result ≡ token_of names.now (option_copied word.entry) }
 {
@@ -177,7 +177,7 @@ fn is_faultless(entries: &[Entry]) -> bool
     true
 }
 
-// The entries between commas, in rising order.
+// The entries between commas, in increasing order.
 fn entries_of<'a>(
     memory: Memory,
     names: &Names,
@@ -197,7 +197,7 @@ fn entries_of<'a>(
     Ok(entries)
 }
 
-// The first entry whose token an earlier one has, unless one before it is bad.
+// The first entry whose token an earlier one has, unless a bad entry precedes it.
 fn repeat_in<'a>(names: &Names, word: &'a [u8]) -> Option<Reason<'a>> {
     first_repeat(
         word,
@@ -210,7 +210,7 @@ fn repeat_in<'a>(names: &Names, word: &'a [u8]) -> Option<Reason<'a>> {
     )
 }
 
-// Entries that were read have no fault but a token that stands twice. Which one it is isn't known here.
+// The only fault of entries that were read is a token that occurs twice. Which token that is isn't known here.
 fn bundle_by<'a>(
     memory: Memory,
     entries: Vec<Entry, Memory>,
@@ -238,7 +238,7 @@ fn read_bundle<'a>(memory: Memory, names: &Names, word: &'a [u8]) -> Result<Bund
     bundle_by(memory, entries, word)
 }
 
-/// The bundle that a word is: entries in any order between commas, or `-` for none. No token may stand twice.
+/// The bundle that a word is: entries in any order, separated by commas, or `-` for none. No token may occur twice.
 pub fn bundle_of<'a>(memory: Memory, names: &Names, word: &'a [u8]) -> Result<Bundle, LineFault<'a>>
     ensures { Reads (bundle_of names.now word.now) result }
 {

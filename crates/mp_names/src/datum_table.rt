@@ -1,4 +1,4 @@
-//! Data in the order in which they were declared, found by name without a walk.
+//! Data in the order of their declaration, found by name without a walk.
 
 ghost use Rattle.std.specs.Prelude.{◌≡◌, slice_get, option_and_then, option_copied};
 
@@ -8,7 +8,7 @@ use mp_memory::{Memory, NoMemory};
 use mp_tx::Salt;
 use std::marker::Model;
 
-/// Data with their names. Contracts see the list of them, in the order in which they were declared.
+/// Data with their names. Contracts see them as a list, in the order of their declaration.
 pub struct DatumTable {
     datums: Vec<NamedDatum, Memory>,
     names: PlaceTable,
@@ -46,7 +46,7 @@ impl DatumTable {
     ghost use Rattle.std.specs.Prelude.{◌≡◌, [], ◌∷◌, ◌++◌, find, nat_eq, option_copied, OnOk, OnErr};
     ghost use Rattle.std.specs.Cmp.Lexicographic.{pointwise};
 
-    /// No datum.
+    /// A table without data.
     pub fn new(memory: Memory, salt: Salt) -> DatumTable
         ensures { result ≡ [] }
     {
@@ -63,7 +63,7 @@ impl DatumTable {
         datum_at(&self.datums, place_under(&self.names, word))
     }
 
-    /// Puts the datum last. After an `Err` the table is as it was.
+    /// Adds the datum as the last one. After an `Err` the table is as it was.
     pub fn push(&mut self, named: NamedDatum) -> Result<(), NoMemory>
         ensures ok { OnOk result (self.new ≡ self.old ++ named ∷ []) }
         ensures err { OnErr result (self.new ≡ self.old) }

@@ -6,7 +6,7 @@ use mp_tx::Tx;
 use std::marker::Model;
 use std::sync::Arc;
 
-/// A transaction, and its outputs with the script and the datum of each.
+/// A transaction, and its outputs with their scripts and data.
 pub struct DeclaredTx {
     tx: Arc<Tx, Memory>,
     payments: Vec<Payment, Memory>,
@@ -31,7 +31,7 @@ impl DeclaredTx {
     ghost use Rattle.std.specs.Prelude.{◌≡◌};
     ghost use Rattle.std.specs.Arc.{arc_value};
 
-    /// The transaction with what its outputs pay.
+    /// The transaction with the payments of its outputs.
     pub fn of(tx: Arc<Tx, Memory>, payments: Vec<Payment, Memory>) -> DeclaredTx
         ensures { result ≡ record { tx = arc_value tx; payments = payments.items } }
     {

@@ -11,7 +11,7 @@ use std::alloc::{AllocError, AllocFailed};
 #[derive(Clone, Copy)]
 pub enum LineFault<'a> {
     NoMemory,
-    /// The line is none of the language, and this is wrong with it.
+    /// The line isn't in the language, for this reason.
     Bad(Reason<'a>),
 }
 

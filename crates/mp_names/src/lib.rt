@@ -1,4 +1,4 @@
-//! What the words of a scenario's lines stand for: names, settings, references, bundles and payments.
+//! What the words of a scenario's lines denote: names, settings, references, bundles and payments.
 #![tactic(auto)]
 
 mod binding_table;

@@ -1,4 +1,4 @@
-//! What the names of a scenario stand for.
+//! What the names of a scenario denote.
 
 ghost use Rattle.std.specs.Prelude.{◌≡◌, [], ◌∷◌, IfOk, OnOk};
 ghost use Rattle.mp_names.specs.Names.{first_names, reported_left};
@@ -18,7 +18,7 @@ use mp_text::is_name;
 use mp_tx::{OutRef, Salt, TxId};
 use std::marker::Model;
 
-/// The word for the policy of coin. No script has it for a name.
+/// The word for the policy of coin. It can't be the name of a script.
 pub const COIN: &[u8] = b"coin";
 
 /// A name.
@@ -68,7 +68,7 @@ impl Name {
     }
 }
 
-/// What the name of an output or a transaction stands for.
+/// What the name of an output or a transaction denotes.
 #[derive(Drop)]
 pub enum Binding {
     /// An output of the opening ledger state.
@@ -112,8 +112,8 @@ impl Drop for NamedDatum {
     }
 }
 
-/// What is declared so far: outputs and transactions, scripts, and data. The scripts `yes` and `no` and the datum `unit` are
-/// declared beforehand.
+/// What has been declared so far: outputs and transactions, scripts, and data. The scripts `yes` and `no` and the datum `unit`
+/// are declared from the start.
 pub struct Names {
     bindings: BindingTable,
     reported: ReportedNames,
@@ -153,7 +153,7 @@ impl Model for Names {
 fn script_of(memory: Memory, name: &[u8], bytes: &[u8]) -> Result<NamedScript, NoMemory>
     ensures { IfOk result (λ n. n ≡ record { name = name.now; script = bytes.now }) }
 {
-    // These bytes are a script, so memory alone can be wanting.
+    // These bytes are a script, so only an allocation can fail.
     let script = Script::decode(memory, bytes).or(Err(NoMemory))?;
     let name = Name::of(memory, name)?;
     Ok(NamedScript { name, script })
@@ -162,13 +162,13 @@ fn script_of(memory: Memory, name: &[u8], bytes: &[u8]) -> Result<NamedScript, N
 fn datum_of(memory: Memory, name: &[u8], bytes: &[u8]) -> Result<NamedDatum, NoMemory>
     ensures { IfOk result (λ n. n ≡ record { name = name.now; datum = bytes.now }) }
 {
-    // These bytes are a datum, so memory alone can be wanting.
+    // These bytes are a datum, so only an allocation can fail.
     let datum = Data::decode(memory, bytes).or(Err(NoMemory))?;
     let name = Name::of(memory, name)?;
     Ok(NamedDatum { name, datum })
 }
 
-// Declares what is declared beforehand.
+// Makes the declarations that exist from the start.
 fn put_first(
     scripts: &mut ScriptTable,
     datums: &mut DatumTable,
@@ -183,7 +183,7 @@ fn put_first(
     datums.push(datum_of(memory, b"unit", &[0x03, 0x00, 0x00])?)
 }
 
-// The transaction that the word stands for is no longer reported under it.
+// The transaction that the word denotes is no longer reported under it.
 fn unreport(bindings: &BindingTable, reported: &mut ReportedNames, word: &[u8])
     requires { AreDeclared bindings.now reported.old }
     ensures { reported.new ≡ reported_left (word.now ∷ []) reported.old }
@@ -193,7 +193,7 @@ fn unreport(bindings: &BindingTable, reported: &mut ReportedNames, word: &[u8])
     }
 }
 
-/// Why a word that isn't new can't be declared: it is no name, or is taken.
+/// Why a word can't be declared that isn't new: it is no name, or is in use.
 pub fn refused_name(word: &[u8]) -> Reason<'_> {
     if is_name(word) {
         Reason::Taken(word)
@@ -208,7 +208,7 @@ impl Names {
     ghost use Rattle.mp_names.specs.Names.{first_names, binding_named, script_named, datum_named, tx_named, is_new_binding, is_new_script, is_new_datum, first_name_of, name_of, policy_name, with_binding, with_script, with_datum, with_reported, without_bindings};
     ghost use Rattle.mp_tx.specs.Spelling.{id_of};
 
-    /// The names that are declared beforehand. Where names lie in tables depends on the salt, and no answer does.
+    /// The names that are declared from the start. The layout of the tables depends on the salt, and no answer does.
     pub fn new(memory: Memory, salt: Salt) -> Result<Names, NoMemory>
         ensures { IfOk result (λ n. n ≡ first_names) }
     {
@@ -224,7 +224,7 @@ impl Names {
         })
     }
 
-    /// From now on the name stands for this. After an `Err` the names are as they were.
+    /// Declares the name. After an `Err` the names are as they were.
     pub fn declare(&mut self, name: Name, binding: Binding) -> Result<(), NoMemory>
         ensures ok { OnOk result (self.new
             ≡ with_binding self.old (record { name = name; binding = binding })) }
@@ -240,7 +240,7 @@ impl Names {
         self.bindings.len()
     }
 
-    // From now on the word stands for no output and no transaction.
+    // The word then denotes no output and no transaction.
     fn forget_name(&mut self, word: &[u8])
         ensures { self.new ≡ without_bindings self.old (word.now ∷ []) }
     {
@@ -248,9 +248,9 @@ impl Names {
         self.bindings.forget(word);
     }
 
-    /// From now on these names stand for no output and no transaction, no transaction is reported under them, and they may be
-    /// declared again. Returns how many went; a name that isn't declared counts nothing. The cost depends on these names, and
-    /// not on how many are declared.
+    /// Forgets these names: they denote no output and no transaction, no transaction is reported under them, and they may be
+    /// declared again. Returns how many bindings were removed. A name that isn't declared counts 0. The cost depends on these
+    /// names, not on how many are declared.
     pub fn forget(&mut self, goes: &[Name]) -> usize
         ensures left { self.new ≡ without_bindings self.old goes.now }
         ensures count { result + length self.new.bindings ≡ length self.old.bindings }
@@ -262,15 +262,15 @@ impl Names {
         before - self.binding_count()
     }
 
-    // The id of the transaction that the word stands for, if it stands for one.
+    // The id of the transaction that the word denotes, if it denotes one.
     fn tx_id(&self, word: &[u8]) -> Option<TxId>
         ensures { result ≡ option_map (λ t. id_of t.tx) (tx_named word.now self.now) }
     {
         self.bindings.tx_id(word)
     }
 
-    /// From now on the transaction that the word stands for is reported under it. Nothing changes where it stands for no
-    /// transaction, and after an `Err`.
+    /// From now on the transaction that the word denotes is reported under it. Nothing changes if the word denotes no
+    /// transaction, or after an `Err`.
     pub fn report(&mut self, word: &[u8]) -> Result<(), NoMemory>
         ensures ok { OnOk result (self.new ≡ with_reported self.old word.now) }
         ensures err { OnErr result (self.new ≡ self.old) }
@@ -283,7 +283,7 @@ impl Names {
         Ok(())
     }
 
-    /// From now on the name stands for the script. After an `Err` the names are as they were.
+    /// Declares the script. After an `Err` the names are as they were.
     pub fn declare_script(&mut self, named: NamedScript) -> Result<(), NoMemory>
         ensures ok { OnOk result (self.new ≡ with_script self.old named) }
         ensures err { OnErr result (self.new ≡ self.old) }
@@ -291,7 +291,7 @@ impl Names {
         self.scripts.push(named)
     }
 
-    /// From now on the name stands for the datum. After an `Err` the names are as they were.
+    /// Declares the datum. After an `Err` the names are as they were.
     pub fn declare_datum(&mut self, named: NamedDatum) -> Result<(), NoMemory>
         ensures ok { OnOk result (self.new ≡ with_datum self.old named) }
         ensures err { OnErr result (self.new ≡ self.old) }
@@ -299,7 +299,7 @@ impl Names {
         self.datums.push(named)
     }
 
-    // The name of the first transaction that was declared with this id; empty where none was.
+    // The name of the first transaction declared with this id; empty if there is none.
     fn first_name_of(&self, id: &TxId) -> &[u8]
         ensures { result.now ≡ unwrap_or (first_name_of id.now self.now) [] }
     {
@@ -309,8 +309,8 @@ impl Names {
         }
     }
 
-    /// The name under which the transaction with this id is reported: without one, the first that it was declared with; empty
-    /// where it wasn't declared.
+    /// The name under which the transaction with this id is reported. Without one, the first name declared for it; empty if it
+    /// isn't declared.
     pub fn name_of(&self, id: &TxId) -> &[u8]
         ensures { result.now ≡ name_of id.now self.now }
     {
@@ -320,8 +320,7 @@ impl Names {
         }
     }
 
-    /// The name that the first script with this hash was declared with, or `coin` where the hash is zeros; empty where
-    /// there is none.
+    /// The name of the first script declared with this hash; `coin` if the hash is zeros; empty if there is none.
     pub fn policy_name(&self, policy: &PolicyId) -> &[u8]
         ensures { result.now ≡ policy_name policy.now self.now }
     {
@@ -334,7 +333,7 @@ impl Names {
         }
     }
 
-    /// What the word stands for, if it was declared as an output or a transaction.
+    /// What the word denotes, if it is declared as an output or a transaction.
     pub fn binding(&self, word: &[u8]) -> Option<&Binding>
         ensures { option_copied result ≡ binding_named word.now self.now }
     {
@@ -342,7 +341,7 @@ impl Names {
         Some(&found.binding)
     }
 
-    /// The script that the word stands for, if there is one.
+    /// The script that the word denotes, if there is one.
     pub fn script<'a>(&self, word: &'a [u8]) -> Result<&Script, Reason<'a>>
         ensures { option_copied (result_ok result) ≡ script_named word.now self.now }
     {
@@ -352,7 +351,7 @@ impl Names {
         }
     }
 
-    /// The datum that the word stands for, if there is one.
+    /// The datum that the word denotes, if there is one.
     pub fn datum<'a>(&self, word: &'a [u8]) -> Result<&Data, Reason<'a>>
         ensures { option_copied (result_ok result) ≡ datum_named word.now self.now }
     {
@@ -362,7 +361,7 @@ impl Names {
         }
     }
 
-    /// The transaction that the word stands for, if there is one.
+    /// The transaction that the word denotes, if there is one.
     pub fn tx<'a>(&self, word: &'a [u8]) -> Result<&DeclaredTx, Reason<'a>>
         ensures { option_copied (result_ok result) ≡ tx_named word.now self.now }
     {

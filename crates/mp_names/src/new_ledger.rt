@@ -1,4 +1,4 @@
-//! The ledger state that a scenario's pool is to adopt.
+//! The ledger state that a scenario's pool adopts next.
 
 ghost use Rattle.std.specs.Prelude.{◌≡◌, None, Some, OnOk, OnErr, option_copied};
 ghost use Rattle.std.specs.List.{list_any};
@@ -15,7 +15,7 @@ use mp_memory::Memory;
 use mp_tx::{OutRef, Output};
 use std::marker::Model;
 
-/// The outputs of a ledger state, in the order in which they were named. No reference stands twice.
+/// The outputs of a ledger state, in the order of the line that names them. Their references are distinct.
 pub struct Outputs {
     entries: Vec<(OutRef, Output), Memory>,
 }
@@ -43,7 +43,7 @@ impl Model for Outputs {
 #[derive(Drop)]
 pub struct NewLedger {
     pub tick: u64,
-    /// The bytes that a block may have, where the line tells them.
+    /// The block bytes, if the line gives them.
     pub block_bytes: Option<BlockBytes>,
     pub outputs: Outputs,
 }
@@ -54,7 +54,7 @@ fn has_reference(entries: &[(OutRef, Output)], reference: &OutRef) -> bool
     entries.iter().any(|entry| *reference == entry.0)
 }
 
-// Puts the output last, unless the reference stands there.
+// Adds the output as the last one, unless an output has the reference.
 fn put_output<'a>(
     entries: &mut Vec<(OutRef, Output), Memory>,
     reference: OutRef,
@@ -83,7 +83,7 @@ impl Outputs {
     ghost use Rattle.mp_tx.specs.Ledger.{refs, AreDistinct};
     ghost use Rattle.mp_names.specs.Outputs.{with_output};
 
-    /// No output.
+    /// No outputs.
     pub fn new(memory: Memory) -> Outputs
         ensures { result ≡ [] }
     {
@@ -92,8 +92,8 @@ impl Outputs {
         }
     }
 
-    /// Puts the output last that has the reference and pays this, unless the reference stands there: then it is `Bad` for the
-    /// reason given. After an `Err` the outputs are as they were.
+    /// Adds an output with this reference and payment as the last one. If an output has the reference, it is `Bad` for the given
+    /// reason. After an `Err` the outputs are as they were.
     pub fn push<'a>(
         &mut self,
         reference: OutRef,
@@ -109,7 +109,7 @@ impl Outputs {
         put_output(&mut self.entries, reference, payment, reason)
     }
 
-    /// The outputs under their references.
+    /// The outputs with their references.
     pub fn into_entries(self) -> Vec<(OutRef, Output), Memory>
         ensures entries { result.items ≡ self }
         ensures distinct { AreDistinct (refs result.items) }

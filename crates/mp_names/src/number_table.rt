@@ -11,7 +11,7 @@ use mp_tx::Salt;
 /// Numbers under keys: names, or the ids of transactions. Those under one key are strictly increasing.
 pub type NumberTable = IndexMap<Vec<u8, Memory>, Vec<u64, Memory>, Salt, Memory>;
 
-/// No number.
+/// A table without numbers.
 pub fn no_numbers(memory: Memory, salt: Salt) -> NumberTable
     ensures { result.entries ≡ [] }
 {
@@ -33,7 +33,7 @@ fn one_number(memory: Memory, number: u64) -> Result<Vec<u64, Memory>, NoMemory>
     Ok(numbers)
 }
 
-// Puts the number under a key that has none.
+// Adds the number under a key that has none.
 fn put_first(table: &mut NumberTable, key: &[u8], number: u64) -> Result<(), NoMemory>
     requires { numbers_at table.old.entries key.now ≡ [] }
     ensures ok { OnOk result (Puts table.old.entries (Some key.now) number table.new.entries) }
@@ -46,7 +46,7 @@ fn put_first(table: &mut NumberTable, key: &[u8], number: u64) -> Result<(), NoM
     Ok(())
 }
 
-/// Puts the number last under the key. After an `Err` each key has the numbers that it had.
+/// Adds the number as the last one under the key. After an `Err` each key has the numbers that it had.
 pub fn put(table: &mut NumberTable, key: &[u8], number: u64) -> Result<(), NoMemory>
     ensures ok { OnOk result (Puts table.old.entries (Some key.now) number table.new.entries) }
     ensures err { OnErr result (AreSame table.old.entries table.new.entries) }
@@ -60,7 +60,7 @@ pub fn put(table: &mut NumberTable, key: &[u8], number: u64) -> Result<(), NoMem
     }
 }
 
-// Takes the number out. Returns whether none is left.
+// Removes the number. Returns whether none is left.
 fn take_out(numbers: &mut Vec<u64, Memory>, number: u64) -> bool
     ensures left { numbers.new.items ≡ without_number number numbers.old.items }
     ensures none { OnTrue result (numbers.new.items ≡ []) }
@@ -69,7 +69,7 @@ fn take_out(numbers: &mut Vec<u64, Memory>, number: u64) -> bool
     numbers.is_empty()
 }
 
-/// Takes the number from the key.
+/// Removes the number from the key.
 pub fn take(table: &mut NumberTable, key: &[u8], number: u64)
     ensures { Takes table.old.entries (Some key.now) number table.new.entries }
 {

@@ -8,7 +8,7 @@ ghost use Rattle.mp_names.specs.Numbers.{number_in};
 use crate::reason::Reason;
 use mp_text::number;
 
-/// The number that a word writes.
+/// The number that a word denotes.
 pub fn any_number(word: &[u8]) -> Result<u64, Reason<'_>>
     ensures { result_ok result ≡ number_of word.now }
 {
@@ -22,7 +22,7 @@ pub fn any_number(word: &[u8]) -> Result<u64, Reason<'_>>
     }
 }
 
-/// The number that a word writes, if it is in the range.
+/// The number that a word denotes, if it is in the range.
 pub fn number_in(word: &[u8], least: u64, most: u64) -> Result<u64, Reason<'_>>
     ensures number { result_ok result ≡ number_in least most word.now }
     ensures least { IfOk result (λ n. least ≤ n) }

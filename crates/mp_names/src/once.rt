@@ -1,4 +1,4 @@
-//! What may stand once.
+//! What may occur at most once.
 
 ghost use Rattle.std.specs.Prelude.{◌≡◌, None, Some, OnOk, OnErr};
 ghost use Rattle.mp_names.specs.Fault.{IsBad};
@@ -7,7 +7,7 @@ ghost use Rattle.mp_names.specs.Once.{set_once};
 use crate::fault::LineFault;
 use crate::reason::Reason;
 
-/// Sets what isn't set yet. `Bad` says that it was, for the reason given, and then it stays as it was.
+/// Sets a value that isn't set yet. If it is set, it stays as it is, and this is `Bad` for the given reason.
 pub fn set_once<'a, T: Drop>(
     set: &mut Option<T>,
     value: T,

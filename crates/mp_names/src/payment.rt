@@ -5,7 +5,7 @@ use mp_memory::{Memory, NoMemory};
 use mp_script::{Data, Script};
 use mp_tx::Output;
 
-/// An output with the whole of what it names by hashes: the script that locks it, and its datum.
+/// An output with what it names by hash in full: its script and its datum.
 pub struct Payment {
     pub value: Bundle,
     pub script: Script,

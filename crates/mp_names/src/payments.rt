@@ -19,7 +19,7 @@ const YES: &[u8] = b"yes";
 
 const UNIT: &[u8] = b"unit";
 
-/// The script that a word names; `yes` where there is no word.
+/// The script that a word names; `yes` without a word.
 pub fn script_or_yes<'n, 'a>(
     names: &'n Names,
     word: Option<&'a [u8]>,
@@ -33,7 +33,7 @@ pub fn script_or_yes<'n, 'a>(
     }
 }
 
-/// The datum that a word names; `unit` where there is no word.
+/// The datum that a word names; `unit` without a word.
 pub fn datum_or_unit<'n, 'a>(
     names: &'n Names,
     word: Option<&'a [u8]>,
@@ -47,7 +47,7 @@ pub fn datum_or_unit<'n, 'a>(
     }
 }
 
-/// The word for a script, and the word for a datum behind a slash, as far as they stand there.
+/// The word for a script, and the word for a datum after a slash, if they are there.
 pub fn lock_words(word: Option<&[u8]>) -> (Option<&[u8]>, Option<&[u8]>)
     ensures script { option_copied result.0 ≡ (lock_words (option_copied word.entry)).0 }
     ensures datum { option_copied result.1 ≡ (lock_words (option_copied word.entry)).1 }
@@ -75,7 +75,7 @@ fn pay(value: Bundle, script: &Script, datum: &Data) -> Result<Payment, NoMemory
     })
 }
 
-/// The payment that a word is: a bundle, and behind an at sign the script that locks it and its datum.
+/// The payment that a word is: a bundle, then after an at sign its script and datum.
 #[tactic(auto, unfolding(crate::specs::Payments::payment_of))]
 pub fn payment_of<'a>(
     memory: Memory,

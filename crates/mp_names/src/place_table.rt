@@ -1,4 +1,4 @@
-//! Where items of a list are, found by bytes without a walk.
+//! Indexes of the items of a list, found by bytes without a walk.
 
 ghost use Rattle.std.specs.Prelude.{◌≡◌, ◌<◌, [], Some};
 ghost use Rattle.indexmap.specs.IndexMap.{spare};
@@ -8,24 +8,24 @@ use indexmap::IndexMap;
 use mp_memory::Memory;
 use mp_tx::Salt;
 
-/// Places under keys: names, or the hashes of scripts.
+/// Indexes under keys: names, or the hashes of scripts.
 pub type PlaceTable = IndexMap<Vec<u8, Memory>, usize, Salt, Memory>;
 
-/// No place.
+/// A table without indexes.
 pub fn no_places(memory: Memory, salt: Salt) -> PlaceTable
     ensures { result.entries ≡ [] }
 {
     IndexMap::with_hasher(memory, salt)
 }
 
-/// The place that is noted under the key.
+/// The index that is noted under the key.
 pub fn place_under(places: &PlaceTable, key: &[u8]) -> Option<usize>
     ensures { result ≡ noted_at places.now.entries key.now }
 {
     places.get(key).copied()
 }
 
-/// Notes the place under the key, unless a place is noted there.
+/// Notes the index under the key, unless one is noted there.
 pub fn note(places: &mut PlaceTable, key: Vec<u8, Memory>, place: usize)
     requires { 0 < spare places.old }
     ensures { Notes places.old.entries (Some key.items) place places.new.entries }

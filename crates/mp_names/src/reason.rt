@@ -3,7 +3,7 @@
 use mp_script::{DataFault, ScriptFault};
 use std::{fmt, str};
 
-/// What is wrong with a line. Its text is what the program prints behind the line's number.
+/// What is wrong with a line. The program prints its text after the line's number.
 #[derive(Clone, Copy)]
 pub enum Reason<'a> {
     LongLine,
@@ -28,7 +28,7 @@ pub enum Reason<'a> {
     ScriptBytes(&'a [u8], ScriptFault),
     DataBytes(&'a [u8], DataFault),
     Item(&'a [u8]),
-    /// Two words of the line, where no two may stand for the same.
+    /// Two words of the line denote the same, which isn't allowed there.
     Repeats {
         later: &'a [u8],
         earlier: &'a [u8],
@@ -44,7 +44,7 @@ pub enum Reason<'a> {
 
 const NOTHING: &[u8] = b"";
 
-// A text round a word.
+// A text before and after a word.
 type Told<'a> = (&'static str, &'a [u8], &'static str);
 
 const NAME: &str =
@@ -64,7 +64,7 @@ const LARGE: &str =
 const RACE: &str = "a race has no commands but submit, remove, sync and snapshot";
 
 impl<'a> Reason<'a> {
-    // What is told round one word, or with none.
+    // The text before and after one word, or without any.
     fn tell(&self) -> Told<'a> {
         match *self {
             Reason::LongLine => ("a line has at most 4096 bytes", NOTHING, ""),
@@ -96,7 +96,7 @@ impl<'a> Reason<'a> {
         }
     }
 
-    // What is told behind that.
+    // The text that follows.
     fn tell_more<W: fmt::Write>(&self, f: &mut fmt::Formatter<W>) -> fmt::Result {
         match *self {
             Reason::Byte(byte) => put_byte(f, byte),
@@ -109,7 +109,7 @@ impl<'a> Reason<'a> {
     }
 }
 
-// The bytes of a line that isn't bad for its bytes are a text.
+// Unless a line is bad for its bytes, they are a text.
 fn text_of(word: &[u8]) -> &str {
     str::from_utf8(word).unwrap_or("")
 }

@@ -23,7 +23,7 @@ fn place_of(word: &[u8]) -> Result<u16, Reason<'_>>
     Ok(place as u16)
 }
 
-// Output `place` of the transaction with the name.
+// Output `place` of the transaction with this name.
 fn output_ref<'a>(names: &Names, name: &'a [u8], place: &'a [u8]) -> Result<OutRef, Reason<'a>>
     ensures { result_ok result
         ≡ output_ref (tx_named name.now names.now) (place_of place.now) }
@@ -36,8 +36,8 @@ fn output_ref<'a>(names: &Names, name: &'a [u8], place: &'a [u8]) -> Result<OutR
     })
 }
 
-/// The reference that a word is: `TX.K` of a declared transaction, whether it has that output or not, or the name of an
-/// opening output.
+/// The reference that a word is: `TX.K` of a declared transaction, even if it has no such output, or the name of an opening
+/// output.
 #[tactic(auto, unfolding(crate::specs::References::ref_of))]
 pub fn ref_of<'a>(names: &Names, word: &'a [u8]) -> Result<OutRef, Reason<'a>>
     ensures { result_ok result ≡ ref_of names.now word.now }
@@ -61,7 +61,7 @@ fn payment_at<'a>(names: &'a Names, name: &[u8], place: &[u8]) -> Option<&'a Pay
     declared.payments().get(place as usize)
 }
 
-/// The payment that the output named is, where that output exists.
+/// The payment of the named output, if that output exists.
 #[tactic(auto, unfolding(crate::specs::References::paid_at))]
 pub fn paid_at<'a>(names: &'a Names, word: &[u8]) -> Option<&'a Payment>
     ensures { option_copied result ≡ paid_at names.now word.now }

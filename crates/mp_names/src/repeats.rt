@@ -1,9 +1,8 @@
-//! Words where no two may stand for the same.
+//! Words of which no two may denote the same.
 
 use crate::reason::Reason;
 
-/// The first of the words between separators that stands for the same as an earlier one. It is looked for up to the first word
-/// that is bad.
+/// The first of the words between separators that denotes the same as an earlier one. The search ends at the first bad word.
 pub fn first_repeat<'a, B: Fn(&[u8]) -> bool, S: Fn(&[u8], &[u8]) -> bool>(
     words: &'a [u8],
     separator: u8,

@@ -9,7 +9,7 @@ use mp_memory::{Memory, NoMemory};
 use mp_tx::{Salt, TxId};
 use std::marker::Model;
 
-/// The names under which transactions are reported. Contracts see a finite map from ids.
+/// The names under which transactions are reported. Contracts see them as a finite map from ids.
 pub struct ReportedNames {
     names: IndexMap<TxId, Name, Salt, Memory>,
 }
@@ -45,7 +45,7 @@ impl ReportedNames {
     ghost use Rattle.std.specs.FinMap.{empty, get, insert};
     ghost use Rattle.mp_names.specs.Inside.Reported.{unreported};
 
-    /// No transaction has one.
+    /// No transaction has a name.
     pub fn new(memory: Memory, salt: Salt) -> ReportedNames
         ensures { result ≡ empty }
     {

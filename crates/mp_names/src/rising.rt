@@ -1,4 +1,4 @@
-//! Lists that are put in rising order: entries of bundles, inputs, references, policy scripts and signatures.
+//! Lists in increasing order: entries of bundles, inputs, references, policy scripts and signatures.
 
 ghost use Rattle.std.specs.Prelude.{◌≡◌, ◌≤◌, length, position, OnOk};
 ghost use Rattle.std.specs.List.{position_or_len};
@@ -14,11 +14,11 @@ use mp_script::Script;
 use mp_tx::{Input, OutRef, Signature};
 use std::cmp::Ordering;
 
-/// What a list can have in rising order.
+/// The items of a list in increasing order.
 pub trait Rising {
     ghost order: { Self → Self → Ordering };
 
-    /// How it stands to another one in such a list.
+    /// Its order relative to another item of such a list.
     fn compare(&self, other: &Self) -> Ordering
         ensures { result ≡ order self.now other.now };
 }
@@ -83,7 +83,7 @@ fn place_of<T: Rising>(item: &T, items: &[T]) -> usize
     first_greater(item, items).unwrap_or(items.len())
 }
 
-/// Puts it before the first that is greater.
+/// Puts the item before the first one that is greater.
 pub fn insert_rising<T: Rising + Drop>(items: &mut Vec<T, Memory>, item: T) -> Result<(), NoMemory>
     ensures { OnOk result (items.new.items ≡ insert_rising T.order item items.old.items) }
 {

@@ -1,4 +1,4 @@
-//! Scripts in the order in which they were declared, found by name or by hash without a walk.
+//! Scripts in the order of their declaration, found by name or hash without a walk.
 
 ghost use Rattle.std.specs.Prelude.{◌≡◌, slice_get, option_and_then, option_copied};
 
@@ -9,7 +9,7 @@ use mp_memory::{Memory, NoMemory};
 use mp_tx::Salt;
 use std::marker::Model;
 
-/// Scripts with their names. Contracts see the list of them, in the order in which they were declared.
+/// Scripts with their names. Contracts see them as a list, in the order of their declaration.
 pub struct ScriptTable {
     scripts: Vec<NamedScript, Memory>,
     names: PlaceTable,
@@ -51,7 +51,7 @@ impl ScriptTable {
     ghost use Rattle.std.specs.Cmp.Lexicographic.{pointwise};
     ghost use Rattle.mp_names.specs.Names.{has_hash};
 
-    /// No script.
+    /// A table without scripts.
     pub fn new(memory: Memory, salt: Salt) -> ScriptTable
         ensures { result ≡ [] }
     {
@@ -76,7 +76,7 @@ impl ScriptTable {
         script_at(&self.scripts, place_under(&self.hashes, hash))
     }
 
-    /// Puts the script last. After an `Err` the table is as it was.
+    /// Adds the script as the last one. After an `Err` the table is as it was.
     pub fn push(&mut self, named: NamedScript) -> Result<(), NoMemory>
         ensures ok { OnOk result (self.new ≡ self.old ++ named ∷ []) }
         ensures err { OnErr result (self.new ≡ self.old) }

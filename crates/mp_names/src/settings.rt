@@ -7,7 +7,7 @@ use std::marker::Model;
 
 const MAX_LIMIT: u64 = 1 << 32;
 
-/// The bytes that a block may have: 1 to 2^39.
+/// The greatest size of a block in bytes: 1 to 2^39.
 #[derive(Drop)]
 pub struct BlockBytes {
     bytes: u64,
@@ -30,7 +30,7 @@ impl BlockBytes {
     ghost use Rattle.mp_tx.specs.Ledger.{HasBlockBytes};
     ghost use Rattle.mp_names.specs.Settings.{block_bytes_of};
 
-    /// What a word tells, if it is a number in the range.
+    /// The value that a word denotes, if it is a number in the range.
     pub fn parse(word: &[u8]) -> Result<BlockBytes, Reason<'_>>
         ensures { result_ok result ≡ block_bytes_of word.now }
     {
@@ -47,7 +47,7 @@ impl BlockBytes {
     }
 }
 
-/// The changes that a pool makes: 1 to 2^32.
+/// The most changes that a pool makes: 1 to 2^32.
 #[derive(Drop)]
 pub struct Limit {
     changes: u64,
@@ -69,7 +69,7 @@ impl Limit {
     ghost use Rattle.std.specs.Result.{result_ok};
     ghost use Rattle.mp_names.specs.Settings.{IsLimit, limit_of};
 
-    /// What a word tells, if it is a number in the range.
+    /// The value that a word denotes, if it is a number in the range.
     pub fn parse(word: &[u8]) -> Result<Limit, Reason<'_>>
         ensures { result_ok result ≡ limit_of word.now }
     {
@@ -86,7 +86,7 @@ impl Limit {
     }
 }
 
-/// A setting and its value. Each has a value where no line sets it.
+/// A setting and its value. Without a line, each has a default value.
 #[derive(Drop)]
 pub enum Setting {
     BlockBytes(BlockBytes),
@@ -104,7 +104,7 @@ impl Setting {
     ghost use Rattle.mp_names.specs.declared.settings.Setting.TheVariants as told;
     ghost use Rattle.mp_names.specs.Settings.{block_bytes_of, limit_of};
 
-    /// The bytes of a block that a word tells.
+    /// The block bytes that a word denotes.
     pub fn block_bytes(word: &[u8]) -> Result<Setting, Reason<'_>>
         ensures { result_ok result ≡ option_map told.BlockBytes (block_bytes_of word.now) }
     {
@@ -112,7 +112,7 @@ impl Setting {
         Ok(Setting::BlockBytes(bytes))
     }
 
-    /// The changes that a word tells.
+    /// The limit of changes that a word denotes.
     pub fn limit(word: &[u8]) -> Result<Setting, Reason<'_>>
         ensures { result_ok result ≡ option_map told.Limit (limit_of word.now) }
     {
@@ -120,7 +120,7 @@ impl Setting {
         Ok(Setting::Limit(limit))
     }
 
-    /// The last ticket that a word tells.
+    /// The last ticket that a word denotes.
     pub fn last(word: &[u8]) -> Result<Setting, Reason<'_>>
         ensures { result_ok result ≡ option_map told.Last (number_of word.now) }
     {
@@ -128,7 +128,7 @@ impl Setting {
         Ok(Setting::Last(ticket))
     }
 
-    /// The tick that a word tells.
+    /// The tick that a word denotes.
     pub fn tick(word: &[u8]) -> Result<Setting, Reason<'_>>
         ensures { result_ok result ≡ option_map told.Tick (number_of word.now) }
     {

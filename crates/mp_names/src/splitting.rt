@@ -1,4 +1,4 @@
-//! Words are taken apart at their separators.
+//! Splitting words at their separators.
 
 ghost use Rattle.std.specs.Prelude.{◌≡◌, ◌<◌, ◌==◌, length, position, IfSome, option_copied};
 ghost use Rattle.mp_names.specs.Splitting.{split_once};

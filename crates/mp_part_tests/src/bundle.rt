@@ -1,4 +1,4 @@
-//! Bundles and sums: a share takes no memory, and a sum none for coin.
+//! Bundles and sums: a share doesn't allocate, and a sum doesn't for coin.
 use crate::rows::{Row, without_growth};
 use mp_bundle::{Bundle, BundleFault, COIN, Given, PolicyId, Sum};
 use mp_memory::{Memory, NoMemory};
@@ -14,7 +14,7 @@ fn put_entries(memory: Memory, given: &mut Vec<Given, Memory>, tokens: u8) -> Re
     Ok(())
 }
 
-// Three of coin, and entries of as many tokens under one policy: of the token named by the byte n there are n + 1.
+// Three of coin, and entries of `tokens` tokens under one policy. Of the token named by the byte n there are n + 1.
 fn entries_of(memory: Memory, tokens: u8) -> Result<Vec<Given, Memory>, NoMemory> {
     let mut given = Vec::new(memory);
     put_entries(memory, &mut given, tokens)?;
@@ -25,7 +25,7 @@ fn bundle_of(memory: Memory, tokens: u8) -> Result<Bundle, BundleFault> {
     Bundle::of_entries(memory, entries_of(memory, tokens)?)
 }
 
-// How many tokens there are beside coin, and how many of the ninth.
+// How many tokens there are in addition to coin, and how many of the ninth.
 fn look(bundle: &Bundle) -> [u64; 2] {
     let quantity = bundle.quantity(&POLICY, b"\x08");
     [bundle.others().len() as u64, quantity.unsigned_abs()]
@@ -60,7 +60,7 @@ fn look_at_sum(sum: &Sum) -> [u64; 2] {
     [sum.added(), coin]
 }
 
-// A bundle of coin alone, added twice.
+// A bundle with only coin, added twice.
 fn coin_added(memory: Memory) -> Option<[u64; 2]> {
     let Ok(bundle) = bundle_of(memory, 0) else {
         return None;
@@ -72,7 +72,7 @@ fn coin_added(memory: Memory) -> Option<[u64; 2]> {
     without_growth(memory, look_at_sum(&sum))
 }
 
-/// What takes no memory.
+/// What doesn't allocate.
 pub fn thrift(memory: Memory) -> [Row; 2] {
     [
         Row::seen("a shared bundle", shared(memory), [9, 9]),

@@ -1,4 +1,4 @@
-//! What a search in a list of tickets costs: as much in a long list as in a short one.
+//! The cost of a search in a list of tickets: the same in a long list as in a short one.
 use crate::rows::Row;
 use crate::tickets::{filled, pair};
 use mp_memory::Memory;
@@ -11,12 +11,12 @@ const SHORT: u64 = 500;
 
 const LONG: u64 = 50_000;
 
-// How often a search is made each time, and how many times it is timed, of which the shortest counts.
+// How many searches are made each time. The shortest of several times counts.
 const SEARCHES: u64 = 1_000;
 
 const TIMES: u64 = 9;
 
-// A search may look so many times dearer than it is, since the machine does other things meanwhile.
+// A search may seem this many times as expensive as it is, since the machine does other things too.
 const LEEWAY: u128 = 4;
 
 #[derive(Clone, Copy)]
@@ -25,7 +25,7 @@ enum Search {
     Oldest,
     // What comes after one of the oldest tickets.
     AfterOldest,
-    // What comes after a ticket that is gone.
+    // What comes after a ticket that was removed.
     AfterGone,
 }
 
@@ -38,7 +38,7 @@ fn seek(list: &TicketList<u64>, search: Search, number: u64) -> u64 {
     }
 }
 
-// How long the searches take, or `None` where one finds nothing.
+// How long the searches take, or `None` if one finds nothing.
 fn time(clock: &impl Clock, list: &TicketList<u64>, search: Search) -> Option<Duration> {
     let start = Instant::now(clock).ok()?;
     let mut missed: u64 = 0;
@@ -68,7 +68,7 @@ fn with_gap(memory: Memory, count: u64) -> Option<TicketList<u64>> {
     Some(list)
 }
 
-// Whether the search costs about as much in the long list.
+// Whether the search takes about as long in the long list.
 fn is_alike(
     clock: &impl Clock,
     short: &TicketList<u64>,

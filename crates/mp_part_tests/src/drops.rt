@@ -1,4 +1,4 @@
-//! Ticket lists: each item is handed back or dropped, once, whichever handle its node is from.
+//! Ticket lists: each item is returned or dropped exactly once, whichever handle its node is from.
 use crate::rows::Row;
 use crate::tickets::put;
 use mp_memory::Memory;
@@ -20,7 +20,7 @@ fn put_owner(memory: Memory, list: &mut Owners, ticket: u64, counted: &Rc<u64>) 
     }
 }
 
-// How many owners there are once the item is taken out, and how many once it is dropped.
+// How many owners there are after removing the item, and after dropping it.
 fn unlink(list: &mut Owners, ticket: u64, counted: &Rc<u64>) -> [u64; 2] {
     let taken = list.unlink(ticket);
     let with = owners(counted);
@@ -28,7 +28,7 @@ fn unlink(list: &mut Owners, ticket: u64, counted: &Rc<u64>) -> [u64; 2] {
     [with, owners(counted)]
 }
 
-// How many owners there are with four that are put in, and with each item that is taken out, of which the second is none.
+// How many owners there are with four items, and after each removal. The second removal finds nothing.
 fn take_out(list: &mut Owners, memory: Memory, other: Memory, counted: &Rc<u64>) -> [u64; 5] {
     put_owner(memory, list, 1, counted);
     put_owner(other, list, 2, counted);
@@ -40,7 +40,7 @@ fn take_out(list: &mut Owners, memory: Memory, other: Memory, counted: &Rc<u64>)
     [full, with, without, again_with, again_without]
 }
 
-// And how many there are once the list is dropped.
+// The same, and how many there are after dropping the list.
 fn taken_out(alloc: Global, memory: Memory, other: Memory) -> Option<Seen> {
     let Ok(counted) = Rc::new(alloc, 9u64) else {
         return None;
@@ -53,7 +53,7 @@ fn taken_out(alloc: Global, memory: Memory, other: Memory) -> Option<Seen> {
     Some([full, with, without, again_with, again, owners(&counted)])
 }
 
-// A node that has an owner.
+// A node with an owner.
 fn node_of(memory: Memory, counted: &Rc<u64>) -> Option<Node<Rc<u64>>> {
     match counted.clone() {
         Ok(owner) => make_node(memory, owner).ok(),
@@ -61,7 +61,7 @@ fn node_of(memory: Memory, counted: &Rc<u64>) -> Option<Node<Rc<u64>>> {
     }
 }
 
-// How many owners there are with such a node, and once it is dropped.
+// How many owners there are with such a node, and after dropping it.
 fn drop_node(memory: Memory, counted: &Rc<u64>) -> Option<[u64; 2]> {
     let Some(node) = node_of(memory, counted) else {
         return None;
@@ -71,7 +71,7 @@ fn drop_node(memory: Memory, counted: &Rc<u64>) -> Option<[u64; 2]> {
     Some([with, owners(counted)])
 }
 
-// The same where the item is taken out of its node, and its value.
+// The same when the item is taken out of its node, and its value.
 fn take_inner(memory: Memory, counted: &Rc<u64>) -> Option<[u64; 2]> {
     let Some(node) = node_of(memory, counted) else {
         return None;

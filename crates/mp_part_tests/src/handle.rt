@@ -1,9 +1,10 @@
-//! Which growth a handle refuses.
+//! Which allocation of a handle fails.
 use crate::rows::Row;
 use mp_memory::{Memory, NoMemory};
 use mp_testing::Seen;
 
-// The last of so many growths that is refused, counted from 1, and how many are; and before which the refusal waits.
+// Of `growths` allocations, from 1: the last that fails and how many fail; the last before which a failure is armed and how many
+// of these there are.
 fn grow(memory: Memory, growths: u64) -> [u64; 4] {
     let [mut refused, mut refusals, mut waited, mut waits] = [0u64; 4];
     for growth in 1..=growths {
@@ -19,7 +20,7 @@ fn grow(memory: Memory, growths: u64) -> [u64; 4] {
     [refused, refusals, waited, waits]
 }
 
-// What nineteen growths show, whether a refusal waits after them, and how many of eight further growths are refused.
+// The numbers for nineteen allocations, whether a failure is armed after them, and how many of eight more allocations fail.
 fn grown(memory: Memory) -> Option<Seen> {
     let [refused, refusals, waited, waits] = grow(memory, 19);
     let waits_after = u64::from(memory.waits());
@@ -27,7 +28,7 @@ fn grown(memory: Memory) -> Option<Seen> {
     Some([refused, refusals, waited, waits, waits_after, later])
 }
 
-// The growths that are to be refused, each armed after the one before, and the numbers.
+// The allocations that are to fail, each armed after the one before, and the numbers.
 const ARMED: [(&str, &[u64], Seen); 13] = [
     ("a new handle", &[], [0, 0, 0, 0, 0, 0]),
     ("growth 1", &[1], [1, 1, 1, 1, 0, 0]),
@@ -51,13 +52,13 @@ fn armed(memory: Memory, growths: &[u64]) -> Option<Seen> {
     grown(memory)
 }
 
-/// The numbers are the last growth that is refused, and how many are; the last before which the refusal waits, and before
-/// how many it does; whether it waits afterwards; and how many more are refused then.
+/// The numbers are, in order: the last allocation that fails and how many fail, then the last before which a failure is armed and
+/// how many there are. Then whether a failure is armed afterwards, and how many more fail then.
 pub fn armings(memory: Memory) -> [Row; 13] {
     ARMED.map(|(name, growths, wanted)| Row::seen(name, armed(memory, growths), wanted))
 }
 
-// The growths are made by the other, and then the copy doesn't wait either.
+// The other handle allocates. Then the failure isn't armed in the copy either.
 fn armed_by_a_copy(memory: Memory) -> Option<Seen> {
     let copy = memory;
     copy.refuse(3);
@@ -69,7 +70,8 @@ fn boxed(memory: Memory) -> Result<u8, NoMemory> {
     Ok(*Box::new(memory, 1u8)?)
 }
 
-// How many growths of the handle are refused, whether the other waits, and whether its own growth is then refused.
+// How many allocations of the handle fail, whether a failure is armed in the other, and whether the other's own allocation then
+// fails.
 fn armed_apart(memory: Memory, other: Memory) -> Option<[u64; 3]> {
     other.refuse(1);
     let [_, refusals, _, _] = grow(memory, 8);
@@ -84,7 +86,7 @@ fn named(memory: Memory) -> Option<[u64; 1]> {
     Some([u64::from(text.as_str() == "Metered")])
 }
 
-// Pushes the item, a second time where it is refused. Gives how often it was refused, and how often that changed the length.
+// Pushes the item, and again if that fails. Returns how often it failed, and how often that changed the length.
 fn push(items: &mut Vec<u64, Memory>, item: u64) -> [u64; 2] {
     let before = items.len();
     if items.push(item).is_ok() {
@@ -94,7 +96,7 @@ fn push(items: &mut Vec<u64, Memory>, item: u64) -> [u64; 2] {
     [1 + u64::from(items.push(item).is_err()), is_changed]
 }
 
-// A vector grows by a new block, and by larger ones.
+// A vector allocates a new block, and then larger ones.
 fn push_all(items: &mut Vec<u64, Memory>) -> [u64; 2] {
     let [mut refusals, mut changes] = [0u64; 2];
     for item in 0..500 {
@@ -105,7 +107,7 @@ fn push_all(items: &mut Vec<u64, Memory>) -> [u64; 2] {
     [refusals, changes]
 }
 
-// How many of the items stand at their own places.
+// How many of the items are at their own index.
 fn in_place(items: &[u64]) -> u64 {
     let mut right = 0u64;
     for (at, item) in items.iter().enumerate() {
@@ -114,8 +116,7 @@ fn in_place(items: &[u64]) -> u64 {
     right
 }
 
-// How many pushes of 500 are refused, how many of these changed the vector, how many items there are then, and how many of
-// them stand in place.
+// How many of 500 pushes fail, how many of these changed the vector, how many items there are then, and how many are in place.
 fn pushed(memory: Memory, nth: u64) -> Option<[u64; 4]> {
     let mut items = Vec::new(memory);
     memory.refuse(nth);
@@ -123,7 +124,7 @@ fn pushed(memory: Memory, nth: u64) -> Option<[u64; 4]> {
     Some([refusals, changes, items.len() as u64, in_place(&items)])
 }
 
-// Shrinks a vector, and then asks for more than there is.
+// Shrinks a vector, then asks for more than there is.
 fn shrink(memory: Memory, items: &mut Vec<u64, Memory>) -> [u64; 4] {
     memory.refuse(1);
     items.shrink_to_fit();
@@ -151,7 +152,7 @@ const PUSHES: [(&str, u64); 6] = [
     ("growth 6 of a vector", 6),
 ];
 
-/// Growths of a vector, of which each refused one is made the next time.
+/// Allocations of a vector. Each that fails succeeds the next time.
 pub fn pushes(memory: Memory) -> [Row; 6] {
     PUSHES.map(|(name, nth)| Row::seen(name, pushed(memory, nth), [1, 0, 500, 500]))
 }

@@ -1,4 +1,5 @@
-//! Ledger states after blocks, under refusals. States that are made of outputs are tried in the lines of mp_vectors' `ledger.txt`.
+//! Ledger states after blocks, with failed allocations. States that are made of outputs are tested by the lines of mp_vectors'
+//! `ledger.txt`.
 use crate::rows::Row;
 use mp_bundle::Bundle;
 use mp_memory::{Memory, NoMemory};
@@ -25,7 +26,7 @@ fn output(byte: u8) -> Output {
     }
 }
 
-// The first outputs of transactions 0, 1, ..
+// The first outputs of the transactions 0, 1, ..
 fn outputs_to(memory: Memory, end: u8) -> Result<Vec<(OutRef, Output), Memory>, NoMemory> {
     let mut outputs = Vec::new(memory);
     for byte in 0..end {
@@ -41,7 +42,7 @@ fn ledger_of(
     Ledger::of_outputs(memory, Salt::new(SALT), 6, 1, outputs)
 }
 
-/// A ledger state of so many outputs.
+/// A ledger state of `outputs` outputs.
 pub fn ledger_with(memory: Memory, outputs: u8) -> Option<Ledger> {
     let Ok(outputs) = outputs_to(memory, outputs) else {
         return None;
@@ -57,7 +58,7 @@ pub fn address_at(ledger: &Ledger, from: OutRef) -> u64 {
     }
 }
 
-// A block that spends the output of transaction 3 and makes none, upon a ledger state.
+// A block that spends the output of transaction 3 and makes none, on a ledger state.
 #[derive(Drop)]
 struct Block {
     memory: Memory,
@@ -101,7 +102,7 @@ fn tried_block(memory: Memory, outputs: u8) -> Result<Trialled, TrialFault> {
     }
 }
 
-// The ledger state that the undo of the block leads back to.
+// The ledger state to which the undo of the block leads.
 fn back(memory: Memory, before: &Ledger) -> Option<Ledger> {
     let spent = [reference(3, 0)];
     let Ok(after) = before.after(memory, 7, 2, &spent, Vec::new(memory)) else {
@@ -144,8 +145,8 @@ fn tried_way_back(memory: Memory, outputs: u8) -> Result<Trialled, TrialFault> {
     }
 }
 
-/// Blocks under refusals: those whose changes become a layer, upon few outputs and upon many, and one whose changes go into a table that
-/// is made again; and the ways back from them.
+/// Blocks with failed allocations, and the ways back from them. The changes of some become a layer, on few outputs and on many.
+/// Those of one go into a table that is built again.
 pub fn blocks(memory: Memory) -> [Row; 5] {
     [
         Row::tried("a layer", tried_block(memory, 9), [7, 2, 0, 4], 7),

@@ -1,4 +1,4 @@
-//! Reading lines with a limit: lengths next to it, lines that don't end, reads that fail, and growths that are refused.
+//! Reading lines with a limit: lengths next to it, lines that don't end, reads that fail, and allocations that fail.
 use crate::rows::Row;
 use mp_memory::Memory;
 use mp_testing::{Call, FailingReader, Seen, TrialFault, Trialled, under_each_refusal};
@@ -8,7 +8,7 @@ use std::io::BufReader;
 
 type Lines = BufReader<FailingReader>;
 
-// A reader that gives so many bytes at once.
+// A reader that gives `at_once` bytes at once.
 fn lines_of(alloc: Global, bytes: &'static [u8], at_once: usize, fails_at: u64) -> Option<Lines> {
     let mut reader = FailingReader::of(bytes);
     reader.at_once = at_once;
@@ -16,7 +16,7 @@ fn lines_of(alloc: Global, bytes: &'static [u8], at_once: usize, fails_at: u64) 
     BufReader::new(alloc, reader).ok()
 }
 
-// The number of what came of a line, and how many bytes were kept of one that is whole.
+// The number of the result, and how many bytes of a whole line were kept.
 fn numbers(read: Result<LineRead, ReadFault>, line: &[u8]) -> [u64; 2] {
     match read {
         Ok(LineRead::End) => [0, 0],
@@ -32,7 +32,7 @@ fn next(reader: &mut Lines, line: &mut Vec<u8, Memory>, limit: usize) -> [u64; 2
     numbers(read, line)
 }
 
-// What comes of three lines.
+// The results for three lines.
 fn three(memory: Memory, mut reader: Lines, limit: usize) -> [u64; 6] {
     let mut line = Vec::new(memory);
     let [a, b] = next(&mut reader, &mut line, limit);
@@ -161,7 +161,7 @@ const LINES: [(&str, &[u8], usize, u64, usize, [u64; 6]); 18] = [
     ),
 ];
 
-/// Lines next to the limit, however many bytes come at once, and reads that fail.
+/// Lines next to the limit, for several numbers of bytes at once, and reads that fail.
 pub fn lengths(memory: Memory, alloc: Global) -> [Row; 18] {
     LINES.map(|(name, bytes, at_once, fails_at, limit, wanted)| {
         let seen = match lines_of(alloc, bytes, at_once, fails_at) {
@@ -172,10 +172,10 @@ pub fn lengths(memory: Memory, alloc: Global) -> [Row; 18] {
     })
 }
 
-// The most bytes that are kept of a line of 100 MB. A vector has room for twice as many at most.
+// The most bytes that are kept of a line of 100 MB. A vector has room for at most twice as many.
 const LIMIT: usize = 4096;
 
-// What came of 100,000,000 bytes without a feed, whether at most 8,192 bytes were kept for it, and what comes then.
+// The result for 100,000,000 bytes without a feed, whether at most 8,192 bytes were kept for it, and the next result.
 fn endless(memory: Memory, alloc: Global) -> Option<[u64; 4]> {
     let mut reader = lines_of(alloc, b"", 8192, 0)?;
     reader.get_mut().filler = 100_000_000;
@@ -185,7 +185,7 @@ fn endless(memory: Memory, alloc: Global) -> Option<[u64; 4]> {
     Some([read, kept, u64::from(line.capacity() <= 2 * LIMIT), after])
 }
 
-// The first line finds no memory, and the next one does.
+// An allocation for the first line fails, and the next line succeeds.
 fn lost(memory: Memory, alloc: Global) -> Option<[u64; 6]> {
     let reader = lines_of(alloc, b"abc\nabcd\nab", 4096, 0)?;
     memory.refuse(1);
@@ -225,7 +225,7 @@ fn tried(memory: Memory, alloc: Global) -> Result<Trialled, TrialFault> {
     under_each_refusal(&memory, &Reading { memory, alloc })
 }
 
-/// A line of 100 MB, and lines that find no memory.
+/// A line of 100 MB, and lines whose allocations fail.
 pub fn limits(memory: Memory, alloc: Global) -> [Row; 3] {
     [
         Row::seen(

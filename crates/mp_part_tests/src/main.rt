@@ -1,5 +1,5 @@
-//! Tests the parts of the product for what no contract says: growths that are refused, devices that fail, threads and drops, and
-//! cases of the rules from files. It prints each case that is found otherwise, and for each part and file how many held.
+//! Tests the parts of the product for what no contract says: allocations that fail, devices that fail, threads and drops, and
+//! cases of the rules from files. It prints each case that fails, and for each part and file how many held.
 #![tactic(auto)]
 
 mod bundle;

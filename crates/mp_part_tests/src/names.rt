@@ -1,4 +1,4 @@
-//! Names: under which one a transaction is reported, names that go, growths that are refused, and many names.
+//! Names: the name under which a transaction is reported, names that are forgotten, allocations that fail, and many names.
 use crate::rows::Row;
 use mp_memory::{Memory, NoMemory};
 use mp_names::{Binding, DeclaredTx, Name, NamedScript, Names, Payment};
@@ -9,14 +9,14 @@ use mp_testing::{
 use mp_tx::{Salt, Tx};
 use std::sync::Arc;
 
-// Two transactions, and names of both. By `d` and a letter a name is declared for the first, by `e` for the second, by `o` for an
-// output; by `f` it is forgotten, and by `r` it is reported.
+// Two transactions, and names of both. `d` and a letter declare a name for the first, `e` for the second, `o` for an output. `f`
+// forgets a name, and `r` reports its transaction under it.
 struct Story {
     memory: Memory,
     first: Arc<Tx, Memory>,
     second: Arc<Tx, Memory>,
     names: Names,
-    // How many names went.
+    // How many names were forgotten.
     gone: u64,
 }
 
@@ -39,7 +39,7 @@ fn made(memory: Memory, index: u16) -> Result<Arc<Tx, Memory>, NoMemory> {
     }
 }
 
-// The first byte of a name, or 0 where it is empty.
+// The first byte of a name, or 0 if it is empty.
 fn letter(name: &[u8]) -> u64 {
     match name.first() {
         Some(byte) => u64::from(*byte),
@@ -99,7 +99,7 @@ impl Story {
         }
     }
 
-    // The names of both, how many names went, and what the name `a` stands for: an output 1, a transaction 2, nothing 0.
+    // The names of both, how many names were forgotten, and what the name `a` denotes: an output 1, a transaction 2, nothing 0.
     fn seen(&self) -> [u64; 4] {
         let stands_for = match self.names.binding(b"a") {
             Some(Binding::Opening(_, _)) => 1,
@@ -180,7 +180,7 @@ const STORIES: [(&str, &[u8], [u64; 4]); 20] = [
     ("an output goes", b"oa da fa", [0, 0, 2, 0]),
 ];
 
-/// The names that are told, with either salt.
+/// The names that are reported, with either salt.
 pub fn stories(memory: Memory) -> [Row; 20] {
     STORIES.map(|(name, steps, wanted)| {
         let seen = match (told(memory, 0, steps), told(memory, 7, steps)) {
@@ -242,7 +242,8 @@ fn tried(
     )
 }
 
-/// Each growth refused. A table takes four for its first entry, and a name, its copy as a key and the numbers under it one each.
+/// Each allocation fails. A table makes four for its first entry. A name, its copy as a key, and the numbers under it make one
+/// each.
 pub fn growths(memory: Memory) -> [Row; 4] {
     [
         Row::tried(
@@ -282,7 +283,7 @@ const MANY: u32 = 20_000;
 
 const OF_ONE: u32 = 2_000;
 
-// All names are of one transaction, and the first that is left is asked for each time that one goes.
+// All names are of one transaction. Each time one is forgotten, the first that is left is looked up.
 fn emptied(memory: Memory) -> Result<[u64; 3], NoMemory> {
     let mut story = Story::new(memory, 7)?;
     for number in 0..OF_ONE {
@@ -302,7 +303,7 @@ fn emptied(memory: Memory) -> Result<[u64; 3], NoMemory> {
     ])
 }
 
-// Other names go, one by one, and it costs what they cost, and not what is declared.
+// Other names are forgotten, one by one. The cost depends on them, and not on what is declared.
 fn thinned(memory: Memory) -> Result<[u64; 2], NoMemory> {
     let mut story = Story::new(memory, 7)?;
     for number in 0..MANY {

@@ -1,4 +1,4 @@
-//! Writing all of an output: writes that fail, and that take few bytes.
+//! Writing all of an output: writes that fail, and writes that take few bytes.
 use crate::rows::Row;
 use mp_testing::FailingWriter;
 use mp_text::{WriteFault, write_all};
@@ -6,7 +6,7 @@ use std::alloc::Global;
 
 const BYTES: &[u8] = b"one\ntwo";
 
-// The write of this number fails, from 1, and none at 0.
+// The write with this number fails, from 1; none for 0.
 fn writer_of(alloc: Global, at_once: usize, fails_at: u64) -> FailingWriter {
     let mut writer = FailingWriter::new(alloc);
     writer.at_once = at_once;
@@ -54,14 +54,15 @@ const OUTPUTS: [(&str, usize, u64, [u64; 4]); 12] = [
     ("no byte at once", 0, 0, [1, 0, 1, 1]),
 ];
 
-/// So many bytes at once, of which four writes take seven two at once; and a write that fails. A writer that takes nothing is a fault.
+/// A number of bytes at once: four writes take seven bytes, two at once. Then a write that fails. A writer that takes nothing is
+/// a fault.
 pub fn outputs(alloc: Global) -> [Row; 12] {
     OUTPUTS.map(|(name, at_once, fails_at, wanted)| {
         Row::seen(name, Some(written(alloc, at_once, fails_at)), wanted)
     })
 }
 
-/// Where there is nothing to take, a writer that takes nothing is no fault; and many bytes.
+/// If there is nothing to take, a writer that takes nothing is no fault. Then many bytes.
 pub fn lengths(alloc: Global) -> [Row; 2] {
     [
         Row::seen("no byte at all", Some(written_none(alloc)), [0, 0, 1, 0]),

@@ -1,13 +1,13 @@
-//! Pictures of races: at each refused growth the text stays as it was.
+//! Pictures of races: if an allocation fails, the text stays as it was.
 use crate::rows::Row;
 use mp_memory::Memory;
 use mp_picture::{Kind, Mark, put_picture};
 use mp_testing::{Call, Seen, TrialFault, Trialled, under_each_refusal};
 
-// What stands in the text before.
+// The text before the picture.
 const BEFORE: &[u8] = b"before";
 
-// Who asked, and where, of a mark of each kind: three entries, and what was refused behind the second.
+// The caller and the place of a mark of each kind: three entries, and a refusal after the second.
 const MARKS: [(u32, u64, Kind); 4] = [
     (0, 0, Kind::Accepted),
     (1, 1, Kind::Removed),
@@ -28,7 +28,7 @@ struct Drawing {
     memory: Memory,
 }
 
-// Whether the text begins with what stood there, whether a picture ends it, and whether there is nothing else.
+// Whether the text begins with what was there before, whether a picture ends it, and whether there is nothing else.
 fn look_at(text: &[u8]) -> Seen {
     let begins = text.starts_with(BEFORE);
     let ends = text.ends_with(b"</svg>\n");
@@ -65,7 +65,7 @@ fn tried(memory: Memory) -> Result<Trialled, TrialFault> {
     under_each_refusal(&memory, &Drawing { memory })
 }
 
-// What is seen of the text then, if it took several growths.
+// What is seen of the text then, if it made several allocations.
 fn drawn(memory: Memory) -> Option<Seen> {
     let Ok(done) = tried(memory) else {
         return None;
@@ -77,7 +77,7 @@ fn drawn(memory: Memory) -> Option<Seen> {
     }
 }
 
-/// What takes memory.
+/// What allocates.
 pub fn growths(memory: Memory) -> [Row; 1] {
     [Row::seen("a picture", drawn(memory), [1, 1, 0, 0, 0, 0])]
 }

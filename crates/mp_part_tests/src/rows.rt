@@ -1,9 +1,9 @@
-//! Cases as rows: what was found of each, and what was wanted.
+//! Cases as rows: what was found, and what was expected.
 use mp_memory::Memory;
 use mp_testing::{Seen, TrialFault, Trialled};
 use std::io;
 
-/// What came of a case.
+/// The result of a case.
 type Outcome = Result<Trialled, TrialFault>;
 
 /// A case that was tried.
@@ -14,7 +14,7 @@ pub struct Row {
     wanted: Outcome,
 }
 
-// The numbers, and zeros after them.
+// The numbers, then zeros.
 fn padded<const N: usize>(numbers: [u64; N]) -> Seen {
     let mut seen = [0; 6];
     for (place, number) in seen.iter_mut().zip(&numbers) {
@@ -24,7 +24,7 @@ fn padded<const N: usize>(numbers: [u64; N]) -> Seen {
 }
 
 impl Row {
-    /// A row of what was seen, if the case could be made, and of what was wanted: at most six numbers.
+    /// A row of what was seen, if the case could be made, and of what was expected: at most six numbers.
     pub fn seen<const N: usize>(
         name: &'static str,
         seen: Option<[u64; N]>,
@@ -40,7 +40,7 @@ impl Row {
         Row::tried(name, found, wanted, 0)
     }
 
-    /// A row of what a trial came to, and of the first numbers of the answer and how many growths were wanted.
+    /// A row of the result of a trial, and of the expected first numbers of the answer and number of allocations.
     pub fn tried<const N: usize>(
         name: &'static str,
         found: Outcome,
@@ -55,7 +55,7 @@ impl Row {
         }
     }
 
-    /// A row of what a trial came to, and of the fault that was wanted.
+    /// A row of the result of a trial, and of the expected fault.
     pub fn faulty(name: &'static str, found: Outcome, fault: TrialFault) -> Row {
         Row {
             name,
@@ -65,7 +65,7 @@ impl Row {
     }
 }
 
-// Gives 1 where the row holds. Otherwise it prints the row, and gives 0.
+// Returns 1 if the row holds. Otherwise it prints the row and returns 0.
 fn count(rt: &impl Print, row: &Row) -> io::Result<u64> {
     let Row {
         name,
@@ -88,7 +88,7 @@ pub fn tell(rt: &impl Print, what: &str, rows: &[Row]) -> io::Result<()> {
     println!(rt; "{what} {held}")
 }
 
-/// What was seen, unless a growth was refused meanwhile. No refusal waits afterwards.
+/// What was seen, unless an allocation failed in the meantime. Afterwards no failure is armed.
 pub fn without_growth<const N: usize>(memory: Memory, seen: [u64; N]) -> Option<[u64; N]> {
     let waits = memory.waits();
     memory.refuse(0);

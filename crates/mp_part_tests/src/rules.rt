@@ -1,4 +1,5 @@
-//! The rules of validity: how often they verify a signature. Refused growths are tried in the lines of `check.txt` and `again.txt`.
+//! The rules of validity: how often they verify a signature. Failed allocations are tested by the lines of `check.txt` and
+//! `again.txt`.
 ghost use Rattle.std.specs.Prelude.{true};
 
 use crate::rows::Row;
@@ -9,25 +10,24 @@ use mp_rules::{Invalid, Resolved, Verifier, check, check_with, precheck};
 use mp_tx::{Key, Ledger, Output, Sig, Tx, TxId};
 use std::sync::atomic::{AtomicU64, Ordering};
 
-// Two outputs of 100 coin each, and what spends them.
+// Two outputs of 100 coin each, and a transaction that spends them.
 const COINS: &str = "has=0.0:100 has=0.1:100";
 
 const COIN: &str = "in=0.0 in=0.1 out=150 out=50";
 
-// Three outputs, and a transaction that spends two and looks at the third, forges 7 of a token, carries its script, and is
-// signed.
+// Three outputs. A transaction spends two and refers to the third, forges 7 of a token, carries its script, and is signed.
 const OUTPUTS: &str = "has=0.0:100,5*010112.x has=0.1:100 has=0.2:100";
 
 const ALL: &str =
     "in=0.0 in=0.1 see=0.2 out=100 out=100,12*010112.x forge=7*010112.x policy=010112 badsign=5";
 
-// Outputs of which the third has less.
+// The same outputs, but the third has less.
 const LESS: &str = "has=0.0:100,5*010112.x has=0.1:100 has=0.2:99";
 
-// The three outputs, where the transaction was found upon them before.
+// The three outputs, on which the transaction was checked before.
 const BEFORE: &str = "upon=100,5*010112.x upon=100 upon=100";
 
-// Accepts each signature, and counts them.
+// Accepts every signature, and counts the checks.
 #[derive(Drop)]
 struct Counting {
     calls: AtomicU64,
@@ -48,13 +48,13 @@ impl Verifier for Counting {
     }
 }
 
-// A transaction upon a ledger state.
+// A transaction on a ledger state.
 #[derive(Drop)]
 struct Checking {
     memory: Memory,
     tx: Tx,
     ledger: Ledger,
-    // What it was found upon before; none where it wasn't.
+    // The outputs on which it was checked before; empty if it wasn't.
     before: Vec<Output, Memory>,
     verifier: Counting,
 }
@@ -89,7 +89,7 @@ fn answer_of(checking: &Checking) -> Result<Resolved, Invalid> {
     }
 }
 
-// How many outputs are spent and looked at, and how many signatures were verified.
+// How many outputs are spent and referred to, and how many signatures were verified.
 fn count(checking: &Checking) -> Option<[u64; 3]> {
     let Ok(resolved) = answer_of(checking) else {
         return None;
@@ -134,7 +134,8 @@ const CASES: [(&str, [&str; 3], [u64; 3]); 5] = [
     ("upon other outputs", [LESS, ALL, BEFORE], [2, 1, 1]),
 ];
 
-/// How many outputs are spent, how many are looked at, and how many signatures are verified: after another check none once more.
+/// How many outputs are spent, how many are referred to, and how many signatures are verified. After another check no signature
+/// is verified again.
 pub fn countings(memory: Memory) -> [Row; 5] {
     CASES.map(|(name, words, wanted)| Row::seen(name, counted(memory, words), wanted))
 }

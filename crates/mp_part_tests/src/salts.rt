@@ -1,11 +1,11 @@
-//! Ledger states: a share takes no memory, and a state, its shares and those after it hash by their salt.
+//! Ledger states: a share doesn't allocate. A state, its shares and those after it hash by their salt.
 use crate::ledger::{SALT, address_at, ledger_with, reference};
 use crate::rows::{Row, without_growth};
 use mp_memory::Memory;
 use mp_tx::{Ledger, Salt};
 use std::hash::{BuildHasher, Hasher};
 
-// The tick, the bytes of a block, the address of an output, and whether there is a second one of its transaction.
+// The tick, the block bytes, the address of an output, and whether its transaction has a second output.
 fn look(ledger: &Ledger) -> [u64; 4] {
     let has_second = ledger.get(&reference(3, 1)).is_some();
     let address = address_at(ledger, reference(3, 0));
@@ -28,7 +28,7 @@ fn shared(memory: Memory) -> Option<[u64; 4]> {
     without_growth(memory, look(&share))
 }
 
-// What a hasher of the salt makes of a word.
+// The hash of a word by a hasher of the salt.
 fn hashed(salt: Salt) -> u64 {
     let mut hasher = salt.build_hasher();
     hasher.write_u64(1);
@@ -39,8 +39,8 @@ fn has_salt(ledger: &Ledger) -> u64 {
     u64::from(hashed(ledger.salt()) == hashed(Salt::new(SALT)))
 }
 
-// Whether a ledger state of so many outputs has its salt, a share of it, and the one after a block; and whether another salt hashes
-// otherwise.
+// Whether a ledger state of `outputs` outputs has its salt, and so a share of it and the state after a block. Then whether
+// another salt hashes differently.
 fn salts(memory: Memory, outputs: u8) -> Option<[u64; 4]> {
     let Some(ledger) = ledger_with(memory, outputs) else {
         return None;
@@ -60,7 +60,7 @@ fn salts(memory: Memory, outputs: u8) -> Option<[u64; 4]> {
     ])
 }
 
-/// A share of a ledger state, and its salts: where the block becomes a layer, and where its table is made anew.
+/// A share of a ledger state, and its salts: if the block becomes a layer, and if its table is built again.
 pub fn ledgers(memory: Memory) -> [Row; 3] {
     [
         Row::seen("a shared ledger", shared(memory), [6, 1, 3, 0]),

@@ -1,5 +1,5 @@
-//! Data and scripts: what takes no memory, as those that nearly every input has, other faults than want of memory, and shares. What takes
-//! some is tried in the lines of mp_vectors' `datum.txt` and `script.txt`.
+//! Data and scripts that don't allocate, like those of nearly every input; other faults than an allocation failure; and shares.
+//! What allocates is tested by the lines of mp_vectors' `datum.txt` and `script.txt`.
 use crate::rows::{Row, without_growth};
 use mp_memory::Memory;
 use mp_script::{Data, DataFault, Script, ScriptFault};
@@ -14,17 +14,17 @@ const LIST_OF_FIVE: &[u8] = &[
     1, 0, 0, 0, 0, 0, 0, 0, 8, // 8
 ];
 
-// Whether the opposite of true or octets are true.
+// Whether the negation of true, or octets, are true.
 const OR: &[u8] = &[0x01, 0x10, 0x03, 0, 0x12];
 
-// What bytes are read as.
+// How bytes are read.
 #[derive(Clone, Copy)]
 enum Kind {
     Datum,
     Script,
 }
 
-// How many bytes there are, or 0 and the number of the fault.
+// How many bytes there are; or 0 and the number of the fault.
 const WITHOUT_GROWTH: [(&str, Kind, &[u8], [u64; 2]); 10] = [
     ("an empty list", Kind::Datum, &[3, 0, 0], [3, 0]),
     ("no bytes of a datum", Kind::Datum, &[], [0, 2]),
@@ -72,7 +72,7 @@ fn decoded(memory: Memory, kind: Kind, bytes: &[u8]) -> Option<[u64; 2]> {
     without_growth(memory, seen)
 }
 
-/// Bytes that take no memory.
+/// Bytes whose decoding doesn't allocate.
 pub fn decodings(memory: Memory) -> [Row; 10] {
     WITHOUT_GROWTH.map(|(name, kind, bytes, wanted)| {
         Row::seen(name, decoded(memory, kind, bytes), wanted)
@@ -101,7 +101,7 @@ fn share_script(memory: Memory) -> Option<[u64; 1]> {
     without_growth(memory, [u64::from(share.bytes() == script.bytes())])
 }
 
-/// Shares, which have the same bytes and take no memory.
+/// Shares, which have the same bytes and don't allocate.
 pub fn shares(memory: Memory) -> [Row; 2] {
     [
         Row::seen("a shared datum", share_datum(memory), [1]),

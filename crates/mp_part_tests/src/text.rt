@@ -1,4 +1,4 @@
-//! Reading all of an input: reads that fail, the most bytes, and growths that are refused.
+//! Reading all of an input: reads that fail, the most bytes, and allocations that fail.
 use crate::rows::Row;
 use mp_memory::Memory;
 use mp_testing::{Call, FailingReader, Seen, TrialFault, Trialled, under_each_refusal};
@@ -14,7 +14,7 @@ fn reader_of(at_once: usize, fails_at: u64) -> FailingReader {
     reader
 }
 
-// A reader of one byte, so many times.
+// A reader of `filler` times one byte.
 fn reader_of_filler(filler: usize, at_once: usize) -> FailingReader {
     let mut reader = FailingReader::of(b"");
     reader.filler = filler;
@@ -56,7 +56,7 @@ const INPUTS: [(&str, usize, u64, [u64; 4]); 13] = [
     ("read 5 would fail", 3, 5, [7, 1, 0, 4]),
 ];
 
-/// So many bytes at once, and at the end a read that finds it; and a read that fails.
+/// A number of bytes at once, and a last read that finds the end; then a read that fails.
 pub fn inputs(memory: Memory) -> [Row; 13] {
     INPUTS.map(|(name, at_once, fails_at, wanted)| {
         Row::seen(name, read(memory, at_once, fails_at), wanted)
@@ -80,7 +80,7 @@ fn read_filler(memory: Memory, filler: usize, at_once: usize) -> [u64; 3] {
     }
 }
 
-// An input of 20,000 bytes. Room is made for 4,096 bytes, and then for twice as many each time.
+// An input of 20,000 bytes. The room is 4,096 bytes at first, and doubles each time.
 #[derive(Drop)]
 struct Reading {
     memory: Memory,
@@ -121,14 +121,14 @@ const LENGTHS: [(&str, usize, usize, [u64; 3]); 5] = [
     ("one at once", 200_000, 1, [200_000, 200_000, 0]),
 ];
 
-/// Inputs that are long, or never end.
+/// Inputs that are long or never end.
 pub fn lengths(memory: Memory) -> [Row; 5] {
     LENGTHS.map(|(name, filler, at_once, wanted)| {
         Row::seen(name, Some(read_filler(memory, filler, at_once)), wanted)
     })
 }
 
-/// The most bytes that an input may have, and growths that are refused.
+/// The most bytes that an input may have, and allocations that fail.
 pub fn limits(memory: Memory) -> [Row; 2] {
     [
         Row::seen("the most bytes", Some([MAX_BYTES as u64]), [16_777_216]),

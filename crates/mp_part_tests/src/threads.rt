@@ -1,4 +1,4 @@
-//! Growths of several threads, and values that cross them.
+//! Allocations of several threads, and values that cross threads.
 use crate::rows::Row;
 use crate::tickets::{one_bucket, pair};
 use mp_memory::Memory;
@@ -19,14 +19,14 @@ fn refusals(memory: Memory) -> u64 {
     refusals
 }
 
-// How many growths of two threads are refused, and whether the refusal waits afterwards.
+// How many allocations of two threads fail, and whether a failure is armed afterwards.
 fn grow_in_two(rt: &impl Threads, memory: Memory, nth: u64) -> [u64; 2] {
     memory.refuse(nth);
     let (first, second) = thread::join(rt, || refusals(memory), || refusals(memory));
     [first.wrapping_add(second), u64::from(memory.waits())]
 }
 
-// Of how many of the growths of two threads the refusal comes once, and doesn't wait afterwards.
+// For how many allocations of two threads the failure occurs once, and isn't armed afterwards.
 fn refused_once(rt: &impl Threads, memory: Memory) -> Option<[u64; 1]> {
     let mut growths = 0u64;
     for nth in 1..=2 * GROWTHS {
@@ -37,14 +37,14 @@ fn refused_once(rt: &impl Threads, memory: Memory) -> Option<[u64; 1]> {
     Some([growths])
 }
 
-// How many are refused where the growth after theirs is to be, whether it waits, and whether it is refused then.
+// How many fail if the allocation after theirs is to fail, whether that failure is armed, and whether it then occurs.
 fn refused_after(rt: &impl Threads, memory: Memory) -> Option<[u64; 3]> {
     let [refusals, waits] = grow_in_two(rt, memory, 2 * GROWTHS + 1);
     let is_refused = u64::from(Box::new(memory, 0u8).is_err());
     Some([refusals, waits, is_refused])
 }
 
-// Pushes 4 in another thread, and says whether there was memory.
+// Pushes 4 in another thread, and returns whether that succeeded.
 fn push_there(rt: &impl Threads, mut bytes: Vec<u8, Memory>) -> Option<(Vec<u8, Memory>, bool)> {
     let sent = thread::spawn(rt, move || {
         let pushed = bytes.push(4).is_ok();
@@ -65,7 +65,7 @@ fn vector_there(rt: &impl Threads, memory: Memory) -> Option<[u64; 2]> {
     Some([u64::from(pushed), u64::from(is_right)])
 }
 
-// What two threads read of one value.
+// What two threads read from one value.
 fn shared_there(rt: &impl Threads, memory: Memory) -> Option<[u64; 2]> {
     let Ok(shared) = Arc::new(memory, 9u64) else {
         return None;
@@ -77,7 +77,7 @@ fn shared_there(rt: &impl Threads, memory: Memory) -> Option<[u64; 2]> {
     Some([here, there])
 }
 
-// Takes an item out in another thread.
+// Removes an item in another thread.
 fn unlink_there(
     rt: &impl Threads,
     mut list: TicketList<u64>,
@@ -92,7 +92,7 @@ fn unlink_there(
     }
 }
 
-// What that took out, what is taken out here, and then the first and how many are left.
+// The item removed there, the one removed here, then the first and how many are left.
 fn list_there(rt: &impl Threads, memory: Memory) -> Option<[u64; 5]> {
     let (mut list, taken) = unlink_there(rt, one_bucket(memory)?)?;
     let then = list.unlink(1).unwrap_or(0);

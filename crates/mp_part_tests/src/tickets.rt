@@ -1,10 +1,10 @@
-//! Ticket lists: a node that was made goes in, and an item goes out, without memory.
+//! Ticket lists: adding a node that exists, and removing an item, don't allocate.
 use crate::rows::{Row, without_growth};
 use mp_memory::Memory;
 use mp_testing::{Call, Seen, TrialFault, Trialled, under_each_refusal};
 use mp_tickets::{Node, TicketList, make_node};
 
-/// Puts the node in under the ticket, if that is greater than each that is there.
+/// Adds the node under the ticket, if that is greater than all tickets in the list.
 pub fn push<T: Drop>(list: &mut TicketList<T>, ticket: u64, node: Node<T>) {
     let last = match list.back() {
         Some((last, _item)) => last,
@@ -15,14 +15,14 @@ pub fn push<T: Drop>(list: &mut TicketList<T>, ticket: u64, node: Node<T>) {
     }
 }
 
-/// Puts the item in under the ticket, if that is greater than each that is there and there is memory.
+/// Adds the item under the ticket, if that is greater than all tickets in the list and no allocation fails.
 pub fn put<T: Drop>(memory: Memory, list: &mut TicketList<T>, ticket: u64, item: T) {
     if let Ok(node) = make_node(memory, item) {
         push(list, ticket, node);
     }
 }
 
-/// A list with the tickets of one bucket. The item of each is its hundredfold.
+/// A list with the tickets of one bucket. The item of each is its ticket times 100.
 pub fn one_bucket(memory: Memory) -> Option<TicketList<u64>> {
     let Ok(mut list) = TicketList::new(memory) else {
         return None;
@@ -33,7 +33,7 @@ pub fn one_bucket(memory: Memory) -> Option<TicketList<u64>> {
     Some(list)
 }
 
-/// A list of the tickets from 1 on, with room made for each one before. The item of each is its tenfold.
+/// A list of the tickets from 1 on. Room is made for each before it is added. The item of each is its ticket times 10.
 pub fn filled(memory: Memory, count: u64) -> Option<TicketList<u64>> {
     let Ok(mut list) = TicketList::new(memory) else {
         return None;
@@ -47,7 +47,7 @@ pub fn filled(memory: Memory, count: u64) -> Option<TicketList<u64>> {
     Some(list)
 }
 
-/// A ticket and its item, and zeros where there is none.
+/// A ticket and its item, or zeros if there is none.
 pub fn pair(entry: Option<(u64, &u64)>) -> [u64; 2] {
     match entry {
         Some((ticket, item)) => [ticket, *item],
@@ -81,7 +81,7 @@ fn pushed(memory: Memory) -> Option<Seen> {
     without_growth(memory, ends(&list))
 }
 
-// What is found, what is taken out, the first, how many are left and whether none is.
+// What is found, what is removed, the first, how many are left and whether none is.
 fn unlinked(memory: Memory) -> Option<Seen> {
     let mut list = one_bucket(memory)?;
     memory.refuse(1);
@@ -127,7 +127,7 @@ fn reserved(memory: Memory, count: u64) -> Result<Trialled, TrialFault> {
     under_each_refusal(&memory, &Reserving { memory, count })
 }
 
-/// Room for one more is made where there are as many items as buckets, and nowhere else.
+/// Room for one more is made if there are as many items as buckets, and not otherwise.
 pub fn rooms(memory: Memory) -> [Row; 3] {
     [
         Row::tried(
@@ -151,7 +151,7 @@ pub fn rooms(memory: Memory) -> [Row; 3] {
     ]
 }
 
-/// What takes no memory.
+/// What doesn't allocate.
 pub fn thrift(memory: Memory) -> [Row; 2] {
     [
         Row::seen(

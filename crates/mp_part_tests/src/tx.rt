@@ -1,10 +1,10 @@
-//! Transactions: what takes no memory. What does is tried in the lines of mp_vectors' `transaction.txt` and `decode.txt`.
+//! Transactions: what doesn't allocate. What does is tested by the lines of mp_vectors' `transaction.txt` and `decode.txt`.
 use crate::rows::{Row, without_growth};
 use mp_memory::Memory;
 use mp_testing::{opening, output, transaction};
 use mp_tx::{Tx, TxFault};
 
-// Whether bytes have another fault than want of memory, where no growth is made.
+// Whether bytes have another fault than an allocation failure, without any allocation.
 fn no_transaction(memory: Memory, bytes: &[u8]) -> Option<[u64; 1]> {
     memory.refuse(1);
     let is_other = match Tx::decode(memory, bytes) {
@@ -25,7 +25,7 @@ fn output_shared(memory: Memory) -> Option<[u64; 1]> {
     without_growth(memory, [u64::from(share == paid)])
 }
 
-// How many bytes a transaction has, and there is room for.
+// How many bytes a transaction has, and how much room its encoding has.
 fn encoded(memory: Memory) -> Option<[u64; 2]> {
     let Ok(tx) = transaction(memory, &[opening(0)], &[100]) else {
         return None;
@@ -45,12 +45,12 @@ const CUT_OFF: [(&str, &[u8]); 5] = [
     ("no part", &[2, 0, 0, 0, 0]),
 ];
 
-/// Bytes of no transaction, which take no memory.
+/// Bytes that are no transaction, whose decoding doesn't allocate.
 pub fn cut_off(memory: Memory) -> [Row; 5] {
     CUT_OFF.map(|(name, bytes)| Row::seen(name, no_transaction(memory, bytes), [1]))
 }
 
-/// A share, which takes none, and bytes, which take no more than they need.
+/// A share, which doesn't allocate, and an encoding, which allocates just its bytes.
 pub fn rooms(memory: Memory) -> [Row; 2] {
     [
         Row::seen("a shared output", output_shared(memory), [1]),

@@ -1,5 +1,5 @@
-//! Overlays: one is made, a transaction is applied where there is room, and both are looked at without memory. Room is made in the cases
-//! of `overlay.txt`.
+//! Overlays. One is made, a transaction is applied to it after making room, and both are read without allocating. Making room is
+//! tested by the cases of `overlay.txt`.
 use crate::rows::{Row, without_growth};
 use mp_memory::Memory;
 use mp_testing::{ledger, opening, output_of, transaction};
@@ -21,7 +21,7 @@ fn found(overlay: &Overlay, id: &TxId) -> [u64; 4] {
     ]
 }
 
-// Makes room for the transaction, and applies it while the refusal of the next growth waits.
+// Makes room for the transaction, and applies it while the failure of the next allocation is armed.
 fn apply(memory: Memory, overlay: &mut Overlay, tx: &Arc<Tx, Memory>) -> Option<()> {
     let Ok(copy) = Arc::try_clone(tx) else {
         return None;
@@ -42,7 +42,7 @@ fn look(overlay: &Overlay, maker: &TxId) -> [u64; 5] {
     [first, second, made, next, below]
 }
 
-// A new overlay, or one upon which a transaction is applied that spends opening 0 and makes two outputs.
+// A new overlay, or one with a transaction that spends opening 0 and makes two outputs.
 fn made(memory: Memory, is_applied: bool) -> Option<[u64; 5]> {
     let Ok(base) = ledger(memory, 2, 1000) else {
         return None;
@@ -60,8 +60,8 @@ fn made(memory: Memory, is_applied: bool) -> Option<[u64; 5]> {
     without_growth(memory, look(&overlay, maker.id()))
 }
 
-/// What takes no memory. The numbers are whether openings 0 and 1 may be spent, and the outputs of the maker, and whether opening 0 is in
-/// the ledger below.
+/// What doesn't allocate. The numbers are whether openings 0 and 1 may be spent, and the outputs of the maker, and whether
+/// opening 0 is in the ledger below.
 pub fn thrift(memory: Memory) -> [Row; 2] {
     [
         Row::seen("a new overlay", made(memory, false), [1, 1, 0, 0, 1]),

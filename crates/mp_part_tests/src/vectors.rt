@@ -1,4 +1,4 @@
-//! Cases of the rules: text files with a case in each line, for everybody who writes a client.
+//! Cases of the rules: text files with a case in each line, for everyone who writes a client.
 
 mod again;
 mod answer;
@@ -23,7 +23,7 @@ use std::rt::Files;
 use std::{fs, io};
 pub use wrong::Wrong;
 
-// How many cases a line has, where they hold: one, or none where it is blank or a comment, or gives a name to something.
+// How many cases a line has, if they hold: one, or none if it is blank, a comment or a definition of a name.
 fn count_held(names: &mut Names, kind: Kind, line: &str) -> wrong::Result<u64> {
     if line.is_empty() || line.starts_with('#') {
         return Ok(0);
@@ -36,7 +36,7 @@ fn count_held(names: &mut Names, kind: Kind, line: &str) -> wrong::Result<u64> {
     }
 }
 
-// Prints each line that doesn't hold, and gives how many cases held.
+// Prints each line that doesn't hold, and returns how many cases held.
 fn check_lines(rt: &impl Print, names: &mut Names, kind: Kind, text: &str) -> io::Result<u64> {
     let name = kind.file_name();
     let [mut held, mut number] = [0u64; 2];
@@ -52,7 +52,7 @@ fn check_lines(rt: &impl Print, names: &mut Names, kind: Kind, text: &str) -> io
     Ok(held)
 }
 
-/// Checks the cases of the kind's file. Prints each line that doesn't hold, and how many cases did.
+/// Checks the cases of the kind's file. Prints each line that doesn't hold, then how many cases held.
 pub fn check_file(
     rt: &(impl Files + Print + AllocGlobal),
     memory: Memory,

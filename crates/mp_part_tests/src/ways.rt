@@ -1,10 +1,10 @@
-//! What a trial finds of a call that behaves in one way or another.
+//! What a trial finds about a call that behaves in one way or another.
 use crate::rows::Row;
 use mp_memory::{Memory, NoMemory};
 use mp_testing::{Call, Seen, TrialFault, Trialled, under_each_refusal};
 use std::sync::atomic::{AtomicU64, Ordering};
 
-// How the call behaves, and its value: right, or wrong in one way.
+// How the call behaves and returns: right, or wrong in one way.
 #[derive(Clone, Copy)]
 enum Way {
     MakesNoGrowth,
@@ -25,7 +25,7 @@ struct Adding {
     calls: AtomicU64,
 }
 
-// Each growth is made by a step of its own, and the value changes last.
+// Each allocation is made by a step of its own, and the value changes last.
 fn add(memory: Memory, growths: u64, numbers: &mut Vec<u64, Memory>) -> Result<u64, NoMemory> {
     for growth in 1..growths {
         let _spare = Box::new(memory, growth)?;
@@ -88,7 +88,7 @@ impl Call for Adding {
     }
 }
 
-// What the trial comes to. A refusal that still waits afterwards is told as that of growth 0.
+// The result of the trial. A failure that is still armed afterwards is reported as that of allocation 0.
 fn tried(memory: Memory, way: Way) -> Result<Trialled, TrialFault> {
     let adding = Adding {
         memory,
@@ -103,7 +103,7 @@ fn tried(memory: Memory, way: Way) -> Result<Trialled, TrialFault> {
     }
 }
 
-/// The trial counts the growths of calls that stand each refusal.
+/// The trial counts the allocations of calls that handle each failure.
 pub fn growths(memory: Memory) -> [Row; 4] {
     [
         Row::tried("no growth", tried(memory, Way::MakesNoGrowth), [1], 0),
@@ -113,7 +113,7 @@ pub fn growths(memory: Memory) -> [Row; 4] {
     ]
 }
 
-/// It finds the fault of each other.
+/// It finds the fault of every other call.
 pub fn faults(memory: Memory) -> [Row; 7] {
     [
         Row::faulty(

@@ -1,4 +1,4 @@
--- Beginnings of a pool's items.
+-- Prefixes of a pool's items.
 use Rattle.std.proofs.Common.{◌≡◌, ℕ, ◌+◌, ◌≤◌, min, List, [], ◌∷◌, ◌++◌, length, take, drop, sym, ap, subst, ◌∙◌, arith, length-append, length-take, take-append-drop}
 use Rattle.std.specs.FinMap.{get}
 use Rattle.std.specs.Prelude.{sum_by}
@@ -28,7 +28,7 @@ first_ones n xs = (drop n xs, take-append-drop n xs)
 bytes-append : (xs ys : List (ℕ × Transaction)) → bytes_of (xs ++ ys) ≡ bytes_of xs + bytes_of ys
 bytes-append xs ys = ap (sum_by size_of) (map-append (λ i. i.1) xs ys) ∙ sum_by-append size_of (transactions xs) (transactions ys)
 
--- a beginning has no more bytes than all
+-- a prefix has no more bytes than the whole
 lighter : (xs ys : List (ℕ × Transaction)) → IsPrefix xs ys → bytes_of xs ≤ bytes_of ys
 lighter xs ys p = let all : bytes_of ys ≡ bytes_of xs + bytes_of p.0 = ap bytes_of (sym p.1) ∙ bytes-append xs p.0 in omega arith
 
@@ -52,7 +52,7 @@ longest cursor count bytes items =
       longest = λ other p n b. let most : length other ≤ length run = k.longest other p b in omega arith;
     }
 
--- a run within a number of bytes has no more items than all
+-- a run within a number of bytes has no more items than the whole
 whole_run : (bytes count : ℕ) (items : List (ℕ × Transaction)) → count ≡ length items → take count (within bytes items) ≡ within bytes items
 whole_run bytes count items all =
     let run : List (ℕ × Transaction) = within bytes items in
@@ -60,7 +60,7 @@ whole_run bytes count items all =
     let parts : length run + length begins.0 ≡ length items = sym (length-append run begins.0) ∙ ap length begins.1 in
     take_all count run (omega arith)
 
--- all of it is taken where as many items are as there are
+-- the whole run is taken if as many items are allowed as there are
 pub all_of_run : (bytes count : ℕ) (items run taken : List (ℕ × Transaction)) → count ≡ length items → run ≡ within bytes items → taken ≡ take count run → taken ≡ within bytes items
 all_of_run bytes count items run taken all is part = part ∙ ap (take count) is ∙ whole_run bytes count items all
 
@@ -75,7 +75,7 @@ module _ (accepts : Accepts) where
   pub lawful-state : (callers : ℕ) (log : Log) → IsLegalLog accepts callers log → IsLawful accepts (state_after accepts log)
   lawful-state callers log legal = lawful-after accepts log.opening (commands log.entries) legal.lawful
 
-  -- a beginning of the pool's items may go into a block
+  -- a prefix of the pool's items may go into a block
   pub valid_block : (p : Pool) (items : List (ℕ × Transaction)) → IsLawful accepts p → IsPrefix items p.items → IsValidBlock accepts p items
   valid_block p items law begins =
       let all : transactions p.items ≡ transactions items ++ transactions begins.0 = ap transactions (sym begins.1) ∙ map-append (λ i. i.1) items begins.0 in

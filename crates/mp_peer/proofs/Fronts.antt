@@ -1,4 +1,4 @@
--- Histories that begin a legal one.
+-- Prefixes of legal histories.
 use Rattle.std.proofs.Common.{ℕ, List, [], ◌∷◌, ◌++◌, sym, ap, subst, ◌∙◌}
 use Rattle.mp_rules.specs.Verifier.{Accepts}
 use Rattle.mp_seqpool.specs.Pool.{Pool}
@@ -12,7 +12,7 @@ module _ (accepts : Accepts) (callers : ℕ) where
   legal-left p [] rest legal = tt
   legal-left p (e ∷ es) rest legal = (legal.0, legal-left (next accepts p e.command) es rest legal.1)
 
-  -- what begins a legal history is one
+  -- a prefix of a legal history is legal
   pub legal-beginning : (a b : Log) → Begins a b → IsLegalLog accepts callers b → IsLegalLog accepts callers a
   legal-beginning a b begins legal = record {
     lawful = subst (IsLawful accepts) (sym begins.opening) legal.lawful;

@@ -1,4 +1,4 @@
--- Offers of items whose tickets rise.
+-- Offers of items whose tickets are strictly increasing.
 use Rattle.std.proofs.Common.{◌≡◌, inl, inr, ℕ, zero, suc, ◌+◌, ◌<◌, ◌≤◌, Bool, true, false, cond, List, [], ◌∷◌, ◌++◌, get_or, sym, subst, refl, ap, ◌∙◌, arith}
 use Rattle.std.specs.Prelude.{nat_lt, All, AllPairs, Contains, ◌⊎◌}
 use Rattle.std.specs.List.Sorted.{IsStrictlyIncreasing}
@@ -14,7 +14,7 @@ use Rattle.mp_seqpool.specs.PoolLaws.{IsLawful}
 use Rattle.mp_seqpool.proofs.Keeping.{orderly-of}
 use Rattle.mp_seqpool.specs.Reading.{moved}
 
--- ---- tickets that rise, by turns
+-- -- strictly increasing tickets, step by step
 
 climb : (low : ℕ) (items : List (ℕ × Transaction)) → AllPairs (λ a b. a.0 < b.0) items → All (λ i. low < i.0) items → IsRisingFrom low items
 climb low [] pairs all = tt
@@ -48,7 +48,7 @@ rising_lower : (low m : ℕ) (items : List (ℕ × Transaction)) → low ≤ m �
 rising_lower low m [] h r = tt
 rising_lower low m (i ∷ is) h r = let k = r.0 in (omega arith, r.1)
 
--- what is after a cursor still rises from where all do
+-- items after a cursor still have increasing tickets above the same bound
 rising-kept : (low cursor : ℕ) (items : List (ℕ × Transaction)) → IsRisingFrom low items → IsRisingFrom low (after items cursor)
 rising-kept low cursor [] r = tt
 rising-kept low cursor (i ∷ is) r =
@@ -56,7 +56,7 @@ rising-kept low cursor (i ∷ is) r =
     let rest : IsRisingFrom i.0 (after is cursor) = rising-kept i.0 cursor is r.1 in
     after-step (IsRisingFrom low) cursor i is (λ above. (k, rest)) (rising_lower low i.0 (after is cursor) (omega arith) rest)
 
--- and from the cursor
+-- and above the cursor
 pub rising-after : (low cursor : ℕ) (items : List (ℕ × Transaction)) → IsRisingFrom low items → IsRisingFrom cursor (after items cursor)
 rising-after low cursor [] r = tt
 rising-after low cursor (i ∷ is) r = after-step (IsRisingFrom cursor) cursor i is (λ above. (above, rising-kept i.0 cursor is r.1)) (rising-after i.0 cursor is r.1)
@@ -72,7 +72,7 @@ contains-after cursor (i ∷ is) x (suc k, lt, e) above =
     let rest : Contains (after is cursor) x = contains-after cursor is x (k, omega arith, e) above in
     after-step (λ l. Contains l x) cursor i is (λ _. contains-more x i (after is cursor) rest) rest
 
--- ---- where a cursor stands
+-- -- where a cursor is
 
 pub rising-left : (low : ℕ) (xs ys : List (ℕ × Transaction)) → IsRisingFrom low (xs ++ ys) → IsRisingFrom low xs
 rising-left low [] ys r = tt
@@ -91,14 +91,14 @@ above_low low [] x r c = absurd (let lt = c.1 in omega arith)
 above_low low (y ∷ ys) x r (zero, lt, e) = subst (λ (j : ℕ × Transaction). low < j.0) e r.0
 above_low low (y ∷ ys) x r (suc k, lt, e) = let h = above_low y.0 ys x r.1 (k, omega arith, e) in let l = r.0 in omega arith
 
--- the cursor stands at its old place or at the ticket of one of the items
+-- the cursor is where it was, or at the ticket of one of the items
 pub moved-bound : (P : ℕ → Type 0) (cursor : ℕ) (items : List (ℕ × Transaction)) → P cursor → ((x : ℕ × Transaction) → Contains items x → P x.0) → P (moved cursor items)
 moved-bound P cursor [] p all = p
 moved-bound P cursor (i ∷ is) p all = moved-bound P i.0 is (all i (zero, omega arith, refl)) (λ x c. all x (contains-more x i is c))
 
 -- ---- one offer
 
--- what stands after the cursor, and not after where it moves, was offered
+-- what is after the cursor, and not after its new place, was offered
 pub in_offer : (cursor low : ℕ) (items offered : List (ℕ × Transaction)) → IsRisingFrom low items → IsPrefix offered (after items cursor)
     → (x : ℕ × Transaction) → Contains items x → cursor < x.0 → x.0 ≤ moved cursor offered → Contains offered x
 in_offer cursor low items offered rising begins x c above le =

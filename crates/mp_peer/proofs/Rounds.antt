@@ -26,11 +26,11 @@ last_one accepts cursor (o ∷ os) =
     let g : List (ℕ × Transaction) = offer_at accepts cursor o in
     last_one accepts (moved cursor g) os ∙ sym (moved-append cursor g (offered accepts (moved cursor g) os))
 
--- what stands above start and up to the cursor was offered
+-- what is above start, and up to the cursor, was offered
 abbrev pub IsWhole : ℕ → List (ℕ × Transaction) → ℕ → Pool → Type 0
 IsWhole start seen cursor p = (x : ℕ × Transaction) → Contains p.items x → start < x.0 → x.0 ≤ cursor → Contains seen x
 
--- nothing stands both above start and up to it
+-- nothing is both above start and up to it
 none : (start : ℕ) (p : Pool) → IsWhole start [] start p
 none start p x c more le = absurd (omega arith)
 
@@ -40,7 +40,7 @@ above_zero accepts p law x c = All-contains (λ i. 0 < i.0) p.items x (All-unmap
 given : (accepts : Accepts) (p : Pool) → IsLawful accepts p → (x : ℕ × Transaction) → Contains p.items x → x.0 ≤ p.last
 given accepts p law x c = All-contains (λ i. i.0 ≤ p.last) p.items x (All-unmap (λ i. i.0) (λ k. k ≤ p.last) p.items law.given) c
 
--- what is offered stands in the pool then
+-- what is offered is in the pool at that time
 there : (accepts : Accepts) (cursor : ℕ) (o : Offer) (x : ℕ × Transaction) → Contains (offer_at accepts cursor o) x → Contains (state_after accepts o.front).items x
 there accepts cursor o x c =
     let items : List (ℕ × Transaction) = (state_after accepts o.front).items in
@@ -64,7 +64,7 @@ module _ (accepts : Accepts) (callers : ℕ) (log : Log) (legal : IsLegalLog acc
       let g : List (ℕ × Transaction) = offer_at accepts cursor o in
       rising-joined cursor g (offered accepts (moved cursor g) os) (rises cursor o (All-head (λ f. Begins f.front log) o os are)) (all_rise (moved cursor g) os (All-tail (λ f. Begins f.front log) o os are))
 
-  -- the cursor moves to no ticket that isn't given yet
+  -- the cursor moves to no ticket that hasn't been given yet
   bound_one : (cursor : ℕ) (o : Offer) → Begins o.front log → moved cursor (offer_at accepts cursor o) ≤ max cursor (state_after accepts o.front).last
   bound_one cursor o begins =
       let p : Pool = state_after accepts o.front in
@@ -80,7 +80,7 @@ module _ (accepts : Accepts) (callers : ℕ) (log : Log) (legal : IsLegalLog acc
       let rest = bound_all (moved cursor g) os (All-tail (λ f. Begins f.front log) o os are) in
       omega (arith, one, later, rest)
 
-  -- it still holds after one offer more
+  -- this still holds after one more offer
   one_more : (start : ℕ) (seen : List (ℕ × Transaction)) (cursor : ℕ) (o : Offer) → Begins o.front log → IsWhole start seen cursor (state_after accepts log)
       → IsWhole start (seen ++ offer_at accepts cursor o) (moved cursor (offer_at accepts cursor o)) (state_after accepts log)
   one_more start seen cursor o begins before x c more le = by (nat_lt cursor x.0) refl
@@ -114,7 +114,7 @@ module _ (accepts : Accepts) (callers : ℕ) (log : Log) (legal : IsLegalLog acc
       subst (λ l. IsWhole start l (cursor_after accepts (moved cursor g) os) (state_after accepts log)) (append_assoc seen g (offered accepts (moved cursor g) os))
       (whole start (seen ++ g) (moved cursor g) os (All-tail (λ f. Begins f.front log) o os are) (one_more start seen cursor o (All-head (λ f. Begins f.front log) o os are) is))
 
-  -- all that is offered, as far as the cursor
+  -- everything that is offered, up to the cursor
   pub offered_whole : (start : ℕ) (offers : List Offer) → All (λ o. Begins o.front log) offers → IsWhole start (offered accepts start offers) (cursor_after accepts start offers) (state_after accepts log)
   offered_whole start offers are = whole start [] start offers are (none start (state_after accepts log))
 

@@ -6,7 +6,7 @@ use Rattle.mp_tx.specs.Transaction.{Transaction}
 use Rattle.mp_tx.specs.Spelling.{size_of}
 use Rattle.mp_resync.specs.Keep.{transactions, bytes_of}
 
--- with one item more the items so far, and those that may still come, are the same
+-- after one more item, the items so far and those that may still come are the same
 pub one_taken : (count at : ℕ) (done all left rest : List (ℕ × Transaction)) (i : ℕ × Transaction) → at < count → left ≡ i ∷ rest → done ++ take (count - at) left ≡ all
     → (done ++ i ∷ []) ++ take (count - (at + 1)) rest ≡ all
 one_taken count at done all left rest i lt first before =

@@ -17,7 +17,7 @@ use Rattle.mp_peer.proofs.Rising.{increasing, rising-joined}
 use Rattle.mp_peer.proofs.Rounds.{IsWhole, above_zero, all_rise, bound_all, last_one, offered_whole, whole}
 
 module _ (accepts : Accepts) where
-  -- What was offered up to this cursor of the pool with this history, and of pools before it.
+  -- What was offered, up to this cursor, of the pool with this history and of the pools before it.
   pub record IsOffered (callers : ℕ) (log : Log) (seen : List (ℕ × Transaction)) (cursor : ℕ) : Type 0 where
     pub legal : IsLegalLog accepts callers log
     pub rising : IsRisingFrom 0 seen
@@ -25,7 +25,7 @@ module _ (accepts : Accepts) where
     pub given : cursor ≤ (state_after accepts log).last
     pub whole : IsWhole 0 seen cursor (state_after accepts log)
 
-  -- of the first pool
+  -- for the first pool
   first : (callers : ℕ) (log : Log) (offers : List Offer) → IsLegalLog accepts callers log → AreOffersOf log offers
       → IsOffered callers log (offered accepts 0 offers) (cursor_after accepts 0 offers)
   first callers log offers legal are =
@@ -38,11 +38,11 @@ module _ (accepts : Accepts) where
         whole = offered_whole accepts callers log legal 0 offers are;
       }
 
-  -- what a pool opens with has what it had
+  -- a pool opens with what the pool before it had
   over : (callers : ℕ) (log later : Log) → IsLegalLog accepts callers log → Succeeds accepts log later → Lasts (state_after accepts log) (state_after accepts later)
   over callers log later legal follow = All-head (λ l. Lasts (state_after accepts log) (state_after accepts l)) later [] (successor_law accepts callers log (later ∷ []) legal (follow, tt)).lasts
 
-  -- so it is of a pool that takes over
+  -- for a pool that takes over
   next : (callers : ℕ) (log : Log) (seen : List (ℕ × Transaction)) (cursor : ℕ) (t : Turn) → IsOffered callers log seen cursor → (follow : Succeeds accepts log t.log) → AreOffersOf t.log t.offers
       → IsOffered follow.callers t.log (seen ++ offered accepts cursor t.offers) (cursor_after accepts cursor t.offers)
   next callers log seen cursor t before follow are =
@@ -61,7 +61,7 @@ module _ (accepts : Accepts) where
             (λ x c above le. before.whole x (All-contains (λ i. i.0 ≤ (state_after accepts log).last → Contains (state_after accepts log).items i) (state_after accepts t.log).items x kept.kept c (omega (arith, le, old))) above le);
       }
 
-  -- and of all of them
+  -- for all of them
   all : (callers : ℕ) (log : Log) (seen : List (ℕ × Transaction)) (cursor : ℕ) (turns : List Turn) → IsOffered callers log seen cursor → AreTurns accepts log turns
       → (known : ℕ) × IsOffered known (last_log log turns) (seen ++ offered_in accepts cursor turns) (cursor_in accepts cursor turns)
   all callers log seen cursor [] before are = (callers, subst (λ l. IsOffered callers log l cursor) (sym (append-nil seen)) before)

@@ -8,9 +8,9 @@ use Rattle.mp_rules.specs.Validity.{Chain}
 use Rattle.mp_resync.specs.Keep.{transactions}
 use Rattle.mp_seqpool.specs.Pool.{Pool}
 
--- The items may go into a block upon the ledger state that the pool has adopted.
+-- The items may go into a block on the ledger state that the pool has adopted.
 pub record IsValidBlock (accepts : Accepts) (p : Pool) (items : List (ℕ × Transaction)) : Type 0 where
-  -- they are the pool's oldest
+  -- they are a prefix of the pool's items: its oldest
   pub begins : IsPrefix items p.items
   -- each transaction is valid after all before it
   pub chained : Chain accepts (get p.ledger.utxo) p.ledger.tick (transactions items)

@@ -11,18 +11,18 @@ use mp_items::{Item, Items};
 use mp_memory::{Memory, NoMemory};
 use mp_versions::Snapshot;
 
-/// The first transactions of a pool, which whoever forges a block puts into it. They are the pool's own, and shared.
+/// The first transactions of a pool, for a block. They are the pool's own, and shared.
 #[derive(Drop)]
 pub struct Block {
     /// The transactions with their tickets, oldest first.
     pub items: Items,
-    /// How many bytes they have together.
+    /// How many bytes they have in all.
     pub bytes: u64,
     /// How many entries the pool's history had.
     pub number: u64,
 }
 
-// How many bytes the items have together.
+// How many bytes the items have in all.
 fn sum_sizes(items: &[Item]) -> u64
     requires { bytes_of (items_of items.now) < 2 ^ 64 }
     ensures { result ≡ bytes_of (items_of items.now) }
@@ -34,11 +34,11 @@ fn sum_sizes(items: &[Item]) -> u64
     bytes
 }
 
-/// The transactions from the oldest on, as long as they fit into so many bytes together. `blocks` says that they are valid one
-/// after the other upon the adopted ledger state.
+/// The transactions from the oldest on, as long as they fit into `bytes` bytes in all. By `blocks`, they are valid one after the
+/// other on the adopted ledger state.
 ///
 /// # Errors
-/// `NoMemory`, but not where no transaction is taken.
+/// `NoMemory`, but not if no transaction is taken.
 pub fn forge<N: PoolName>(
     memory: Memory,
     snapshot: &Snapshot<'_, N>,

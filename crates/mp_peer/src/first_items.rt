@@ -5,7 +5,7 @@ ghost use Rattle.mp_seqpool.specs.Item.{items_of};
 use mp_items::{Item, Items, RunWithin};
 use mp_memory::{Memory, NoMemory};
 
-// Puts the run's first items, at most so many, into a vector that is empty.
+// Adds the run's first items, at most `count`, to an empty vector.
 fn push_first(
     items: &mut Vec<Item, Memory>,
     mut run: RunWithin<'_>,
@@ -24,7 +24,7 @@ fn push_first(
     Ok(())
 }
 
-/// The run's first items, at most so many. They share their transactions. Where there is none it takes no memory.
+/// The run's first items, at most `count`. They share their transactions. If there are none, nothing is allocated.
 pub(crate) fn share_first(memory: Memory, run: RunWithin<'_>, count: u64) -> Result<Items, NoMemory>
     ensures items { IfOk result (λ items. items ≡ take count run.entry) }
     ensures wanting { OnErr result (take count run.entry ≢ []) }

@@ -1,4 +1,4 @@
-//! What a pool's snapshots are read for: offers to a peer, and blocks.
+//! Uses of a pool's snapshots: offers to a peer, and blocks.
 #![tactic(auto)]
 
 mod block;

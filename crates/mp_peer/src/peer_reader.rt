@@ -1,4 +1,4 @@
-//! What a peer is offered of a pool.
+//! Offers of a pool's transactions to a peer.
 ghost use Rattle.std.specs.Prelude.{◌≡◌, ◌≢◌, [], IfOk, OnErr};
 ghost use Rattle.mp_history.specs.Log.{state_after};
 ghost use Rattle.mp_seqpool.specs.Reading.{moved, offer};
@@ -10,10 +10,11 @@ use mp_memory::{Memory, NoMemory};
 use mp_versions::Snapshot;
 use std::marker::Model;
 
-/// Reads a pool for one peer: each offer has what comes after the last one, so that no transaction is offered twice under one
-/// ticket and none is left out that is still there (`offers`, and `offers_after` where it began after a ticket). It keeps a
-/// cursor, the ticket that was offered last. Any snapshots of one pool may be read, and with a reader of its own each peer goes
-/// at its own pace. Contracts see the cursor.
+/// Reads a pool for one peer. Each offer has what comes after the last one. So no transaction is offered twice under one ticket,
+/// and none that is still there is left out (`offers`, and `offers_after` if it began after a ticket).
+///
+/// It keeps a cursor: the ticket that was offered last. It may read any snapshots of one pool. With a reader of its own, each
+/// peer goes at its own pace. Contracts see the cursor.
 #[derive(Drop)]
 pub struct PeerReader {
     cursor: u64,
@@ -27,7 +28,7 @@ impl Model for PeerReader {
     ghost view = { λ r. r.cursor };
 }
 
-// The ticket of the last item, or the cursor where there is none.
+// The ticket of the last item, or the cursor if there is none.
 fn move_over(cursor: u64, items: &Items) -> u64
     ensures { result ≡ moved cursor items.now }
 {
@@ -45,25 +46,25 @@ impl PeerReader {
         PeerReader { cursor: 0 }
     }
 
-    /// A reader that goes on where another one stood, as upon a successor of the pool: after this ticket.
+    /// A reader that continues after this ticket, where another reader stopped: for example on a successor of the pool.
     pub const fn after(ticket: u64) -> PeerReader
         ensures { result ≡ ticket }
     {
         PeerReader { cursor: ticket }
     }
 
-    /// The ticket that was offered last, or the one that the reader began after: what `after` takes.
+    /// The ticket that was offered last, or the one that the reader began after. `after` takes it.
     pub fn cursor(&self) -> u64
         ensures { result ≡ self.now }
     {
         self.cursor
     }
 
-    /// The longest beginning of what comes after the cursor that has at most so many items, and at most so many bytes
-    /// together. The cursor moves to the last ticket that is offered, and stays where nothing is.
+    /// Returns the longest prefix of what comes after the cursor with at most `count` items and at most `bytes` bytes. The cursor
+    /// moves to the last ticket offered. It stays if nothing is offered.
     ///
     /// # Errors
-    /// `NoMemory`, and the cursor stays. It isn't told where nothing is to be offered.
+    /// `NoMemory`. Then the cursor stays. If nothing is to be offered, this can't fail.
     pub fn offer<N: PoolName>(
         &mut self,
         memory: Memory,

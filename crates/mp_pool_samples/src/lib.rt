@@ -6,7 +6,7 @@ pub mod samples;
 pub mod told;
 mod verifier;
 
-pub use audited::tell;
+pub use audited::{tell, tell_handover};
 use mp_seqpool::Config;
 pub use verifier::{ACCEPTS_ALL, AcceptsAll};
 

@@ -2,9 +2,11 @@
 mod audits;
 mod committing;
 mod entries;
+mod handovers;
 
 use crate::history::audits::held_audits;
 use crate::history::committing::held_commits;
+use crate::history::handovers::held_handovers;
 use mp_pool_samples::samples::Samples;
 use std::io;
 use std::sync::Wait;
@@ -14,5 +16,6 @@ use std::thread::Threads;
 pub fn held<R: Print + Threads + Wait + Sync>(rt: &R, samples: &Samples) -> io::Result<u64> {
     let audits = held_audits(rt, samples)?;
     let commits = held_commits(rt, samples)?;
-    Ok(audits.wrapping_add(commits))
+    let handovers = held_handovers(rt, samples)?;
+    Ok(audits.wrapping_add(commits).wrapping_add(handovers))
 }

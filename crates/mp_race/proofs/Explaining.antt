@@ -1,4 +1,4 @@
--- The receipts of all workers explain what each was answered.
+-- The receipts of all workers explain every answer.
 use Rattle.std.proofs.Common.{◌≡◌, ℕ, zero, suc, ◌+◌, ◌<◌, ◌≤◌, List, [], ◌∷◌, ◌++◌, length, get_or, sym, ap, subst, ◌∙◌, arith}
 use Rattle.std.specs.Prelude.{All}
 use Rattle.std.proofs.lemmas.List.{take_all}
@@ -21,7 +21,7 @@ use Rattle.mp_race.proofs.Playing.{own-last, upto-append, begins-trans, plays_on
 use Rattle.mp_race.proofs.Working.{done_on, refused_on}
 
 module _ (accepts : Accepts) (workers : ℕ) (opening : Pool) (ts : List Task) where
-  -- before any worker has come back
+  -- before any worker has returned
   pub nobody : (log : Log) → log.opening ≡ opening → IsLegalLog accepts workers log → AreGathered accepts workers opening ts log [] [] []
   nobody log is legal = record {
     opens = is;
@@ -32,7 +32,7 @@ module _ (accepts : Accepts) (workers : ℕ) (opening : Pool) (ts : List Task) w
     refusals = All-nil (IsRefusal accepts workers ts log);
   }
 
-  -- one more worker has come back, and the history goes on
+  -- one more worker has returned, and the history continues
   pub one_more : (a b : Log) (ps : List Pass) (ds es : List Done) (rs ss : List Refused) (p : Pass) → Begins a b → Begins p.front b → IsLegalLog accepts workers b
       → AreGathered accepts workers opening ts a ps ds rs → HasMade accepts workers opening ts p es ss → AreGathered accepts workers opening ts b (ps ++ p ∷ []) (ds ++ es) (rs ++ ss)
   one_more a b ps ds es rs ss p on seen legal is h = record {
@@ -88,7 +88,7 @@ module _ (accepts : Accepts) (workers : ℕ) (opening : Pool) (ts : List Task) w
       (subst (λ n. Plays accepts p.front n [] (dealt workers n ts) (made p)) has.number has.done.plays)
       )
 
-  -- where the changes are all of the history, and each pass knows its caller's last entry
+  -- if the changes are the whole history, and each pass knows its caller's last entry
   pub explained : (log : Log) (ps : List Pass) (ds : List Done) (rs : List Refused) (o : Ordered) → AreGathered accepts workers opening ts log ps ds rs → IsOrdered workers ts log o
       → length log.entries ≤ length o.entries.items → length ps ≡ workers → AreNumbered o.entries.items 0 ps → IsExplained accepts opening workers ts o rs
   explained log ps ds rs o is ordered few number numbered =

@@ -1,4 +1,4 @@
--- What is told of a history, as far as it is entries.
+-- The records of a history, up to the first that is no entry.
 use Rattle.std.proofs.Common.{◌≡◌, ◌≢◌, ℕ, zero, suc, ◌+◌, ◌<◌, ◌≤◌, true, false, cond, List, [], ◌∷◌, ◌++◌, length, take, get_or, refl, sym, ap, ap₂, subst, ◌∙◌, arith, add-one}
 use Rattle.std.specs.Prelude.{◌⊎◌, ◌%◌, All, HoldsAt, None, Some, nat_le, slice_index_or}
 use Rattle.std.specs.Option.{option_or}
@@ -28,7 +28,7 @@ range-push a (suc k) j is = ap (λ l. a ∷ l) (range-push (a + 1) k j (omega ar
 length-push : {X : Type 0} → (xs : List X) (x : X) → length (xs ++ x ∷ []) ≡ suc (length xs)
 length-push xs x = length-append xs (x ∷ []) ∙ add-one (length xs)
 
--- where each caller is known, none is strange
+-- if each caller is known, none is strange
 not_strange_from : (accepts : Accepts) (callers : ℕ) (p : Pool) (place : ℕ) (es : List Entry) (k : ℕ) → AllByRecursion (λ e. e.caller < callers) es → fault_from accepts callers p place es ≡ Some (audit.StrangeCaller k) → ⊥
 not_strange_from accepts callers p place [] k known is = none-some (audit.StrangeCaller k) is
 not_strange_from accepts callers p place (e ∷ es) k known is = elim (nat_le callers e.caller) as (λ b. nat_le callers e.caller ≡ b → option_or (cond b (Some (audit.StrangeCaller place)) (cond (is_reply (answer accepts p e.command) e.reply) None (Some (audit.WrongReply place)))) (fault_from accepts callers (next accepts p e.command) (place + 1) es) ≡ Some (audit.StrangeCaller k) → ⊥) [
@@ -59,7 +59,7 @@ module _ (workers : ℕ) (ts : List Task) where
   turn_push least [] t are turn = (turn, tt)
   turn_push least (u ∷ told) t are turn = (are.0, turn_push (next_after least u) told t are.1 turn)
 
-  -- one entry more
+  -- one more entry
   pub one_more : (told : List Told) (es : List Entry) (t : Told) (e : Entry) → AreEntriesOf workers ts told es → IsEntryOf workers ts t e → t.place ≡ length told → get_or (next_of told) t.worker 0 ≤ t.task
       → AreEntriesOf workers ts (told ++ t ∷ []) (es ++ e ∷ [])
   one_more told es t e are is at turn = record {
@@ -99,7 +99,7 @@ module _ (workers : ℕ) (ts : List Task) where
       bad = bad;
     })
 
-    -- an entry that is told there, where one is
+    -- a record, if there is one
     first_told : (ts : List Told) (n : ℕ) → n < length ts → Told
     first_told [] n lt = absurd (omega arith)
     first_told (t ∷ ts) n lt = t

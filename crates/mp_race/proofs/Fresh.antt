@@ -1,4 +1,4 @@
--- What a pool opens with.
+-- The passes with which a pool opens.
 use Rattle.std.proofs.Common.{◌≡◌, ℕ, List, [], ◌∷◌, map, length, refl, ◌∙◌}
 use Rattle.std.specs.Prelude.{All}
 use Rattle.std.specs.List.{range_with_len}
@@ -15,7 +15,7 @@ unused_all : (log : Log) (numbers : List ℕ) → All (IsUnused log.opening) (ma
 unused_all log [] = All-nil (IsUnused log.opening)
 unused_all log (n ∷ ns) = All-cons (IsUnused log.opening) (pass_of log (new_caller n)) (map (pass_of log) (map new_caller ns)) (record { opens = refl; last = refl }) (unused_all log ns)
 
--- no pass was used
+-- no pass has been used
 pub unused : (callers : ℕ) (log : Log) → All (IsUnused log.opening) (fresh_passes callers log)
 unused callers log = unused_all log (range_with_len 0 callers)
 
@@ -23,7 +23,7 @@ fronts_all : (log : Log) (numbers : List ℕ) → All (λ p. p.front ≡ log) (m
 fronts_all log [] = All-nil (λ (p : Pass). p.front ≡ log)
 fronts_all log (n ∷ ns) = All-cons (λ (p : Pass). p.front ≡ log) (pass_of log (new_caller n)) (map (pass_of log) (map new_caller ns)) refl (fronts_all log ns)
 
--- each has seen the opening alone
+-- each has seen only the opening
 pub fronts : (callers : ℕ) (log : Log) → All (λ p. p.front ≡ log) (fresh_passes callers log)
 fronts callers log = fronts_all log (range_with_len 0 callers)
 

@@ -1,4 +1,4 @@
--- What stands behind the front of a text.
+-- What follows a prefix of a text.
 use Rattle.std.proofs.Common.{◌≡◌, ℕ, ◌+◌, true, false, List, ◌++◌, length, take, drop, sym, ap, ◌∙◌, MatchOption, Option, None, Some, IfSome, nat_eq}
 use Rattle.std.specs.Prelude.{IfNone}
 use Rattle.std.specs.Borrow.{Bor}
@@ -8,7 +8,7 @@ use Rattle.std.proofs.Math.Seq.{take-append_seam}
 use Rattle.std.proofs.lemmas.List.{take-append-drop}
 use Rattle.mp_race.specs.Inside.HistoryReading.{IsApart}
 
--- what `strip_prefix` says
+-- what `strip_prefix` guarantees
 abbrev pub IsStripped : List ℕ → List ℕ → Option (Bor (List ℕ)) → Type 0
 IsStripped text front o =
     MatchOption o (pointwise nat_eq (take (length front) text) front ≡ false)

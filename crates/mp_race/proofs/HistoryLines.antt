@@ -1,4 +1,4 @@
--- The words of a written line tell what was written.
+-- The words of a written line denote what was written.
 use Rattle.std.proofs.Common.{◌≡◌, ℕ, ◌+◌, ◌^◌, ◌<◌, ◌≤◌, true, List, [], ◌∷◌, ◌++◌, refl, sym, ap, ap₂, subst, ◌∙◌, arith, decimal, Some, None, codes, append_assoc, append-nil, map, nat_lt, nat_le}
 use Rattle.std.specs.Prelude.{option_and_then, option_map}
 use Rattle.std.specs.List.{list_all}
@@ -133,7 +133,7 @@ told-front t is =
     ∙ ap (option_and_then (λ w. option_and_then (λ k. kind_in t.place w.0 k.0 k.1) (number_in w.1))) (small_in-decimal t.worker _ is.worker)
     ∙ ap (option_and_then (λ k. kind_in t.place t.worker k.0 k.1)) (number_in-decimal t.task _ is.task)
 
--- what is written of an entry is read as that entry
+-- what is written for an entry is read as that entry
 told-read : (t : Told) → IsTellable t → told_in (words_of (told_line t)) ≡ Some t
 told-read t is =
     ap (λ line. told_in (words_of line)) (sym (told-line t)) ∙ ap told_in (words-line (codes "entry") (told_words t) (plain-told t is))
@@ -142,11 +142,11 @@ told-read t is =
 unbroken-told : (t : Told) → IsTellable t → IsUnbroken (told_line t)
 unbroken-told t is = subst IsUnbroken (told-line t) (unbroken-line (codes "entry") (told_words t) (plain-told t is))
 
--- a line feed behind it ends the first line of the text
+-- a line feed after it ends the first line of the text
 lines-of : (line text rest : List ℕ) → IsUnbroken line → text ≡ (line ++ 10 ∷ []) ++ rest → lines_of text ≡ line ∷ lines_of rest
 lines-of line text rest unbroken is = ap lines_of (is ∙ append_assoc line (10 ∷ []) rest) ∙ lines-front line rest unbroken
 
--- Where a text begins with no entry.
+-- A text that begins with no entry.
 
 pub no_entry-none : (text : List ℕ) → lines_of text ≡ [] → HasNoEntry text
 no_entry-none text none = λ t rest is begins. let first = lines-of (told_line t) text rest (unbroken-told t is) begins in absurd (Prim.cc)

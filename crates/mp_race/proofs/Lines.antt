@@ -1,4 +1,4 @@
--- What one line makes of what is read.
+-- How one line changes what has been read.
 use Rattle.std.proofs.Common.{◌≡◌, ℕ, ◌+◌, List, ◌∷◌, ap}
 use Rattle.std.specs.Prelude.{None, Some, Err}
 use Rattle.mp_race.specs.Scenario.{Draft, line_step, follow, reading}

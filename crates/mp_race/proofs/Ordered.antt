@@ -35,7 +35,7 @@ none_ordered workers ts log o entries told next = record {
   next = next ∙ sym (ap next_of told);
 }
 
--- one change more
+-- one more change
 pub more_ordered : (workers : ℕ) (ts : List Task) (log : Log) (a b : Ordered) (d : Done) → IsDone ts log d → IsOrdered workers ts log a
     → d.receipt.place ≡ length a.entries.items → d.task % workers ≡ d.receipt.entry.caller → get_or a.next d.receipt.entry.caller 0 ≤ d.task
     → b.entries.items ≡ a.entries.items ++ d.receipt.entry ∷ [] → b.told.items ≡ a.told.items ++ told_of d ∷ [] → b.next ≡ next_after a.next (told_of d) → IsOrdered workers ts log b
@@ -52,12 +52,12 @@ more_ordered workers ts log a b d is before at dealt turn entries told next =
       next = next ∙ ap (λ l. next_after l (told_of d)) before.next ∙ sym (fold-append next_after first_next a.told.items (told_of d ∷ [])) ∙ sym (ap next_of told);
     }
 
--- what an iterator has given stands before what it has left
+-- what an iterator has given precedes what it has left
 pub given : {X A : Type 0} (s : IntoIter X A) (xs : List X) (t : IntoIter X A) → Yields into_iter_steps s xs t → into_iter_items s ≡ xs ++ into_iter_items t
 given s [] t y = ap into_iter_items y
 given s (x ∷ xs) t y = y.1.0 ∙ ap (λ ys. x ∷ ys) (given y.0 xs t y.2)
 
--- what holds of all holds of each
+-- what holds for all holds for each
 pub each : {X : Type 0} (P : X → Type 0) (xs : List X) (x : X) (rest : List X) → All P (xs ++ x ∷ rest) → P x
 each P [] x rest all = All-head P x rest all
 each P (y ∷ xs) x rest all = each P xs x rest (All-tail P y (xs ++ x ∷ rest) all)

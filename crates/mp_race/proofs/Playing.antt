@@ -1,4 +1,4 @@
--- What a worker made, and what it is answered.
+-- What a worker made, and what it was answered.
 use Rattle.std.proofs.Common.{◌≡◌, ℕ, suc, ◌+◌, ◌<◌, true, false, cond, List, [], ◌∷◌, ◌++◌, length, take, refl, sym, ap, subst, ◌∙◌, arith, append-nil}
 use Rattle.std.specs.Prelude.{◌==◌, ◌%◌, Option, None, Some, option_map, IfSome}
 use Rattle.std.specs.Option.{option_or}
@@ -23,13 +23,13 @@ own-append w (x ∷ xs) ys = elim (w == x.caller) as (λ b. cond b (x ∷ own w 
   | false ↦ own-append w xs ys
 ]
 
--- an entry of its own is one
+-- an entry of the worker is one of its own
 pub own-one : (w : ℕ) (e : Entry) → e.caller ≡ w → own w (e ∷ []) ≡ e ∷ []
 own-one w e is =
     let t : (w == e.caller) ≡ true = subst (λ n. (w == n) ≡ true) (sym is) (eqb-refl w) in
     ap (λ b. cond b (e ∷ []) []) t
 
--- all of them stand up to the last one
+-- none of the worker's entries follows the last one
 pub own-last : (w : ℕ) (es : List Entry) (o : Option ℕ) → last_of w es ≡ o → own w es ≡ own w (upto o es)
 own-last w es o is = subst (λ l. own w es ≡ own w (upto l es)) is (here es)
   where
@@ -57,12 +57,12 @@ own-last w es o is = subst (λ l. own w es ≡ own w (upto l es)) is (here es)
     here [] = refl
     here (x ∷ xs) = more x xs (last_of w xs) (here xs)
 
--- what stands up to a place stays where more comes behind
+-- the entries up to a place stay when more follow
 pub upto-append : (o : Option ℕ) (xs ys : List Entry) → IfSome o (λ k. k < length xs) → upto o (xs ++ ys) ≡ upto o xs
 upto-append None xs ys within = refl
 upto-append (Some k) xs ys within = take-append-le (k + 1) xs ys (omega (arith, within))
 
--- Beginnings.
+-- Prefixes.
 
 pub begins-refl : (log : Log) → Begins log log
 begins-refl log = record { opening = refl; entries = ([], append-nil log.entries) }
@@ -91,7 +91,7 @@ dealt-append j workers w (t ∷ ts) us =
     ]
 
 module _ (accepts : Accepts) where
-  -- what explains a worker's answers in a history explains them in one that goes on
+  -- what explains a worker's answers in a history explains them in a continuation of it
   refused_on : (a b : Log) (w : ℕ) (made : List Entry) (c : Command) → Begins a b → IsRefused accepts a w made c → IsRefused accepts b w made c
   refused_on a b w made c begins is = record {
     front = is.front;
@@ -107,7 +107,7 @@ module _ (accepts : Accepts) where
   plays_on a b w made (Change c ∷ ts) end begins (inl is) = inl (is.0, is.1, plays_on a b w (made ++ is.0 ∷ []) ts end begins is.2)
   plays_on a b w made (Change c ∷ ts) end begins (inr is) = inr (refused_on a b w made c begins is.0, plays_on a b w made ts end begins is.1)
 
-  -- one list of tasks after another
+  -- one list of tasks after the other
   pub plays_then : (log : Log) (w : ℕ) (made : List Entry) (ts us : List Task) (middle end : List Entry) → Plays accepts log w made ts middle → Plays accepts log w middle us end → Plays accepts log w made (ts ++ us) end
   plays_then log w made [] us middle end first then = subst (λ l. Plays accepts log w l us end) (sym first) then
   plays_then log w made (Read ∷ ts) us middle end first then = plays_then log w made ts us middle end first then

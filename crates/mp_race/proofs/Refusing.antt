@@ -1,4 +1,4 @@
--- Refusals in the order of their commands, of which no entry is told.
+-- Refusals in the order of their commands, which have no entries.
 use Rattle.std.proofs.Common.{◌≡◌, ℕ, zero, suc, ◌+◌, ◌≤◌, Bool, true, List, [], ◌∷◌, ◌++◌, length, get_or, set, refl, sym, ap, ◌∙◌, arith}
 use Rattle.std.specs.Prelude.{All}
 use Rattle.std.proofs.lemmas.Bool.{false≢true}
@@ -39,7 +39,7 @@ marked-still (m ∷ marks) zero (suc n) is = is
 marked-still (m ∷ marks) (suc i) zero is = is
 marked-still (m ∷ marks) (suc i) (suc n) is = marked-still marks i n is
 
--- of what isn't marked no entry is told
+-- what isn't marked has no entry
 pub untold : (marks : List Bool) (told : List Told) (rs : List Refused) → All (λ t. IsMarked marks t.task) told → All (λ r. IsUnmarked marks r.task) rs → All (IsUntold told) rs
 untold marks told rs marked unmarked k d lt = λ j e within same.
     false≢true (sym (unmarked k d lt) ∙ ap (λ n. get_or marks n true) (sym same) ∙ marked j e within)

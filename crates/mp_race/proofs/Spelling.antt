@@ -1,4 +1,4 @@
--- A line that is written reads as its words.
+-- A line that is written is read as its words.
 use Rattle.std.proofs.Common.{◌≡◌, ◌≢◌, ℕ, suc, ◌+◌, ◌^◌, ◌<◌, ◌≤◌, ◌==◌, true, false, List, [], ◌∷◌, ◌++◌, length, take, drop, refl, ap, ◌∙◌, arith, rules, flat_map, decimal, Some, eqb-true, nat_lt, nat_le}
 use Rattle.std.proofs.lemmas.Bool.Decides.{nat_tests}
 use Rattle.std.specs.List.{onto_first, list_all}
@@ -12,12 +12,12 @@ use Rattle.mp_text.specs.Numbers.{value_of_digits, number_of}
 use Rattle.mp_text.proofs.Ranges.{range-Decides}
 use Rattle.mp_text.proofs.FirstWord.{end_of, words_of-cut}
 
--- bytes behind the space, in the order of their codes
+-- bytes after the space in the order of their codes
 abbrev pub IsPlain : List ℕ → Type 0
 IsPlain [] = Unit {0}
 IsPlain (b ∷ bs) = (32 < b) × IsPlain bs
 
--- a byte at least, and all of them so
+-- at least one byte, and all of them plain
 abbrev pub IsPlainWord : List ℕ → Type 0
 IsPlainWord word = (0 < length word) × IsPlain word
 
@@ -25,7 +25,7 @@ abbrev pub ArePlain : List (List ℕ) → Type 0
 ArePlain [] = Unit {0}
 ArePlain (word ∷ words) = IsPlainWord word × ArePlain words
 
--- each word behind a space
+-- each word with a space before it
 abbrev pub spaced : List (List ℕ) → List ℕ
 spaced words = flat_map (λ word. 32 ∷ word) words
 
@@ -41,7 +41,7 @@ greater n b lt = apart b n (λ same. absurd (omega (arith, lt, same)))
 counted : (n : ℕ) → 1 + n ≡ suc n
 counted n = omega arith
 
--- a word ends where a space stands
+-- a word ends where a space is
 end_at : (word rest : List ℕ) → IsPlain word → end_of rest ≡ 0 → end_of (word ++ rest) ≡ length word
 end_at [] rest plain at = at
 end_at (b ∷ word) rest plain at =
@@ -59,7 +59,7 @@ drop-front : (xs ys : List ℕ) → drop (length xs) (xs ++ ys) ≡ ys
 drop-front [] ys = refl
 drop-front (x ∷ xs) ys = drop-front xs ys
 
--- the word at the front, and then the others
+-- the first word, and then the others
 pub words-front : (word : List ℕ) (words : List (List ℕ)) → IsPlainWord word → words_of (word ++ spaced words) ≡ word ∷ words_of (spaced words)
 words-front word words plain =
     let at : end_of (word ++ spaced words) ≡ length word = end_at word (spaced words) plain.1 (ends words) in
@@ -75,7 +75,7 @@ words-spaced (word ∷ words) plain =
     let behind : words_of (32 ∷ (word ++ spaced words)) ≡ words_of (word ++ spaced words) = refl in
     behind ∙ words-front word words plain.0 ∙ ap (λ ws. word ∷ ws) (words-spaced words plain.1)
 
--- bytes that are no line feeds
+-- bytes without a line feed
 abbrev pub IsUnbroken : List ℕ → Type 0
 IsUnbroken [] = Unit {0}
 IsUnbroken (b ∷ bs) = (b ≢ 10) × IsUnbroken bs
@@ -131,7 +131,7 @@ number-digits ds n some few all value fits =
     let below : nat_lt (value_of_digits ds) (2 ^ 64) ≡ true = grind (arith, nat_tests) in
     rw (a, b, all, below) (ap Some value)
 
--- what is written of a number is read as that number
+-- what is written for a number is read as that number
 pub number-decimal : (n : ℕ) → n < 2 ^ 64 → number_of (decimal n) ≡ Some n
 number-decimal n fits =
     number-digits (decimal n) n (decimal_nonempty n fits) (length-decimal-le 20 n (omega arith) (omega (arith, fits)) fits) (all_tested (decimal n) (digits_decimal own n fits)) (digits_value-decimal own n fits) fits

@@ -1,4 +1,4 @@
--- What the words of a line tell is as wide as it may be.
+-- The numbers in a line's words fit into their types.
 use Rattle.std.proofs.Common.{◌≡◌, ℕ, ◌+◌, ◌^◌, ◌<◌, ◌≤◌, true, false, cond, List, [], ◌∷◌, refl, arith, Some, None, codes, nat_lt, nat_le, option_map}
 use Rattle.std.specs.Prelude.{Option, IfSome, option_and_then}
 use Rattle.std.proofs.lemmas.Bool.Decides.{nat_tests}
@@ -19,7 +19,7 @@ number-fits word = elim (are_digits 20 word) as (λ t. IfSome (cond t (if_below 
   | false ↦ tt
 ]
 
--- what holds of what is found holds of what comes of it
+-- a property of what is found carries over to what is made of it
 after : {X Y : Type 0} (P : X → Type 0) (Q : Y → Type 0) (f : X → Option Y) (o : Option X) → IfSome o P → ((x : X) → P x → IfSome (f x) Q) → IfSome (option_and_then f o) Q
 after P Q f None is then = tt
 after P Q f (Some x) is then = then x is
@@ -28,7 +28,7 @@ mapped : {X Y : Type 0} (P : X → Type 0) (Q : Y → Type 0) (f : X → Y) (o :
 mapped P Q f None is then = tt
 mapped P Q f (Some x) is then = then x is
 
--- the number that a word writes, and what stands behind it
+-- the number that a word denotes, and the words after it
 abbrev IsNarrow : ℕ → ℕ × Words → Type 0
 IsNarrow bound found = found.0 < bound
 
@@ -78,7 +78,7 @@ reply-fits kind words = elim (is_word kind (codes "accepted")) as (λ t. HasTick
   | false ↦ lists-fit kind words
 ]
 
--- the numbers at the front of a line are as wide as they may be
+-- the numbers at the beginning of a line fit into their types
 record Fits (f : Front) : Type 0 where
   place : f.place < 2 ^ 64
   worker : f.worker < 2 ^ 32

@@ -1,4 +1,4 @@
--- A worker does its tasks one after another.
+-- A worker does its tasks one after the other.
 use Rattle.std.proofs.Common.{◌≡◌, ℕ, zero, suc, ◌+◌, ◌<◌, true, false, cond, List, [], ◌∷◌, ◌++◌, length, take, get_or, refl, sym, ap, subst, ◌∙◌, arith, append_assoc, append-nil, length-append, eqb-true}
 use Rattle.std.specs.Prelude.{◌==◌, ◌%◌, Option, None, Some, IfSome, slice_get, All, Err}
 use mathlib.Core.Logic.{inl, inr}
@@ -22,7 +22,7 @@ use Rattle.mp_race.specs.Refusals.{IsRefusal}
 use Rattle.mp_race.specs.Inside.Work.{upto, made, IsDone, IsUnused, refused_at, Enters, IsTurnedDown, Does, HasMade}
 use Rattle.mp_race.proofs.Playing.{own-append, own-one, own-last, upto-append, begins-refl, begins-more, dealt-append, plays_on, plays_then}
 
--- what stands at a place stays there where more comes behind
+-- what is at an index stays there when more follows
 stands-more : {X : Type 0} (xs ys : List X) (k : ℕ) (x : X) → slice_get xs k ≡ Some x → slice_get (xs ++ ys) k ≡ Some x
 stands-more [] ys k x at = absurd (cc (at))
 stands-more (y ∷ xs) ys zero x at = at
@@ -32,7 +32,7 @@ stands-last : {X : Type 0} (xs : List X) (x : X) → slice_get (xs ++ x ∷ []) 
 stands-last [] x = refl
 stands-last (y ∷ xs) x = stands-last xs x
 
--- changes in a history are changes in one that goes on
+-- changes in a history are changes in a continuation of it
 pub done_on : (ts : List Task) (a b : Log) (ds : List Done) → Begins a b → All (IsDone ts a) ds → All (IsDone ts b) ds
 done_on ts a b ds begins all k d lt =
     let x : Done = get_or ds k d in
@@ -42,14 +42,14 @@ done_on ts a b ds begins all k d lt =
       stands = subst (λ es. slice_get es x.receipt.place ≡ Some x.receipt.entry) begins.entries.1 (stands-more a.entries begins.entries.0 x.receipt.place x.receipt.entry is.stands);
     }
 
--- and so where there are more tasks
+-- and with more tasks
 done_more : (ts us : List Task) (log : Log) (ds : List Done) → All (IsDone ts log) ds → All (IsDone (ts ++ us) log) ds
 done_more ts us log ds all k d lt =
     let x : Done = get_or ds k d in
     let is : IsDone ts log x = all k d lt in
     record { asked = stands-more ts us x.task (Change x.receipt.entry.command) is.asked; stands = is.stands }
 
--- what is refused in a history is refused in one that goes on
+-- what is refused in a history is refused in a continuation of it
 pub refused_on : (accepts : Accepts) (workers : ℕ) (ts : List Task) (a b : Log) (rs : List Refused) → Begins a b → All (IsRefusal accepts workers ts a) rs → All (IsRefusal accepts workers ts b) rs
 refused_on accepts workers ts a b rs begins all k d lt =
     let r : Refused = get_or rs k d in
@@ -67,7 +67,7 @@ refused_on accepts workers ts a b rs begins all k d lt =
           (subst (λ es. answer accepts (pool_of accepts a.opening es) is.command ≡ Err is.refusal) same is.refused);
     }
 
--- and so where there are more tasks
+-- and with more tasks
 refused_more : (accepts : Accepts) (workers : ℕ) (ts us : List Task) (log : Log) (rs : List Refused) → All (IsRefusal accepts workers ts log) rs → All (IsRefusal accepts workers (ts ++ us) log) rs
 refused_more accepts workers ts us log rs all k d lt =
     let r : Refused = get_or rs k d in
@@ -85,7 +85,7 @@ within-more : (o : Option ℕ) (xs ys : List Entry) → IfSome o (λ k. k < leng
 within-more None xs ys within = tt
 within-more (Some k) xs ys within = omega (arith, within, length-append xs ys)
 
--- the tasks with one more, which is dealt to the worker or isn't
+-- the tasks with one more, which is dealt to the worker or not
 dealt-more : (workers w : ℕ) (ts : List Task) (t : Task) → (length ts % workers == w) ≡ true → dealt workers w (ts ++ t ∷ []) ≡ dealt workers w ts ++ t ∷ []
 dealt-more workers w ts t its =
     dealt-append 0 workers w ts (t ∷ []) ∙ ap (λ b. dealt workers w ts ++ cond b (t ∷ []) []) (subst (λ n. (n % workers == w) ≡ true) (left (length ts)) its)
@@ -101,7 +101,7 @@ dealt-less workers w ts t others =
     left n = omega arith
 
 module _ (accepts : Accepts) (callers workers : ℕ) (opening : Pool) where
-  -- a worker that has no task
+  -- a worker without tasks
   pub begins : (p : Pass) → IsUnused opening p → HasMade accepts workers opening [] p [] []
   begins p is = record {
     done = record {
@@ -127,12 +127,12 @@ module _ (accepts : Accepts) (callers workers : ℕ) (opening : Pool) where
   }
 
   module _ (ts : List Task) (p : Pass) (ds : List Done) (rs : List Refused) (h : HasMade accepts workers opening ts p ds rs) where
-    -- what the caller made, once others have entered something
+    -- what the caller made, after others have made entries
     made_still : (others : List Entry) → AreOthers p others → own p.caller (p.front.entries ++ others) ≡ made p
     made_still others by_others =
         own-last p.caller (p.front.entries ++ others) p.last by_others.known ∙ ap (own p.caller) (upto-append p.last p.front.entries others h.done.within)
 
-    -- the worker has seen more, and has done a task of its own
+    -- the worker has seen more, and has done one of its tasks
     goes_on : (t : Task) (more : List Entry) → (length ts % workers == p.caller) ≡ true → Plays accepts (continued p.front more) p.caller (made p) (t ∷ []) (made p)
         → HasMade accepts workers opening (ts ++ t ∷ []) (seen p more) ds rs
     goes_on t more its plays =

@@ -1,4 +1,4 @@
--- The numbers of faults, and which a race may end with.
+-- The numbers of faults, and those with which a race may end.
 use Rattle.std.specs.Prelude.{ℕ}
 use Rattle.mp_race.specs.declared.fault.Fault.{Fault}
 use Rattle.mp_race.specs.declared.fault.Fault.TheVariants.{NoMemory, BadLine, ReadFault, WriteFault, Audit, MissingEntry}
@@ -11,7 +11,7 @@ number WriteFault = 4
 number (Audit fault) = 5
 number (MissingEntry place) = 6
 
--- Of what was read before a race tells nothing, and its history is legal.
+-- A race reports nothing about what was read before it, and its history is legal.
 abbrev pub IsOfRace : Fault → Type 0
 IsOfRace NoMemory = Unit {0}
 IsOfRace (BadLine line) = ⊥

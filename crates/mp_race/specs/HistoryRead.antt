@@ -5,7 +5,7 @@ use Rattle.mp_race.specs.declared.fault.Fault.{Fault}
 use Rattle.mp_race.specs.declared.fault.Fault.TheVariants.{NoMemory, BadLine, ReadFault, WriteFault, Audit, MissingEntry}
 use Rattle.mp_race.specs.HistoryText.{history_text, IsFaultOfText}
 
--- the history that has this text, or why it is none of a history; a read may fail
+-- the history with this text, or why the text is no history; a read may fail
 abbrev pub IsRead : List ℕ → Result History Fault → Type 0
 IsRead bytes (Ok h) = bytes ≡ history_text h.workers h.told.items
 IsRead bytes (Err ReadFault) = Unit {0}

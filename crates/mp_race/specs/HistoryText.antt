@@ -7,7 +7,7 @@ use Rattle.mp_race.specs.declared.fault.Fault.{Fault}
 use Rattle.mp_race.specs.declared.fault.Fault.TheVariants.{NoMemory, BadLine, ReadFault, WriteFault, Audit, MissingEntry}
 use Rattle.mp_race.specs.declared.told.Told.{Told}
 
--- the first line but for its end: how many workers and how many entries there are
+-- the first line without its end: how many workers and entries there are
 abbrev pub head_line : ℕ → ℕ → List ℕ
 head_line workers entries = codes "workers" ++ number_text workers ++ codes " entries" ++ number_text entries
 
@@ -15,7 +15,7 @@ head_line workers entries = codes "workers" ++ number_text workers ++ codes " en
 abbrev pub head_text : ℕ → ℕ → List ℕ
 head_text workers entries = head_line workers entries ++ 10 ∷ []
 
--- the line of an entry but for its end: its place, its worker, its command, and its reply
+-- the line of an entry without its end: its place, its worker, its command, and its reply
 abbrev pub told_line : Told → List ℕ
 told_line t =
     codes "entry" ++ number_text t.place ++ number_text t.worker ++ number_text t.task ++ 32 ∷ reply_text t.reply
@@ -26,13 +26,13 @@ told_text t = told_line t ++ 10 ∷ []
 abbrev pub lines_text : List Told → List ℕ
 lines_text told = flat_map told_text told
 
--- the first line, and a line for each entry
+-- the first line, then a line for each entry
 abbrev pub history_text : ℕ → List Told → List ℕ
 history_text workers told = head_text workers (length told) ++ lines_text told
 
--- Which texts are none of a history.
+-- Texts that are no history.
 
--- tickets of 64 bits that increase, and none is below the least
+-- tickets of 64 bits, strictly increasing, none below `least`
 abbrev pub AreTickets : ℕ → List ℕ → Type 0
 AreTickets least [] = Unit {0}
 AreTickets least (ticket ∷ tickets) = (least ≤ ticket) × (ticket < 2 ^ 64) × AreTickets (ticket + 1) tickets
@@ -42,24 +42,24 @@ HasTickets (Accepted ticket) = ticket < 2 ^ 64
 HasTickets (Removed named dropped) = AreTickets 0 named × AreTickets 0 dropped
 HasTickets (Synced kept dropped) = AreTickets 0 kept × AreTickets 0 dropped
 
--- Its numbers are as wide as they may be.
+-- Its numbers fit into their types.
 pub record IsTellable (t : Told) : Type 0 where
   pub place : t.place < 2 ^ 64
   pub worker : t.worker < 2 ^ 32
   pub task : t.task < 2 ^ 64
   pub tickets : HasTickets t.reply
 
--- the text begins with no line of an entry
+-- the text doesn't begin with the line of an entry
 abbrev pub HasNoEntry : List ℕ → Type 0
 HasNoEntry text = (t : Told) (rest : List ℕ) → IsTellable t → text ≡ told_text t ++ rest → ⊥
 
--- the text begins with no first line of a history of 1 to 64 workers
+-- the text doesn't begin with the first line of a history of 1 to 64 workers
 abbrev pub HasNoHead : List ℕ → Type 0
 HasNoHead text =
     (workers entries : ℕ) (rest : List ℕ) → 1 ≤ workers → workers ≤ 64 → entries < 2 ^ 64
     → text ≡ head_text workers entries ++ rest → ⊥
 
--- Behind the first line, which tells so many entries, this line of the text is the first that is none of an entry, or is one too many.
+-- After the first line, which announces `entries` entries, this line is the first that is no entry, or is one too many.
 pub record IsBadLine (entries : ℕ) (text : List ℕ) (line : ℕ) : Type 0 where
   pub told : List Told
   pub tellable : All IsTellable told
@@ -70,7 +70,7 @@ pub record IsBadLine (entries : ℕ) (text : List ℕ) (line : ℕ) : Type 0 whe
   pub there : 0 < length rest
   pub bad : length told < entries → HasNoEntry rest
 
--- Behind the first line, which tells so many entries, the lines of the first ones are all that there is, and no more.
+-- After the first line, which announces `entries` entries, the text has lines for fewer, and nothing else.
 pub record IsCut (entries : ℕ) (text : List ℕ) (place : ℕ) : Type 0 where
   pub told : List Told
   pub tellable : All IsTellable told
@@ -78,7 +78,7 @@ pub record IsCut (entries : ℕ) (text : List ℕ) (place : ℕ) : Type 0 where
   pub number : place ≡ length told
   pub fewer : length told < entries
 
--- why so many entries aren't told by what stands behind the first line
+-- why the text after the first line isn't the announced number of entries
 abbrev pub IsFaultOfLines : ℕ → List ℕ → Fault → Type 0
 IsFaultOfLines entries text NoMemory = Unit {0}
 IsFaultOfLines entries text (BadLine line) = IsBadLine entries text line
@@ -87,7 +87,7 @@ IsFaultOfLines entries text WriteFault = ⊥
 IsFaultOfLines entries text (Audit fault) = ⊥
 IsFaultOfLines entries text (MissingEntry place) = IsCut entries text place
 
--- The first line is as it should be, and what stands behind it has this fault.
+-- The first line is right, and what follows it has this fault.
 pub record IsFaultBehind (text : List ℕ) (fault : Fault) : Type 0 where
   pub workers : ℕ
   pub entries : ℕ
@@ -95,7 +95,7 @@ pub record IsFaultBehind (text : List ℕ) (fault : Fault) : Type 0 where
   pub begins : text ≡ head_text workers entries ++ rest
   pub lines : IsFaultOfLines entries rest fault
 
--- why the text is none of a history
+-- why the text is no history
 abbrev pub IsFaultOfText : List ℕ → Fault → Type 0
 IsFaultOfText text NoMemory = Unit {0}
 IsFaultOfText text (BadLine line) = ((line ≡ 1) × HasNoHead text) ⊎ IsFaultBehind text (BadLine line)

@@ -1,4 +1,4 @@
--- What a race comes to: one legal history that explains what each worker was answered.
+-- The result of a race: one legal history that explains every answer to a worker.
 use Rattle.std.specs.Prelude.{◌≡◌, ◌⊎◌, ℕ, ◌+◌, ◌<◌, ◌%◌, ◌==◌, List, [], ◌∷◌, ◌++◌, Err, if◌then◌else◌}
 use Rattle.mp_rules.specs.Verifier.{Accepts}
 use Rattle.mp_seqpool.specs.declared.refusal.Refusal.{Refusal}
@@ -14,7 +14,7 @@ abbrev pub own : ℕ → List Entry → List Entry
 own w [] = []
 own w (e ∷ es) = if w == e.caller then e ∷ own w es else own w es
 
--- Task j goes to worker j mod the number of workers. The first of these tasks is task j.
+-- Task j goes to worker j mod the number of workers. The first task of the list is task j.
 abbrev pub dealt_from : ℕ → ℕ → ℕ → List Task → List Task
 dealt_from j workers w [] = []
 dealt_from j workers w (t ∷ ts) =
@@ -23,14 +23,14 @@ dealt_from j workers w (t ∷ ts) =
 abbrev pub dealt : ℕ → ℕ → List Task → List Task
 dealt workers w ts = dealt_from 0 workers w ts
 
--- the worker has entered this
+-- the entry is the worker's, for this command
 pub record IsEntry (w : ℕ) (c : Command) (e : Entry) : Type 0 where
   pub by : e.caller ≡ w
   pub asked : e.command ≡ c
 
 -- The verifier decides which signatures are good.
 module _ (accepts : Accepts) where
-  -- the slow pool refuses this at a beginning of the history that has just these entries of the worker
+  -- the slow pool refuses this after a prefix of the history that has exactly these entries of the worker
   pub record IsRefused (log : Log) (w : ℕ) (made : List Entry) (c : Command) : Type 0 where
     pub front : Log
     pub begins : Begins front log
@@ -38,18 +38,18 @@ module _ (accepts : Accepts) where
     pub refusal : Refusal
     pub refused : answer accepts (state_after accepts front) c ≡ Err refusal
 
-  -- The worker goes through its tasks: of what is a change each is the worker's next entry, or is refused. From the entries that the
-  -- worker has made it comes to those that it has made then.
+  -- The worker goes through its tasks, from the entries that it has made before to those that it has made after. Each change is
+  -- its next entry or is refused.
   abbrev pub Plays : Log → ℕ → List Entry → List Task → List Entry → Type 0
   Plays log w made [] end = made ≡ end
   Plays log w made (Read ∷ ts) end = Plays log w made ts end
   Plays log w made (Change c ∷ ts) end =
       ((e : Entry) × IsEntry w c e × Plays log w (made ++ e ∷ []) ts end) ⊎ (IsRefused log w made c × Plays log w made ts end)
 
-  -- A history of a race of so many workers, whose pool opened so.
+  -- A history of a race of this many workers, whose pool opened with this state.
   pub record IsRace (opening : Pool) (workers : ℕ) (ts : List Task) (log : Log) : Type 0 where
     pub opens : log.opening ≡ opening
     -- each entry is by a worker, and its reply is the slow pool's after those before it
     pub legal : IsLegalLog accepts workers log
-    -- the entries of a worker are those of the changes dealt to it, each once and in order, but for those that are refused
+    -- the entries of a worker are those of the changes dealt to it, each once and in order, without those that are refused
     pub played : (w : ℕ) → w < workers → Plays log w [] (dealt workers w ts) (own w log.entries)

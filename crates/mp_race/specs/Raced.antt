@@ -1,4 +1,4 @@
--- What a race comes to.
+-- The result of a race.
 use Rattle.std.specs.Prelude.{◌≡◌, ℕ, length, All}
 use Rattle.mp_rules.specs.Verifier.{Accepts}
 use Rattle.mp_history.specs.Log.{Log}
@@ -10,8 +10,8 @@ use Rattle.mp_race.specs.Report.{report_of}
 use Rattle.mp_race.specs.History.{AreEntriesOf}
 use Rattle.mp_race.specs.Refusals.{IsRefusal, AreInOrder, IsUntold}
 
--- There is one legal history of the race. The report is on it, and what is told are its entries, one by one. Of the other changes as
--- many are told to be refused as the report says, each once.
+-- The race has one legal history. The report is about it, and the records are its entries, one by one. Each of the other changes
+-- is listed as refused, once: as many as the report says.
 pub record IsRaced (accepts : Accepts) (workers : ℕ) (s : Scenario) (r : Raced) : Type 0 where
   pub log : Log
   pub race : IsRace accepts (fresh_log s.config s.ledger).opening workers s.tasks log

@@ -1,4 +1,4 @@
--- How the text of a scenario is read.
+-- Reading the text of a scenario.
 use Rattle.std.specs.Prelude.{◌≡◌, ℕ, ◌≤◌, ◌^◌, List, length, Option, None, Some, Result, Ok, Err}
 use Rattle.mp_text.specs.Lines.{lines_of}
 use Rattle.mp_names.specs.declared.reason.Reason.{Reason}
@@ -16,7 +16,7 @@ scenario_in (Err n) = Err n
 abbrev pub scenario_from : List (List ℕ) → Result Scenario ℕ
 scenario_from lines = scenario_in (reading empty_draft 1 lines)
 
--- the fault that is told where a text isn't read
+-- the fault that is reported if a text can't be read
 abbrev pub fault_of : Stop → Fault
 fault_of stop.NoMemory = NoMemory
 fault_of (stop.BadLine n reason) = BadLine n
@@ -25,12 +25,12 @@ abbrev pub bad_line_of : Stop → Option (ℕ × Reason)
 bad_line_of stop.NoMemory = None
 bad_line_of (stop.BadLine n reason) = Some (n, reason)
 
--- the bad line is the first one. Memory may be wanting for any
+-- the bad line is the first one; any allocation may fail
 abbrev pub IsStopOf : {X : Type 0} → Result X ℕ → Stop → Type 0
 IsStopOf r stop.NoMemory = Unit {0}
 IsStopOf r (stop.BadLine n reason) = r ≡ Err n
 
--- no more than 2^24 bytes are read
+-- at most 2^24 bytes are read
 abbrev pub AreRead : List ℕ → Result Scenario Fault → Type 0
 AreRead bytes (Ok s) = (length bytes ≤ 2 ^ 24) × (scenario_from (lines_of bytes) ≡ Ok s)
 AreRead bytes (Err (BadLine n)) = (length bytes ≤ 2 ^ 24) × (scenario_from (lines_of bytes) ≡ Err n)

@@ -1,4 +1,4 @@
--- What is told of a race.
+-- The report on a race.
 use Rattle.std.specs.Prelude.{ℕ, ◌-◌, Bool, true, false, List, length, count_by}
 use Rattle.mp_rules.specs.Verifier.{Accepts}
 use Rattle.mp_seqpool.specs.declared.command.Reply.{Reply}
@@ -24,11 +24,11 @@ abbrev pub is_read : Task → Bool
 is_read Read = true
 is_read (Change c) = false
 
--- how many entries were replied to so
+-- how many entries have such a reply
 abbrev pub count_replies : (Reply → Bool) → List Entry → ℕ
 count_replies p es = count_by (λ e. p e.reply) es
 
--- The report on this history. What isn't read and isn't entered was refused.
+-- The report on this history. What isn't a read and has no entry was refused.
 abbrev pub report_of : Accepts → ℕ → List Task → Log → Report
 report_of accepts workers ts log = record {
   workers = workers;

@@ -7,7 +7,7 @@ use Rattle.mp_race.specs.declared.fault.Fault.{Fault}
 use Rattle.mp_race.specs.declared.fault.Fault.TheVariants.{NoMemory, BadLine, ReadFault, WriteFault, Audit, MissingEntry}
 use Rattle.mp_race.specs.declared.report.Report.{Report}
 
--- a word and a number behind what is told
+-- the text so far, then a word and a number
 abbrev pub and_then : List ℕ → List ℕ → ℕ → List ℕ
 and_then text word n = text ++ (word ++ number_text n)
 
@@ -17,11 +17,11 @@ changes_text r = and_then (and_then (and_then [] (codes "race") r.workers) (code
 abbrev pub numbers_text : Report → List ℕ
 numbers_text r = and_then (and_then (and_then (changes_text r) (codes " removes") r.removes) (codes " syncs") r.syncs) (codes " reads") r.reads
 
--- a line of numbers, and that the audit found the history legal
+-- a line of numbers, then the line that the audit found the history legal
 abbrev pub report_text : Report → List ℕ
 report_text r = and_then (and_then (numbers_text r) (codes " entries") r.entries) (codes " last") r.last ++ (10 ∷ codes "audit legal" ++ 10 ∷ [])
 
--- all of the text; a front of it; nothing
+-- the whole text, a prefix of it, or nothing
 abbrev pub IsWritten : Report → Option (List ℕ) → Option (List ℕ) → Result (Unit {0}) Fault → Type 0
 IsWritten r old new (Ok u) = Appends old new (report_text r)
 IsWritten r old new (Err WriteFault) = AppendsFront old new (report_text r)

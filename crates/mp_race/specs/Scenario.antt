@@ -22,12 +22,12 @@ use Rattle.mp_race.specs.Task.{Task, Change, Read}
 
 pub record Scenario : Type 0 where
   pub config : Config
-  -- the ledger state that the pool opens upon
+  -- the ledger state with which the pool opens
   pub ledger : LedgerState
-  -- what is dealt to the workers in turn
+  -- the tasks, which the workers get in turn
   pub tasks : List Task
 
--- what was read so far
+-- what has been read so far
 pub record Draft : Type 0 where
   pub names : Names
   pub settings : Settings
@@ -40,7 +40,7 @@ empty_draft = record { names = first_names; settings = scenario_settings; output
 abbrev pub with_names : Draft → Names → Draft
 with_names d names = record d { names = names }
 
--- settings and outputs stand above the first task
+-- settings and outputs come before the first task
 abbrev pub set_at : Draft → Setting → Option Draft
 set_at d setting = if length d.tasks == 0 then option_map (λ g. record d { settings = g }) (with_setting d.settings setting) else None
 
@@ -60,7 +60,7 @@ with_task d task = record d { tasks = d.tasks ++ task ∷ [] }
 abbrev pub with_change : Draft → Command → Draft
 with_change d c = with_task d (Change c)
 
--- of what only reads, a race has snapshots alone
+-- the only reads of a race are snapshots
 abbrev pub read_at : Draft → Query → Option Draft
 read_at d Snapshot = Some (with_task d Read)
 read_at d other = None
@@ -81,7 +81,7 @@ take d (Asks query) = read_at d query
 unfoldable pub line_step : Draft → List ℕ → Option Draft
 line_step d line = option_and_then (take d) (line_of d.names line)
 
--- A line that is bad ends the reading.
+-- A bad line ends the reading.
 abbrev pub follow : ℕ → (Draft → Result Draft ℕ) → Option Draft → Result Draft ℕ
 follow n others None = Err n
 follow n others (Some d) = others d
@@ -91,7 +91,7 @@ abbrev pub reading : Draft → ℕ → List (List ℕ) → Result Draft ℕ
 reading d n [] = Ok d
 reading d n (line ∷ lines) = follow n (λ e. reading e (n + 1) lines) (line_step d line)
 
--- the scenario of all that was read
+-- the scenario of everything that was read
 abbrev pub scenario_of : Draft → Scenario
 scenario_of d = record {
   config = record { limit = limit_of d.settings; last = last_of d.settings };

@@ -1,7 +1,7 @@
--- What a worker is told to do.
+-- The tasks of a worker.
 use Rattle.mp_seqpool.specs.Command.{Command}
 
 pub data Task : Type 0 where
   Change : Command → Task
-  -- to take a snapshot
+  -- take a snapshot
   Read : Task

@@ -1,9 +1,9 @@
-//! The audit of a history that is told.
+//! The audit of a recorded history.
 
 ghost use Rattle.std.specs.Prelude.{◌≡◌, ◌≤◌, ◌<◌, true, false, length, take, get_or, All, IfOk, IfErr, IfSome, IfNone, OnOk};
 ghost use Rattle.mp_history.specs.Log.{IsLegal};
 ghost use Rattle.mp_mempool.specs.Opening.{fresh_log};
-ghost use Rattle.mp_settings.specs.Verifier.{is_key_and_id};
+ghost use Rattle.mp_signatures.specs.Scheme.{accepted_by};
 ghost use Rattle.mp_race.specs.History.{IsEntryOf, AreEntriesOf, IsHistory, IsUndealt, IsLate, IsFaultOfHistory};
 ghost use Rattle.mp_race.specs.HistoryText.{history_text};
 ghost use Rattle.mp_race.specs.Inside.Task.{tasks_of};
@@ -16,15 +16,15 @@ use crate::task::Task;
 use crate::told::Told;
 use mp_history::{AuditFault, Entry, audit};
 use mp_memory::{Memory, NoMemory};
-use mp_settings::KeyAndId;
+use mp_signatures::Signatures;
 
 /// No race has more workers.
 pub const MAX_WORKERS: usize = 64;
 
-/// Of each worker, the least command that may come next.
+/// For each worker, the least command that may come next.
 pub type Next = [u64; MAX_WORKERS];
 
-// The entry that is told, where the command is a change that is dealt to the worker.
+// The entry of the record, if the command is a change that is dealt to the worker.
 fn entry_of(tasks: &[Task], workers: u32, told: &Told) -> Result<Option<Entry>, NoMemory>
     requires { 1 ≤ workers }
     ensures entry { IfOk result (λ found.
@@ -49,7 +49,7 @@ fn entry_of(tasks: &[Task], workers: u32, told: &Told) -> Result<Option<Entry>, 
     }
 }
 
-/// Whether the command comes behind its worker's last.
+/// Whether the command comes after its worker's last.
 pub fn is_in_turn(next: &Next, told: &Told) -> bool
     requires { told.now.worker < 64 }
     ensures turn { result ≡ true → get_or next.now told.now.worker 0 ≤ told.now.task }
@@ -58,7 +58,7 @@ pub fn is_in_turn(next: &Next, told: &Told) -> bool
     next[told.worker as usize] <= told.task
 }
 
-// The entry that is told at this place, where it is one there.
+// The entry of the record at this place, if it is one there.
 fn entry_at(
     tasks: &[Task],
     workers: u32,
@@ -90,15 +90,15 @@ fn entry_at(
     }
 }
 
-// What is told, as far as it is entries.
+// The entries of a history, up to the first record that is none.
 #[derive(Drop)]
 struct Fitting {
     entries: Vec<Entry, Memory>,
-    // Why what is told next is none.
+    // Why the next record is no entry.
     fault: Option<Fault>,
 }
 
-// The entries that are told, up to the first place where none is.
+// The entries of the records, up to the first place without one.
 fn entries_of(memory: Memory, tasks: &[Task], history: &History) -> Result<Fitting, NoMemory>
     requires some { 1 ≤ history.now.workers }
     requires most { history.now.workers ≤ 64 }
@@ -132,12 +132,18 @@ fn entries_of(memory: Memory, tasks: &[Task], history: &History) -> Result<Fitti
     })
 }
 
-// Replays the entries, each of which is one of a worker's.
-fn replay(memory: Memory, scenario: &Scenario, workers: u32, entries: &[Entry]) -> Result<(), Fault>
+// Replays the entries, each of which is a worker's.
+fn replay(
+    memory: Memory,
+    scenario: &Scenario,
+    signatures: &Signatures,
+    workers: u32,
+    entries: &[Entry],
+) -> Result<(), Fault>
     requires { All (λ e. e.caller < workers) entries.now }
-    ensures legal { OnOk result (IsLegal is_key_and_id workers
+    ensures legal { OnOk result (IsLegal (accepted_by signatures.now) workers
         (fresh_log scenario.now.config scenario.now.ledger).opening entries.now) }
-    ensures fault { IfErr result (IsOfReplay is_key_and_id workers
+    ensures fault { IfErr result (IsOfReplay (accepted_by signatures.now) workers
         (fresh_log scenario.now.config scenario.now.ledger).opening entries.now) }
 {
     let config = mp_seqpool::Config {
@@ -150,7 +156,7 @@ fn replay(memory: Memory, scenario: &Scenario, workers: u32, entries: &[Entry]) 
         &scenario.ledger,
         workers,
         entries,
-        &KeyAndId,
+        signatures,
     ) {
         Ok(_) => Ok(()),
         Err(AuditFault::NoMemory) => Err(Fault::NoMemory),
@@ -159,52 +165,61 @@ fn replay(memory: Memory, scenario: &Scenario, workers: u32, entries: &[Entry]) 
     }
 }
 
-/// Whether the history is one of a race over the scenario: at each place stands an entry of a change of the scenario, asked by the
-/// worker to whom it is dealt, behind its worker's command before, and its reply is the sequential pool's after the entries before
-/// it.
+/// Whether the history is one of a race over the scenario. At each place is an entry of a change of the scenario, by the worker
+/// to whom it is dealt, after its worker's previous command. Its reply is the sequential pool's after the entries before it.
 ///
 /// # Errors
-/// At the first place where that isn't so: `MissingEntry` where another place is told, `Audit(StrangeCaller)` where the command
-/// isn't a change that is dealt to the worker and comes behind its last, `Audit(WrongReply)`. `NoMemory` may stand in place of any
-/// answer.
-pub fn audit_history(memory: Memory, scenario: &Scenario, history: &History) -> Result<(), Fault>
+/// The fault at the first place where that isn't so:
+///
+/// - `MissingEntry`: the record has another place.
+/// - `Audit(StrangeCaller)`: the command isn't a change that is dealt to the worker and comes after its last.
+/// - `Audit(WrongReply)`: the pool replies something else.
+///
+/// `NoMemory` may replace any answer.
+pub fn audit_history(
+    memory: Memory,
+    scenario: &Scenario,
+    signatures: &Signatures,
+    history: &History,
+) -> Result<(), Fault>
     requires some { 1 ≤ history.now.workers }
     requires most { history.now.workers ≤ 64 }
-    ensures history { OnOk result (IsHistory is_key_and_id
+    ensures history { OnOk result (IsHistory (accepted_by signatures.now)
         (fresh_log scenario.now.config scenario.now.ledger).opening history.now.workers
         scenario.now.tasks history.now.told.items) }
-    ensures fault { IfErr result (IsFaultOfHistory is_key_and_id
+    ensures fault { IfErr result (IsFaultOfHistory (accepted_by signatures.now)
         (fresh_log scenario.now.config scenario.now.ledger).opening history.now.workers
         scenario.now.tasks history.now.told.items) }
 {
     let Fitting { entries, fault } = entries_of(memory, &scenario.tasks, history)?;
-    replay(memory, scenario, history.workers, &entries)?;
+    replay(memory, scenario, signatures, history.workers, &entries)?;
     match fault {
         Some(fault) => Err(fault),
         None => Ok(()),
     }
 }
 
-/// The history's text, where its audit finds that it is one of a race over the scenario.
+/// The history's text, if its audit finds that it is one of a race over the scenario.
 ///
 /// # Errors
-/// As `audit_history`.
+/// Those of `audit_history`.
 pub fn text_if_legal(
     memory: Memory,
     scenario: &Scenario,
+    signatures: &Signatures,
     history: &History,
 ) -> Result<Vec<u8, Memory>, Fault>
     requires some { 1 ≤ history.now.workers }
     requires most { history.now.workers ≤ 64 }
     ensures text { IfOk result (λ text. text.items
         ≡ history_text history.now.workers history.now.told.items) }
-    ensures history { OnOk result (IsHistory is_key_and_id
+    ensures history { OnOk result (IsHistory (accepted_by signatures.now)
         (fresh_log scenario.now.config scenario.now.ledger).opening history.now.workers
         scenario.now.tasks history.now.told.items) }
-    ensures fault { IfErr result (IsFaultOfHistory is_key_and_id
+    ensures fault { IfErr result (IsFaultOfHistory (accepted_by signatures.now)
         (fresh_log scenario.now.config scenario.now.ledger).opening history.now.workers
         scenario.now.tasks history.now.told.items) }
 {
-    audit_history(memory, scenario, history)?;
+    audit_history(memory, scenario, signatures, history)?;
     Ok(history.to_text(memory)?)
 }

@@ -1,4 +1,4 @@
-//! What is read of a scenario so far.
+//! What has been read of a scenario so far.
 
 ghost use Rattle.std.specs.Prelude.{◌≡◌, IfOk};
 ghost use Rattle.mp_seqpool.specs.Command.{Remove};
@@ -13,7 +13,7 @@ use mp_settings::{Openings, Settings, ledger_at};
 use mp_tx::TxId;
 use std::sync::Arc;
 
-/// What is read of a scenario so far.
+/// What has been read of a scenario so far.
 #[derive(Drop)]
 pub struct Draft {
     pub names: Names,
@@ -37,7 +37,7 @@ impl Draft {
     ghost use Rattle.mp_race.specs.Inside.Task.{task_of};
     ghost use Rattle.mp_race.specs.Inside.Draft.{draft_of};
 
-    /// Nothing is read.
+    /// Nothing has been read.
     pub fn new(memory: Memory) -> Result<Draft, NoMemory>
         ensures { IfOk result (λ d. draft_of d ≡ empty_draft) }
     {
@@ -50,7 +50,7 @@ impl Draft {
         })
     }
 
-    // A setting stands above the first task.
+    // Settings come before the first task.
     fn set<'a>(&mut self, setting: Setting) -> Result<(), LineFault<'a>>
         ensures ok { OnOk result (set_at (draft_of self.old) setting ≡ Some (draft_of self.new)) }
         ensures bad { IsBad result → set_at (draft_of self.old) setting ≡ None }
@@ -62,7 +62,7 @@ impl Draft {
         }
     }
 
-    // An output stands above the first task.
+    // Outputs come before the first task.
     fn put_output<'a>(&mut self, name: Name, payment: Payment) -> Result<(), LineFault<'a>>
         ensures ok { OnOk result
             (output_at (draft_of self.old) name payment ≡ Some (draft_of self.new)) }
@@ -89,7 +89,7 @@ impl Draft {
         Ok(())
     }
 
-    // To adopt the ledger state that a line tells.
+    // Adds the task to adopt the ledger state of a line.
     fn put_sync(&mut self, memory: Memory, ledger: NewLedger) -> Result<(), NoMemory>
         ensures { OnOk result (take (draft_of self.old) (Sync ledger) ≡ Some (draft_of self.new)) }
     {
@@ -97,7 +97,7 @@ impl Draft {
         self.put_task(Task::Change(Command::Sync(ledger)))
     }
 
-    // Of what only reads, a race has snapshots alone.
+    // The only reads of a race are snapshots.
     fn put_read<'a>(&mut self, query: Query) -> Result<(), LineFault<'a>>
         ensures ok { OnOk result (read_at (draft_of self.old) query ≡ Some (draft_of self.new)) }
         ensures bad { IsBad result → read_at (draft_of self.old) query ≡ None }
@@ -108,11 +108,11 @@ impl Draft {
         }
     }
 
-    /// Takes in what the line says.
+    /// Adds what the line asks for.
     ///
     /// # Errors
-    /// `Bad` where a setting comes twice or below a task, where an output comes below a task or is the 65,537th, and where the
-    /// line asks what only reads and is no snapshot.
+    /// `Bad` for a setting that comes twice or after a task, and for a read that is no snapshot. `Bad` for an output that comes
+    /// after a task or is the 65,537th.
     pub fn take<'a>(&mut self, memory: Memory, line: Line) -> Result<(), LineFault<'a>>
         ensures ok { OnOk result
             (take (draft_of self.old) (to_line line) ≡ Some (draft_of self.new)) }
@@ -136,10 +136,10 @@ impl Draft {
         }
     }
 
-    /// Takes in what a line says.
+    /// Adds what the line asks for.
     ///
     /// # Errors
-    /// `Bad` where the line is none of the language, and else as `take`.
+    /// `Bad` if the line isn't in the language, and the errors of `take`.
     #[tactic(auto, unfolding(crate::specs::Scenario::line_step))]
     pub fn read_line<'a>(&mut self, memory: Memory, line: &'a [u8]) -> Result<(), LineFault<'a>>
         ensures ok { OnOk result

@@ -1,4 +1,4 @@
-//! Why a race comes to no report.
+//! Why a race ends without a report.
 
 ghost use Rattle.std.specs.Prelude.{◌≡◌};
 ghost use Rattle.mp_race.specs.Fault as told;
@@ -9,7 +9,7 @@ use mp_memory::NoMemory;
 use std::alloc::{AllocError, AllocFailed};
 use std::fmt;
 
-/// Why a race comes to no report. Its text is the line that the program prints.
+/// Why a race ends without a report. The program prints its text.
 #[derive(Drop)]
 pub enum Fault {
     NoMemory,
@@ -17,9 +17,9 @@ pub enum Fault {
     BadLine(u64),
     ReadFault,
     WriteFault,
-    /// A history isn't legal. No race ends so.
+    /// A history isn't legal. No race ends with this.
     Audit(AuditFault),
-    /// The least place of the history of which no receipt tells, or two do, or their number where the pool has more entries.
+    /// The least place of the history with no receipt or two; or the number of receipts, if the pool has more entries.
     MissingEntry(u64),
 }
 
@@ -63,7 +63,7 @@ impl From<AllocError> for Fault {
     }
 }
 
-// The place that an audit's fault tells of, or that memory was wanting.
+// The place of an audit's fault, or that an allocation failed.
 fn put_audit<W: fmt::Write>(f: &mut fmt::Formatter<W>, fault: &AuditFault) -> fmt::Result {
     match fault {
         AuditFault::NoMemory => write!(f, "fault: no memory"),

@@ -1,15 +1,15 @@
-//! What is told of a race as it runs.
+//! Hooks into a race as it runs.
 
-use mp_seqpool::Verifier;
-use mp_settings::KeyAndId;
+use mp_rules::Verifier;
+use mp_signatures::Signatures;
 use mp_tx::{Key, Sig, TxId};
 
-/// What is told of a race as it runs, by each of its threads. A call may hold a worker back, and changes no answer.
+/// Hooks into a race as it runs, which each of its threads calls. A call may delay a worker, and changes no answer.
 pub trait Gate: Sync {
     /// The worker is about to do the task with this number, both from 0.
     fn start(&self, worker: u32, task: u64);
 
-    /// A signature of the transaction with this id is about to be looked at.
+    /// A signature of the transaction with this id is about to be checked.
     fn check(&self, id: &TxId);
 }
 
@@ -23,19 +23,32 @@ impl Gate for NoGate {
     fn check(&self, _id: &TxId) {}
 }
 
-/// Accepts a signature exactly where it is the key followed by the id, and tells the gate of each that it looks at.
+/// What a worker calls as it works.
+pub trait Watch {
+    /// The worker is about to do the task with this number, both from 0.
+    fn start(&self, worker: u32, task: u64);
+}
+
+/// Accepts what these signatures do, and calls the gate before each check.
 #[derive(Drop)]
 pub struct Watched<'a, G: Gate> {
     pub gate: &'a G,
+    pub signatures: &'a Signatures,
+}
+
+impl<G: Gate> Watch for Watched<'_, G> {
+    fn start(&self, worker: u32, task: u64) {
+        self.gate.start(worker, task);
+    }
 }
 
 impl<G: Gate> Verifier for Watched<'_, G> {
-    ghost use Rattle.mp_settings.specs.Verifier.{is_key_and_id};
+    ghost use Rattle.mp_signatures.specs.Scheme.{accepted_by};
 
-    ghost accepts = { λ _. is_key_and_id };
+    ghost accepts = { λ w. accepted_by w.signatures.now };
 
     fn verify(&self, key: &Key, id: &TxId, sig: &Sig) -> bool {
         self.gate.check(id);
-        KeyAndId.verify(key, id, sig)
+        self.signatures.verify(key, id, sig)
     }
 }

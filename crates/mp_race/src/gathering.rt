@@ -1,4 +1,4 @@
-//! What all workers came back with.
+//! What all workers return.
 
 ghost use Rattle.std.specs.Prelude.{◌≡◌, true, List, All, IfOk};
 ghost use Rattle.mp_seqpool.specs.Pool.{Pool};
@@ -12,12 +12,12 @@ use mp_history::{Front, PoolName};
 use mp_memory::{Memory, NoMemory};
 use mp_mempool::Pass;
 
-/// What all workers came back with.
+/// What all workers return.
 #[derive(Drop)]
 pub struct Gathered<N: PoolName> {
     /// The longest front that one of them has.
     pub front: Front<N>,
-    /// By their numbers.
+    /// The passes by worker.
     pub passes: Vec<Pass<N>, Memory>,
     pub done: Vec<Done, Memory>,
     pub refused: Vec<Refused, Memory>,
@@ -25,14 +25,14 @@ pub struct Gathered<N: PoolName> {
     pub is_sure: bool,
 }
 
-// What the pass holds is legal. That costs nothing when it runs.
+// What the pass holds is legal. This costs nothing at run time.
 fn look_at<N: PoolName>(pass: &Pass<N>)
     ensures { IsLegalLog N.accepts N.callers pass.now.front }
 {
     let _version = pass.shown().version();
 }
 
-// The longer of the two, of which the other is a beginning.
+// The longer of the two fronts. The other is a prefix of it.
 fn longer<N: PoolName>(front: Front<N>, pass: &Pass<N>) -> Front<N>
     ensures this { Begins front result }
     ensures that { Begins pass.now.front result }
@@ -54,7 +54,7 @@ impl<N: PoolName> Gathered<N> {
     ghost use Rattle.mp_race.specs.Inside.Work.{HasMade};
     ghost use Rattle.mp_race.specs.Inside.Gathered.{AreGathered};
 
-    // Of no worker.
+    // Before any worker.
     fn new(memory: Memory, front: Front<N>) -> Gathered<N>
         ensures front { result.front ≡ front }
         ensures passes { result.passes.items ≡ [] }
@@ -70,7 +70,7 @@ impl<N: PoolName> Gathered<N> {
         }
     }
 
-    // With one more worker.
+    // Adds one more worker.
     fn add(self, worker: Worker<N>) -> Result<Gathered<N>, NoMemory>
         ensures sure { IfOk result (λ g. g.is_sure ≡ true → self.is_sure ≡ true) }
         ensures worker { IfOk result (λ g. g.is_sure ≡ true → worker.is_sure ≡ true) }
@@ -109,10 +109,10 @@ impl<N: PoolName> Gathered<N> {
     }
 }
 
-/// Puts together what all workers came back with, who have seen no less than the front.
+/// Collects what all workers return. Each has seen at least the front.
 ///
 /// # Errors
-/// `NoMemory`, also where it was wanting for a worker.
+/// `NoMemory`, also if an allocation of a worker failed.
 pub fn gather<N: PoolName>(
     memory: Memory,
     front: Front<N>,

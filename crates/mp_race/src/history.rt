@@ -16,7 +16,7 @@ use std::io::Read;
 
 type Text = Vec<u8, Memory>;
 
-/// A history, as its text tells it.
+/// A history, as its text records it.
 pub struct History {
     /// How many workers there were.
     pub workers: u32,
@@ -33,7 +33,7 @@ impl Drop for History {
     }
 }
 
-// The line of an entry but for its end.
+// The line of an entry without its end.
 fn put_told_line(text: &mut Text, told: &Told) -> Result<(), NoMemory>
     ensures { OnOk result (text.new.items ≡ text.old.items ++ told_line told.now) }
 {
@@ -77,7 +77,7 @@ fn head_text(memory: Memory, workers: u32, entries: u64) -> Result<Text, NoMemor
     Ok(text)
 }
 
-// What stands behind the front, where the text begins with that.
+// What follows the prefix, if the text begins with it.
 fn behind<'a>(text: &'a [u8], front: &[u8]) -> Option<&'a [u8]>
     ensures some { IfSome result (λ rest. text.now ≡ front.now ++ rest.now) }
     ensures none { IfNone result (IsApart text.now front.now) }
@@ -85,7 +85,7 @@ fn behind<'a>(text: &'a [u8], front: &[u8]) -> Option<&'a [u8]>
     text.strip_prefix(front)
 }
 
-// The numbers of the workers and the entries that the text begins with, and what stands behind its first line.
+// The numbers of workers and entries in the first line, and the text after that line.
 fn first_head(memory: Memory, text: &[u8]) -> Result<Option<(u32, u64, &[u8])>, NoMemory>
     ensures some { IfOk result (λ found. IfSome found
         (λ f. text.now ≡ head_text f.0 f.1 ++ f.2.now)) }
@@ -106,7 +106,7 @@ fn first_head(memory: Memory, text: &[u8]) -> Result<Option<(u32, u64, &[u8])>, 
     }
 }
 
-// The entry whose line the text begins with, and what stands behind that.
+// The entry whose line the text begins with, and the text after that line.
 fn first_told(memory: Memory, text: &[u8]) -> Result<Option<(Told, &[u8])>, NoMemory>
     ensures some { IfOk result (λ found. IfSome found
         (λ f. text.now ≡ told_text f.0 ++ f.1.now)) }
@@ -127,7 +127,7 @@ fn first_told(memory: Memory, text: &[u8]) -> Result<Option<(Told, &[u8])>, NoMe
     }
 }
 
-// The next entry, where so many are told and there are so many in all.
+// The next entry, after `told` of `entries` entries.
 fn next_told(
     memory: Memory,
     told: u64,
@@ -146,7 +146,7 @@ fn next_told(
     first_told(memory, text)
 }
 
-// So many entries, of which the text has a line for each.
+// As many entries as `entries` says, from a text with a line for each.
 fn read_lines(memory: Memory, entries: u64, text: &[u8]) -> Result<Vec<Told, Memory>, Fault>
     ensures text { IfOk result (λ told. text.now ≡ lines_text told.items) }
     ensures number { IfOk result (λ told. length told.items ≡ entries) }
@@ -175,7 +175,7 @@ impl History {
     ghost use Rattle.mp_race.specs.HistoryText.{history_text, IsFaultOfText};
     ghost use Rattle.mp_race.specs.HistoryRead.{IsRead};
 
-    /// The text: a line that says how many workers and how many entries there are, and a line for each entry.
+    /// The text: a line with the numbers of workers and entries, then a line for each entry.
     pub fn to_text(&self, memory: Memory) -> Result<Vec<u8, Memory>, NoMemory>
         ensures { IfOk result
             (λ text. text.items ≡ history_text self.now.workers self.now.told.items) }
@@ -185,12 +185,11 @@ impl History {
         Ok(text)
     }
 
-    /// The history that has this text.
+    /// The history with this text.
     ///
     /// # Errors
-    /// `BadLine` with the number of the first line, from 1, that isn't one of a history's text, or is one more than the first line
-    /// tells; `MissingEntry` with the number of the entries where these lines are all, and fewer than the first line tells;
-    /// `NoMemory`.
+    /// `BadLine` with the number of the first line, from 1, that has another form or is one too many. `MissingEntry` with the
+    /// number of lines of entries, if they are fewer than the first line says. `NoMemory`.
     pub fn parse(memory: Memory, text: &[u8]) -> Result<History, Fault>
         ensures text { IfOk result (λ h. text.now ≡ history_text h.workers h.told.items) }
         ensures least { IfOk result (λ h. 1 ≤ h.workers) }
@@ -206,11 +205,11 @@ impl History {
         }
     }
 
-    /// Reads all of the input, and gives the history that has this text.
+    /// Reads all of the input, and returns the history with this text.
     ///
     /// # Errors
-    /// `ReadFault` where a read fails or there are more than `MAX_HISTORY_BYTES` bytes, and else as `parse`. `NoMemory` may stand in
-    /// place of each answer.
+    /// `ReadFault` if a read fails or there are more than `MAX_HISTORY_BYTES` bytes; otherwise those of `parse`. `NoMemory` may
+    /// replace any other answer.
     pub fn read<R: Read>(memory: Memory, reader: &mut R) -> Result<History, Fault>
         ensures read { IfSome (R.remaining reader.old) (λ bytes. IsRead bytes result) }
         ensures least { IfOk result (λ h. 1 ≤ h.workers) }

@@ -7,15 +7,16 @@ use mp_memory::Memory;
 use mp_text::InputFault;
 use std::io::Read;
 
-/// The most bytes of a history's text, and more than any has. A scenario of 2^24 bytes has fewer than 2^22 changes, since the shortest
-/// one, `sync 0`, takes 7 bytes with its line feed. An entry names no ticket twice, and each is of a submit of the scenario. Of n submits
-/// and m other changes n times m is at most 2^42, a ticket takes up to 21 bytes, and what else an entry has up to 100: in all less than
-/// 2^47 bytes, of which memory ends long before.
+/// The most bytes of a history's text: more than any has. A scenario of 2^24 bytes has fewer than 2^22 changes, since the
+/// shortest, `sync 0`, takes 7 bytes with its line feed. An entry names no ticket twice, and each is of a submit of the scenario.
+///
+/// Of n submits and m other changes, n times m is at most 2^42. A ticket takes up to 21 bytes, and the rest of an entry up to
+/// 100. That is less than 2^47 bytes in all, and memory ends long before.
 pub const MAX_HISTORY_BYTES: u64 = 1 << 47;
 
 const CHUNK_BYTES: usize = 4096;
 
-// One read, into the chunk: how many bytes came, which are none only at the end.
+// One read into the chunk. It returns how many bytes came: 0 only at the end.
 fn read_once<R: Read>(reader: &mut R, chunk: &mut [u8]) -> Result<usize, InputFault>
     requires { 0 < length chunk.old }
     ensures within { IfOk result (λ n. n ≤ length chunk.new) }
@@ -36,11 +37,11 @@ fn append(text: &mut Vec<u8, Memory>, bytes: &[u8]) -> Result<(), InputFault>
     Ok(())
 }
 
-/// All the bytes that a reader has left, at most so many.
+/// Returns all the bytes that a reader has left, at most `MAX_HISTORY_BYTES`.
 ///
 /// # Errors
-/// `Read` where a read fails and where there are more bytes. `NoMemory` may stand in place of each answer. After an `Err` nothing is
-/// said of the reader.
+/// `Read` if a read fails or there are more bytes. `NoMemory` may replace any other answer. After an `Err` the contract says
+/// nothing about the reader.
 pub fn read_history_text<R: Read>(
     memory: Memory,
     reader: &mut R,

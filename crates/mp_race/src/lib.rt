@@ -1,4 +1,4 @@
-//! Races: many workers over one scenario, and the one legal history that explains what each change was answered.
+//! Races: many workers over one scenario, and the one legal history that explains every answer to a change.
 #![tactic(auto)]
 
 mod auditing;

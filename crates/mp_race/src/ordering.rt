@@ -1,4 +1,4 @@
-//! The history that receipts tell of.
+//! The history that the receipts record.
 
 ghost use Rattle.std.specs.Prelude.{◌≡◌, ◌<◌, ◌≤◌, ◌%◌, true, List, get_or, All, IfOk, IfErr};
 ghost use Rattle.mp_history.specs.Log.{Log, last_of};
@@ -14,7 +14,7 @@ use mp_history::{Entry, PoolName};
 use mp_memory::{Memory, NoMemory};
 use mp_mempool::Pass;
 
-/// The entries of a history, and what is told of each.
+/// The entries of a history, and the record of each.
 #[derive(Drop)]
 pub struct Ordered {
     pub entries: Vec<Entry, Memory>,
@@ -22,7 +22,7 @@ pub struct Ordered {
     pub next: Next,
 }
 
-// What is told of the change.
+// The record of the change.
 fn told_of(done: &Done) -> Result<Told, NoMemory>
     ensures { IfOk result (λ told. told ≡ told_of done.now) }
 {
@@ -34,7 +34,7 @@ fn told_of(done: &Done) -> Result<Told, NoMemory>
     })
 }
 
-// Whether the command is dealt to the worker, comes behind its last, and is one of so many.
+// Whether the command is dealt to the worker, comes after its last, and is one of `tasks`.
 fn is_next(next: &Next, workers: u32, tasks: u64, told: &Told) -> bool
     requires some { 1 ≤ workers }
     requires most { workers ≤ 64 }
@@ -58,7 +58,7 @@ impl Ordered {
     ghost use Rattle.mp_race.specs.Inside.Work.{IsDone};
     ghost use Rattle.mp_race.specs.Inside.Ordered.{IsOrdered};
 
-    // Of no entry.
+    // No entries.
     fn new(memory: Memory) -> Ordered
         ensures entries { result.entries.items ≡ [] }
         ensures told { result.told.items ≡ [] }
@@ -71,7 +71,7 @@ impl Ordered {
         }
     }
 
-    // Puts the change last, where it has the next place and its command is one of so many, the next of its worker.
+    // Adds the change as the last one, if it has the next place and its command is one of `tasks` and the next of its worker.
     fn add(&mut self, workers: u32, tasks: u64, done: Done) -> Result<(), Fault>
         requires some { 1 ≤ workers }
         requires most { workers ≤ 64 }
@@ -94,11 +94,11 @@ impl Ordered {
     }
 }
 
-/// The changes in the order of their places, each of one of so many commands.
+/// The changes in the order of their places, each of one of `tasks` commands.
 ///
 /// # Errors
-/// `MissingEntry` with the least place below their number of which no receipt tells, or two do, or whose command isn't the worker's
-/// next; `NoMemory`.
+/// `MissingEntry` with the least place below their number that has no receipt or two, or whose command isn't its worker's next.
+/// `NoMemory`.
 pub fn order_done(
     memory: Memory,
     workers: u32,
@@ -132,7 +132,7 @@ fn last_of(entries: &[Entry], caller: u32) -> Option<u64>
     last
 }
 
-// Whether the pass is that of the caller with the number, and knows its last entry.
+// Whether the pass is that of the caller with this number, and knows its last entry.
 fn knows<N: PoolName>(pass: &Pass<N>, number: usize, entries: &[Entry]) -> bool
     ensures number { result ≡ true → pass.now.caller ≡ number }
     ensures last { result ≡ true → last_of pass.now.caller entries.now ≡ pass.now.last }

@@ -5,7 +5,7 @@ ghost use Rattle.mp_seqpool.specs.Pool.{Pool};
 ghost use Rattle.mp_history.specs.Log.{Log, IsLegal, IsLegalLog, state_after};
 ghost use Rattle.mp_history.specs.PoolName.{head_of};
 ghost use Rattle.mp_mempool.specs.Opening.{fresh_log, fresh_passes};
-ghost use Rattle.mp_settings.specs.Verifier.{is_key_and_id};
+ghost use Rattle.mp_signatures.specs.Scheme.{accepted_by};
 ghost use Rattle.mp_race.specs.Task as told;
 ghost use Rattle.mp_race.specs.Fault.{IsOfRace};
 ghost use Rattle.mp_race.specs.Report.{report_of};
@@ -15,7 +15,7 @@ ghost use Rattle.mp_race.specs.Inside.Work.{IsUnused};
 ghost use Rattle.mp_race.specs.Inside.Gathered.{IsBack, AreGathered, IsExplained};
 
 use crate::fault::Fault;
-use crate::gate::{Gate, Watched};
+use crate::gate::{Gate, Watch, Watched};
 use crate::gathering::{Gathered, gather};
 use crate::history::History;
 use crate::ordering::{Ordered, all_know, order_done};
@@ -24,29 +24,21 @@ use crate::report::{Report, count_reads, counts_of};
 use crate::scenario::Scenario;
 use crate::task::Task;
 use crate::told::Refused;
-use crate::worker::{SharedPool, Worker, work};
+use crate::worker::{Worker, work};
 use mp_history::{AuditFault, Entry, Front, NewName, PoolName, audit};
 use mp_memory::{Memory, NoMemory};
-use mp_mempool::{Mempool, OpenRefusal, Pass};
+use mp_mempool::{Mempool, OpenRefusal, Opened, Pass, Reader};
 use mp_rules::Verifier;
-use mp_settings::KeyAndId;
+use mp_signatures::Signatures;
 use std::sync::{Arc, Wait};
 use std::thread::{Threads, map_vec};
 
-// What a race runs on: a pool, and a pass for each worker.
-type Opened<'a, N, G> = (SharedPool<N, Watched<'a, G>>, Vec<Pass<N>, Memory>);
-
-// Each worker does what is dealt to it, in a thread of its own where one can be made.
-fn work_all<
-    N: PoolName + Send + Sync,
-    R: Threads + Wait + Sync,
-    V: Verifier + Send + Sync,
-    G: Gate,
->(
+// Each worker does its tasks, in a thread of its own if one can be made.
+fn work_all<N: PoolName + Send + Sync, R: Threads + Wait + Sync, V: Verifier + Watch + Send + Sync>(
     rt: &R,
     memory: Memory,
-    pool: &SharedPool<N, V>,
-    gate: &G,
+    mempool: &Mempool<N, V>,
+    reader: &Reader<N, V>,
     tasks: &[Task],
     workers: u32,
     passes: Vec<Pass<N>, Memory>,
@@ -62,7 +54,7 @@ fn work_all<
             requires { 1 ≤ workers }
             ensures { (opening : Pool) → IsUnused opening pass
                 → IsBack N.accepts workers opening (tasks_of tasks.entry.now) result }
-        { work(rt, memory, pool, gate, tasks, workers, pass) },
+        { work(rt, memory, mempool, reader, tasks, workers, pass) },
     )?)
 }
 
@@ -73,17 +65,18 @@ fn open<'a, N: PoolName, G: Gate>(
     name: NewName,
     scenario: &Scenario,
     workers: u32,
+    signatures: &'a Signatures,
     gate: &'a G,
-) -> Result<Opened<'a, N, G>, NoMemory>
+) -> Result<Opened<N, Watched<'a, G>>, NoMemory>
     requires name { name ≡ head_of N.book N.root }
     requires number { workers ≡ N.callers }
-    requires accepts { N.accepts ≡ is_key_and_id }
+    requires accepts { N.accepts ≡ accepted_by signatures.now }
     requires some { 1 ≤ workers }
     requires most { workers ≤ 64 }
-    ensures { IfOk result (λ o. o.1.items
+    ensures { IfOk result (λ o. o.2.items
         ≡ fresh_passes workers (fresh_log scenario.now.config scenario.now.ledger)) }
 {
-    let verifier = Arc::new(memory, Watched { gate })?;
+    let verifier = Arc::new(memory, Watched { gate, signatures })?;
     match Mempool::open(
         rt,
         memory,
@@ -93,7 +86,7 @@ fn open<'a, N: PoolName, G: Gate>(
         &verifier,
         workers,
     ) {
-        Ok((mempool, reader, passes)) => Ok((SharedPool { mempool, reader }, passes)),
+        Ok(opened) => Ok(opened),
         Err(refusal) => match refusal {
             OpenRefusal::NoMemory => Err(NoMemory),
             OpenRefusal::BadCallers => unreachable!(),
@@ -102,7 +95,7 @@ fn open<'a, N: PoolName, G: Gate>(
     }
 }
 
-// The front that the first of the passes has, which is legal.
+// The front of the first pass, which is legal.
 fn first_front<N: PoolName>(passes: &[Pass<N>]) -> Front<N>
     requires { 0 < length passes.now }
     ensures legal { IsLegalLog N.accepts N.callers result }
@@ -113,32 +106,33 @@ fn first_front<N: PoolName>(passes: &[Pass<N>]) -> Front<N>
     pass.front().again()
 }
 
-// Opens the pool, has the workers do their tasks, and puts together what they come back with.
+// Opens the pool, lets the workers do their tasks, and collects what they return.
 fn run_workers<N: PoolName + Send + Sync, R: Threads + Wait + Sync, G: Gate>(
     rt: &R,
     memory: Memory,
     name: NewName,
     scenario: &Scenario,
     workers: u32,
+    signatures: &Signatures,
     gate: &G,
 ) -> Result<Gathered<N>, NoMemory>
     requires name { name ≡ head_of N.book N.root }
     requires number { workers ≡ N.callers }
-    requires accepts { N.accepts ≡ is_key_and_id }
+    requires accepts { N.accepts ≡ accepted_by signatures.now }
     requires some { 1 ≤ workers }
     requires most { workers ≤ 64 }
     ensures { IfOk result (λ g. g.is_sure ≡ true → AreGathered N.accepts N.callers
         (fresh_log scenario.now.config scenario.now.ledger).opening scenario.now.tasks
         g.front g.passes.items g.done.items g.refused.items) }
 {
-    let (pool, passes) = open(rt, memory, name, scenario, workers, gate)?;
+    let (mempool, reader, passes) = open(rt, memory, name, scenario, workers, signatures, gate)?;
     let front = first_front(&passes);
     let tasks = &scenario.tasks;
-    let done = work_all(rt, memory, &pool, gate, tasks, workers, passes)?;
+    let done = work_all(rt, memory, &mempool, &reader, tasks, workers, passes)?;
     gather(memory, front, done)
 }
 
-// The history that explains what the workers came back with, and what is told of it.
+// The history that explains what the workers return, and its records.
 fn explain<N: PoolName>(
     memory: Memory,
     tasks: &[Task],
@@ -174,18 +168,19 @@ fn explain<N: PoolName>(
     Ok((ordered, refused))
 }
 
-// Audits the history, and gives the last ticket after it.
+// Audits the history, and returns the last ticket after it.
 fn audit_last(
     memory: Memory,
     scenario: &Scenario,
+    signatures: &Signatures,
     workers: u32,
     entries: &[Entry],
 ) -> Result<u64, Fault>
-    requires { IsLegal is_key_and_id workers
+    requires { IsLegal (accepted_by signatures.now) workers
         (fresh_log scenario.now.config scenario.now.ledger).opening entries.now }
     ensures last { (log : Log) → log.entries ≡ entries.now
         → log.opening ≡ (fresh_log scenario.now.config scenario.now.ledger).opening
-        → IfOk result (λ last. last ≡ (state_after is_key_and_id log).last) }
+        → IfOk result (λ last. last ≡ (state_after (accepted_by signatures.now) log).last) }
     ensures fault { IfErr result IsOfRace }
 {
     let config = mp_seqpool::Config {
@@ -198,7 +193,7 @@ fn audit_last(
         &scenario.ledger,
         workers,
         entries,
-        &KeyAndId,
+        signatures,
     ) {
         Ok(pool) => Ok(pool.last_ticket()),
         Err(AuditFault::NoMemory) => Err(Fault::NoMemory),
@@ -211,17 +206,19 @@ fn audit_last(
 fn report_on(
     memory: Memory,
     scenario: &Scenario,
+    signatures: &Signatures,
     workers: u32,
     entries: &[Entry],
 ) -> Result<Report, Fault>
-    requires { IsLegal is_key_and_id workers
+    requires { IsLegal (accepted_by signatures.now) workers
         (fresh_log scenario.now.config scenario.now.ledger).opening entries.now }
     ensures report { (log : Log) → log.entries ≡ entries.now
         → log.opening ≡ (fresh_log scenario.now.config scenario.now.ledger).opening
-        → IfOk result (λ r. r ≡ report_of is_key_and_id workers scenario.now.tasks log) }
+        → IfOk result (λ r. r
+        ≡ report_of (accepted_by signatures.now) workers scenario.now.tasks log) }
     ensures fault { IfErr result IsOfRace }
 {
-    let last = audit_last(memory, scenario, workers, entries)?;
+    let last = audit_last(memory, scenario, signatures, workers, entries)?;
     let counts = counts_of(entries);
     let reads = count_reads(&scenario.tasks);
     let number = entries.len() as u64;
@@ -238,47 +235,53 @@ fn report_on(
     })
 }
 
-/// What a race came to.
+/// The result of a race.
 #[derive(Drop)]
 pub struct Raced {
     pub report: Report,
-    /// What is told of each entry, in the order of their places.
+    /// The records of the entries, in the order of their places.
     pub history: History,
-    /// What is told of each refusal, in the order of their commands.
+    /// The records of the refusals, in the order of their commands.
     pub refused: Vec<Refused, Memory>,
 }
 
-/// Runs the scenario by so many workers, each in a thread of its own where one can be made, on one pool under the name, and gives
-/// the report, the history and the refusals. Task j, from 0, goes to worker j mod workers. There is one legal history that explains
-/// what each change was answered: each worker's entries in it are the changes dealt to it, each once and in order, but for those that
-/// the sequential pool refuses at a beginning of the history with just the worker's entries before. The history tells its entries one
-/// by one. The refusals are of the other changes, each once, and each tells after how many entries the sequential pool refuses it.
-/// What snapshots show isn't told. The gate is told of each task and of each signature that is looked at.
+/// Runs the scenario with `workers` workers, each in a thread of its own if one can be made, on one pool under the name. Returns
+/// the report, the history and the refusals. Task j, from 0, goes to worker j mod `workers`.
+///
+/// One legal history explains every answer to a change. Each worker's entries in it are the changes dealt to it, each once and in
+/// order, without those that are refused. The sequential pool refuses each of those after a prefix of the history that has
+/// exactly the worker's entries before it.
+///
+/// The history records its entries one by one. The refusals are those of all other changes, each once, with the number of entries
+/// after which the sequential pool refuses it. What snapshots show isn't recorded. The gate is called before each task and each
+/// check of a signature.
 ///
 /// # Errors
-/// `NoMemory`, where it was wanting for any worker, after all have ended. `MissingEntry` with the least place of the history below
-/// the number of the receipts of which no receipt tells, or two do, or whose command isn't its worker's next, and with their number
-/// where the pool has another entry or the refusals are others than the changes that have no entry. None is to be met.
+/// `NoMemory`, after all workers have ended, if an allocation of a worker failed. `MissingEntry` with the least place, below the
+/// number of receipts, that has no receipt or two, or whose command isn't its worker's next. `MissingEntry` with that number, if
+/// the pool has another entry, or if the refusals aren't those of the changes without an entry. Neither `MissingEntry` is
+/// expected.
 pub fn race<N: PoolName + Send + Sync, R: Threads + Wait + Sync, G: Gate>(
     rt: &R,
     memory: Memory,
     name: NewName,
     scenario: &Scenario,
     workers: u32,
+    signatures: &Signatures,
     gate: &G,
 ) -> Result<Raced, Fault>
     requires name { name ≡ head_of N.book N.root }
     requires number { workers ≡ N.callers }
-    requires accepts { N.accepts ≡ is_key_and_id }
+    requires accepts { N.accepts ≡ accepted_by signatures.now }
     requires some { 1 ≤ workers }
     requires most { workers ≤ 64 }
-    ensures raced { IfOk result (IsRaced is_key_and_id workers scenario.now) }
+    ensures raced { IfOk result (IsRaced (accepted_by signatures.now) workers scenario.now) }
     ensures workers { IfOk result (λ raced. raced.history.workers ≡ workers) }
     ensures fault { IfErr result IsOfRace }
 {
-    let gathered = run_workers::<N, R, G>(rt, memory, name, scenario, workers, gate)?;
+    let gathered = run_workers::<N, R, G>(rt, memory, name, scenario, workers, signatures, gate)?;
     let (ordered, refused) = explain(memory, &scenario.tasks, workers, gathered)?;
-    let report = report_on(memory, scenario, workers, &ordered.entries)?;
+    let report = report_on(memory, scenario, signatures, workers, &ordered.entries)?;
     let Ordered { told, .. } = ordered;
     let tasks = scenario.tasks.len();
     let refused = order_refused(memory, tasks, &told, report.refused, refused)?;

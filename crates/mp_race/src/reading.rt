@@ -1,4 +1,4 @@
-//! What lines seem to tell. What is read here is written again and compared, so nothing is looked at closely.
+//! What lines seem to record. The result is written again and compared, so the reading checks little.
 
 ghost use Rattle.std.specs.Prelude.{◌≡◌, ◌≤◌, IfOk, IfSome, option_map};
 ghost use Rattle.mp_text.specs.Words.{words_of};
@@ -15,7 +15,7 @@ use mp_tickets::Tickets;
 // No race has more workers.
 const MAX_WORKERS: u32 = 64;
 
-// The front of a line: the numbers, the kind of the reply, and what stands behind it.
+// The beginning of a line: the numbers, the kind of the reply, and what follows.
 #[derive(Clone, Copy)]
 struct Front<'a> {
     place: u64,
@@ -25,7 +25,7 @@ struct Front<'a> {
     rest: &'a [u8],
 }
 
-// The number that the first word writes, and what stands behind it.
+// The number that the first word denotes, and what follows it.
 fn first_number(words: &[u8]) -> Option<(u64, &[u8])>
     ensures { option_map (λ f. (f.0, words_of f.1.now)) result ≡ told.number_in (words_of words.now) }
 {
@@ -63,7 +63,7 @@ fn read_front(line: &[u8]) -> Option<Front<'_>>
     read_kind(place, worker, task, rest)
 }
 
-// The ticket that the word writes, where it is no less than the least.
+// The ticket that the word denotes, if it is at least `least`.
 fn ticket_of(word: &[u8], least: u128) -> Option<u64>
     ensures { result ≡ told.ticket_in least word.now }
 {
@@ -75,14 +75,14 @@ fn ticket_of(word: &[u8], least: u128) -> Option<u64>
     }
 }
 
-// The tickets, as long as they increase, up to a word that is none, and what stands behind that.
+// The tickets, as long as they are strictly increasing, up to a word that is none, and what follows that word.
 fn read_tickets(memory: Memory, words: &[u8]) -> Result<(Tickets, &[u8]), NoMemory>
     ensures { IfOk result
         (λ found. (found.0, words_of found.1.now) ≡ told.tickets_in 0 (words_of words.now)) }
 {
     let mut tickets = Tickets::new(memory);
     let mut rest = words;
-    // Wider than a ticket, since nothing comes after the greatest one.
+    // Wider than a ticket, since nothing comes after the greatest ticket.
     let mut least = 0u128;
     while let Some((word, after)) = first_word(rest) {
         let Some(ticket) = ticket_of(word, least) else {
@@ -124,7 +124,7 @@ fn read_reply(memory: Memory, kind: &[u8], words: &[u8]) -> Result<Reply, NoMemo
     read_lists(memory, kind, words)
 }
 
-/// The entry that the line seems to tell.
+/// The entry that the line seems to record.
 pub fn read_told(memory: Memory, line: &[u8]) -> Result<Option<Told>, NoMemory>
     ensures { IfOk result (λ found. found ≡ told.told_in (words_of line.now)) }
 {
@@ -140,7 +140,7 @@ pub fn read_told(memory: Memory, line: &[u8]) -> Result<Option<Told>, NoMemory>
     }))
 }
 
-// The number of workers, where it is one.
+// The number of workers, if it is in range.
 fn if_workers(number: u32) -> Option<u32>
     ensures { result ≡ told.if_workers number }
 {
@@ -155,7 +155,7 @@ fn read_entries(workers: u32, words: &[u8]) -> Option<(u32, u64)>
     Some((workers, entries))
 }
 
-/// The number of workers, and that of the entries, that the first line seems to tell.
+/// The numbers of workers and entries that the first line seems to give.
 pub fn read_head(line: &[u8]) -> Option<(u32, u64)>
     ensures head { result ≡ told.head_in (words_of line.now) }
     ensures least { IfSome result (λ h. 1 ≤ h.0) }

@@ -1,4 +1,4 @@
-//! What is told of refusals.
+//! The refused changes of a race.
 
 ghost use Rattle.std.specs.Prelude.{◌≡◌, ◌<◌, true, false, length, get_or, All, IfOk, IfErr};
 ghost use Rattle.std.specs.List.Sorted.{IsPermutation};
@@ -10,7 +10,7 @@ use crate::fault::Fault;
 use crate::told::{Refused, Told};
 use mp_memory::{Memory, NoMemory};
 
-// Of so many commands, those of which an entry is told.
+// For each of `tasks` commands, whether it has an entry.
 fn marks_of(memory: Memory, tasks: usize, told: &[Told]) -> Result<Vec<bool, Memory>, NoMemory>
     ensures { IfOk result (λ marks. All (λ t. IsMarked marks.items t.task) told.now) }
 {
@@ -32,7 +32,7 @@ fn is_unmarked(marks: &[bool], task: u64) -> bool
     place < marks.len() && !marks[place]
 }
 
-// Whether the commands increase, and none is marked.
+// Whether the commands are strictly increasing, and none is marked.
 fn are_others(marks: &[bool], refused: &[Refused]) -> bool
     ensures order { result ≡ true → AreInOrder 0 refused.now }
     ensures unmarked { result ≡ true → All (λ r. IsUnmarked marks.now r.task) refused.now }
@@ -47,11 +47,11 @@ fn are_others(marks: &[bool], refused: &[Refused]) -> bool
     true
 }
 
-/// So many refusals, in the order of their commands, which are among so many and of which no entry is told.
+/// The refusals in the order of their commands: `number` of them, each of one of `tasks` commands and without an entry.
 ///
 /// # Errors
-/// `MissingEntry` with the number of entries where there are others, or two of one command, or one of a command of which an entry is
-/// told; `NoMemory`.
+/// `MissingEntry` with the number of entries, if there are more or fewer refusals, two of one command, or one of a command with
+/// an entry. `NoMemory`.
 pub fn order_refused(
     memory: Memory,
     tasks: usize,

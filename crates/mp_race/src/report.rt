@@ -1,4 +1,4 @@
-//! What is told of a race.
+//! The report on a race.
 
 ghost use Rattle.std.specs.Prelude.{◌≡◌, ◌+◌, ◌<◌, ◌^◌, count_by};
 ghost use Rattle.mp_race.specs.Report.{is_read};
@@ -14,12 +14,12 @@ use mp_seqpool::Reply;
 use mp_text::write_all;
 use std::io::Write;
 
-/// What is told of a race. All its commands are its entries, its refusals and its reads.
+/// The report on a race. Its commands are its entries, its refusals and its reads.
 #[derive(Clone, Copy, Debug, PartialEq, Eq)]
 pub struct Report {
     /// How many workers there were: 1 to 64.
     pub workers: u32,
-    /// The transactions that were taken in.
+    /// The transactions that were added.
     pub accepted: u64,
     /// The changes that were refused.
     pub refused: u64,
@@ -38,10 +38,10 @@ pub struct Report {
 impl Report {
     ghost use Rattle.mp_race.specs.ReportText.{IsWritten};
 
-    /// Writes the report: a line of numbers, and that the history was found legal.
+    /// Writes the report: a line of numbers, and the line that the history was found legal.
     ///
     /// # Errors
-    /// `WriteFault`, with a front of the text written, and `NoMemory`, with nothing written.
+    /// `WriteFault`, after writing a prefix of the text. `NoMemory`, after writing nothing.
     pub fn write<W: Write>(&self, memory: Memory, writer: &mut W) -> Result<(), Fault>
         ensures { IsWritten self.now (W.contents writer.old) (W.contents writer.new) result }
     {
@@ -53,7 +53,7 @@ impl Report {
     }
 }
 
-/// How many entries were replied to in each way.
+/// How many entries have each kind of reply.
 #[derive(Clone, Copy)]
 pub struct Counts {
     pub accepted: u64,
@@ -84,7 +84,7 @@ fn add_reply(counts: Counts, reply: &Reply) -> Counts
     }
 }
 
-/// How many of the entries were replied to in each way.
+/// How many of the entries have each kind of reply.
 pub fn counts_of(entries: &[Entry]) -> Counts
     ensures { result ≡ counts_of entries.now }
 {

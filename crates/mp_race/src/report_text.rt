@@ -18,7 +18,7 @@ fn put_counted(text: &mut Text, word: &[u8], number: u64) -> Result<(), NoMemory
     put_number(text, number)
 }
 
-// What became of the changes.
+// The numbers of changes by outcome.
 fn changes_text(memory: Memory, report: &Report) -> Result<Text, NoMemory>
     ensures { IfOk result (λ text. text.items ≡ changes_text report.now) }
 {
@@ -40,7 +40,7 @@ fn numbers_text(memory: Memory, report: &Report) -> Result<Text, NoMemory>
     Ok(text)
 }
 
-/// A line of numbers, and that the audit found the history legal.
+/// A line of numbers, and the line that the audit found the history legal.
 pub fn report_text(memory: Memory, report: &Report) -> Result<Text, NoMemory>
     ensures { IfOk result (λ text. text.items ≡ report_text report.now) }
 {

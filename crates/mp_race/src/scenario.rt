@@ -19,8 +19,8 @@ use mp_tx::Ledger;
 use std::io::Read;
 use std::marker::Model;
 
-/// What a race runs: the pool that it opens, and the tasks that it deals to its workers. Contracts see the configuration, the
-/// ledger state and the tasks.
+/// What a race runs: the pool that it opens, and the tasks of its workers. Contracts see the configuration, the ledger state and
+/// the tasks.
 pub struct Scenario {
     pub(crate) config: Config,
     pub(crate) ledger: Ledger,
@@ -110,11 +110,11 @@ impl Scenario {
     ghost use Rattle.mp_text.specs.Lines.{lines_of};
     ghost use Rattle.mp_race.specs.Reading.{scenario_from, IsStopOf, AreRead};
 
-    /// The scenario that the text is of.
+    /// The scenario with this text.
     ///
     /// # Errors
-    /// `BadLine` at the first line that is none of a race's language: that of a run with `submit`, `remove`, `sync` and
-    /// `snapshot` as its only commands.
+    /// `BadLine` at the first line that isn't in a race's language. That is the language of a run with the commands `submit`,
+    /// `remove`, `sync` and `snapshot` only.
     pub fn parse<'a>(memory: Memory, text: &'a [u8]) -> Result<Scenario, Stop<'a>>
         requires { length text.now ≤ MAX_BYTES }
         ensures ok { IfOk result (λ s. scenario_from (lines_of text.now) ≡ Ok s) }
@@ -125,11 +125,11 @@ impl Scenario {
         Ok(finish(memory, draft)?)
     }
 
-    /// Reads all of the input, and gives the scenario that it is of.
+    /// Reads all of the input, and returns the scenario with this text.
     ///
     /// # Errors
-    /// `ReadFault` where a read fails, there are over 2^24 bytes or the end isn't found in 2^25 reads; `BadLine` as `parse`.
-    /// `NoMemory` may stand in place of each answer.
+    /// `ReadFault` if a read fails, if there are more than 2^24 bytes, or if 2^25 reads don't find the end. `BadLine` as in
+    /// `parse`. `NoMemory` may replace any other answer.
     pub fn read<R: Read>(memory: Memory, reader: &mut R) -> Result<Scenario, Fault>
         ensures { IfSome (R.remaining reader.old) (λ bytes. AreRead bytes result) }
     {

@@ -1,4 +1,4 @@
-//! Why a text isn't read.
+//! Why a text can't be read.
 
 ghost use Rattle.std.specs.Prelude.{◌≡◌};
 
@@ -6,7 +6,7 @@ use crate::fault::Fault;
 use mp_memory::NoMemory;
 use mp_names::Reason;
 
-/// Why a text isn't read.
+/// Why a text can't be read.
 #[derive(Clone, Copy)]
 pub enum Stop<'a> {
     NoMemory,
@@ -28,7 +28,7 @@ impl<'a> Stop<'a> {
         }
     }
 
-    /// The fault that the program tells.
+    /// The fault that the program reports.
     pub fn to_fault(&self) -> Fault
         ensures { result ≡ fault_of self.now }
     {

@@ -1,12 +1,12 @@
-//! What a worker is told to do.
+//! The tasks of a worker.
 
 use mp_seqpool::Command;
 
-/// What a worker of a race is told to do.
+/// A task of a worker of a race.
 #[derive(Drop)]
 pub enum Task {
-    /// To ask the pool for this.
+    /// Make this change.
     Change(Command),
-    /// To take a snapshot.
+    /// Take a snapshot.
     Read,
 }

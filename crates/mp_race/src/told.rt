@@ -1,9 +1,9 @@
-//! What is told of the commands of a race.
+//! The records of a race's commands.
 
 use mp_mempool::Receipt;
 use mp_seqpool::Reply;
 
-/// An entry of a history, as its line tells it.
+/// An entry of a history, as its line records it.
 #[derive(Drop)]
 pub struct Told {
     /// Its place in the history, from 0.
@@ -22,7 +22,7 @@ pub struct Refused {
     pub worker: u32,
     /// The number of the scenario's command, from 0.
     pub task: u64,
-    /// How many entries the history had there.
+    /// How many entries the history had at the refusal.
     pub entries: u64,
 }
 

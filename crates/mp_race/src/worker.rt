@@ -6,31 +6,16 @@ ghost use Rattle.mp_race.specs.Inside.Task.{task_of, tasks_of};
 ghost use Rattle.mp_race.specs.Inside.Work.{IsUnused, Does};
 ghost use Rattle.mp_race.specs.Inside.Gathered.{IsBack};
 
-use crate::gate::Gate;
+use crate::gate::Watch;
 use crate::task::Task;
 use crate::told::{Done, Refused};
 use mp_history::PoolName;
 use mp_memory::{Memory, NoMemory};
 use mp_mempool::{Mempool, Pass, Reader, Refusal};
 use mp_rules::Verifier;
-use std::sync::{Arc, Wait};
+use std::sync::Wait;
 
-/// The pool that the workers share, and what reads it.
-pub struct SharedPool<N: PoolName, V: Verifier> {
-    pub mempool: Mempool<N, V>,
-    pub reader: Arc<Reader<N, V>, Memory>,
-}
-
-impl<N: PoolName, V: Verifier + Drop> Drop for SharedPool<N, V> {
-    fn drop(self) {
-        let SharedPool {
-            mempool: _,
-            reader: _,
-        } = self;
-    }
-}
-
-/// What a worker comes back with.
+/// What a worker returns.
 #[derive(Drop)]
 pub struct Worker<N: PoolName> {
     pub pass: Pass<N>,
@@ -42,10 +27,11 @@ pub struct Worker<N: PoolName> {
     pub is_sure: bool,
 }
 
-// Does the task with this number. Whether the pool had no entry of the caller that its pass doesn't know.
+// Does the task with this number. Returns whether the pass knows all entries of its caller in the pool.
 fn do_task<N: PoolName, V: Verifier>(
     rt: &impl Wait,
-    pool: &SharedPool<N, V>,
+    mempool: &Mempool<N, V>,
+    reader: &Reader<N, V>,
     pass: &mut Pass<N>,
     done: &mut Vec<Done, Memory>,
     refused: &mut Vec<Refused, Memory>,
@@ -58,10 +44,10 @@ fn do_task<N: PoolName, V: Verifier>(
 {
     match task {
         Task::Read => {
-            pool.reader.refresh(pass);
+            reader.refresh(pass);
             Ok(true)
         }
-        Task::Change(command) => match pool.mempool.ask(rt, pass, command) {
+        Task::Change(command) => match mempool.ask(rt, pass, command) {
             Ok(receipt) => {
                 done.push(Done {
                     task: number,
@@ -83,13 +69,12 @@ fn do_task<N: PoolName, V: Verifier>(
     }
 }
 
-/// Does those of the tasks that are dealt to the pass's caller: of so many workers task j goes to worker j mod workers. The gate is
-/// told of each.
-pub fn work<N: PoolName, V: Verifier, G: Gate>(
+/// Does the tasks that are dealt to the pass's caller: task j goes to worker j mod `workers`. It calls the verifier before each.
+pub fn work<N: PoolName, V: Verifier + Watch>(
     rt: &impl Wait,
     memory: Memory,
-    pool: &SharedPool<N, V>,
-    gate: &G,
+    mempool: &Mempool<N, V>,
+    reader: &Reader<N, V>,
     tasks: &[Task],
     workers: u32,
     mut pass: Pass<N>,
@@ -103,10 +88,11 @@ pub fn work<N: PoolName, V: Verifier, G: Gate>(
     let number = pass.caller();
     for (place, task) in tasks.iter().enumerate() {
         if place % workers as usize == number as usize {
-            gate.start(number, place as u64);
+            reader.verifier().start(number, place as u64);
             let is_sure = do_task(
                 rt,
-                pool,
+                mempool,
+                reader,
                 &mut pass,
                 &mut done,
                 &mut refused,

@@ -15,10 +15,10 @@ pub record Pass : Type 0 where
 abbrev pub pass_of : Log → Caller → Pass
 pass_of log c = record { caller = c.number; last = c.last; front = log }
 
--- an entry of the caller stands at this place of the history
+-- the history has an entry of the caller at this place
 abbrev pub IsEntryOf : ℕ → Log → ℕ → Type 0
 IsEntryOf caller log place = IsSomeAnd (slice_get log.entries place) (λ e. e.caller ≡ caller)
 
--- the last entry that it made is its own, and stands in what it has seen
+-- the last entry that it made is its own, and is in what it has seen
 abbrev pub IsOwn : Pass → Type 0
 IsOwn p = IfSome p.last (IsEntryOf p.caller p.front)

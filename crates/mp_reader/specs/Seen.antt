@@ -1,4 +1,4 @@
--- What a caller comes to have seen.
+-- What a caller has seen after a call.
 use Rattle.std.specs.Prelude.{◌≡◌, ℕ, List, ◌++◌, length}
 use Rattle.mp_tx.specs.Ledger.{LedgerState}
 use Rattle.mp_rules.specs.Verifier.{Accepts}
@@ -18,14 +18,14 @@ seen p others = record p { front = continued p.front others }
 
 -- The verifier decides which signatures are good.
 module _ (accepts : Accepts) (callers : ℕ) where
-  -- What a caller comes to have seen without a call that changes anything.
+  -- What a caller has seen after a call that changes nothing.
   pub record IsSeen (before after : Pass) : Type 0 where
-    -- what was entered since
+    -- the entries committed since
     pub more : List Entry
     pub pass : after ≡ seen before more
     pub legal : IsLegalLog accepts callers after.front
 
--- What stays valid upon another ledger state, of the state after a history.
+-- What stays valid on another ledger state, for the state after a history.
 pub record IsSnapshotFor (accepts : Accepts) (log : Log) (ledger : LedgerState) (s : SnapshotFor) : Type 0 where
   pub items : s.items ≡ keep accepts ledger (state_after accepts log).items
   pub bytes : s.bytes ≡ bytes_of s.items

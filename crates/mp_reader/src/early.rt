@@ -1,4 +1,4 @@
-//! Looking at a transaction's signatures and scripts before a lock is taken.
+//! Checking a transaction's signatures and scripts before the lock is taken.
 ghost use Rattle.std.specs.Prelude.{◌≡◌, ◌+◌, length, IfSome};
 ghost use Rattle.mp_rules.specs.Checked.{IsChecked};
 
@@ -7,11 +7,10 @@ use mp_rules::{Checked, Verifier, has_nothing_to_run, precheck};
 use mp_tx::{OutRef, Output, Tx};
 use mp_versions::Version;
 
-// An output is looked for in so many of the newest transactions: a walk over all of a large pool would cost more than
-// the scripts.
+// Outputs are searched in this many of the newest transactions: a walk over all of a large pool would cost more than the scripts.
 const RECENT: usize = 128;
 
-// The output under the reference: the ledger state's, else that of one of the newest transactions.
+// The output under the reference: the ledger state's, or that of one of the newest transactions.
 fn output_of<'a>(version: &'a Version, reference: &OutRef) -> Option<&'a Output> {
     if let Some(output) = version.ledger().get(reference) {
         return Some(output);
@@ -23,7 +22,7 @@ fn output_of<'a>(version: &'a Version, reference: &OutRef) -> Option<&'a Output>
     maker.tx.outputs().get(usize::from(reference.index))
 }
 
-// The outputs that the inputs spend, and then those that the transaction refers to, where all are found.
+// The outputs that the inputs spend, then those that the transaction refers to, if all are found.
 fn outputs_of(memory: Memory, version: &Version, tx: &Tx) -> Option<Vec<Output, Memory>>
     ensures { IfSome result
         (λ outputs. length outputs.items ≡ length tx.now.inputs + length tx.now.references) }
@@ -38,11 +37,11 @@ fn outputs_of(memory: Memory, version: &Version, tx: &Tx) -> Option<Vec<Output, 
     Some(outputs)
 }
 
-/// Looks at the transaction's signatures, and runs its scripts upon the outputs that it names, as far as the version
-/// has them. It takes no lock. What is found serves as long as the transaction names these outputs.
+/// Checks the transaction's signatures, and runs its scripts on the outputs that it names, as far as the version has them. It
+/// takes no lock. The result can be used as long as the transaction names these outputs.
 ///
-/// None where there is nothing to look at or to run, where an output is neither in the ledger state nor made by one of the newest
-/// transactions, and where memory is wanting.
+/// Returns `None` if there is nothing to check or to run, and if an allocation fails. Also if an output is neither in the ledger
+/// state nor made by one of the newest transactions.
 pub(crate) fn check_early<V: Verifier>(
     memory: Memory,
     version: &Version,

@@ -1,4 +1,4 @@
-//! What a caller of a shared pool has of it, and what reads the pool without its lock.
+//! What a caller of a shared pool holds, and what reads the pool without its lock.
 #![tactic(auto)]
 
 mod early;

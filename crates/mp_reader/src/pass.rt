@@ -13,10 +13,11 @@ use mp_versions::{Boards, Shown, Snapshot, Subscriber, Version};
 use std::marker::Model;
 use std::sync::Arc;
 
-/// The token of one caller of the pool: with it the caller asks, and it holds what the caller has seen. It comes with the pool,
-/// one for each caller; it can't be cloned, and to make one takes the caller's token, which the pool gives to nobody else. It
-/// never goes back: what it holds is only replaced by what extends it. It keeps the versions of one board, at most 64 with its own.
-/// Contracts see the caller's number, the place of the last entry that it made, and the history that it has seen.
+/// The token of one caller of the pool. The caller makes its calls with it, and it holds what the caller has seen. Each caller
+/// gets one with the pool. It can't be cloned. To make one takes the caller's token, which the pool gives to nobody else.
+///
+/// It never goes backwards: what it holds is only replaced by what extends it. It keeps the versions of one board, at most 64
+/// with its own. Contracts see the caller's number, the place of the last entry that it made, and the history that it has seen.
 pub struct Pass<N: PoolName> {
     caller: Caller<N>,
     shown: Shown<N>,
@@ -55,7 +56,7 @@ impl<N: PoolName> Pass<N> {
     ghost use Rattle.mp_reader.specs.contracts.pass.Pass.{the_row};
     ghost use Rattle.mp_reader.specs.Seen.{IsSeen};
 
-    /// The pass of a caller that hasn't made an entry.
+    /// The pass of a caller that hasn't committed an entry yet.
     pub fn of(caller: Caller<N>, shown: Shown<N>, subscriber: Subscriber<N>) -> Pass<N>
         requires { caller.last ≡ None }
         ensures { result ≡ pass_of shown caller }
@@ -67,8 +68,8 @@ impl<N: PoolName> Pass<N> {
         }
     }
 
-    /// Commits the caller's entry; the caller has then seen this version, which is the one after it. Nothing else commits an
-    /// entry, so each leaves its place here. It allocates nothing.
+    /// Commits the caller's entry. The caller has then seen this version, which is the one after it. Nothing else commits an
+    /// entry, so the pass knows the place of each. It allocates nothing.
     pub fn commit(
         &mut self,
         history: &History<N>,
@@ -90,7 +91,7 @@ impl<N: PoolName> Pass<N> {
         self.shown = Shown::of(version, right.front());
     }
 
-    /// The caller has seen the version, which extends what it had seen.
+    /// The caller has then seen the version, which extends what it had seen.
     pub fn see(&mut self, shown: Shown<N>)
         requires { Begins self.old.front shown }
         ensures { self.new ≡ record self.old { front = shown } }
@@ -98,7 +99,7 @@ impl<N: PoolName> Pass<N> {
         self.shown = shown;
     }
 
-    /// Takes the version where its front is longer.
+    /// Takes the version if its front is longer.
     pub(crate) fn learn(&mut self, shown: Shown<N>)
         ensures longer { length self.old.front.entries < length shown.entries
             → self.new ≡ record self.old { front = shown } }
@@ -128,7 +129,7 @@ impl<N: PoolName> Pass<N> {
         self.caller.number()
     }
 
-    /// The place of the last entry that the caller made: it is the caller's, and stands in the pass's front.
+    /// The place of the last entry that the caller made. It is the caller's, and is in the pass's front.
     pub fn last(&self) -> Option<u64>
         ensures last { result ≡ self.now.last }
         ensures own { IsOwn self.now }
@@ -150,7 +151,7 @@ impl<N: PoolName> Pass<N> {
         &self.shown
     }
 
-    /// From now on the newest versions are found that have been published until now. What the caller has seen stays.
+    /// From now on the pass finds the newest versions published until now. What the caller has seen stays as it is.
     pub(crate) fn catch_up(&mut self, boards: &Boards<N>)
         ensures { self.new ≡ self.old }
     {
@@ -171,14 +172,14 @@ impl<N: PoolName> Pass<N> {
         }
     }
 
-    /// A share of that.
+    /// A share of that version.
     pub(crate) fn share_later(&self) -> Option<Shown<N>>
         ensures { IfSome result (Begins self.now.front) }
     {
         self.later()?.share().ok()
     }
 
-    /// The newest version that the subscriber finds, or the pass's own if that is longer.
+    /// The newest version that the subscriber finds, or the pass's own if that is at least as long.
     pub(crate) fn latest(&self) -> &Shown<N>
         ensures { Begins self.now.front result.now }
     {
@@ -188,8 +189,8 @@ impl<N: PoolName> Pass<N> {
         }
     }
 
-    /// The newest version that is published, or the pass's own if that is longer: the caller has then seen it. It takes no lock,
-    /// allocates nothing, and is never `None`.
+    /// The newest published version, or the pass's own if that is at least as long. The caller has then seen it. It takes no
+    /// lock, allocates nothing, and is never `None`.
     pub fn newest<V: Verifier>(&mut self, reader: &Reader<N, V>) -> Option<&Shown<N>>
         ensures there { IsSome result }
         ensures later { IfSome result (λ shown. Begins self.old.front shown.now) }
@@ -202,8 +203,7 @@ impl<N: PoolName> Pass<N> {
         Some(&self.shown)
     }
 
-    /// What is read of the version that the caller has seen, without a look at what others have published since: `refresh` of a
-    /// reader comes before it.
+    /// Reads the version that the caller has seen, and doesn't look for newer ones: call `Reader::refresh` first.
     pub fn snapshot(&self) -> Snapshot<'_, N>
         ensures { result ≡ self.now.front }
     {

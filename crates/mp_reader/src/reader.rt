@@ -15,8 +15,8 @@ use mp_tx::{Ledger, Tx};
 use mp_versions::{Boards, Shown};
 use std::sync::Arc;
 
-/// What a thread needs to read a pool: the published versions, the verifier, and where memory comes from. It has neither the pool
-/// nor its lock. So no call here commits anything or waits for anybody. The pool's threads share it.
+/// What a thread needs to read a pool: the published versions, the verifier, and the memory handle. It has neither the pool nor
+/// its lock. So no call here commits anything or waits for anybody. The pool's threads share it.
 pub struct Reader<N: PoolName, V: Verifier> {
     memory: Memory,
     verifier: Arc<V, Memory>,
@@ -34,14 +34,14 @@ impl<N: PoolName, V: Verifier + Drop> Drop for Reader<N, V> {
     }
 }
 
-// What the pass holds is legal. That costs nothing when it runs.
+// What the pass holds is legal. This costs nothing at run time.
 fn look_at<N: PoolName>(pass: &Pass<N>)
     ensures { IsLegalLog N.accepts N.callers pass.now.front }
 {
     let _version = pass.shown().version();
 }
 
-// The caller has seen the version, which extends what it had seen.
+// The caller has then seen the version, which extends what it had seen.
 fn see<N: PoolName>(pass: &mut Pass<N>, shown: Shown<N>)
     requires { Begins pass.old.front shown }
     ensures { IsSeen N.accepts N.callers pass.old pass.new }
@@ -51,7 +51,7 @@ fn see<N: PoolName>(pass: &mut Pass<N>, shown: Shown<N>)
 }
 
 impl<N: PoolName, V: Verifier> Reader<N, V> {
-    /// What reads by these boards.
+    /// A reader of these boards.
     pub fn of(memory: Memory, verifier: Arc<V, Memory>, boards: Boards<N>) -> Reader<N, V>
         requires { V.accepts (arc_value verifier) ≡ N.accepts }
     {
@@ -62,19 +62,19 @@ impl<N: PoolName, V: Verifier> Reader<N, V> {
         }
     }
 
-    /// Where the pool's memory comes from.
+    /// The memory handle of the pool.
     pub fn memory(&self) -> Memory {
         self.memory
     }
 
-    /// What decides which signatures are good.
+    /// The verifier, which decides which signatures are good.
     pub fn verifier(&self) -> &V
         ensures { V.accepts result.now ≡ N.accepts }
     {
         &self.verifier
     }
 
-    /// A share of it, for a successor's reader.
+    /// A share of the verifier, for a successor's reader.
     pub fn share_verifier(&self) -> Result<Arc<V, Memory>, NoMemory>
         ensures { IfOk result (λ verifier. V.accepts (arc_value verifier) ≡ N.accepts) }
     {
@@ -86,7 +86,7 @@ impl<N: PoolName, V: Verifier> Reader<N, V> {
         &self.boards
     }
 
-    /// What is found of the transaction before the lock is taken. What the caller has seen stays.
+    /// What is found about the transaction before the lock is taken. What the caller has seen stays as it is.
     pub fn check_early(&self, pass: &mut Pass<N>, tx: &Tx) -> Option<Checked>
         ensures checked { IfSome result (IsChecked N.accepts tx.now) }
         ensures same { pass.new ≡ pass.old }
@@ -96,8 +96,8 @@ impl<N: PoolName, V: Verifier> Reader<N, V> {
         check_early(self.memory, version, tx, self.verifier())
     }
 
-    /// Gives the pass the newest version that is published, if that is longer than its own: `Pass::snapshot` reads it then. It
-    /// takes no lock, and allocates nothing.
+    /// Gives the pass the newest published version if that is longer than its own. `Pass::snapshot` then reads it. It takes no
+    /// lock and allocates nothing.
     pub fn refresh(&self, pass: &mut Pass<N>)
         ensures seen { IsSeen N.accepts N.callers pass.old pass.new }
     {
@@ -108,8 +108,8 @@ impl<N: PoolName, V: Verifier> Reader<N, V> {
         }
     }
 
-    /// Gives the pass a version that another caller has told of, if it is longer than its own. It takes no lock, allocates
-    /// nothing, and can't be refused.
+    /// Gives the pass a version that another caller passed on, if it is longer than its own. It takes no lock, allocates nothing,
+    /// and can't be refused.
     pub fn learn(&self, pass: &mut Pass<N>, shown: Shown<N>)
         ensures longer { length pass.old.front.entries < length shown.entries
             → pass.new ≡ record pass.old { front = shown } }
@@ -121,7 +121,7 @@ impl<N: PoolName, V: Verifier> Reader<N, V> {
         look_at(pass);
     }
 
-    // What of the version's transactions would stay valid upon the ledger state.
+    // Which of the version's transactions would stay valid on the ledger state.
     fn try_upon(
         &self,
         memory: Memory,
@@ -133,11 +133,11 @@ impl<N: PoolName, V: Verifier> Reader<N, V> {
         snapshot_upon(memory, shown.version(), ledger, self.verifier())
     }
 
-    /// What of the newest version's transactions would stay valid upon another ledger state: each that is valid upon it after
-    /// those kept before it. The pool is as it was, and the pass then holds that version. It takes no lock.
+    /// Which transactions of the newest version would stay valid on another ledger state: each that is valid on it after those
+    /// kept before it. The pool doesn't change, and the pass then holds that version. It takes no lock.
     ///
     /// # Errors
-    /// `NoMemory`, and then the pass is as it was.
+    /// `NoMemory`. Then the pass is as it was.
     pub fn snapshot_for(
         &self,
         memory: Memory,

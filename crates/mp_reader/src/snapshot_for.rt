@@ -1,4 +1,4 @@
-//! What of a pool would stay valid upon another ledger state.
+//! What of a pool would stay valid on another ledger state.
 ghost use Rattle.std.specs.Prelude.{◌≡◌, IfOk};
 ghost use Rattle.mp_resync.specs.Keep.{keep, bytes_of};
 ghost use Rattle.mp_seqpool.specs.SlowPool.{AreSigned};
@@ -10,20 +10,20 @@ use mp_trial::keep_valid;
 use mp_tx::Ledger;
 use mp_versions::Version;
 
-/// What of a pool's transactions would stay valid upon another ledger state: each that is valid upon it after those
-/// kept before it. Nothing is changed to find that out. The transactions are the pool's own, and shared.
+/// Those of a pool's transactions that would stay valid on another ledger state: each that is valid on it after those kept before
+/// it. The pool doesn't change. The transactions are the pool's own, and shared.
 #[derive(Drop)]
 pub struct SnapshotFor {
     /// The transactions with their tickets, oldest first.
     pub items: Items,
-    /// How many bytes they have together.
+    /// How many bytes they have in all.
     pub bytes: u64,
     /// How many entries the pool's history had.
     pub number: u64,
 }
 
-/// What of the version's items would stay valid upon the ledger state. The version stays as it is. Their signatures are good,
-/// and aren't looked at again.
+/// Which of the version's items would stay valid on the ledger state. The version doesn't change. The signatures are good, and
+/// aren't checked again.
 ///
 /// # Errors
 /// `NoMemory`.

@@ -1,6 +1,6 @@
 //! The program of a plain `./keltuvar run`: it runs the scenario of standard input, and writes the answers to standard
-//! output. It depends on fewer crates than the whole program, so that it is built sooner. It ends with status 0, with 1
-//! after a fault, and with 2 if it has an argument.
+//! output. The signatures are trial ones. The program depends on fewer crates than the whole one, so that it is built
+//! sooner. It ends with status 0, with 1 after a fault, and with 2 if it has an argument.
 #![tactic(auto)]
 
 ghost use Rattle.std.specs.Prelude.{◌≡◌, ◌≢◌, ◌<◌, IfSome};
@@ -10,7 +10,8 @@ ghost use Rattle.std.specs.declared.io.ErrorKind.TheVariants as kinds;
 ghost use Rattle.mp_run.specs.Status.{status_of, EndsAs};
 
 use mp_driver::{Fault, run};
-use mp_memory::Memory;
+use mp_memory::{Memory, NoMemory};
+use mp_signatures::{Scheme, Signatures};
 use std::io::{Read, Write};
 use std::process::ExitCode;
 use std::{env, io};
@@ -57,7 +58,10 @@ fn run_over<R: Read, W: Write>(
     ensures { IfSome (R.remaining reader.old) (λ bytes. EndsAs bytes
         (W.contents writer.old) (W.contents writer.new) (exit_status result)) }
 {
-    end(rt, run(memory, reader, writer))
+    match Signatures::new(memory, Scheme::Trial) {
+        Ok(signatures) => end(rt, run(memory, &signatures, reader, writer)),
+        Err(NoMemory) => end(rt, Err(Fault::NoMemory)),
+    }
 }
 
 // After the answers: 0, or 1 and the fault's line.

@@ -1,20 +1,21 @@
-//! Races of texts.
+//! Races over texts.
 ghost use Rattle.std.specs.Prelude.{◌≡◌, ◌≤◌};
 ghost use Rattle.mp_history.specs.PoolName.{head_of};
-ghost use Rattle.mp_settings.specs.Verifier.{is_key_and_id};
+ghost use Rattle.mp_signatures.specs.Scheme.{accepted_by};
 
 use mp_history::{NewName, PoolName};
 use mp_memory::Memory;
 use mp_race::{Fault, Gate, History, Raced, Report, Scenario, audit_history, race, text_if_legal};
+use mp_signatures::{Scheme, Signatures};
 use std::marker::Brand;
 use std::sync::Wait;
 use std::thread::Threads;
 
-/// The numbers of a report behind that of its workers.
+/// The numbers of a report after that of its workers.
 pub type Numbers = [u64; 7];
 
-/// How a race ends: with the numbers of its report, or with the number of a fault, and its line, its place or 0. Where what is told of
-/// it isn't what is counted, these are 0 and 1.
+/// How a race ends: with the numbers of its report; or with the number of a fault and its line, its place or 0. If the records of
+/// the race don't fit the counts, these are 0 and 1.
 pub type Ended = Result<Numbers, (u64, u64)>;
 
 /// The fault's number, and its line, its place or 0.
@@ -38,26 +39,37 @@ fn numbers_of(report: &Report) -> Numbers {
     ]
 }
 
-// What is told of the race, written and read again, is as many entries and refusals as are counted, and its audits find no fault.
-fn retell(memory: Memory, scenario: &Scenario, raced: &Raced) -> Result<bool, Fault>
+// The records of the race, written and read again, are as many entries and refusals as are counted, and their audits find no
+// fault.
+fn retell(
+    memory: Memory,
+    scenario: &Scenario,
+    signatures: &Signatures,
+    raced: &Raced,
+) -> Result<bool, Fault>
     requires some { 1 ≤ raced.now.history.workers }
     requires most { raced.now.history.workers ≤ 64 }
 {
-    let text = text_if_legal(memory, scenario, &raced.history)?;
+    let text = text_if_legal(memory, scenario, signatures, &raced.history)?;
     let history = History::read(memory, &mut text.as_slice())?;
-    audit_history(memory, scenario, &history)?;
+    audit_history(memory, scenario, signatures, &history)?;
     Ok(
         history.told.len() as u64 == raced.report.entries
             && raced.refused.len() as u64 == raced.report.refused,
     )
 }
 
-// The numbers of the report, where what is told of the race fits it.
-fn numbers_told(memory: Memory, scenario: &Scenario, raced: &Raced) -> Ended
+// The numbers of the report, if the records of the race fit it.
+fn numbers_told(
+    memory: Memory,
+    scenario: &Scenario,
+    signatures: &Signatures,
+    raced: &Raced,
+) -> Ended
     requires some { 1 ≤ raced.now.history.workers }
     requires most { raced.now.history.workers ≤ 64 }
 {
-    match retell(memory, scenario, raced) {
+    match retell(memory, scenario, signatures, raced) {
         Ok(true) => Ok(numbers_of(&raced.report)),
         Ok(false) => Err((0, 1)),
         Err(fault) => Err(number_of(&fault)),
@@ -71,35 +83,38 @@ fn race_named<N: PoolName + Send + Sync, R: Threads + Wait + Sync, G: Gate>(
     name: NewName,
     scenario: &Scenario,
     workers: u32,
+    signatures: &Signatures,
     gate: &G,
 ) -> Ended
     requires name { name ≡ head_of N.book N.root }
     requires number { workers ≡ N.callers }
-    requires accepts { N.accepts ≡ is_key_and_id }
+    requires accepts { N.accepts ≡ accepted_by signatures.now }
     requires some { 1 ≤ workers }
     requires most { workers ≤ 64 }
 {
-    match race::<N, R, G>(rt, memory, name, scenario, workers, gate) {
-        Ok(raced) => numbers_told(memory, scenario, &raced),
+    match race::<N, R, G>(rt, memory, name, scenario, workers, signatures, gate) {
+        Ok(raced) => numbers_told(memory, scenario, signatures, &raced),
         Err(fault) => Err(number_of(&fault)),
     }
 }
 
-/// A race of the scenario, on a pool of its own.
+/// A race of the scenario, on a pool of its own that accepts these signatures.
 pub fn race_new<R: Threads + Wait + Sync, G: Gate>(
     rt: &R,
     memory: Memory,
     scenario: &Scenario,
     workers: u32,
+    signatures: &Signatures,
     gate: &G,
 ) -> Ended
     requires some { 1 ≤ workers }
     requires most { workers ≤ 64 }
 {
-    race_named::<Brand, R, G>(rt, memory, NewName::new(), scenario, workers, gate)
+    let name = NewName::new();
+    race_named::<Brand, R, G>(rt, memory, name, scenario, workers, signatures, gate)
 }
 
-/// A race of the scenario that the text is of, by 1 to 64 workers.
+/// A race of the scenario with this text, by 1 to 64 workers.
 pub fn race_text<R: Threads + Wait + Sync, G: Gate>(
     rt: &R,
     memory: Memory,
@@ -110,8 +125,11 @@ pub fn race_text<R: Threads + Wait + Sync, G: Gate>(
     if workers < 1 || workers > 64 {
         return Err((0, 0));
     }
+    let Ok(signatures) = Signatures::new(memory, Scheme::Trial) else {
+        return Err(number_of(&Fault::NoMemory));
+    };
     match Scenario::read(memory, &mut text) {
-        Ok(scenario) => race_new(rt, memory, &scenario, workers, gate),
+        Ok(scenario) => race_new(rt, memory, &scenario, workers, &signatures, gate),
         Err(fault) => Err(number_of(&fault)),
     }
 }

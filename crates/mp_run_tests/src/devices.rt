@@ -1,4 +1,4 @@
-//! Devices that fail under the reading of a scenario and the writing of a report.
+//! Devices that fail while a scenario is read and a report is written.
 use crate::cases::number_of;
 use mp_memory::Memory;
 use mp_race::{Report, Scenario};
@@ -22,7 +22,7 @@ const REPORT: Report = Report {
 const TEXT: &[u8] =
     b"race 64 accepted 1 refused 2 removes 3 syncs 4 reads 5 entries 8 last 90\naudit legal\n";
 
-// The fault's number where the read with this number fails, or 0.
+// The fault's number if the read with this number fails, or 0.
 fn read_failing(memory: Memory, at_once: usize, fails_at: u64) -> u64 {
     let mut reader = FailingReader::of(SCENARIO);
     reader.at_once = at_once;
@@ -33,7 +33,7 @@ fn read_failing(memory: Memory, at_once: usize, fails_at: u64) -> u64 {
     }
 }
 
-// The fault's number where the write with this number fails, or 0, and how many bytes of the text are written.
+// The fault's number if the write with this number fails, or 0, and how many bytes of the text are written.
 fn write_failing(
     memory: Memory,
     alloc: Global,
@@ -51,7 +51,7 @@ fn write_failing(
     (fault, is_front.then_some(writer.taken.len() as u64))
 }
 
-// Each read fails but the last, which doesn't come.
+// Each read fails in turn. The last one doesn't occur.
 fn held_reads(rt: &impl Print, memory: Memory, at_once: usize, last: u64) -> io::Result<u64> {
     let mut held: u64 = 0;
     for fails_at in 1..=last {
@@ -66,13 +66,13 @@ fn held_reads(rt: &impl Print, memory: Memory, at_once: usize, last: u64) -> io:
     Ok(held)
 }
 
-// How many bytes are written where the write with this number fails: those of the writes before it, or all.
+// How many bytes are written if the write with this number fails: those of the writes before it, or all.
 fn written_before(at_once: usize, fails_at: u64) -> u64 {
     let before = fails_at.wrapping_sub(1).saturating_mul(at_once as u64);
     before.min(TEXT.len() as u64)
 }
 
-// Each write fails but the last, which doesn't come.
+// Each write fails in turn. The last one doesn't occur.
 fn held_writes(
     rt: &impl Print,
     memory: Memory,
@@ -94,7 +94,7 @@ fn held_writes(
     Ok(held)
 }
 
-// Whether nothing is written where this growth is refused, and then all is; or none, where there is no such growth.
+// Whether nothing is written when this allocation fails, and everything afterwards; none if there is no such allocation.
 fn stands_refused(memory: Memory, alloc: Global, nth: u64) -> Option<bool> {
     memory.refuse(nth);
     let (fault, written) = write_failing(memory, alloc, 4096, 0);
@@ -105,7 +105,7 @@ fn stands_refused(memory: Memory, alloc: Global, nth: u64) -> Option<bool> {
     is_met.then_some(stands)
 }
 
-// How many growths the writing of a report makes, each of which is refused once.
+// How many allocations the writing of a report makes. Each fails once.
 fn held_growths(rt: &impl Print, memory: Memory, alloc: Global) -> io::Result<u64> {
     for nth in 1..MAX_GROWTHS {
         match stands_refused(memory, alloc, nth) {
@@ -119,7 +119,8 @@ fn held_growths(rt: &impl Print, memory: Memory, alloc: Global) -> io::Result<u6
     Ok(0)
 }
 
-/// How many cases hold. The scenario has 48 bytes, whose end is found by a read of its own, and the report 85. One read and one write more
+/// How many cases hold. The scenario has 48 bytes, and one more read finds its end. The report has 85. One read and one write
+/// more than these don't occur.
 /// than these take don't come.
 pub fn held(rt: &impl Print, memory: Memory, alloc: Global) -> io::Result<u64> {
     let reads = held_reads(rt, memory, 11, 7)?;

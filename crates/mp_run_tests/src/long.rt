@@ -9,7 +9,8 @@ use std::thread::Threads;
 
 type Text = Vec<u8, Memory>;
 
-// A scenario: its first lines, lines of some forms for each number from 1 on, and its last lines; the number of workers, and the report.
+// A scenario with its first lines, lines of some forms for each number from 1 on, and its last lines; the number of workers, and
+// the report.
 struct Long {
     head: &'static [u8],
     forms: [&'static [u8]; 2],
@@ -19,7 +20,7 @@ struct Long {
     wanted: Numbers,
 }
 
-// More entries than 65,536; more refusals than 4,096 of each worker; more than 1,000 tickets in one reply.
+// More than 65,536 entries; more than 4,096 refusals of each worker; more than 1,000 tickets in one reply.
 const RACES: [Long; 3] = [
     Long {
         head: b"",
@@ -47,7 +48,7 @@ const RACES: [Long; 3] = [
     },
 ];
 
-// Puts a line of the form, with the number in place of each `#` and the one before it in place of each `@`.
+// Adds a line of the form, with the number for each `#` and the number before it for each `@`.
 fn put_line(memory: Memory, text: &mut Text, form: &[u8], number: u32) -> Result<(), NoMemory> {
     for byte in form {
         match *byte {
@@ -62,7 +63,7 @@ fn put_line(memory: Memory, text: &mut Text, form: &[u8], number: u32) -> Result
     Ok(())
 }
 
-// Puts a line of the form for each number from 1 on.
+// Adds a line of the form for each number from 1 on.
 fn put_lines(memory: Memory, text: &mut Text, form: &[u8], last: u32) -> Result<(), NoMemory> {
     for number in 1..=last {
         put_line(memory, text, form, number)?;
@@ -96,7 +97,7 @@ fn held_races<R: Print + Threads + Wait + Sync>(rt: &R, memory: Memory) -> io::R
     Ok(held)
 }
 
-// The number of the fault with which a history is read whose line behind 5,000 entries is this one, and its line or place.
+// The fault's number and its line or place, if this line follows 5,000 entries of a history.
 fn fault_behind(memory: Memory, last: &[u8]) -> Result<(u64, u64), Fault> {
     let mut text = Vec::from_slice(memory, b"workers 1 entries 9000\n")?;
     put_lines(memory, &mut text, b"entry @ 0 @ kept dropped\n", 5_000)?;
@@ -107,7 +108,7 @@ fn fault_behind(memory: Memory, last: &[u8]) -> Result<(u64, u64), Fault> {
     }
 }
 
-// The line behind the entries, and how the reading ends.
+// The line after the entries, and how the reading ends.
 const BEHIND: [(&[u8], (u64, u64)); 3] = [
     (b"entry x\n", (2, 5_002)),
     (b"entry 5000 0 5000 kept dropped", (2, 5_002)),
@@ -127,10 +128,10 @@ fn held_faults(rt: &impl Print, memory: Memory) -> io::Result<u64> {
     Ok(held)
 }
 
-// So many tickets take more than 2^24 bytes.
+// This many tickets take more than 2^24 bytes.
 const TICKETS: u32 = 2_300_000;
 
-// How many tickets are read of a history of one entry that keeps so many.
+// How many tickets are read from a history whose one entry keeps this many.
 fn tickets_read(memory: Memory) -> Result<u64, Fault> {
     let mut text = Vec::from_slice(memory, b"workers 1 entries 1\nentry 0 0 0 kept")?;
     put_lines(memory, &mut text, b" #", TICKETS)?;

@@ -1,6 +1,6 @@
-//! Tests runs of scenarios, conversations and races for what no contract says: growths that are refused, devices that fail, that races come
-//! to their end, that two workers run at once, and reports that were worked out by hand. It prints each case that is found otherwise, and
-//! for each part how many held.
+//! Tests runs of scenarios, conversations and races for what no contract says: allocations and devices that fail, and that races
+//! end. Also that two workers run at once, and reports that were worked out by hand. It prints each case that fails, and for each
+//! part how many held.
 #![tactic(auto)]
 
 mod cases;

@@ -1,4 +1,4 @@
-//! Two threads of a race that wait for each other: where one did the work of both, they wouldn't meet.
+//! Two threads of a race that wait for each other. If one thread did the work of both, they wouldn't meet.
 use crate::cases::race_text;
 use mp_memory::Memory;
 use mp_race::Gate;
@@ -8,7 +8,7 @@ use std::sync::Wait;
 use std::sync::atomic::{AtomicU64, Ordering};
 use std::thread::Threads;
 
-// One that waits looks for the other so often at most.
+// How often a waiting thread looks for the other at most.
 const MOST_LOOKS: u64 = 1_000_000_000;
 
 // Which calls wait.
@@ -16,11 +16,11 @@ const MOST_LOOKS: u64 = 1_000_000_000;
 enum Waits {
     // Those before the tasks 0 and 1.
     Starts,
-    // Those before a signature is looked at.
+    // Those before a signature is checked.
     Checks,
 }
 
-// Holds each of two calls until the other has begun.
+// Delays each of two calls until the other has begun.
 #[derive(Drop)]
 struct MeetGate {
     waits: Waits,
@@ -46,7 +46,7 @@ impl MeetGate {
         false
     }
 
-    // How many have met, where so many transactions were taken in.
+    // How many have met, if this many transactions were accepted.
     fn met_of(&self, accepted: u64) -> u64 {
         if accepted == 2 {
             self.met.load(Ordering::SeqCst)
@@ -80,7 +80,7 @@ impl Gate for MeetGate {
 const SIGNED: &[u8] = b"out g0 100\nout g1 100\ntx a in=g0 out=100 sign=1\n\
     tx b in=g1 out=100 sign=2\nsubmit a\nsubmit b\n";
 
-// How many calls have met, where both transactions are taken in.
+// How many calls have met, if both transactions are accepted.
 fn met<R: Threads + Wait + Sync>(rt: &R, memory: Memory, waits: Waits) -> u64 {
     let gate = MeetGate::of(waits);
     match race_text(rt, memory, SIGNED, 2, &gate) {

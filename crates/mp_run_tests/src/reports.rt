@@ -1,4 +1,4 @@
-//! Reports that were worked out by hand: each scenario comes to its report whatever the schedule.
+//! Reports that were worked out by hand: each scenario leads to its report, whatever the schedule.
 use crate::cases::{Ended, Numbers, race_text};
 use mp_memory::{Memory, NoMemory};
 use mp_race::NoGate;
@@ -10,8 +10,8 @@ use std::thread::Threads;
 // A scenario, the number of workers, and how the race ends.
 type Case = (&'static [u8], u32, Ended);
 
-// One of the two spends the output. Of what is dealt to one worker the second submit finds the first. The ledger state that comes
-// has the same outputs, and `b` never was in the pool. A worker without tasks does nothing.
+// One of the two spends the output. If one worker has both submits, the second finds the first. The next ledger state has the
+// same outputs, and `b` never was in the pool. A worker without tasks does nothing.
 const CASES: [Case; 9] = [
     (b"", 1, Ok([0, 0, 0, 0, 0, 0, 0])),
     (b"last 7\nlimit 1\n", 3, Ok([0, 0, 0, 0, 0, 0, 7])),
@@ -59,7 +59,7 @@ fn held_cases<R: Print + Threads + Wait + Sync>(rt: &R, memory: Memory) -> io::R
     Ok(held)
 }
 
-// Puts a line of the form with the number in place of each `#`.
+// Adds a line of the form with the number for each `#`.
 fn put_line(
     memory: Memory,
     text: &mut Vec<u8, Memory>,
@@ -76,7 +76,7 @@ fn put_line(
     Ok(())
 }
 
-// So many transactions, each of which spends an output of its own.
+// `number` transactions, each of which spends an output of its own.
 fn independent(memory: Memory, number: u32) -> Result<Vec<u8, Memory>, NoMemory> {
     let mut text = Vec::new(memory);
     text.extend_from_slice(b"block 1000000\n")?;
@@ -92,7 +92,7 @@ fn independent(memory: Memory, number: u32) -> Result<Vec<u8, Memory>, NoMemory>
     Ok(text)
 }
 
-// How many transactions, and by how many workers.
+// How many transactions, and how many workers.
 const INDEPENDENT: [(u32, u32); 3] = [(100, 4), (100, 64), (10_000, 64)];
 
 fn held_independent<R: Print + Threads + Wait + Sync>(rt: &R, memory: Memory) -> io::Result<u64> {
@@ -109,15 +109,15 @@ fn held_independent<R: Print + Threads + Wait + Sync>(rt: &R, memory: Memory) ->
     Ok(held)
 }
 
-// A race makes at least so many growths.
+// The least number of allocations of a race.
 const FEWEST: u64 = 20;
 
-// Where memory was wanting, the race ends so, or what was refused was only found earlier than it has to be.
+// If an allocation failed, the race ends with that; or the allocation was only for an early check.
 fn is_right(seen: Ended, wanted: Ended) -> bool {
     seen == wanted || seen == Err((1, 0))
 }
 
-// How many growths a race makes, each of which is refused once; none where one ends otherwise.
+// How many allocations a race makes, each of which fails once; none if a race ends in another way.
 fn growths_of<R: Threads + Wait + Sync>(rt: &R, memory: Memory, case: Case) -> Option<u64> {
     let (text, workers, wanted) = case;
     for nth in 1..MAX_GROWTHS {

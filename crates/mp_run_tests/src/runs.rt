@@ -1,6 +1,7 @@
-//! Runs of scenarios: devices that fail, as many bytes as an input may have, and refusals of memory.
+//! Runs of scenarios: devices that fail, the most bytes of an input, and allocations that fail.
 use mp_driver::{Fault, run};
 use mp_memory::Memory;
+use mp_signatures::{Scheme, Signatures};
 use mp_testing::{FailingReader, FailingWriter, MAX_GROWTHS, Seen, count};
 use std::alloc::Global;
 use std::io;
@@ -9,9 +10,9 @@ const SCENARIO: &[u8] = b"out g0 100\ntx a in=g0 out=100\nsubmit a\nsnapshot\n";
 
 const TEXT: &[u8] = b"accepted 1\nsnapshot 1 181 1 1:a\n";
 
-// The read and the write that fail, the number of the fault or 0, and how much of the text is written. Eleven bytes are
-// read at once: five reads give the scenario, and a sixth finds its end. Four bytes are written at once: three writes take
-// the first line, and six the second.
+// The read and the write that fail, the number of the fault or 0, and how much of the text is written. Eleven bytes are read at
+// once: five reads give the scenario, and a sixth finds its end. Four bytes are written at once: three writes take the first
+// line, and six the second.
 const FAILURES: [(u64, u64, u64, u64); 17] = [
     (1, 0, 3, 0),
     (2, 0, 3, 0),
@@ -32,8 +33,7 @@ const FAILURES: [(u64, u64, u64, u64); 17] = [
     (0, 10, 0, 32),
 ];
 
-// How many bytes stand behind a line of 10 bytes and its end, which are `x` and have no line feed, and the fault with its
-// line.
+// How many bytes `x` without a line feed follow a line of 10 bytes and its line feed, and the fault with its line.
 const LENGTHS: [(usize, u64, u64); 3] = [
     (16_777_216 - 11, 2, 2),
     (16_777_217 - 11, 3, 0),
@@ -44,14 +44,17 @@ const LENGTHS: [(usize, u64, u64); 3] = [
 type Ended = Result<(), (u64, u64)>;
 
 fn run_new<R: io::Read, W: io::Write>(memory: Memory, reader: &mut R, writer: &mut W) -> Ended {
-    match run(memory, reader, writer) {
+    let Ok(signatures) = Signatures::new(memory, Scheme::Trial) else {
+        return Err((Fault::NoMemory.number(), 0));
+    };
+    match run(memory, &signatures, reader, writer) {
         Ok(()) => Ok(()),
         Err(Fault::BadLine(line)) => Err((2, line)),
         Err(fault) => Err((fault.number(), 0)),
     }
 }
 
-// The fault, its line, how much was written, and whether that is a front of the text.
+// The fault, its line, how much was written, and whether that is a prefix of the text.
 fn see(ended: Ended, written: &[u8], text: &[u8]) -> Seen {
     let (number, line) = ended.err().unwrap_or((0, 0));
     let is_front = text.starts_with(written);
@@ -89,7 +92,7 @@ fn held_failures(rt: &impl Print, memory: Memory, alloc: Global) -> io::Result<u
     Ok(held)
 }
 
-// One byte is read and written at once: 48 reads give the scenario and one more finds its end, and 32 writes take the text.
+// One byte is read and written at once: 48 reads give the scenario, one more finds its end, and 32 writes take the text.
 fn held_reads(rt: &impl Print, memory: Memory, alloc: Global) -> io::Result<u64> {
     let mut held: u64 = 0;
     for read in 1..=50 {
@@ -144,8 +147,8 @@ const SUBMITS: Case = Case {
     text: b"accepted 1\nrefused already 1\nsnapshot 1 181 1 1:a\n",
 };
 
-// The script asks whether the redeemer is the number 5, and the datum is that number. The transaction `a` has 11 bytes more
-// than a plain one for the script, and 6 for the redeemer.
+// The script asks whether the redeemer is the number 5. The datum is that number. The transaction `a` has 11 bytes more than a
+// plain one for the script, and 6 for the redeemer.
 const SETTINGS_AND_SCRIPTS: Case = Case {
     name: "settings and scripts at refused growths",
     scenario: b"block 400\nlimit 9\nlast 40\ntick 5\n\
@@ -155,7 +158,7 @@ const SETTINGS_AND_SCRIPTS: Case = Case {
     text: b"accepted 41\nremoved 41 dropped\nkept dropped\naccepted 42\nsnapshot 1 198 42 42:a\n",
 };
 
-// The ledger state that comes has `a.0` and not `g0`: so `a` isn't valid any more, and `b` is.
+// The next ledger state has `a.0` and not `g0`. So `a` isn't valid any more, and `b` is.
 const REMOVES_AND_SYNCS: Case = Case {
     name: "removes and syncs at refused growths",
     scenario: b"out g0 100\nout g1 50\nout g2 7\ntx a in=g0 out=100\ntx b in=a.0 out=100\n\
@@ -165,7 +168,7 @@ const REMOVES_AND_SYNCS: Case = Case {
         kept 2 3 4 dropped 1\nremoved 3 4 dropped\nsnapshot 1 181 4 2:b\n",
 };
 
-// Each line that only reads. Upon a ledger state with `a.0` alone `a` isn't valid, and `b` is.
+// Every line that only reads. On a ledger state with only `a.0`, `a` isn't valid, and `b` is.
 const QUERIES: Case = Case {
     name: "queries at refused growths",
     scenario: b"out g0 100\nout g1 50\ntx a in=g0 out=100\ntx b in=a.0 out=100\ntx c in=g1 out=50\n\
@@ -176,9 +179,9 @@ const QUERIES: Case = Case {
         snapshot 2 362 2 1:a 2:b\n",
 };
 
-// Each item of a transaction. A plain one has 181 bytes. Here `a` has an output more, of 107; `b` 17 more for script and redeemer, and
-// 45 for a token with a name of 4; `c` 36 for a reference, 45 and 41 for tokens, 86 for what it forges, 3 for the script and 192 for
-// signatures.
+// Every item of a transaction. A plain one has 181 bytes. Here `a` has one more output, of 107. `b` has 17 more for script and
+// redeemer, and 45 for a token with a name of 4. `c` has 36 for a reference, 45 and 41 for tokens, 86 for what it forges, 3 for
+// the script and 192 for signatures.
 const ITEMS: Case = Case {
     name: "items at refused growths",
     scenario: b"tick 3\nscript five 054002000000000000000520\ndata five 010000000000000005\n\
@@ -189,7 +192,8 @@ const ITEMS: Case = Case {
     text: b"accepted 1\naccepted 2\naccepted 3\nsnapshot 3 1115 3 1:a 2:b 3:c\n",
 };
 
-// Each rule but that of an output which is taken, and then the other reasons to refuse: `c` has 277 bytes, and two of 181 stand in 600.
+// Every rule except that of an output which is taken, then the other reasons to refuse: `c` has 277 bytes, and two of 181 are in
+// 600.
 const REFUSALS: Case = Case {
     name: "refusals at refused growths",
     scenario: b"block 300\nlimit 3\nout g0 100\nout g1 100\nout gn 5@no\n\
@@ -219,7 +223,7 @@ const CASES: [Case; 6] = [
     REFUSALS,
 ];
 
-// Any of these scenarios makes at least so many growths.
+// The least number of allocations of these scenarios.
 const FEWEST: u64 = 10;
 
 fn are_whole_lines(text: &[u8]) -> bool {
@@ -229,8 +233,8 @@ fn are_whole_lines(text: &[u8]) -> bool {
     }
 }
 
-// Where memory was wanting, the answers of some first lines are written. A growth for what is only found earlier than it
-// has to be stops nothing.
+// If an allocation failed, the answers to some first lines are written. The failure of an allocation for an early check stops
+// nothing.
 fn is_right(ended: Ended, written: &[u8], text: &[u8]) -> bool {
     match ended {
         Ok(()) => written == text,
@@ -246,7 +250,7 @@ fn is_right_run(memory: Memory, alloc: Global, case: Case) -> bool {
     is_right(ended, &writer.taken, case.text)
 }
 
-// How many growths the case makes, each of which is refused once; none where a run isn't right.
+// How many allocations the case makes, each of which fails once; none if a run isn't right.
 fn growths_of(memory: Memory, alloc: Global, case: Case) -> Option<u64> {
     for nth in 1..MAX_GROWTHS {
         memory.refuse(nth);
@@ -263,7 +267,7 @@ fn growths_of(memory: Memory, alloc: Global, case: Case) -> Option<u64> {
     None
 }
 
-// The case as it runs where nothing is refused, and under each refusal.
+// The case without a failure, and with each one.
 fn see_case(memory: Memory, alloc: Global, case: Case) -> Option<Seen> {
     let mut writer = FailingWriter::new(alloc);
     let mut reader = FailingReader::of(case.scenario);

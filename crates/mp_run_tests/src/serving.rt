@@ -1,22 +1,23 @@
-//! Conversations over devices that fail, and with growths that are refused, also while a line is read.
+//! Conversations over devices that fail, and with allocations that fail, also while a line is read.
 use mp_memory::Memory;
-use mp_serve::{Fault, Signatures, Streams, serve};
+use mp_serve::{Fault, Streams, serve};
+use mp_signatures::{Scheme, Signatures};
 use mp_testing::{FailingReader, FailingWriter, MAX_GROWTHS, Seen, count};
 use mp_tx::Salt;
 use std::alloc::Global;
 use std::io;
 use std::io::{BufReader, ErrorKind, Write};
 
-// Lines that end behind bytes 9, 26, 35, 44 and 45.
+// Lines that end after the bytes 9, 26, 35, 44 and 45.
 const LINES: &[u8] = b"out g0 5\ntx a in=g0 out=5\nsubmit a\nlookup 1\n\n";
 
-// The answers, which end behind bytes 3, 6, 17, 26 and 29.
+// The answers, which end after the bytes 3, 6, 17, 26 and 29.
 const ANSWERS: &[u8] = b"ok\nok\naccepted 1\nlookup a\nok\n";
 
-// Up to which read, of one byte, a read that fails leaves so much written. The last finds the end of the input.
+// The last read, of one byte, up to which a failed read leaves this much written. The last of all finds the end of the input.
 const READS: [(u64, u64); 6] = [(9, 0), (26, 3), (35, 6), (44, 17), (45, 26), (46, 29)];
 
-// How much is written where the flush with this number fails.
+// How much is written if the flush with this number fails.
 const FLUSHES: [u64; 5] = [3, 6, 17, 26, 29];
 
 // A writer of which one flush fails.
@@ -41,7 +42,7 @@ impl Write for Unflushed {
     }
 }
 
-// Which call of each kind fails, from 1. At 0 none does.
+// Which call of each kind fails, from 1. With 0 none does.
 #[derive(Clone, Copy)]
 struct Fails {
     read: u64,
@@ -65,7 +66,7 @@ fn number_of(ended: Result<(), Fault>) -> u64 {
     }
 }
 
-// How a conversation of these lines ends, with what is written. The lines are read and the answers written so many bytes at once.
+// How a conversation of these lines ends, and what is written. The device reads and writes a given number of bytes at once.
 fn hold(
     memory: Memory,
     alloc: Global,
@@ -85,9 +86,12 @@ fn hold(
     let Ok(reader) = BufReader::new(alloc, lines) else {
         return (1, Vec::new(alloc));
     };
+    let Ok(signatures) = Signatures::new(memory, Scheme::Trial) else {
+        return (1, Vec::new(alloc));
+    };
     let mut device = Streams::new(reader, writer);
     memory.refuse(refused);
-    let ended = serve(memory, Signatures::OfScenarios, Salt::new(7), &mut device);
+    let ended = serve(memory, signatures, Salt::new(7), &mut device);
     let Streams {
         reader: _,
         writer,
@@ -107,7 +111,7 @@ fn hold(
     (number_of(ended), taken)
 }
 
-// The fault, how much is written, and whether that is a front of the answers.
+// The fault, how much is written, and whether that is a prefix of the answers.
 fn see(memory: Memory, alloc: Global, fails: Fails) -> Seen {
     let mut lines = FailingReader::of(LINES);
     lines.at_once = 1;
@@ -117,7 +121,7 @@ fn see(memory: Memory, alloc: Global, fails: Fails) -> Seen {
     [fault, written.len() as u64, u64::from(is_front), 0, 0, 0]
 }
 
-// How much is written where the read with this number fails.
+// How much is written if the read with this number fails.
 fn written_before(read: u64) -> u64 {
     for (last, written) in READS {
         if read <= last {
@@ -167,14 +171,14 @@ fn held_flushes(rt: &impl Print, memory: Memory, alloc: Global) -> io::Result<u6
     Ok(held.saturating_add(last))
 }
 
-// Lines of which none changes what another is answered, one of them of some 300 bytes.
+// Lines of which none changes another's answer, one of them with some 300 bytes.
 const APART: &[u8] =
     b"# xxxxxxxxxxxxxxxxxxxxxxxxxxxxxxxxxxxxxxxxxxxxxxxxxxxxxxxxxxxxxxxxxxxxxxxxxxxxxxxxxxxxxxxxxxxxxxxxxx\
     xxxxxxxxxxxxxxxxxxxxxxxxxxxxxxxxxxxxxxxxxxxxxxxxxxxxxxxxxxxxxxxxxxxxxxxxxxxxxxxxxxxxxxxxxxxxxxxxxxxx\
     xxxxxxxxxxxxxxxxxxxxxxxxxxxxxxxxxxxxxxxxxxxxxxxxxxxxxxxxxxxxxxxxxxxxxxxxxxxxxxxxxxxxxxxxxxxxxxxxxxxx\n\
     stats\nbytes b 03\nscript s 01\nshow nobody\ndata d 010000000000000005\nsnapshot\nback 0\nforget nobody\n";
 
-// What is answered to each, and nothing behind the last line feed.
+// The answer to each line, and nothing after the last line feed.
 const APART_ANSWERS: [&[u8]; 10] = [
     b"ok",
     b"stats 0 0 1000000 0 0",
@@ -190,7 +194,7 @@ const APART_ANSWERS: [&[u8]; 10] = [
 
 const NO_MEMORY: &[u8] = b"fault: no memory";
 
-// How many answers say that there is no memory, in place of those that are wanted; none where another is wrong.
+// How many answers report an allocation failure instead of the expected one; none if another answer is wrong.
 fn lost(told: &[u8], wanted: &[&[u8]]) -> Option<u64> {
     let mut lost: u64 = 0;
     let mut places: usize = 0;
@@ -206,8 +210,8 @@ fn lost(told: &[u8], wanted: &[&[u8]]) -> Option<u64> {
     (places == wanted.len()).then_some(lost)
 }
 
-// Whether each growth that is refused is told: where the conversation begins by a fault, with nothing written, and else by the answer to
-// one line. None where there is no such growth.
+// Whether each failed allocation is reported: at the beginning by a fault, with nothing written, and later by the answer to one
+// line. None if there is no such allocation.
 fn is_told(memory: Memory, alloc: Global, nth: u64) -> Option<bool> {
     let mut lines = FailingReader::of(APART);
     lines.at_once = 11;
@@ -223,7 +227,7 @@ fn is_told(memory: Memory, alloc: Global, nth: u64) -> Option<bool> {
     }
 }
 
-// How many growths the conversation makes, each of which is refused once; none where one isn't told.
+// How many allocations the conversation makes, each of which fails once; none if a failure isn't reported.
 fn growths(memory: Memory, alloc: Global) -> Option<u64> {
     for nth in 1..MAX_GROWTHS {
         match is_told(memory, alloc, nth) {
@@ -235,7 +239,7 @@ fn growths(memory: Memory, alloc: Global) -> Option<u64> {
     None
 }
 
-// The conversation makes at least so many growths.
+// The least number of allocations of the conversation.
 const FEWEST: u64 = 20;
 
 fn held_growths(rt: &impl Print, memory: Memory, alloc: Global) -> io::Result<u64> {
@@ -249,7 +253,7 @@ fn held_growths(rt: &impl Print, memory: Memory, alloc: Global) -> io::Result<u6
     )
 }
 
-// A line that goes on for so many bytes: the fault, how much is written, and how many growths there are, or 0 for too many.
+// A line that goes on for `filler` bytes: the fault, how much is written, and how many allocations there are, or 0 for too many.
 fn see_long(memory: Memory, alloc: Global, filler: usize) -> Seen {
     let (fault, written) = hold(memory, alloc, long_line(filler), 4096, NEVER, 0);
     let ends = written.ends_with(b"\nbad 2: a line has at most 4096 bytes\n");
@@ -262,7 +266,7 @@ fn long_line(filler: usize) -> FailingReader {
     lines
 }
 
-// How many growths there are where a line goes on for so many bytes.
+// How many allocations there are if a line goes on for `filler` bytes.
 fn growths_of_long(memory: Memory, alloc: Global, filler: usize) -> u64 {
     for nth in 1..MAX_GROWTHS {
         let _ = hold(memory, alloc, long_line(filler), 4096, NEVER, nth);
@@ -275,7 +279,7 @@ fn growths_of_long(memory: Memory, alloc: Global, filler: usize) -> u64 {
     0
 }
 
-// A line that is too long is told so, and no more of it is kept than of a shorter one.
+// A line that is too long is reported, and no more of it is kept than of a shorter one.
 fn held_long(rt: &impl Print, memory: Memory, alloc: Global) -> io::Result<u64> {
     let seen = see_long(memory, alloc, 1_000_000);
     let told = count(rt, "a line of 1 MB", Some(seen), [0, 59, 1, 0, 0, 0])?;

@@ -1,8 +1,9 @@
-//! Conversations at refused growths: a line that finds no memory is said again.
+//! Conversations with failed allocations. A line whose allocation fails is repeated.
 
 use mp_memory::{Memory, NoMemory};
 use mp_names::LineFault;
-use mp_serve::{Conversation, Signatures};
+use mp_serve::Conversation;
+use mp_signatures::{Scheme, Signatures};
 use mp_testing::{MAX_GROWTHS, count};
 use mp_tx::Salt;
 use std::alloc::Global;
@@ -16,7 +17,7 @@ struct Talk {
     answers: &'static [u8],
 }
 
-// Each line that changes something, and then what has come of it.
+// Every line that changes something, then lines that show the change.
 const CHANGES: Talk = Talk {
     name: "changes in a conversation at refused growths",
     lines: &[
@@ -43,8 +44,8 @@ const CHANGES: Talk = Talk {
         snapshot 2 379 3 1:a 3:b\n",
 };
 
-// The bytes of a transaction are read again under another name, by which it can't be told from the first. Upon a ledger state with `a.0`
-// alone `a` isn't valid.
+// The bytes of a transaction are read again under another name, with nothing to distinguish it from the first. On a ledger state
+// with only `a.0`, `a` isn't valid.
 const READS: Talk = Talk {
     name: "reads in a conversation at refused growths",
     lines: &[
@@ -79,7 +80,7 @@ const READS: Talk = Talk {
         block 1 181 1:a\noffer 1:a\noffer\nfor\nfor 1:a\n",
 };
 
-// Blocks, one of which has a transaction whose input isn't there, and the way back.
+// Blocks, one of which has a transaction whose input is missing, and the way back.
 const BLOCKS: Talk = Talk {
     name: "blocks in a conversation at refused growths",
     lines: &[
@@ -108,7 +109,7 @@ const BLOCKS: Talk = Talk {
         refused back 1\nkept 2 dropped\naccepted 3\nforgotten 1\nbad\nstats 2 362 438 3 5 adopt 1 back 1\n",
 };
 
-// Of one id a spoilt signature, and two names for the bytes that the pool accepts by the second.
+// A spoilt signature and two names for one id. The pool accepts the bytes under the second name.
 const REPORTS: Talk = Talk {
     name: "reports in a conversation at refused growths",
     lines: &[
@@ -133,17 +134,18 @@ const REPORTS: Talk = Talk {
 
 const TALKS: [Talk; 4] = [CHANGES, READS, BLOCKS, REPORTS];
 
-// Any of these conversations makes at least so many growths.
+// The least number of allocations of these conversations.
 const FEWEST: u64 = 20;
 
 fn begin(memory: Memory) -> Result<Conversation, NoMemory> {
-    match Conversation::new(memory, Signatures::OfScenarios, Salt::new(7)) {
+    let signatures = Signatures::new(memory, Scheme::Trial)?;
+    match Conversation::new(memory, signatures.share()?, Salt::new(7)) {
         Ok(conversation) => Ok(conversation),
-        Err(_) => Conversation::new(memory, Signatures::OfScenarios, Salt::new(7)),
+        Err(_) => Conversation::new(memory, signatures, Salt::new(7)),
     }
 }
 
-// Puts what is answered to the line, which is said once more where there is no memory.
+// Adds the answer to the line, which is repeated if an allocation fails.
 fn say(
     conversation: &mut Conversation,
     memory: Memory,
@@ -179,7 +181,7 @@ fn is_right(memory: Memory, alloc: Global, talk: Talk) -> bool {
     }
 }
 
-// How many growths the conversation makes, each of which is refused once; none where an answer isn't right.
+// How many allocations the conversation makes, each of which fails once; none if an answer isn't right.
 fn growths_of(memory: Memory, alloc: Global, talk: Talk) -> Option<u64> {
     for nth in 1..MAX_GROWTHS {
         memory.refuse(nth);

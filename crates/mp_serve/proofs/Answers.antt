@@ -1,4 +1,4 @@
--- Answers to lines that aren't kept, and what is written of an answer.
+-- Answers to lines that aren't stored, and what is written of an answer.
 use Rattle.std.proofs.Common.{◌≡◌, ℕ, ◌<◌, List, [], ◌∷◌, ◌++◌, length, take, true, cond, refl, sym, ap, subst, ◌∙◌, lt-ltb, inl, inr, arith}
 use Rattle.std.specs.Prelude.{Option, None, Some, IfSome, Result, Ok, Err, OnOk, OnErr, option_and_then}
 use Rattle.std.specs.declared.vec.Vec.{Vec}
@@ -12,7 +12,7 @@ use Rattle.mp_serve.specs.Talk.{Step, take as taken_by, line_step}
 use Rattle.mp_serve.specs.Served.{IsTold, IsAnswer, AppendsUpTo}
 use Rattle.mp_serve.specs.Inside.Answer.{text_in}
 
--- a line that is longer than the longest is a bad one
+-- a line of more than `longest` bytes is bad
 pub too_long : (s : Conversation) (line : List ℕ) → longest < length line → line_step s line ≡ None
 unfolding line_step ask_of
 too_long s line lt = ap (λ b. option_and_then (taken_by s) (cond b None (ask_within s.names line))) (lt-ltb longest (length line) lt)
@@ -30,7 +30,7 @@ pub on_err : {X E : Type 0} (r : Result X E) (P : Type 0) → P → OnErr r P
 on_err (Ok x) P p = tt
 on_err (Err e) P p = p
 
--- a prefix is at most all
+-- a proper prefix is a prefix
 pub of_front : (old new : Option (List ℕ)) (bytes : List ℕ) → AppendsFront old new bytes → AppendsUpTo old new bytes
 of_front old new bytes (taken, lt, w) = (taken, w)
 

@@ -1,4 +1,4 @@
--- What a pool answers where it is to go back.
+-- What a pool answers to a request to go back.
 use Rattle.std.proofs.Common.{◌≡◌, ℕ, ◌-◌, ◌<◌, ◌≤◌, List, length, take, drop, sym, ap, ◌∙◌}
 use Rattle.std.specs.Prelude.{Option, None, Some, Result, Ok, Err, OnOk, IfOk}
 use Rattle.std.specs.declared.vec.Vec.{Vec}
@@ -10,7 +10,8 @@ use Rattle.mp_names.specs.Names.{Names}
 use Rattle.mp_answers.specs.AnswerText.{answer_text}
 use Rattle.mp_serve.specs.declared.former.Former.{Former}
 use Rattle.mp_serve.specs.Refused.{one_more}
-use Rattle.mp_serve.specs.ServedPool.{ServedPool, accepted_by, state_back}
+use Rattle.mp_signatures.specs.Scheme.{accepted_by}
+use Rattle.mp_serve.specs.ServedPool.{ServedPool, state_back}
 use Rattle.mp_serve.specs.Request.{Response, Return, counted_anew, refused_with, one_back_more, go_back, respond}
 use Rattle.mp_serve.specs.Texts.{back_refused_text}
 use Rattle.mp_serve.specs.Inside.Former.{states_of, earliest}
@@ -20,7 +21,7 @@ module _ (names : Names) (p : ServedPool) (fs : List Former) (count : ℕ) (form
   many : length p.former ≡ length fs
   many = ap length former ∙ length-states fs p.pool.ledger
 
-  -- too few are kept
+  -- too few ledger states are kept
   pub refused_back : (kept backs : ℕ) (text : List ℕ) → length fs < count → kept ≡ length fs → backs ≡ one_more p.refused.backs → text ≡ back_refused_text kept
       → (cursor : ℕ) → respond names cursor p (Return count) ≡ record { served = record p { refused = record p.refused { backs = backs } }; cursor = cursor; text = text }
   refused_back kept backs text lt is counted told cursor =
@@ -31,7 +32,7 @@ module _ (names : Names) (p : ServedPool) (fs : List Former) (count : ℕ) (form
       ∙ ap (λ n. made n (back_refused_text (length p.former))) (sym counted)
       ∙ ap (made backs) (ap back_refused_text (many ∙ sym is) ∙ sym told)
 
-  -- the ledger state of so many ago
+  -- the ledger state this many steps ago
   pub went_back : (left : ℕ) (pool : Pool) (states : List LedgerState) (text : List ℕ) → count ≤ length fs → left ≡ length fs - count
       → pool ≡ counted_anew (next (accepted_by p.signatures) p.pool (Sync (earliest (drop left fs) p.pool.ledger)))
       → states ≡ take left p.former
@@ -52,7 +53,7 @@ module _ (names : Names) (p : ServedPool) (fs : List Former) (count : ℕ) (form
       ∙ ap (λ q. made q states answered) (sym done)
       ∙ ap (made pool states) (sym told)
 
-  -- if there is memory for it
+  -- if no allocation fails
   pub went_back-ok : {A E : Type 0} (r : Result (Vec ℕ A) E) (left : ℕ) (pool : Pool) (states : List LedgerState) → count ≤ length fs → left ≡ length fs - count
       → OnOk r (pool ≡ counted_anew (next (accepted_by p.signatures) p.pool (Sync (earliest (drop left fs) p.pool.ledger))))
       → OnOk r (states ≡ take left p.former)

@@ -12,7 +12,7 @@ texts_at words counts i l m =
 abbrev read : List (Bor (List ℕ)) → List (List ℕ)
 read words = map (λ w. w.now) words
 
--- with a word's text after it, what comes before the texts that are left makes the same whole
+-- after adding a word's text, the text so far and the texts that are left still make the whole
 pub text-more : (words : List (Bor (List ℕ))) (counts : List ℕ) (i : ℕ) (d : Bor (List ℕ)) (before after whole : List ℕ)
     → i < length words → length words ≤ length counts
     → after ≡ before ++ count_text (slice_index_or words i d).now (slice_index_or counts i 0)

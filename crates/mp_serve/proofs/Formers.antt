@@ -1,4 +1,4 @@
--- Ledger states by what is kept of them.
+-- Ledger states, given what is stored to go back to them.
 use Rattle.std.proofs.Common.{◌≡◌, ℕ, zero, suc, ◌-◌, ◌<◌, ◌≤◌, true, false, cond, List, [], ◌∷◌, ◌++◌, length, take, drop, refl, sym, ap, subst, ◌∙◌, arith}
 use Rattle.std.specs.Prelude.{Option, None, Some, slice_get, nat_le}
 use Rattle.std.proofs.lemmas.Bool.Decides.{nat_tests}
@@ -49,14 +49,14 @@ states-take (suc n) (f ∷ fs) now =
     ap (λ l. state_before l f ∷ states_of (take n fs) (earliest (drop n fs) now)) (earliest-take n fs now)
     ∙ ap (λ ls. earliest (f ∷ fs) now ∷ ls) (states-take n fs now)
 
--- the one at a place, of which the last is that to which they lead
+-- the one at an index; the last one is the state to which they lead
 pub state-at : (n : ℕ) (fs : List Former) (now : LedgerState) → n ≤ length fs → slice_get (states_of fs now ++ now ∷ []) n ≡ Some (earliest (drop n fs) now)
 state-at zero [] now le = refl
 state-at zero (f ∷ fs) now le = refl
 state-at (suc n) [] now le = absurd (omega (arith, le))
 state-at (suc n) (f ∷ fs) now le = state-at n fs now (omega (arith, le))
 
--- one more that leads back to that to which the others lead
+-- one more, which leads back to the state to which the others lead
 pub can-push : (fs : List Former) (f : Former) (new old : LedgerState) → CanAllGoBack fs old → LeadsBack new f old → CanAllGoBack (fs ++ f ∷ []) new
 can-push [] f new old can leads = (can_back new f old leads, tt)
 can-push (g ∷ fs) f new old can leads =
@@ -71,7 +71,7 @@ can-drop zero fs now can = can
 can-drop (suc n) [] now can = can
 can-drop (suc n) (f ∷ fs) now can = can-drop n fs now can.1
 
--- of a list that ends so, the last leads back, and then the others do
+-- the last of a list leads back, and then the others do
 pub can-last : (fs : List Former) (f : Former) (now : LedgerState) → CanAllGoBack (fs ++ f ∷ []) now → CanGoBack now f × CanAllGoBack fs (state_before now f)
 can-last [] f now can = (can.0, tt)
 can-last (g ∷ fs) f now can =
@@ -83,7 +83,7 @@ can-take zero fs now can = tt
 can-take (suc n) [] now can = tt
 can-take (suc n) (f ∷ fs) now can = (subst (λ l. CanGoBack l f) (sym (earliest-take n fs now)) can.0, can-take n fs now can.1)
 
--- with one more, but for the oldest where there are too many
+-- with one more, and without the oldest if there are too many
 pub states-latest : (fs : List Former) (f : Former) (new old : LedgerState) → LeadsBack new f old
     → states_of (latest (fs ++ f ∷ [])) new ≡ latest (states_of fs old ++ old ∷ [])
 states-latest fs f new old leads =
@@ -95,7 +95,7 @@ states-latest fs f new old leads =
 pub can-latest : (fs : List Former) (f : Former) (new old : LedgerState) → CanAllGoBack fs old → LeadsBack new f old → CanAllGoBack (latest (fs ++ f ∷ [])) new
 can-latest fs f new old can leads = can-drop (length (fs ++ f ∷ []) - 2160) (fs ++ f ∷ []) new (can-push fs f new old can leads)
 
--- ---- those after the first ones, as a slice of all
+-- -- those after the first ones, as a slice of the list
 
 all-behind : (n : ℕ) (fs : List Former) → take (length fs - n) (drop n fs) ≡ drop n fs
 all-behind n fs = let same : length (drop n fs) ≡ length fs - n = length-drop n fs in take_all (length fs - n) (drop n fs) (omega (arith, same))
@@ -111,7 +111,7 @@ can-behind n fs slice now l is same can =
     subst (λ (gs : List Former). CanAllGoBack (take (length gs - n) (drop n gs)) l) (sym is)
     (subst (λ (gs : List Former). CanAllGoBack gs l) (sym (all-behind n fs)) (subst (CanAllGoBack (drop n fs)) (sym same) (can-drop n fs now can)))
 
--- ---- the ledger state of so many ago
+-- -- the ledger state some steps ago
 
 within : (count n : ℕ) → count ≤ n → nat_le count n ≡ true
 within count n le = grind (arith, nat_tests)

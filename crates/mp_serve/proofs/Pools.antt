@@ -1,4 +1,4 @@
--- What a served pool keeps, whatever it is asked.
+-- The invariant of a served pool, whatever is asked.
 use Rattle.std.proofs.Common.{◌≡◌, ℕ, ◌<◌, ◌≤◌, ◌^◌, Bool, true, false, cond, refl, sym, ap, subst, ◌∙◌, arith}
 use Rattle.std.specs.Prelude.{nat_le, is_ok, List, Result, Ok, Err, OnOk, OnErr}
 use Rattle.std.proofs.lemmas.Bool.Decides.{nat_tests}
@@ -19,7 +19,7 @@ use Rattle.mp_serve.specs.Inside.Pool.{IsReady}
 under : (changes limit : ℕ) → changes < limit → nat_le limit changes ≡ false
 under changes limit lt = grind (arith, nat_tests)
 
--- where one more change may be made, they aren't counted from 0
+-- if one more change is allowed, changes aren't counted from 0 again
 pub not_anew : (p : Pool) → p.changes < p.limit → counted_anew p ≡ p
 not_anew p lt = ap (λ b. cond b (renewed p.limit p) p) (under p.changes p.limit lt)
 
@@ -61,7 +61,7 @@ module _ (accepts : Accepts) where
       let same : (next accepts p c).limit ≡ p.limit = limit-next p c in
       served_anew (next accepts p c) (lawful-next accepts p c s.lawful) (subst (λ n. 1 ≤ n) (sym same) s.least) (subst (λ n. n ≤ 2 ^ 32) (sym same) s.most)
 
-  -- whether it obeyed or had no memory for it
+  -- whether it obeyed or an allocation failed
   pub served_either : {X E : Type 0} (r : Result X E) (old new : Pool) (c : Command)
       → OnOk r (new ≡ counted_anew (next accepts old c)) → OnErr r (new ≡ old) → IsReady accepts old → IsReady accepts new
   served_either (Ok x) old new c done same s = subst (IsReady accepts) (sym done) (served-next old c s)
@@ -71,7 +71,7 @@ module _ (accepts : Accepts) where
   pub refused_same : (p : Pool) (c : Command) (f : Refusal) → p.changes < p.limit → answer accepts p c ≡ Err f → p ≡ counted_anew (next accepts p c)
   refused_same p c f lt is = sym (ap counted_anew (next-refused accepts p c f is) ∙ not_anew p lt)
 
-  -- a submit and a remove leave the ledger state
+  -- a submit and a remove don't change the ledger state
   ledger-submit : (p : Pool) (t : Transaction) → (next accepts p (Submit t)).ledger ≡ p.ledger
   unfolding next
   ledger-submit p t = by (is_ok (answer accepts p (Submit t)))
@@ -94,7 +94,7 @@ module _ (accepts : Accepts) where
   pub ledger-removed : (p : Pool) (ids : List (List ℕ)) → (counted_anew (next accepts p (Remove ids))).ledger ≡ p.ledger
   ledger-removed p ids = ledger-anew (next accepts p (Remove ids)) ∙ ledger-remove p ids
 
-  -- a sync that may be made leads to its ledger state
+  -- an allowed sync leads to its ledger state
   ledger-sync : (p : Pool) (l : LedgerState) → p.changes < p.limit → (next accepts p (Sync l)).ledger ≡ l
   unfolding next answer
   ledger-sync p l lt =
@@ -103,7 +103,7 @@ module _ (accepts : Accepts) where
   pub ledger-synced : (p : Pool) (l : LedgerState) → p.changes < p.limit → (counted_anew (next accepts p (Sync l))).ledger ≡ l
   ledger-synced p l lt = ledger-anew (next accepts p (Sync l)) ∙ ledger-sync p l lt
 
-  -- whether it did so or had no memory for it
+  -- whether it obeyed or an allocation failed
   pub same_either : {X E : Type 0} (r : Result X E) (old new : Pool) (c : Command) → (counted_anew (next accepts old c)).ledger ≡ old.ledger
       → OnOk r (new ≡ counted_anew (next accepts old c)) → OnErr r (new ≡ old) → new.ledger ≡ old.ledger
   same_either (Ok x) old new c same done kept = ap (λ p. p.ledger) done ∙ same

@@ -33,7 +33,7 @@ answers-more n s (l ∷ ls) text t line answer u (first, rest, v, whole, told, m
   answers-more (n + 1) v ls rest t line answer u more (subst (λ m. IsAnswer m t line answer u) (let e : n + suc (length ls) ≡ (n + 1) + length ls = omega arith in e) is),
 )
 
--- The lines that are done were answered, and the answers are what the writer got.
+-- The lines so far were answered, and the writer got exactly the answers.
 pub record Progress (g : Conversation) (old now : Option (List ℕ)) (all rest : List (List ℕ)) (s : Conversation) (n : ℕ) : Type 0 where
   pub lines : List (List ℕ)
   pub text : List ℕ
@@ -57,13 +57,13 @@ module _ (g : Conversation) (old now : Option (List ℕ)) (all rest : List (List
     count = let c = p.count in let l = length-append p.lines (line ∷ []) in omega (arith, c, l);
   }
 
-  -- so many lines were answered
+  -- these lines were answered
   pub stopped : (p : Progress g old now all rest s n) → WereAnswered g old now (take (length p.lines) all)
   stopped p =
       let front : take (length p.lines) all ≡ p.lines = ap (take (length p.lines)) p.whole ∙ take-append_seam p.lines rest in
       (p.text, s, subst (λ l. AreAnswers 1 g l p.text s) (sym front) p.told, p.wrote)
 
-  -- a prefix of an answer was written, and perhaps all
+  -- a prefix of an answer was written, perhaps all of it
   pub is_cut : (new : Option (List ℕ)) (u : Conversation) (line answer : List ℕ) → Progress g old now all (line ∷ rest) s n → IsAnswer n s line answer u → AppendsUpTo now new answer → WasCut g old new all
   is_cut new u line answer p is (taken, w) =
       let done : List (List ℕ) = p.lines ++ line ∷ [] in
@@ -77,7 +77,7 @@ module _ (g : Conversation) (old now : Option (List ℕ)) (all rest : List (List
         (length p.text + taken, subst (Appends old new) (sym (take-append-add p.text answer taken)) (Appends-more old now new p.text (take taken answer) p.wrote w)),
       )
 
--- where a line was read there was one
+-- if a line was read, there was one
 some_line : (limit : ℕ) (bytes : List ℕ) (found : LineRead) (kept : List ℕ) → (found ≡ End → ⊥) → IsLine limit bytes found kept → bytes ≡ [] → ⊥
 some_line limit bytes End kept other line none = other refl
 some_line limit bytes Whole kept other line none = line.0 none
@@ -85,7 +85,7 @@ some_line limit [] TooLong kept other line none = omega (arith, line)
 some_line limit (x ∷ xs) TooLong kept other line none = Prim.cc
 some_line limit bytes Lost kept other line none = line none
 
--- where none was read there was nothing
+-- if none was read, there was nothing
 pub no_line : (left : Option (List ℕ)) (limit : ℕ) (found : LineRead) (kept : List ℕ) → found ≡ End → IfSome left (λ bytes. IsLine limit bytes found kept) → IsAtEnd left
 no_line None limit found kept is line = tt
 no_line (Some bytes) limit found kept is line = subst (λ f. IsLine limit bytes f kept) is line
@@ -108,12 +108,12 @@ module _ (g : Conversation) (old now : Option (List ℕ)) (s : Conversation) (n 
       let done : lines_of bytes ≡ p.lines = p.whole ∙ ap (λ l. p.lines ++ lines_of l) none ∙ append-nil p.lines in
       (p.text, s, subst (λ l. AreAnswers 1 g l p.text s) (sym done) p.told, p.wrote)
 
-  -- where a read fails
+  -- if a read fails
   pub fails : (all left : Option (List ℕ)) → Stands g all left old now s n → IfSome all (λ bytes. Ended g bytes old now (Err ReadFault))
   fails None left i = tt
   fails (Some bytes) left (rest, is, p) = (length p.lines, stopped g old now (lines_of bytes) (lines_of rest) s n p)
 
-  -- where no more lines can be counted
+  -- if no more lines can be counted
   pub ends_counting : (all left : Option (List ℕ)) → Stands g all left old now s n → n ≡ 2 ^ 64 - 1 → IfSome all (λ bytes. Ended g bytes old now (Err ManyLines))
   ends_counting None left i last = tt
   ends_counting (Some bytes) left (rest, is, p) last =
@@ -128,7 +128,7 @@ module _ (g : Conversation) (old now : Option (List ℕ)) (s : Conversation) (n 
     first_read all [] some p = absurd (some refl)
     first_read all (x ∷ xs) some p = subst (λ l. Progress g old now all l s n) (first_through x xs) p
 
-    -- a line that is read and answered
+    -- one more line is read and answered
     pub stands-more : (all : Option (List ℕ)) → Stands g all left old now s n → Appends now new answer → Stands g all after old new u (n + 1)
     stands-more None i w = tt
     stands-more (Some bytes) (rest, is, p) w =
@@ -139,7 +139,7 @@ module _ (g : Conversation) (old now : Option (List ℕ)) (s : Conversation) (n 
               (first_read (lines_of bytes) rest (some_line limit rest found kept other is_line) p) (answered rest is_line) w,
         )
 
-    -- where a write fails
+    -- if a write fails
     pub stands-cut : (all : Option (List ℕ)) → Stands g all left old now s n → AppendsUpTo now new answer → IfSome all (λ bytes. Ended g bytes old new (Err WriteFault))
     stands-cut None i w = tt
     stands-cut (Some bytes) (rest, is, p) w =

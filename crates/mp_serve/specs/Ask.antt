@@ -1,4 +1,4 @@
--- What a line of a conversation asks, in view of what was declared before it.
+-- What a line of a conversation asks for, given what was declared before it.
 use Rattle.std.specs.Prelude.{ℕ, ◌+◌, ◌-◌, ◌*◌, nat_eq, nat_lt, List, [], ◌∷◌, ◌++◌, length, codes, Option, None, Some, option_map, option_and_then, if◌then◌else◌}
 use Rattle.std.specs.Cmp.Lexicographic.{pointwise}
 use Rattle.mp_text.specs.Lines.{is_clean}
@@ -13,32 +13,32 @@ use Rattle.mp_lines.specs.Ledgers.{LedgerHead, head_of}
 use Rattle.mp_lines.specs.Lines.{Line, bytes_of, line_of}
 use Rattle.mp_serve.specs.Output.{output_in, ref_in}
 
--- a block's transactions, with the tick, and the bytes of a block where the line gives them
+-- a block's transactions, with the tick, and the block bytes if the line gives them
 pub record NewBlock : Type 0 where
   pub tick : ℕ
   pub block_bytes : Option ℕ
   pub txs : List Transaction
 
 pub data Ask : Type 0 where
-  -- what a line of a scenario asks
+  -- what a line of a scenario asks for
   Does : Line → Ask
-  -- to read a transaction from these bytes, for the name
+  -- read a transaction from these bytes, under the name
   Reads : List ℕ → List ℕ → Ask
-  -- to take the transaction in, and to report it under the name from then on
+  -- submit the transaction, and report it under the name from then on
   Submits : List ℕ → Transaction → Ask
   -- the bytes of the transaction
   Shows : Transaction → Ask
-  -- what its submit would be answered
+  -- what its submit would answer
   Checks : Transaction → Ask
   -- the pool's numbers
   Counts : Ask
-  -- that the output is among the opening ones
+  -- add the output to the opening ones
   Holds : OutRef → Output → Ask
-  -- to adopt the ledger state after the block
+  -- adopt the ledger state after the block
   Extends : NewBlock → Ask
-  -- to adopt the ledger state of so many ago
+  -- adopt the ledger state this many steps ago
   Returns : ℕ → Ask
-  -- to let these names go
+  -- forget these names
   Forgets : List (List ℕ) → Ask
 
 -- bytes NAME HEX
@@ -66,7 +66,7 @@ utxo_by words = option_and_then (λ r. option_map (Holds r) (option_and_then out
 abbrev pub utxo_ask : List (List ℕ) → Option Ask
 utxo_ask words = option_and_then utxo_by (two_words words)
 
--- the transactions named, after these
+-- these transactions, and then those that are named
 abbrev pub put_txs : Names → List Transaction → List (List ℕ) → Option (List Transaction)
 put_txs names txs [] = Some txs
 put_txs names txs (word ∷ words) = option_and_then (λ t. put_txs names (txs ++ t.tx ∷ []) words) (tx_named word names)
@@ -85,17 +85,17 @@ adopt_ask names words = option_and_then (block_behind names) (head_of words)
 abbrev pub back_ask : List (List ℕ) → Option Ask
 back_ask words = option_map Returns (option_and_then number_of (one_word words))
 
--- the names, after these, of which none may occur twice
+-- these names and then the others; none may occur twice
 abbrev pub put_names : List (List ℕ) → List (List ℕ) → Option (List (List ℕ))
 put_names names [] = Some names
 put_names names (word ∷ words) = if is_among names word then None else put_names (names ++ word ∷ []) words
 
--- forget NAME .., one at least
+-- forget NAME .., at least one
 abbrev pub forget_ask : List (List ℕ) → Option Ask
 forget_ask [] = None
 forget_ask (word ∷ words) = option_map Forgets (put_names [] (word ∷ words))
 
--- utxo, adopt, back, forget, and else the lines of scenarios
+-- utxo, adopt, back, forget; otherwise a line of scenarios
 abbrev pub ledger_ask : Names → List ℕ → List ℕ → List (List ℕ) → Option Ask
 ledger_ask names line word words =
     if pointwise nat_eq word (codes "utxo") then utxo_ask words
@@ -104,7 +104,7 @@ ledger_ask names line word words =
     else if pointwise nat_eq word (codes "forget") then forget_ask words
     else option_map Does (line_of names line)
 
--- by the first word: bytes, submit, show TX, check TX, stats, and else those
+-- by the first word: bytes, submit, show TX, check TX, stats; otherwise the lines above
 abbrev pub clean_ask : Names → List ℕ → List ℕ → List (List ℕ) → Option Ask
 clean_ask names line word words =
     if pointwise nat_eq word (codes "bytes") then bytes_ask names words
@@ -118,7 +118,7 @@ abbrev pub words_ask : Names → List ℕ → List (List ℕ) → Option Ask
 words_ask names line [] = option_map Does (line_of names line)
 words_ask names line (word ∷ words) = clean_ask names line word words
 
--- a line of bytes, or of an output, may be longer than others
+-- lines of bytes, and of an output, may be longer than others
 abbrev pub hex_ask : Names → List ℕ → List (List ℕ) → Option Ask
 hex_ask names word words =
     if pointwise nat_eq word (codes "bytes") then bytes_ask names words
@@ -132,11 +132,11 @@ long_ask names (word ∷ words) = hex_ask names word words
 abbrev pub ask_within : Names → List ℕ → Option Ask
 ask_within names line = if is_clean line then words_ask names line (words_of line) else long_ask names (words_of line)
 
--- The longest line is `utxo ID#INDEX HEX` of an output as large as a transaction of 16,384 bytes can have, with 27 bytes around it.
--- An index has at most 20 digits.
+-- The longest line is `utxo ID#INDEX HEX`, for the largest output that a transaction of 16,384 bytes can have, with 27 bytes
+-- around it. An index has at most 20 digits.
 abbrev pub longest : ℕ
 longest = 5 + 64 + 1 + 20 + 1 + 2 * (16384 - 27)
 
--- what the line asks, if it is one of the language, which no longer one is
+-- what the line asks for, if it is in the language, in which no line is longer
 unfoldable pub ask_of : Names → List ℕ → Option Ask
 ask_of names line = if nat_lt longest (length line) then None else ask_within names line

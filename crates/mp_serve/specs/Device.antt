@@ -1,4 +1,4 @@
--- What a conversation is held over: lines come in, and their answers go out.
+-- The device of a conversation: lines come in, and their answers go out.
 use Rattle.std.specs.Prelude.{◌≡◌, Result, Ok, Err}
 use Rattle.mp_serve.specs.declared.device.Turn.{Turn}
 use Rattle.mp_serve.specs.declared.device.Turn.TheVariants.{Listens, Owes, Failed}
@@ -7,13 +7,13 @@ use Rattle.mp_text.specs.declared.line_input.LineRead.TheVariants.{End}
 use Rattle.mp_serve.specs.declared.fault.Fault.{Fault}
 use Rattle.mp_serve.specs.declared.fault.Fault.TheVariants as faults
 
--- a line that was read is to be answered
+-- after a line is read, its answer is due
 abbrev pub turn_after : LineRead → Turn
 turn_after End = Listens
 turn_after found = Owes
 
--- A conversation ends where the input does, and all is answered and handed on; else only where the device fails, but for no memory
--- before the first line and lines that can't be counted any more.
+-- A conversation ends at the end of the input, with everything answered and flushed. Otherwise it ends because the device fails,
+-- because an allocation failed before the first line, or because no more lines can be counted.
 abbrev pub EndsAt : Result (Unit {0}) Fault → Turn → Type 0
 EndsAt (Ok u) turn = turn ≡ Listens
 EndsAt (Err faults.NoMemory) turn = turn ≡ Listens

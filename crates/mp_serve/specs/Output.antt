@@ -9,7 +9,7 @@ use Rattle.mp_names.specs.Numbers.{number_in}
 use Rattle.mp_names.specs.Splitting.{split_once}
 use Rattle.mp_lines.specs.Lines.{bytes_of}
 
--- a transaction of format 1 with one output, which has these bytes, at any tick and with nothing else
+-- a transaction of format 1 with one output, which has these bytes, for any tick and with nothing else
 abbrev pub around : List ℕ → List ℕ
 around bytes = (1 ∷ 0 ∷ 0 ∷ 0 ∷ 1 ∷ []) ++ bytes ++ replicate 8 0 ++ replicate 8 255 ++ replicate 6 0
 
@@ -35,7 +35,7 @@ id_in bytes = if length bytes == 32 then Some bytes else None
 abbrev pub ref_with : List ℕ → ℕ → OutRef
 ref_with id index = record { id = id; index = index }
 
--- 64 digits, and the index after the sign; 35 is the number sign
+-- 64 digits, then the index after the number sign, 35
 abbrev pub ref_by : List ℕ → Option (List ℕ) → Option OutRef
 ref_by digits None = None
 ref_by digits (Some index) =

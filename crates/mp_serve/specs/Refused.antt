@@ -7,11 +7,11 @@ use Rattle.mp_serve.specs.declared.refused.Counts.{Counts}
 abbrev pub none_counted : Counts
 none_counted = record { refusals = replicate (length refusal_words) 0; adopts = 0; backs = 0 }
 
--- a count ends at 2^64 - 1
+-- a count stays at 2^64 - 1
 abbrev pub one_more : ℕ → ℕ
 one_more count = min (count + 1) (2 ^ 64 - 1)
 
--- one more at this place
+-- one more at this index
 abbrev pub counted_at : List ℕ → ℕ → List ℕ
 counted_at counts place = slice_set counts place (one_more (slice_index counts place))
 
@@ -22,7 +22,7 @@ abbrev pub counted_if : Counts → Option Refusal → Counts
 counted_if c None = c
 counted_if c (Some refusal) = counted c refusal
 
--- what was never answered isn't reported
+-- what never occurred isn't reported
 abbrev pub count_text : List ℕ → ℕ → List ℕ
 count_text word count = if nat_eq count 0 then [] else 32 ∷ word ++ number_text count
 
@@ -32,6 +32,6 @@ texts [] counts = []
 texts (word ∷ others) [] = []
 texts (word ∷ others) (count ∷ counts) = count_text word count ++ texts others counts
 
--- refused blocks as `adopt`, and ways back that were too long as `back`
+-- refused blocks are counted as `adopt`, and refused ways back as `back`
 abbrev pub counts_text : Counts → List ℕ
 counts_text c = texts refusal_words c.refusals ++ count_text (codes "adopt") c.adopts ++ count_text (codes "back") c.backs

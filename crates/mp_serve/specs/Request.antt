@@ -1,4 +1,4 @@
--- What is asked of the pool, and what it answers.
+-- Requests to the pool, and its responses.
 use Rattle.std.specs.Prelude.{ℕ, ◌-◌, List, [], ◌∷◌, ◌++◌, length, take, Option, None, Some, Result, Ok, Err, if◌then◌else◌}
 use Rattle.std.specs.Result.{result_err}
 use Rattle.mp_tx.specs.Transaction.{Transaction}
@@ -6,6 +6,7 @@ use Rattle.mp_tx.specs.Ledger.{LedgerState}
 use Rattle.mp_rules.specs.declared.invalid.Invalid.{Invalid}
 use Rattle.mp_block.specs.Block.{apply_block}
 use Rattle.mp_resync.specs.Keep.{keep}
+use Rattle.mp_signatures.specs.Scheme.{accepted_by}
 use Rattle.mp_seqpool.specs.declared.refusal.Refusal.{Refusal}
 use Rattle.mp_seqpool.specs.declared.command.Reply.{Reply}
 use Rattle.mp_seqpool.specs.Command.{Command}
@@ -17,35 +18,35 @@ use Rattle.mp_names.specs.Names.{Names, with_reported}
 use Rattle.mp_lines.specs.declared.query.Query.{Query}
 use Rattle.mp_answers.specs.AnswerText.{answer_text}
 use Rattle.mp_answers.specs.QueryText.{query_text, for_text, cursor_after}
-use Rattle.mp_serve.specs.ServedPool.{ServedPool, accepted_by, latest, state_back}
+use Rattle.mp_serve.specs.ServedPool.{ServedPool, latest, state_back}
 use Rattle.mp_serve.specs.declared.refused.Counts.{Counts}
 use Rattle.mp_serve.specs.Refused.{one_more, counted_if}
 use Rattle.mp_serve.specs.Texts.{stats_text, block_refused_text, back_refused_text}
 
--- a block's transactions, and where it leads to
+-- a block's transactions, and the tick and block bytes after it
 pub record Block : Type 0 where
   pub tick : ℕ
   pub block_bytes : ℕ
   pub txs : List Transaction
 
 pub data Request : Type 0 where
-  -- to take the transaction in
+  -- submit the transaction
   Submit : Transaction → Request
-  -- to take out those with these ids
+  -- remove the transactions with these ids
   Remove : List (List ℕ) → Request
-  -- to adopt the ledger state
+  -- adopt the ledger state
   Adopt : LedgerState → Request
-  -- to adopt the ledger state after the block
+  -- adopt the ledger state after the block
   Extend : Block → Request
-  -- to adopt the ledger state of so many ago
+  -- adopt the ledger state this many steps ago
   Return : ℕ → Request
-  -- what is read of it
+  -- answer the query
   Read : Query → Request
-  -- what would stay on the ledger state
+  -- which transactions would stay on the ledger state
   Try : LedgerState → Request
-  -- what the submit of the transaction would be answered
+  -- what the submit of the transaction would answer
   Check : Transaction → Request
-  -- its numbers
+  -- the pool's numbers
   Count : Request
 
 pub record Response : Type 0 where
@@ -54,19 +55,19 @@ pub record Response : Type 0 where
   pub cursor : ℕ
   pub text : List ℕ
 
--- a pool that has made as many changes as it may counts them from 0 again
+-- a pool at its limit of changes counts them from 0 again
 abbrev pub counted_anew : Pool → Pool
 counted_anew p = if is_at_limit p then renewed p.limit p else p
 
--- what the pool is after a command
+-- the pool after a command
 abbrev pub obeyed : ServedPool → Command → Pool
 obeyed p c = counted_anew (next (accepted_by p.signatures) p.pool c)
 
--- what is answered to a command
+-- the answer to a command
 abbrev pub answer_to : ServedPool → Command → Result Reply Refusal
 answer_to p c = answer (accepted_by p.signatures) p.pool c
 
--- a transaction that is accepted is reported under the name from then on
+-- an accepted transaction is reported under the name from then on
 abbrev pub reported_if : Names → List ℕ → Result Reply Refusal → Names
 reported_if names name (Ok reply) = with_reported names name
 reported_if names name (Err refusal) = names
@@ -78,11 +79,11 @@ answered names p c = answer_text names (answer_to p c)
 abbrev pub after_command : ServedPool → Command → ServedPool
 after_command p c = record p { pool = obeyed p c; refused = counted_if p.refused (result_err (answer_to p c)) }
 
--- the pool as it was, and the text
+-- the pool doesn't change
 abbrev pub unchanged : ℕ → ServedPool → List ℕ → Response
 unchanged cursor p text = record { served = p; cursor = cursor; text = text }
 
--- the pool as it was, but that so much was refused, and the text
+-- the pool doesn't change, except for these counts of refusals
 abbrev pub refused_with : Counts → ℕ → ServedPool → List ℕ → Response
 refused_with counts cursor p text = record { served = record p { refused = counts }; cursor = cursor; text = text }
 
@@ -92,7 +93,7 @@ one_adopt_more c = record c { adopts = one_more c.adopts }
 abbrev pub one_back_more : Counts → Counts
 one_back_more c = record c { backs = one_more c.backs }
 
--- the pool is synced with the ledger state, before which it has had these
+-- the pool is synced with the ledger state; the former ones are given
 abbrev pub adopt : Names → ℕ → ServedPool → LedgerState → List LedgerState → Response
 adopt names cursor p l former = record {
   served = record p { pool = obeyed p (commands.Sync l); former = former };
@@ -104,12 +105,12 @@ adopt names cursor p l former = record {
 abbrev pub go_on : Names → ℕ → ServedPool → LedgerState → Response
 go_on names cursor p l = adopt names cursor p l (latest (p.former ++ p.pool.ledger ∷ []))
 
--- the ledger state after the block, or that one of its transactions isn't valid after those before it, which is counted
+-- the ledger state after the block; or one of its transactions isn't valid after those before it, which is counted
 abbrev pub extend : Names → ℕ → ServedPool → List Transaction → Result LedgerState (ℕ × Invalid) → Response
 extend names cursor p txs (Ok l) = go_on names cursor p l
 extend names cursor p txs (Err refused) = refused_with (one_adopt_more p.refused) cursor p (block_refused_text names txs refused.0 refused.1)
 
--- a former ledger state, with those before it, or that it isn't kept, which is counted
+-- a former ledger state, with those before it; or it isn't kept, which is counted
 abbrev pub go_back : Names → ℕ → ServedPool → ℕ → Option LedgerState → Response
 go_back names cursor p count None = refused_with (one_back_more p.refused) cursor p (back_refused_text (length p.former))
 go_back names cursor p count (Some l) = adopt names cursor p l (take (length p.former - count) p.former)

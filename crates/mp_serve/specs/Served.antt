@@ -1,4 +1,4 @@
--- What is answered to lines, each in its turn.
+-- The answers to lines, one after the other.
 use Rattle.std.specs.Prelude.{◌≡◌, ℕ, ◌+◌, ◌-◌, ◌^◌, ◌⊎◌, List, [], ◌∷◌, ◌++◌, take, Option, None, Some, Result, Ok, Err}
 use Rattle.std.specs.Io.KnownBytes.{Appends, Keeps}
 use Rattle.mp_text.specs.Lines.{lines_of}
@@ -8,36 +8,36 @@ use Rattle.mp_serve.specs.Talk.{Step, line_step}
 use Rattle.mp_serve.specs.declared.fault.Fault.{Fault}
 use Rattle.mp_serve.specs.declared.fault.Fault.TheVariants.{NoMemory, ReadFault, WriteFault, ManyLines}
 
--- as the line asks; the answer to a bad one has its number and why, and nothing has changed
+-- as the line asks; the answer to a bad line has its number and why, and nothing has changed
 abbrev pub IsTold : ℕ → Conversation → Step → List ℕ → Conversation → Type 0
 IsTold n t None text u = ((why : List ℕ) × (text ≡ bad_text n ++ why ++ 10 ∷ [])) × (u ≡ t)
 IsTold n t (Some r) text u = (text ≡ r.1) × (u ≡ r.0)
 
--- There may be no memory for any answer, and then nothing has changed.
+-- Any answer may be an allocation failure. Then nothing has changed.
 abbrev pub IsAnswer : ℕ → Conversation → List ℕ → List ℕ → Conversation → Type 0
 IsAnswer n t line text u = IsTold n t (line_step t line) text u ⊎ ((text ≡ no_memory_text) × (u ≡ t))
 
--- the text is the answers to the lines, one after the other, of which the first has this number, and u is what it comes to
+-- the text is the answers to the lines, of which the first has this number, and u is the state after them
 abbrev pub AreAnswers : ℕ → Conversation → List (List ℕ) → List ℕ → Conversation → Type 0
 AreAnswers n t [] text u = (text ≡ []) × (u ≡ t)
 AreAnswers n t (line ∷ lines) text u =
     (first rest : List ℕ) × (v : Conversation) × (text ≡ first ++ rest) × IsAnswer n t line first v × AreAnswers (n + 1) v lines rest u
 
--- these lines were answered from the first on
+-- these lines were answered
 abbrev pub WereAnswered : Conversation → Option (List ℕ) → Option (List ℕ) → List (List ℕ) → Type 0
 WereAnswered start old new lines =
     (text : List ℕ) × (t : Conversation) × AreAnswers 1 start lines text t × Appends old new text
 
--- a prefix of these bytes was written, and perhaps all
+-- a prefix of these bytes was written, perhaps all of them
 abbrev pub AppendsUpTo : Option (List ℕ) → Option (List ℕ) → List ℕ → Type 0
 AppendsUpTo old new bytes = (taken : ℕ) × Appends old new (take taken bytes)
 
--- some first lines were answered, and of the answer to the last of them perhaps not all was written
+-- some first lines were answered, and the answer to the last of them may be cut off
 abbrev pub WasCut : Conversation → Option (List ℕ) → Option (List ℕ) → List (List ℕ) → Type 0
 WasCut start old new lines =
     (k : ℕ) × (text : List ℕ) × (t : Conversation) × AreAnswers 1 start (take k lines) text t × AppendsUpTo old new text
 
--- how a conversation ends: at the end of the input, where a device fails, or before it begins
+-- how a conversation ends: at the end of the input, when a device fails, or before it begins
 abbrev pub Ended : Conversation → List ℕ → Option (List ℕ) → Option (List ℕ) → Result (Unit {0}) Fault → Type 0
 Ended start bytes old new (Ok u) = WereAnswered start old new (lines_of bytes)
 Ended start bytes old new (Err WriteFault) = WasCut start old new (lines_of bytes)

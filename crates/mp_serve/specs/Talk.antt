@@ -1,5 +1,5 @@
--- What a line makes of what a conversation has come to: its names, its settings, the peer's cursor, and the pool, or what that is to
--- open with.
+-- How a line changes the state of a conversation: its names, its settings, the peer's cursor, and the pool, or what the pool
+-- opens with.
 use Rattle.std.specs.Prelude.{ℕ, ◌+◌, ◌^◌, ◌&&◌, nat_eq, nat_lt, Bool, not, true, false, List, [], ◌∷◌, filter, length, Option, Some, None, is_some, is_none, option_map, option_and_then, unwrap_or, if◌then◌else◌, Result, Ok, Err}
 use Rattle.std.specs.FinMap.{get}
 use Rattle.std.specs.Cmp.Lexicographic.{pointwise}
@@ -24,7 +24,7 @@ use Rattle.mp_lines.specs.Lines.{Line, Blank, Sets, Script, Data, Out, Tx, Submi
 use Rattle.mp_settings.specs.declared.settings.Settings.{Settings}
 use Rattle.mp_settings.specs.Settings.{no_settings, with_setting, block_bytes_of, limit_of, last_of, tick_of}
 use Rattle.mp_settings.specs.Ledgers.{ledger_at}
-use Rattle.mp_serve.specs.declared.signatures.Signatures.{Signatures}
+use Rattle.mp_signatures.specs.declared.scheme.Scheme.{Scheme}
 use Rattle.mp_serve.specs.declared.beginning.Beginning.{Beginning}
 use Rattle.mp_serve.specs.declared.conversation.Stage.{Stage}
 use Rattle.mp_serve.specs.declared.conversation.Stage.TheVariants.{Before, Open}
@@ -37,10 +37,10 @@ use Rattle.mp_serve.specs.Request as requests
 use Rattle.mp_serve.specs.Texts.{ok_text, bytes_text, show_text, forgotten_text}
 
 -- before the first line
-abbrev pub begun : Signatures → ℕ → Beginning
+abbrev pub begun : Scheme → ℕ → Beginning
 begun signatures salt = record { signatures = signatures; outs = 0; ledger = ledger_of salt 0 500000 [] }
 
-abbrev pub new_conversation : Signatures → ℕ → Conversation
+abbrev pub new_conversation : Scheme → ℕ → Conversation
 new_conversation signatures salt = record {
   names = first_names;
   settings = no_settings salt;
@@ -48,7 +48,7 @@ new_conversation signatures salt = record {
   stage = Before (begun signatures salt);
 }
 
--- the state after a line, and what is answered
+-- the state after a line, and the answer
 abbrev pub Step : Type 0
 Step = Option (Conversation × List ℕ)
 
@@ -63,7 +63,7 @@ opened g b = record {
   refused = none_counted;
 }
 
--- it opens with the first request
+-- the pool opens with the first request
 abbrev pub served_at : Settings → Stage → ServedPool
 served_at g (Before b) = opened g b
 served_at g (Open p) = p
@@ -75,7 +75,7 @@ with_response c r = (record c { cursor = r.cursor; stage = Open r.served }, r.te
 abbrev pub ask : Conversation → Request → Conversation × List ℕ
 ask c request = with_response c (respond c.names c.cursor (served_at c.settings c.stage) request)
 
--- it takes the transaction in if it can, and what it accepts is reported under the name from then on
+-- the transaction is submitted; if it is accepted, it is reported under the name from then on
 abbrev pub submit : Conversation → List ℕ → Transaction → Conversation × List ℕ
 submit c name t =
     with_response
@@ -88,19 +88,19 @@ submit_again c t = submit c (name_of (id_of t) c.names) t
 
 -- ---- settings, outputs and names
 
--- a setting comes before the first request
+-- settings are allowed before the first request
 abbrev pub set_at : Conversation → Setting → Stage → Step
 set_at c setting (Before b) = option_map (λ g. (record c { settings = g }, ok_text)) (with_setting c.settings setting)
 set_at c setting (Open p) = None
 
--- an output more, unless its reference is taken
+-- one more output, unless its reference is taken
 abbrev pub put_in : LedgerState → OutRef → Output → Option LedgerState
 put_in l r o = if is_none (get l.utxo r) then Some (ledger_after l l.tick l.block_bytes [] ((r, o) ∷ [])) else None
 
 abbrev pub with_ledger : Conversation → Beginning → LedgerState → Conversation × List ℕ
 with_ledger c b l = (record c { stage = Before (record b { ledger = l }) }, ok_text)
 
--- an output with its reference, before the first request
+-- an output with its reference; allowed before the first request
 abbrev pub hold_at : Conversation → OutRef → Output → Stage → Step
 hold_at c r o (Before b) = option_map (with_ledger c b) (put_in b.ledger r o)
 hold_at c r o (Open p) = None
@@ -114,7 +114,7 @@ with_out c b name p l = (
   ok_text,
 )
 
--- a named output under the next reference, before the first request, at most 65,536 times
+-- a named output under the next reference; allowed before the first request, at most 65,536 times
 abbrev pub output_at : Conversation → List ℕ → Payment → Stage → Step
 output_at c name p (Before b) =
     if nat_lt b.outs (2 ^ 16) then option_map (with_out c b name p) (put_in b.ledger (opening_ref b.outs) (output_of p)) else None
@@ -132,7 +132,7 @@ is_held (Open p) id = is_some (ticket_of id p.pool.items)
 abbrev pub is_reported : Names → Stage → List ℕ → List ℕ → Bool
 is_reported names stage name id = is_held stage id && pointwise nat_eq name (name_of id names)
 
--- whether the name of what is bound, if anything is, may be forgotten
+-- whether a name with this binding, if it has one, may be forgotten
 abbrev pub may_go : Names → Stage → List ℕ → Option Binding → Bool
 may_go names stage name None = false
 may_go names stage name (Some (Opening r p)) = true
@@ -145,11 +145,11 @@ names_to_go names stage listed = filter (λ name. may_go names stage name (bindi
 abbrev pub without : Conversation → List (List ℕ) → Conversation × List ℕ
 without c goes = (with_names c (without_bindings c.names goes), forgotten_text (length goes))
 
--- the names are let go, but those under which transactions of the pool are reported
+-- the names are forgotten, except those under which transactions of the pool are reported
 abbrev pub forget : Conversation → List (List ℕ) → Conversation × List ℕ
 forget c names = without c (names_to_go c.names c.stage names)
 
--- from now on the name stands for the transaction, if there is one; what its outputs hash isn't known
+-- the name then denotes the transaction, if there is one; what its outputs name by hash isn't known
 abbrev pub with_read : Names → List ℕ → Result Transaction TxFault → Names
 with_read names name (Ok t) = with_binding names (record { name = name; binding = Made (record { tx = t; payments = [] }) })
 with_read names name (Err fault) = names
@@ -177,7 +177,7 @@ does c (Sync l) = Some (ask c (Adopt (ledger_at c.settings l)))
 does c (For l) = Some (ask c (Try (ledger_at c.settings l)))
 does c (Asks query) = Some (ask c (Read query))
 
--- where the line gives no bytes of a block, the setting holds
+-- without block bytes in the line, the setting applies
 abbrev pub block_at : Settings → NewBlock → Block
 block_at g b = record { tick = b.tick; block_bytes = unwrap_or b.block_bytes (block_bytes_of g); txs = b.txs }
 
@@ -193,6 +193,6 @@ take c (Extends block) = Some (ask c (Extend (block_at c.settings block)))
 take c (Returns count) = Some (ask c (Return count))
 take c (Forgets names) = Some (forget c names)
 
--- what comes of a line, unless it is bad
+-- the state and the answer after a line, unless it is bad
 unfoldable pub line_step : Conversation → List ℕ → Step
 line_step c line = option_and_then (take c) (ask_of c.names line)

@@ -14,15 +14,15 @@ use Rattle.mp_answers.specs.AnswerText.{number_text, refusal_text}
 use Rattle.mp_serve.specs.declared.refused.Counts.{Counts}
 use Rattle.mp_serve.specs.Refused.{counts_text}
 
--- what is answered where there is nothing to report
+-- the answer if there is nothing to report
 abbrev pub ok_text : List ℕ
 ok_text = codes "ok\n"
 
--- what is answered where there was no memory
+-- the answer after an allocation failure
 abbrev pub no_memory_text : List ℕ
 no_memory_text = codes "fault: no memory\n"
 
--- how the answer to a bad line begins; why it is bad comes after
+-- how the answer to a bad line begins; the reason follows
 abbrev pub bad_text : ℕ → List ℕ
 bad_text number = codes "bad" ++ number_text number ++ codes ": "
 
@@ -45,21 +45,21 @@ fault_name faults.NoReferences = codes "references"
 abbrev pub tx_words : Transaction → List ℕ
 tx_words t = codes "tx" ++ number_text (size_of t) ++ 32 ∷ encode_lower (id_of t)
 
--- of bytes that were read, or why they are no transaction
+-- for bytes that were read, or why they are no transaction
 unfoldable pub bytes_text : Result Transaction TxFault → List ℕ
 bytes_text (Ok t) = tx_words t ++ 10 ∷ []
 bytes_text (Err fault) = (codes "undecodable " ++ fault_name fault) ++ 10 ∷ []
 
--- with the bytes
+-- the same with the bytes
 unfoldable pub show_text : Transaction → List ℕ
 show_text t = (tx_words t ++ 32 ∷ encode_lower (spelling t)) ++ 10 ∷ []
 
--- how many transactions, their bytes, the free bytes, the last ticket, and the changes since they were last counted from 0
+-- the number of transactions, their bytes, the free bytes, the last ticket, and the changes since they were last counted from 0
 abbrev pub pool_numbers : Pool → List ℕ
 pool_numbers p =
     codes "stats" ++ number_text (length p.items) ++ number_text (bytes_held p) ++ number_text (free_bytes p) ++ number_text p.last ++ number_text p.changes
 
--- and how often each kind of refusal was answered
+-- then how often each kind of refusal was answered
 unfoldable pub stats_text : Pool → Counts → List ℕ
 stats_text p refused = (pool_numbers p ++ counts_text refused) ++ 10 ∷ []
 
@@ -68,15 +68,15 @@ abbrev pub name_if_any : Names → Option Transaction → List ℕ
 name_if_any names None = []
 name_if_any names (Some t) = name_of (id_of t) names
 
--- a block of which the transaction at this place isn't valid after those before it
+-- the transaction of the block at this index isn't valid after those before it
 unfoldable pub block_refused_text : Names → List Transaction → ℕ → Invalid → List ℕ
 block_refused_text names txs place fault =
     (codes "refused adopt " ++ name_if_any names (slice_get txs place) ++ 32 ∷ refusal_text names (refusals.Invalid fault)) ++ 10 ∷ []
 
--- so many former ledger states are kept, and no more
+-- this many former ledger states are kept, and no more
 unfoldable pub back_refused_text : ℕ → List ℕ
 back_refused_text kept = (codes "refused back" ++ number_text kept) ++ 10 ∷ []
 
--- so many names were let go
+-- this many names were forgotten
 unfoldable pub forgotten_text : ℕ → List ℕ
 forgotten_text count = (codes "forgotten" ++ number_text count) ++ 10 ∷ []

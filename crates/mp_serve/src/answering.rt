@@ -1,4 +1,4 @@
-//! The answer to a line, and what writes it.
+//! The answer to a line, and writing it.
 
 ghost use Rattle.std.specs.Prelude.{◌≡◌, ◌≢◌, ◌<◌, ℕ, List, length, OnOk, OnErr};
 ghost use Rattle.std.specs.Io.KnownBytes.{Appends};
@@ -14,7 +14,7 @@ use mp_memory::Memory;
 use mp_names::{LineFault, Reason};
 use mp_text::{LineRead, WriteFault};
 
-// The answer to the line with this number, or none where there is no memory.
+// The answer to the line with this number, or `None` if an allocation fails.
 fn answer_line(
     conversation: &mut Conversation,
     memory: Memory,
@@ -39,7 +39,7 @@ fn answer_long(conversation: &Conversation, memory: Memory, number: u64) -> Opti
     bad_line(memory, number, Reason::LongLine).ok()
 }
 
-/// The answer to what was read of the line with this number, or none where there is no memory.
+/// The answer to what was read of the line with this number, or `None` if an allocation fails.
 pub fn answer(
     conversation: &mut Conversation,
     memory: Memory,
@@ -59,7 +59,7 @@ pub fn answer(
     }
 }
 
-// The text of the answer, or that there is no memory.
+// The text of the answer, or of an allocation failure.
 fn text_in(answer: &Option<Text>) -> &[u8]
     ensures { result.now ≡ text_in answer.now }
 {
@@ -69,7 +69,7 @@ fn text_in(answer: &Option<Text>) -> &[u8]
     }
 }
 
-/// Writes the answer, or that there is no memory, and hands it on.
+/// Writes the answer, or that an allocation failed, and flushes it.
 pub fn tell<D: Device>(device: &mut D, answer: &Option<Text>) -> Result<(), WriteFault>
     requires { D.turn device.old ≡ Turn.Owes }
     ensures ok { OnOk result (Appends (D.output device.old) (D.output device.new)

@@ -1,4 +1,4 @@
-//! What a line asks.
+//! What a line asks for.
 
 ghost use Rattle.std.specs.Prelude.{◌≡◌, [], Some, None, map, option_map, OnOk};
 ghost use Rattle.std.specs.Arc.{arc_value};
@@ -21,28 +21,28 @@ use mp_text::{first_word, is_clean};
 use mp_tx::{MAX_BYTES, OutRef, Output, Tx};
 use std::sync::Arc;
 
-/// What a line asks.
+/// What a line asks for.
 #[derive(Drop)]
 pub enum Ask {
-    /// What a line of a scenario asks.
+    /// What a line of a scenario asks for.
     Does(Line),
-    /// To read a transaction from these bytes, for the name.
+    /// Read a transaction from these bytes, under the name.
     Reads(Name, Vec<u8, Memory>),
-    /// To take the transaction in, and to report it under the name from then on.
+    /// Submit the transaction, and report it under the name from then on.
     Submits(Name, Arc<Tx, Memory>),
     /// The bytes of the transaction.
     Shows(Arc<Tx, Memory>),
-    /// What its submit would be answered.
+    /// What its submit would answer.
     Checks(Arc<Tx, Memory>),
     /// The pool's numbers.
     Counts,
-    /// That the output is among the opening ones.
+    /// Add the output to the opening ones.
     Holds(OutRef, Output),
-    /// To adopt the ledger state after the block.
+    /// Adopt the ledger state after the block.
     Extends(NewBlock),
-    /// To adopt the ledger state of so many ago.
+    /// Adopt the ledger state this many steps ago.
     Returns(u64),
-    /// To let these names go.
+    /// Forget these names.
     Forgets(Vec<Name, Memory>),
 }
 
@@ -130,7 +130,7 @@ fn submit_ask<'a>(memory: Memory, names: &Names, words: &'a [u8]) -> Result<Ask,
     submit_by(memory, names, word)
 }
 
-// The transaction that is the one word of a line of this form.
+// The transaction that is the only word of a line of this form.
 fn one_tx<'a>(
     names: &Names,
     form: &'static [u8],
@@ -174,7 +174,7 @@ fn utxo_ask<'a>(memory: Memory, words: &'a [u8]) -> Result<Ask, LineFault<'a>>
     utxo_by(memory, word, digits)
 }
 
-// Puts in the transactions named.
+// Adds the transactions that are named.
 fn put_txs<'a>(txs: &mut Txs, names: &Names, words: &'a [u8]) -> Result<(), LineFault<'a>>
     ensures ok { OnOk result
         (put_txs names.now (map arc_value txs.old.items) (words_of words.now)
@@ -234,7 +234,7 @@ fn is_among(names: &[Name], word: &[u8]) -> bool
     names.iter().any(|name| word == name.as_bytes())
 }
 
-// Puts in the names, of which none may occur twice.
+// Adds the names, of which none may occur twice.
 fn put_names<'a>(
     names: &mut Vec<Name, Memory>,
     memory: Memory,
@@ -352,7 +352,7 @@ fn hex_ask<'a>(
     }
 }
 
-// A line that is longer than others, or has other bytes.
+// A line that is longer than most, or has other bytes.
 fn long_ask<'a>(memory: Memory, names: &Names, line: &'a [u8]) -> Result<Ask, LineFault<'a>>
     ensures { Gives to_ask (long_ask names.now (words_of line.now)) result }
 {
@@ -365,11 +365,11 @@ fn long_ask<'a>(memory: Memory, names: &Names, line: &'a [u8]) -> Result<Ask, Li
     }
 }
 
-/// The most bytes of a line: those of `utxo` with an output that fills the largest transaction. These are the word, the id, the
-/// sign, 20 digits of an index, two blanks, and two digits for each byte of the output.
+/// The most bytes of a line: those of `utxo` with an output that fills the largest transaction. They are the word, the id, the
+/// number sign, 20 digits of an index, two spaces, and two digits for each byte of the output.
 pub const MAX_LINE_BYTES: usize = 4 + 64 + 1 + 20 + 2 + 2 * (MAX_BYTES - AROUND_BYTES);
 
-// What the line asks, if it isn't too long.
+// What the line asks for, if it isn't too long.
 fn ask_within<'a>(memory: Memory, names: &Names, line: &'a [u8]) -> Result<Ask, LineFault<'a>>
     ensures { Gives to_ask (ask_within names.now line.now) result }
 {
@@ -385,10 +385,10 @@ impl Ask {
     ghost use Rattle.mp_serve.specs.Ask.{ask_of};
     ghost use Rattle.mp_serve.specs.Inside.Ask.{to_ask};
 
-    /// What the line, without its line feed, asks where these names are declared.
+    /// What the line, without its line feed, asks for, given the declared names.
     ///
     /// # Errors
-    /// `Bad` where the line is none of the language. `NoMemory` may come in place of each answer.
+    /// `Bad` if the line isn't in the language. `NoMemory` may replace any other answer.
     #[tactic(auto, unfolding(crate::specs::Ask::ask_of))]
     pub fn parse<'a>(memory: Memory, names: &Names, line: &'a [u8]) -> Result<Ask, LineFault<'a>>
         ensures { Gives to_ask (ask_of names.now line.now) result }

@@ -1,4 +1,4 @@
-//! What a pool is to open with.
+//! What a pool opens with.
 
 ghost use Rattle.std.specs.Prelude.{◌≡◌, ◌+◌, ◌^◌, ℕ, [], nat_lt, true, Some, None, IfOk, IfSome, IfNone, OnOk, OnErr};
 ghost use Rattle.mp_tx.specs.Ledger.{HasBlockBytes, ledger_after, AreFree, IsFirstTaken};
@@ -10,19 +10,19 @@ ghost use Rattle.mp_names.specs.References.{opening_ref};
 ghost use Rattle.mp_block.specs.Block.{at_tick};
 ghost use Rattle.mp_serve.specs.Talk.{put_in};
 
-use crate::signatures::Signatures;
 use mp_lines::MAX_OUTPUTS;
 use mp_memory::{Memory, NoMemory};
 use mp_names::{Binding, LineFault, Name, Names, Payment, Reason};
+use mp_signatures::Signatures;
 use mp_tx::{BlockFault, Ledger, OutRef, Output};
 
-/// What a pool is to open with.
+/// What a pool opens with.
 pub struct Beginning {
-    /// Which signatures it will accept.
+    /// Which signatures it accepts.
     pub signatures: Signatures,
     /// How many outputs have names.
     pub outs: u64,
-    /// All outputs, at no tick in particular.
+    /// All outputs. The tick has no meaning yet.
     pub ledger: Ledger,
 }
 
@@ -38,7 +38,7 @@ impl Drop for Beginning {
 
 type Entries = Vec<(OutRef, Output), Memory>;
 
-// The ledger state with these outputs too, unless a reference of theirs is taken.
+// The ledger state with these outputs too, unless one of their references is taken.
 fn with_made(
     memory: Memory,
     ledger: &Ledger,
@@ -62,7 +62,7 @@ fn with_made(
     }
 }
 
-/// The ledger state with an output more, unless its reference is taken.
+/// The ledger state with one more output, unless its reference is taken.
 pub fn put_in(
     memory: Memory,
     ledger: &Ledger,
@@ -92,7 +92,7 @@ pub fn at_tick(
     }
 }
 
-/// Puts an opening output in, under the next reference and the name. After an `Err` nothing has changed.
+/// Adds an opening output, under the next reference and the name. After an `Err` nothing has changed.
 pub fn put_out<'a>(
     memory: Memory,
     names: &mut Names,
@@ -136,7 +136,7 @@ pub fn put_out<'a>(
     }
 }
 
-/// Puts an opening output in, under its reference. After an `Err` nothing has changed.
+/// Adds an opening output, under its reference. After an `Err` nothing has changed.
 pub fn put_utxo<'a>(
     memory: Memory,
     beginning: &mut Beginning,

@@ -1,4 +1,4 @@
-//! Blocks after which a pool is to adopt the ledger state.
+//! Blocks whose ledger states a pool adopts.
 
 ghost use Rattle.std.specs.Prelude.{◌≡◌, map, unwrap_or};
 ghost use Rattle.mp_settings.specs.Settings.{block_bytes_of};
@@ -18,12 +18,12 @@ pub type Txs = Vec<Arc<Tx, Memory>, Memory>;
 #[derive(Drop)]
 pub struct NewBlock {
     pub tick: u64,
-    /// The bytes that a block may have, where the line gives them.
+    /// The block bytes, if the line gives them.
     pub block_bytes: Option<BlockBytes>,
     pub txs: Txs,
 }
 
-/// A block's transactions, with the tick and the bytes of a block, 1 to 2^39, of the ledger state after it.
+/// A block's transactions, with the tick and the block bytes (1 to 2^39) of the ledger state after it.
 pub struct Block {
     tick: u64,
     block_bytes: u64,
@@ -59,7 +59,7 @@ impl Block {
     ghost use Rattle.mp_settings.specs.Settings.{block_bytes_of};
     ghost use Rattle.mp_serve.specs.Inside.Ask.{to_block};
 
-    /// The block that a line gives. The setting holds where it gives no bytes of a block.
+    /// The block that a line gives. Without block bytes in the line, the setting applies.
     pub fn at(settings: &Settings, block: NewBlock) -> Block
         ensures { result ≡ record {
           tick = block.tick;
@@ -86,7 +86,7 @@ impl Block {
         self.tick
     }
 
-    /// The bytes that a block on the ledger state after it may have, 1 to 2^39.
+    /// The block bytes of the ledger state after it, 1 to 2^39.
     pub fn block_bytes(&self) -> u64
         ensures same { result ≡ self.now.block_bytes }
         ensures range { HasBlockBytes result }

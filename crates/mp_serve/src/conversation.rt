@@ -1,4 +1,4 @@
-//! What a conversation has come to, line by line.
+//! The state of a conversation, line by line.
 
 ghost use Rattle.std.specs.Prelude.{◌≡◌, IfOk, OnOk, OnErr};
 ghost use Rattle.std.specs.Arc.{arc_value};
@@ -13,7 +13,6 @@ use crate::block::Block;
 use crate::forgetting::names_to_go;
 use crate::pool::ServedPool;
 use crate::request::Request;
-use crate::signatures::Signatures;
 use crate::texts::{Text, forgotten_line, ok_line, read_line, show_line, undecodable_line};
 use mp_lines::Line;
 use mp_memory::{Memory, NoMemory};
@@ -23,19 +22,20 @@ use mp_names::{
 };
 use mp_seqpool::Ids;
 use mp_settings::{Settings, ledger_at, make_ledger};
+use mp_signatures::Signatures;
 use mp_tx::{OutRef, Output, Salt, Tx, TxFault, TxId};
 use std::sync::Arc;
 
-/// How far a conversation is.
+/// Whether the pool is open.
 #[derive(Drop)]
 pub enum Stage {
-    /// Nothing was asked of the pool.
+    /// Nothing has been asked of the pool.
     Before(Beginning),
     /// From the first request on: the pool.
     Open(ServedPool),
 }
 
-/// What a conversation has come to.
+/// The state of a conversation.
 pub struct Conversation {
     pub names: Names,
     pub settings: Settings,
@@ -55,10 +55,10 @@ impl Drop for Conversation {
     }
 }
 
-// What came of the first request: the pool that opened for it, the line, and the peer's cursor.
+// The result of the first request: the pool that opened for it, the line, and the peer's cursor.
 type Opened = (ServedPool, (Text, u64));
 
-// Opens the pool, which responds.
+// Opens the pool and lets it respond.
 fn open_for(
     memory: Memory,
     names: &Names,
@@ -76,7 +76,7 @@ fn open_for(
     Ok((pool, response))
 }
 
-// Opens the pool, which takes the transaction in if it can.
+// Opens the pool and submits the transaction.
 fn open_with(
     memory: Memory,
     names: &mut Names,
@@ -118,7 +118,7 @@ impl Conversation {
     ghost use Rattle.mp_serve.specs.Inside.Ask.{to_ask};
     ghost use Rattle.mp_serve.specs.Inside.Request.{to_request};
 
-    /// Before the first line.
+    /// A conversation before its first line.
     pub fn new(memory: Memory, signatures: Signatures, salt: Salt) -> Result<Conversation, NoMemory>
         ensures { IfOk result (λ c. c ≡ new_conversation signatures salt) }
     {
@@ -136,7 +136,7 @@ impl Conversation {
         })
     }
 
-    // The pool, which opens with the first request, responds.
+    // Lets the pool respond, which opens with the first request.
     fn ask(&mut self, memory: Memory, request: &Request) -> Result<Text, NoMemory>
         ensures ok { IfOk result (λ text. ask self.old (to_request request.now)
             ≡ (self.new, text.items)) }
@@ -161,7 +161,7 @@ impl Conversation {
         Ok(text)
     }
 
-    // The pool, which opens with the first request, takes the transaction in if it can, and reports it under the name then.
+    // Submits the transaction to the pool, which opens with the first request. If it is accepted, it is reported under the name.
     fn submit(
         &mut self,
         memory: Memory,
@@ -189,7 +189,7 @@ impl Conversation {
         }
     }
 
-    // The same under the name that its id has.
+    // Submits the transaction under the name that its id has.
     fn submit_again(&mut self, memory: Memory, tx: &Arc<Tx, Memory>) -> Result<Text, NoMemory>
         ensures ok { IfOk result (λ text. submit_again self.old (arc_value tx.now)
             ≡ (self.new, text.items)) }
@@ -199,7 +199,7 @@ impl Conversation {
         self.submit(memory, &name, tx)
     }
 
-    // A setting comes before the first request.
+    // Settings are allowed before the first request.
     fn set<'a>(&mut self, memory: Memory, setting: Setting) -> Result<Text, LineFault<'a>>
         ensures ok { IfOk result (λ text.
             set_at self.old setting self.old.stage ≡ Some (self.new, text.items)) }
@@ -214,7 +214,7 @@ impl Conversation {
         Ok(ok)
     }
 
-    // An output comes before the first request.
+    // Outputs are allowed before the first request.
     fn put_out<'a>(
         &mut self,
         memory: Memory,
@@ -236,7 +236,7 @@ impl Conversation {
         Ok(ok)
     }
 
-    // So does one with its reference.
+    // So are outputs with their references.
     fn hold<'a>(
         &mut self,
         memory: Memory,
@@ -319,7 +319,7 @@ impl Conversation {
         self.ask(memory, &Request::Try(ledger))
     }
 
-    // What a line of a scenario asks.
+    // Does what a line of a scenario asks for.
     fn does<'a>(&mut self, memory: Memory, line: Line) -> Result<Text, LineFault<'a>>
         ensures ok { IfOk result (λ text.
             does self.old (to_line line) ≡ Some (self.new, text.items)) }
@@ -341,7 +341,7 @@ impl Conversation {
         }
     }
 
-    // Reads a transaction from the bytes, for the name.
+    // Reads a transaction from the bytes, under the name.
     fn read(&mut self, memory: Memory, name: Name, bytes: &[u8]) -> Result<Text, NoMemory>
         ensures ok { IfOk result (λ text. read self.old name (transaction_of bytes.now)
             ≡ (self.new, text.items)) }
@@ -359,7 +359,7 @@ impl Conversation {
         }
     }
 
-    // Lets the names go, but those under which the pool reports what it holds.
+    // Forgets the names, except those under which the pool reports what it holds.
     fn forget(&mut self, memory: Memory, listed: Vec<Name, Memory>) -> Result<Text, NoMemory>
         ensures ok { IfOk result (λ text.
             forget self.old listed.items ≡ (self.new, text.items)) }
@@ -371,12 +371,11 @@ impl Conversation {
         Ok(text)
     }
 
-    /// Does what is asked, and gives the line that answers it.
+    /// Does what is asked, and returns the line that answers it. After an `Err` nothing has changed.
     ///
     /// # Errors
-    /// `Bad` where a setting comes twice or after the first request, and where an output comes after it, has a reference that is
-    /// taken, or is the 65,537th with a name.
-    /// After an `Err` nothing has changed.
+    /// `Bad` for a setting that comes twice or after the first request. `Bad` for an output that comes after the first request,
+    /// has a reference that is taken, or is the 65,537th with a name.
     pub fn take<'a>(&mut self, memory: Memory, ask: Ask) -> Result<Text, LineFault<'a>>
         ensures ok { IfOk result (λ text.
             take self.old (to_ask ask) ≡ Some (self.new, text.items)) }
@@ -400,10 +399,10 @@ impl Conversation {
         }
     }
 
-    /// Does what the line says, and gives the line that answers it.
+    /// Does what the line asks for, and returns the line that answers it. After an `Err` nothing has changed.
     ///
     /// # Errors
-    /// `Bad` where the line is none of the language, and as `take`. After an `Err` nothing has changed.
+    /// `Bad` if the line isn't in the language, and the errors of `take`.
     #[tactic(auto, unfolding(crate::specs::Talk::line_step))]
     pub fn hear<'a>(&mut self, memory: Memory, line: &'a [u8]) -> Result<Text, LineFault<'a>>
         ensures ok { IfOk result (λ text.

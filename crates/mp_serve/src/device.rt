@@ -1,23 +1,23 @@
-//! What a conversation is held over: lines come in, and their answers go out.
+//! The device of a conversation: lines come in, and their answers go out.
 
 use mp_memory::Memory;
 use mp_text::{LineRead, ReadFault, WriteFault, read_line, write_all};
 use std::io::{BufRead, Write};
 
-/// What a device is to do next.
+/// What a device has to do next.
 #[derive(Clone, Copy, Debug, PartialEq, Eq)]
 pub enum Turn {
-    /// To read a line: those before are answered, and their answers handed on.
+    /// Read a line: the lines before are answered, and the answers flushed.
     Listens,
-    /// To write the answer to the line that was read.
+    /// Write the answer to the line that was read.
     Owes,
-    /// To hand on the answer that was written.
+    /// Flush the answer that was written.
     Holds,
     /// Nothing: it failed.
     Failed,
 }
 
-/// Reads lines and writes their answers. No line is read before the answers to those before it are written and handed on.
+/// Reads lines and writes their answers. It reads no line before the answers to all lines before it are written and flushed.
 pub trait Device {
     ghost use Rattle.std.specs.Prelude.{◌≡◌, ℕ, List, Option, IfSome, IfOk, OnOk, OnErr};
     ghost use Rattle.std.specs.Io.BufRead.{DropsThrough};
@@ -28,18 +28,18 @@ pub trait Device {
     ghost use Rattle.mp_text.specs.LineInput.{IsLine};
     ghost use Rattle.mp_serve.specs.Device.{turn_after};
 
-    /// The bytes that are left to be read, where they are known.
+    /// The bytes that are left to be read, if they are known.
     ghost input: { Self → Option (List ℕ) };
 
-    /// The bytes that were written, where they are known.
+    /// The bytes that were written, if they are known.
     ghost output: { Self → Option (List ℕ) };
 
     ghost turn: { Self → Turn };
 
-    /// Reads a line to its end, and keeps it if it has at most so many bytes and there is memory for it.
+    /// Reads a line to its end. Stores it if it has at most `limit` bytes and no allocation fails.
     ///
     /// # Errors
-    /// Where the device fails.
+    /// If the device fails.
     fn read_line(&mut self, line: &mut Vec<u8, Memory>, limit: usize) -> Result<LineRead, ReadFault>
         requires { turn self.old ≡ Listens }
         ensures rest { OnOk result (DropsThrough (input self.old) (input self.new) 10) }
@@ -52,7 +52,7 @@ pub trait Device {
     /// Writes the answer to the line that was read.
     ///
     /// # Errors
-    /// Where the device fails. A prefix of the answer is written then.
+    /// If the device fails. Then a prefix of the answer is written.
     fn write(&mut self, text: &[u8]) -> Result<(), WriteFault>
         requires { turn self.old ≡ Owes }
         ensures ok { OnOk result (Appends (output self.old) (output self.new) text.now) }
@@ -61,10 +61,10 @@ pub trait Device {
         ensures failed { OnErr result (turn self.new ≡ Failed) }
         ensures input { input self.new ≡ input self.old };
 
-    /// Hands on what was written.
+    /// Flushes what was written.
     ///
     /// # Errors
-    /// Where the device fails.
+    /// If the device fails.
     fn flush(&mut self) -> Result<(), WriteFault>
         requires { turn self.old ≡ Holds }
         ensures turn { OnOk result (turn self.new ≡ Listens) }
@@ -78,7 +78,7 @@ pub trait Device {
 pub struct Streams<R, W> {
     pub reader: R,
     pub writer: W,
-    /// What is to be done next.
+    /// What has to be done next.
     pub turn: Turn,
 }
 
@@ -86,7 +86,7 @@ impl<R, W> Streams<R, W> {
     ghost use Rattle.std.specs.Prelude.{◌≡◌};
     ghost use Rattle.mp_serve.specs.declared.device.Turn.TheVariants.{Listens};
 
-    /// Before the first line.
+    /// The streams before the first line.
     pub fn new(reader: R, writer: W) -> Streams<R, W>
         ensures { result ≡ record { reader = reader; writer = writer; turn = Listens } }
     {

@@ -2,21 +2,21 @@
 
 ghost use Rattle.std.specs.Prelude.{IfOk};
 ghost use Rattle.mp_block.specs.Block.{apply_block};
-ghost use Rattle.mp_serve.specs.ServedPool.{accepted_by};
+ghost use Rattle.mp_signatures.specs.Scheme.{accepted_by};
 ghost use Rattle.mp_serve.specs.Inside.Extended.{IsExtended};
 
 use crate::block::Block;
-use crate::signatures::Signatures;
 use crate::texts::{Text, block_refused_line};
 use mp_block::{AppliedBlock, BlockRefusal, apply_block};
 use mp_memory::{Memory, NoMemory};
 use mp_names::Names;
+use mp_signatures::Signatures;
 use mp_tx::Ledger;
 
-/// What a block comes to.
+/// The result of applying a block.
 #[derive(Drop)]
 pub enum Extended {
-    /// The ledger state after it, and what leads back.
+    /// The ledger state after it, and how to go back.
     To(AppliedBlock),
     /// The line that says which transaction isn't valid after those before it.
     Refused(Text),
@@ -26,12 +26,12 @@ pub enum Extended {
 pub fn extend(
     memory: Memory,
     names: &Names,
-    signatures: Signatures,
+    signatures: &Signatures,
     ledger: &Ledger,
     block: &Block,
 ) -> Result<Extended, NoMemory>
     ensures { IfOk result (IsExtended names.now ledger.now block.now.txs
-        (apply_block (accepted_by signatures) ledger.now block.now.tick block.now.block_bytes
+        (apply_block (accepted_by signatures.now) ledger.now block.now.tick block.now.block_bytes
         block.now.txs)) }
 {
     match apply_block(
@@ -40,7 +40,7 @@ pub fn extend(
         block.tick(),
         block.block_bytes(),
         block.txs(),
-        &signatures,
+        signatures,
     ) {
         Ok(applied) => Ok(Extended::To(applied)),
         Err(refusal) => match refusal {

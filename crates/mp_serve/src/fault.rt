@@ -2,10 +2,10 @@
 
 use std::fmt;
 
-/// Why a conversation ends before its input does. Its text is the line that the program prints.
+/// Why a conversation ends before its input does. The program prints its text.
 #[derive(Clone, Copy, Debug, PartialEq, Eq)]
 pub enum Fault {
-    /// There was no memory to begin.
+    /// An allocation failed before the first line.
     NoMemory,
     ReadFault,
     WriteFault,

@@ -1,4 +1,4 @@
-//! Which names may be let go.
+//! Which names may be forgotten.
 
 ghost use Rattle.std.specs.Prelude.{◌≡◌, ◌++◌, [], ◌∷◌, if◌then◌else◌, IfOk, OnOk};
 ghost use Rattle.mp_names.specs.Names.{binding_named};

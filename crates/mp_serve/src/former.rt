@@ -6,16 +6,16 @@ ghost use Rattle.mp_serve.specs.Inside.Former.{CanGoBack, CanAllGoBack, state_be
 use mp_memory::{Memory, NoMemory};
 use mp_tx::{Ledger, Undo};
 
-/// How to go back to the ledger state before.
+/// How to go back to the previous ledger state.
 #[derive(Drop)]
 pub enum Former {
-    /// What a block changed.
+    /// Undo the changes of a block.
     Block(Undo),
-    /// That ledger state.
+    /// Use the stored ledger state.
     Whole(Ledger),
 }
 
-/// Those of each ledger state that a pool had, the oldest first.
+/// How to go back to each ledger state that a pool had, oldest first.
 pub type Formers = Vec<Former, Memory>;
 
 fn state_before(memory: Memory, now: &Ledger, former: &Former) -> Result<Ledger, NoMemory>
@@ -28,7 +28,7 @@ fn state_before(memory: Memory, now: &Ledger, former: &Former) -> Result<Ledger,
     }
 }
 
-/// The first of the ledger states that lead to this one. The cost is in proportion to what their blocks changed.
+/// The first of the ledger states that lead to this one. The cost is proportional to the changes of their blocks.
 pub fn earliest(memory: Memory, formers: &[Former], now: &Ledger) -> Result<Ledger, NoMemory>
     requires { CanAllGoBack formers.now now.now }
     ensures { IfOk result (λ l. l ≡ earliest formers.now now.now) }

@@ -1,4 +1,4 @@
-//! A conversation with a pool, line by line: each line answered before the next is read.
+//! A conversation with a pool, line by line. Each line is answered before the next is read.
 #![tactic(auto)]
 
 mod adopting;
@@ -18,7 +18,6 @@ mod pool;
 mod refused;
 mod request;
 mod serving;
-mod signatures;
 mod texts;
 
 pub use ask::MAX_LINE_BYTES;
@@ -26,4 +25,3 @@ pub use conversation::Conversation;
 pub use device::{Device, Streams, Turn};
 pub use fault::Fault;
 pub use serving::serve;
-pub use signatures::Signatures;

@@ -1,4 +1,4 @@
-//! What a pool does when it is asked to.
+//! Commands to the pool, and their answers.
 
 ghost use Rattle.std.specs.Prelude.{◌≡◌, ◌≤◌, ◌^◌, Some, Err, IfOk, IfErr, OnOk, OnErr};
 ghost use Rattle.std.specs.Result.{result_err};
@@ -8,39 +8,39 @@ ghost use Rattle.mp_seqpool.specs.Inside.Command.{command_of};
 ghost use Rattle.mp_seqpool.specs.Prepared.{Prepares};
 ghost use Rattle.mp_seqpool.specs.SlowPool.{answer, next, AreSigned, IsRefused};
 ghost use Rattle.mp_answers.specs.AnswerText.{answer_text};
-ghost use Rattle.mp_serve.specs.ServedPool.{accepted_by};
+ghost use Rattle.mp_signatures.specs.Scheme.{accepted_by};
 ghost use Rattle.mp_serve.specs.Request.{counted_anew, reported_if};
 ghost use Rattle.mp_serve.specs.Inside.Pool.{IsReady};
 
-use crate::signatures::Signatures;
 use crate::texts::Text;
 use mp_answers::{answer_line, reply_line};
 use mp_memory::{Memory, NoMemory};
 use mp_names::{Name, Names};
 use mp_seqpool::{Command, Ids, Prepared, Refusal, SeqPool};
+use mp_signatures::Signatures;
 use mp_tx::Tx;
 use std::sync::Arc;
 
 fn prepare(
-    signatures: Signatures,
+    signatures: &Signatures,
     pool: &mut SeqPool,
     command: &Command,
 ) -> Result<Prepared, Refusal>
-    requires { AreSigned (accepted_by signatures) pool.old.pool }
+    requires { AreSigned (accepted_by signatures.now) pool.old.pool }
     ensures same { pool.new.pool ≡ pool.old.pool }
     ensures ready { IfOk result
-        (Prepares (accepted_by signatures) pool.new (command_of command.now)) }
+        (Prepares (accepted_by signatures.now) pool.new (command_of command.now)) }
     ensures refused { IfErr result
-        (IsRefused (accepted_by signatures) pool.old.pool (command_of command.now)) }
+        (IsRefused (accepted_by signatures.now) pool.old.pool (command_of command.now)) }
 {
     match command {
-        Command::Submit(tx) => pool.prepare_submit(tx, None, &signatures),
-        Command::Remove(ids) => pool.prepare_remove(ids, &signatures),
-        Command::Sync(ledger) => pool.prepare_sync(ledger, &signatures),
+        Command::Submit(tx) => pool.prepare_submit(tx, None, signatures),
+        Command::Remove(ids) => pool.prepare_remove(ids, signatures),
+        Command::Sync(ledger) => pool.prepare_sync(ledger, signatures),
     }
 }
 
-// Counts the changes from 0 again, where no more may be made.
+// Counts the changes from 0 again if the pool has made as many as it may.
 fn count_anew(pool: &mut SeqPool)
     requires least { 1 ≤ pool.old.pool.limit }
     requires most { pool.old.pool.limit ≤ 2 ^ 32 }
@@ -52,7 +52,7 @@ fn count_anew(pool: &mut SeqPool)
     }
 }
 
-/// The line that answers a command, and why it is refused, if it is.
+/// The line that answers a command, and the refusal if it is refused.
 pub type Answered = (Text, Option<Refusal>);
 
 fn refused(memory: Memory, names: &Names, refusal: &Refusal) -> Result<Answered, NoMemory>
@@ -63,21 +63,21 @@ fn refused(memory: Memory, names: &Names, refusal: &Refusal) -> Result<Answered,
     Ok((text, Some(*refusal)))
 }
 
-// Does what is asked. The line is there before it is done, so that there is nothing to undo.
+// Does what is asked. The line is allocated first, so that nothing has to be undone.
 fn carry_out(
     memory: Memory,
     names: &Names,
-    signatures: Signatures,
+    signatures: &Signatures,
     pool: &mut SeqPool,
     command: &Command,
 ) -> Result<Answered, NoMemory>
-    requires { IsReady (accepted_by signatures) pool.old.pool }
+    requires { IsReady (accepted_by signatures.now) pool.old.pool }
     ensures pool { OnOk result (pool.new.pool
-        ≡ counted_anew (next (accepted_by signatures) pool.old.pool (command_of command.now))) }
+        ≡ counted_anew (next (accepted_by signatures.now) pool.old.pool (command_of command.now))) }
     ensures text { IfOk result (λ r. r.0.items ≡ answer_text names.now
-        (answer (accepted_by signatures) pool.old.pool (command_of command.now))) }
+        (answer (accepted_by signatures.now) pool.old.pool (command_of command.now))) }
     ensures refusal { IfOk result (λ r. r.1
-        ≡ result_err (answer (accepted_by signatures) pool.old.pool (command_of command.now))) }
+        ≡ result_err (answer (accepted_by signatures.now) pool.old.pool (command_of command.now))) }
     ensures err { OnErr result (pool.new.pool ≡ pool.old.pool) }
 {
     match prepare(signatures, pool, command) {
@@ -94,49 +94,51 @@ fn carry_out(
     }
 }
 
-/// Does what is asked, and gives the line of its answer, and why it was refused, if it was. After an `Err` nothing has changed.
+/// Does what is asked. Returns the line of the answer, and the refusal if it is refused. After an `Err` nothing has changed.
 pub fn obey(
     memory: Memory,
     names: &Names,
-    signatures: Signatures,
+    signatures: &Signatures,
     pool: &mut SeqPool,
     command: &Command,
 ) -> Result<Answered, NoMemory>
-    requires { IsReady (accepted_by signatures) pool.old.pool }
+    requires { IsReady (accepted_by signatures.now) pool.old.pool }
     ensures pool { OnOk result (pool.new.pool
-        ≡ counted_anew (next (accepted_by signatures) pool.old.pool (command_of command.now))) }
+        ≡ counted_anew (next (accepted_by signatures.now) pool.old.pool (command_of command.now))) }
     ensures text { IfOk result (λ r. r.0.items ≡ answer_text names.now
-        (answer (accepted_by signatures) pool.old.pool (command_of command.now))) }
+        (answer (accepted_by signatures.now) pool.old.pool (command_of command.now))) }
     ensures refusal { IfOk result (λ r. r.1
-        ≡ result_err (answer (accepted_by signatures) pool.old.pool (command_of command.now))) }
+        ≡ result_err (answer (accepted_by signatures.now) pool.old.pool (command_of command.now))) }
     ensures err { OnErr result (pool.new.pool ≡ pool.old.pool) }
-    ensures ready { IsReady (accepted_by signatures) pool.new.pool }
+    ensures ready { IsReady (accepted_by signatures.now) pool.new.pool }
 {
     carry_out(memory, names, signatures, pool, command)
 }
 
-// Takes the transaction in. The line is there, and the name noted, before it is done, so that there is nothing to undo.
+// Submits the transaction. The line is allocated and the name noted first, so that nothing has to be undone.
 fn take_in(
     memory: Memory,
     names: &mut Names,
     name: &Name,
-    signatures: Signatures,
+    signatures: &Signatures,
     pool: &mut SeqPool,
     tx: &Arc<Tx, Memory>,
 ) -> Result<Answered, NoMemory>
-    requires { IsReady (accepted_by signatures) pool.old.pool }
+    requires { IsReady (accepted_by signatures.now) pool.old.pool }
     ensures pool { OnOk result (pool.new.pool
-        ≡ counted_anew (next (accepted_by signatures) pool.old.pool (Submit (arc_value tx.now)))) }
+        ≡ counted_anew (next (accepted_by signatures.now) pool.old.pool
+        (Submit (arc_value tx.now)))) }
     ensures names { OnOk result (names.new ≡ reported_if names.old name.now
-        (answer (accepted_by signatures) pool.old.pool (Submit (arc_value tx.now)))) }
+        (answer (accepted_by signatures.now) pool.old.pool (Submit (arc_value tx.now)))) }
     ensures text { IfOk result (λ r. r.0.items ≡ answer_text names.old
-        (answer (accepted_by signatures) pool.old.pool (Submit (arc_value tx.now)))) }
+        (answer (accepted_by signatures.now) pool.old.pool (Submit (arc_value tx.now)))) }
     ensures refusal { IfOk result (λ r. r.1
-        ≡ result_err (answer (accepted_by signatures) pool.old.pool (Submit (arc_value tx.now)))) }
+        ≡ result_err (answer (accepted_by signatures.now) pool.old.pool
+        (Submit (arc_value tx.now)))) }
     ensures err { OnErr result (pool.new.pool ≡ pool.old.pool) }
     ensures kept { OnErr result (names.new ≡ names.old) }
 {
-    match pool.prepare_submit(tx, None, &signatures) {
+    match pool.prepare_submit(tx, None, signatures) {
         Ok(prepared) => {
             let text = reply_line(memory, prepared.reply())?;
             names.report(name.as_bytes())?;
@@ -151,70 +153,74 @@ fn take_in(
     }
 }
 
-/// Takes the transaction in, and reports it under the name from then on, if it is accepted. Returns the line of the answer, and why
-/// it was refused, if it was. After an `Err` nothing has changed.
+/// Submits the transaction, and reports it under the name from then on if it is accepted. Returns the line of the answer, and the
+/// refusal if it is refused. After an `Err` nothing has changed.
 pub fn submit(
     memory: Memory,
     names: &mut Names,
     name: &Name,
-    signatures: Signatures,
+    signatures: &Signatures,
     pool: &mut SeqPool,
     tx: &Arc<Tx, Memory>,
 ) -> Result<Answered, NoMemory>
-    requires { IsReady (accepted_by signatures) pool.old.pool }
+    requires { IsReady (accepted_by signatures.now) pool.old.pool }
     ensures pool { OnOk result (pool.new.pool
-        ≡ counted_anew (next (accepted_by signatures) pool.old.pool (Submit (arc_value tx.now)))) }
+        ≡ counted_anew (next (accepted_by signatures.now) pool.old.pool
+        (Submit (arc_value tx.now)))) }
     ensures names { OnOk result (names.new ≡ reported_if names.old name.now
-        (answer (accepted_by signatures) pool.old.pool (Submit (arc_value tx.now)))) }
+        (answer (accepted_by signatures.now) pool.old.pool (Submit (arc_value tx.now)))) }
     ensures text { IfOk result (λ r. r.0.items ≡ answer_text names.old
-        (answer (accepted_by signatures) pool.old.pool (Submit (arc_value tx.now)))) }
+        (answer (accepted_by signatures.now) pool.old.pool (Submit (arc_value tx.now)))) }
     ensures refusal { IfOk result (λ r. r.1
-        ≡ result_err (answer (accepted_by signatures) pool.old.pool (Submit (arc_value tx.now)))) }
+        ≡ result_err (answer (accepted_by signatures.now) pool.old.pool
+        (Submit (arc_value tx.now)))) }
     ensures err { OnErr result (pool.new.pool ≡ pool.old.pool) }
     ensures kept { OnErr result (names.new ≡ names.old) }
-    ensures ready { IsReady (accepted_by signatures) pool.new.pool }
+    ensures ready { IsReady (accepted_by signatures.now) pool.new.pool }
     ensures ledger { pool.new.pool.ledger ≡ pool.old.pool.ledger }
 {
     take_in(memory, names, name, signatures, pool, tx)
 }
 
-/// Takes out the transactions with these ids. Returns the line of the answer, and why it was refused, if it was. After an `Err`
+/// Removes the transactions with these ids. Returns the line of the answer, and the refusal if it is refused. After an `Err`
 /// nothing has changed.
 pub fn remove(
     memory: Memory,
     names: &Names,
-    signatures: Signatures,
+    signatures: &Signatures,
     pool: &mut SeqPool,
     ids: &Arc<Ids, Memory>,
 ) -> Result<Answered, NoMemory>
-    requires { IsReady (accepted_by signatures) pool.old.pool }
+    requires { IsReady (accepted_by signatures.now) pool.old.pool }
     ensures pool { OnOk result (pool.new.pool
-        ≡ counted_anew (next (accepted_by signatures) pool.old.pool (Remove (arc_value ids.now)))) }
+        ≡ counted_anew (next (accepted_by signatures.now) pool.old.pool
+        (Remove (arc_value ids.now)))) }
     ensures text { IfOk result (λ r. r.0.items ≡ answer_text names.now
-        (answer (accepted_by signatures) pool.old.pool (Remove (arc_value ids.now)))) }
+        (answer (accepted_by signatures.now) pool.old.pool (Remove (arc_value ids.now)))) }
     ensures refusal { IfOk result (λ r. r.1
-        ≡ result_err (answer (accepted_by signatures) pool.old.pool (Remove (arc_value ids.now)))) }
+        ≡ result_err (answer (accepted_by signatures.now) pool.old.pool
+        (Remove (arc_value ids.now)))) }
     ensures err { OnErr result (pool.new.pool ≡ pool.old.pool) }
-    ensures ready { IsReady (accepted_by signatures) pool.new.pool }
+    ensures ready { IsReady (accepted_by signatures.now) pool.new.pool }
     ensures ledger { pool.new.pool.ledger ≡ pool.old.pool.ledger }
 {
     let command = Command::Remove(Arc::try_clone(ids)?);
     obey(memory, names, signatures, pool, &command)
 }
 
-/// What the submit would be answered.
+/// What the submit would answer.
 pub fn check(
     memory: Memory,
     names: &Names,
-    signatures: Signatures,
+    signatures: &Signatures,
     pool: &mut SeqPool,
     tx: &Arc<Tx, Memory>,
 ) -> Result<Text, NoMemory>
     ensures pool { pool.new.pool ≡ pool.old.pool }
     ensures text { IfOk result (λ text. text.items ≡ answer_text names.now
-        (answer (accepted_by signatures) pool.old.pool (Submit (arc_value tx.now)))) }
+        (answer (accepted_by signatures.now) pool.old.pool (Submit (arc_value tx.now)))) }
 {
-    match pool.prepare_submit(tx, None, &signatures) {
+    match pool.prepare_submit(tx, None, signatures) {
         Ok(prepared) => reply_line(memory, prepared.reply()),
         Err(Refusal::NoMemory) => Err(NoMemory),
         Err(refusal) => answer_line(memory, names, &Err(refusal)),

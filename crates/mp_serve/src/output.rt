@@ -10,14 +10,14 @@ use mp_memory::{Memory, NoMemory};
 use mp_names::{LineFault, Reason, number_in, split_once};
 use mp_tx::{OutRef, Output, Tx, TxFault, TxId};
 
-// What comes before and after the bytes of the one output of a transaction of format 1, which has nothing else.
+// The bytes before and after those of the only output of a transaction of format 1, which has nothing else.
 const BEFORE: [u8; 5] = [1, 0, 0, 0, 1];
 
 const BEHIND: [u8; 22] = [
     0, 0, 0, 0, 0, 0, 0, 0, 255, 255, 255, 255, 255, 255, 255, 255, 0, 0, 0, 0, 0, 0,
 ];
 
-/// How many bytes a transaction has around those of its output, if it has nothing else.
+/// How many bytes a transaction has in addition to those of its output, if it has nothing else.
 pub const AROUND_BYTES: usize = 27;
 
 const MAX_INDEX: u64 = (1 << 16) - 1;

@@ -8,7 +8,6 @@ use crate::former::{Former, Formers};
 use crate::obeying::{check, remove, submit};
 use crate::refused::{Counts, count_if_refused, count_one, none_counted};
 use crate::request::Request;
-use crate::signatures::Signatures;
 use crate::texts::{Text, back_refused_line, stats_line};
 use mp_answers::{kept_line, query_line};
 use mp_block::AppliedBlock;
@@ -16,12 +15,13 @@ use mp_memory::{Memory, NoMemory};
 use mp_names::{Name, Names};
 use mp_seqpool::{Config, Ids, SeqPool};
 use mp_settings::Settings;
+use mp_signatures::Signatures;
 use mp_tx::{Ledger, Tx, TxId};
 use std::marker::Model;
 use std::sync::Arc;
 
-/// The pool of a conversation, which one thread has, with what leads back to its former ledger states, at most 2,160. When it has
-/// made as many changes as it may, it counts them from 0 again, so it goes on for as long as it is asked; its last ticket stays.
+/// The pool of a conversation, used by one thread, with what leads back to its former ledger states, at most 2,160. After as many
+/// changes as it may make, it counts them from 0 again and goes on. Its last ticket stays.
 pub struct ServedPool {
     pool: SeqPool,
     signatures: Signatures,
@@ -65,7 +65,7 @@ impl ServedPool {
     ghost use Rattle.mp_serve.specs.Request.{Adopt, Extend, Return, after_command, answer_to, answered, reported_if, respond};
     ghost use Rattle.mp_serve.specs.Inside.Request.{to_request};
 
-    /// The empty pool on the opening outputs, which stay as they are.
+    /// The empty pool on the opening outputs. `beginning` doesn't change.
     pub fn open(
         memory: Memory,
         settings: &Settings,
@@ -73,6 +73,8 @@ impl ServedPool {
     ) -> Result<ServedPool, NoMemory>
         ensures { IfOk result (λ p. p ≡ opened settings.now beginning.now) }
     {
+        let signatures = &beginning.signatures;
+        let signatures = signatures.share()?;
         let ledger = &beginning.ledger;
         let ledger = at_tick(memory, ledger, settings.tick(), settings.block_bytes())?;
         let config = Config {
@@ -81,7 +83,7 @@ impl ServedPool {
         };
         Ok(ServedPool {
             pool: SeqPool::start(memory, config, &ledger)?,
-            signatures: beginning.signatures,
+            signatures,
             former: Vec::new(memory),
             refused: none_counted(),
         })
@@ -94,10 +96,10 @@ impl ServedPool {
         self.pool.ticket_of(id).is_some()
     }
 
-    /// Takes the transaction in, and reports it under the name from then on, if it is accepted. A refusal is counted.
+    /// Submits the transaction, and reports it under the name from then on if it is accepted. A refusal is counted.
     ///
     /// # Errors
-    /// `NoMemory`, and then nothing has changed.
+    /// `NoMemory`. Then nothing has changed.
     pub fn submit(
         &mut self,
         memory: Memory,
@@ -115,12 +117,12 @@ impl ServedPool {
         ensures kept { OnErr result (names.new ≡ names.old) }
     {
         let pool = &mut self.pool;
-        let (text, refusal) = submit(memory, names, name, self.signatures, pool, tx)?;
+        let (text, refusal) = submit(memory, names, name, &self.signatures, pool, tx)?;
         count_if_refused(&mut self.refused, &refusal);
         Ok(text)
     }
 
-    // Takes out the transactions with these ids. A refusal is counted.
+    // Removes the transactions with these ids. A refusal is counted.
     fn remove(
         &mut self,
         memory: Memory,
@@ -133,12 +135,12 @@ impl ServedPool {
             text.items ≡ answered names.now self.old (Remove (arc_value ids.now))) }
         ensures err { OnErr result (self.new ≡ self.old) }
     {
-        let (text, refusal) = remove(memory, names, self.signatures, &mut self.pool, ids)?;
+        let (text, refusal) = remove(memory, names, &self.signatures, &mut self.pool, ids)?;
         count_if_refused(&mut self.refused, &refusal);
         Ok(text)
     }
 
-    // The new ledger state. The one that it had is kept whole.
+    // Adopts a new ledger state. The previous one is stored whole.
     fn adopt(&mut self, memory: Memory, names: &Names, ledger: &Ledger) -> Result<Text, NoMemory>
         ensures ok { IfOk result (λ text. (cursor : ℕ)
             → respond names.now cursor self.old (Adopt ledger.now)
@@ -149,7 +151,7 @@ impl ServedPool {
         go_on(
             memory,
             names,
-            self.signatures,
+            &self.signatures,
             &mut self.pool,
             &mut self.former,
             ledger.share()?,
@@ -157,7 +159,7 @@ impl ServedPool {
         )
     }
 
-    // The ledger state after the block, or which of its transactions isn't valid after those before it.
+    // Adopts the ledger state after the block, or answers which of its transactions isn't valid after those before it.
     fn adopt_block(
         &mut self,
         memory: Memory,
@@ -169,14 +171,13 @@ impl ServedPool {
             ≡ record { served = self.new; cursor = cursor; text = text.items }) }
         ensures err { OnErr result (self.new ≡ self.old) }
     {
-        let signatures = self.signatures;
-        match extend(memory, names, signatures, self.pool.ledger(), block)? {
+        match extend(memory, names, &self.signatures, self.pool.ledger(), block)? {
             Extended::To(applied) => {
                 let AppliedBlock { ledger, undo } = applied;
                 go_on(
                     memory,
                     names,
-                    signatures,
+                    &self.signatures,
                     &mut self.pool,
                     &mut self.former,
                     ledger,
@@ -190,7 +191,7 @@ impl ServedPool {
         }
     }
 
-    // The ledger state of so many ago, or how many are kept.
+    // Adopts the ledger state this many steps ago, or answers how many are kept.
     fn return_by(&mut self, memory: Memory, names: &Names, count: u64) -> Result<Text, NoMemory>
         ensures ok { IfOk result (λ text. (cursor : ℕ)
             → respond names.now cursor self.old (Return count)
@@ -207,17 +208,17 @@ impl ServedPool {
         go_back(
             memory,
             names,
-            self.signatures,
+            &self.signatures,
             &mut self.pool,
             &mut self.former,
             kept - count,
         )
     }
 
-    /// Responds, and gives the line and where the peer's cursor is then.
+    /// Does what is asked. Returns the line of the answer, and the peer's cursor after it.
     ///
     /// # Errors
-    /// `NoMemory`, and then nothing has changed.
+    /// `NoMemory`. Then nothing has changed.
     pub fn respond(
         &mut self,
         memory: Memory,
@@ -230,7 +231,6 @@ impl ServedPool {
             ≡ record { served = self.new; cursor = r.1; text = r.0.items }) }
         ensures err { OnErr result (self.new ≡ self.old) }
     {
-        let signatures = self.signatures;
         let text = match request {
             Request::Remove(ids) => self.remove(memory, names, ids)?,
             Request::Adopt(ledger) => self.adopt(memory, names, ledger)?,
@@ -239,8 +239,8 @@ impl ServedPool {
             Request::Read(query) => {
                 return query_line(memory, names, cursor, &self.pool, *query);
             }
-            Request::Try(ledger) => kept_line(memory, names, &self.pool, ledger, &signatures)?,
-            Request::Check(tx) => check(memory, names, signatures, &mut self.pool, tx)?,
+            Request::Try(ledger) => kept_line(memory, names, &self.pool, ledger, &self.signatures)?,
+            Request::Check(tx) => check(memory, names, &self.signatures, &mut self.pool, tx)?,
             Request::Count => stats_line(memory, &self.pool, &self.refused)?,
         };
         Ok((text, cursor))

@@ -8,18 +8,18 @@ use mp_answers::{REFUSAL_WORDS, REFUSALS, put_number, put_word, refusal_place};
 use mp_memory::{Memory, NoMemory};
 use mp_seqpool::Refusal;
 
-/// How often each kind of refusal was answered. A count that has come to 2^64 - 1 stays there.
+/// How often each kind of refusal was answered. A count that reaches 2^64 - 1 stays there.
 #[derive(Clone, Copy)]
 pub struct Counts {
-    /// In the order of the refusals' words.
+    /// In the order of the words for refusals.
     pub refusals: [u64; REFUSALS],
     /// Blocks that were refused.
     pub adopts: u64,
-    /// How often too few former ledger states were kept.
+    /// Requests to go back further than ledger states are kept.
     pub backs: u64,
 }
 
-/// Nothing is counted yet.
+/// Counts of 0.
 pub fn none_counted() -> Counts
     ensures { result ≡ none_counted }
 {
@@ -52,7 +52,7 @@ pub fn count_if_refused(counts: &mut Counts, refusal: &Option<Refusal>)
     }
 }
 
-// The word, and how often, unless it was never.
+// The word and its count, unless that is 0.
 fn put_count(text: &mut Text, word: &[u8], count: u64) -> Result<(), NoMemory>
     ensures { OnOk result (text.new.items ≡ text.old.items ++ count_text word.now count) }
 {
@@ -76,7 +76,7 @@ fn put_each(text: &mut Text, words: &[&[u8]], counts: &[u64]) -> Result<(), NoMe
     Ok(())
 }
 
-/// Each kind that was answered, and how often.
+/// Each kind of refusal that occurred, and how often.
 pub fn put_counts(text: &mut Text, counts: &Counts) -> Result<(), NoMemory>
     ensures { OnOk result (text.new.items ≡ text.old.items ++ counts_text counts.now) }
 {

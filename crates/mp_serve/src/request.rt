@@ -1,4 +1,4 @@
-//! What is asked of the pool.
+//! Requests to the pool.
 
 use crate::block::Block;
 use mp_lines::Query;
@@ -7,23 +7,23 @@ use mp_seqpool::Ids;
 use mp_tx::{Ledger, Tx};
 use std::sync::Arc;
 
-/// What is asked of the pool.
+/// A request to the pool.
 #[derive(Drop)]
 pub enum Request {
-    /// To take out those with these ids.
+    /// Remove the transactions with these ids.
     Remove(Arc<Ids, Memory>),
-    /// To adopt the ledger state.
+    /// Adopt the ledger state.
     Adopt(Ledger),
-    /// To adopt the ledger state after the block.
+    /// Adopt the ledger state after the block.
     Extend(Block),
-    /// To adopt the ledger state of so many ago.
+    /// Adopt the ledger state this many steps ago.
     Return(u64),
-    /// What is read of it.
+    /// Answer the query.
     Read(Query),
-    /// What would stay on the ledger state.
+    /// Which transactions would stay on the ledger state.
     Try(Ledger),
-    /// What the submit of the transaction would be answered.
+    /// What the submit of the transaction would answer.
     Check(Arc<Tx, Memory>),
-    /// Its numbers.
+    /// The pool's numbers.
     Count,
 }

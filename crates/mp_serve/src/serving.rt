@@ -10,12 +10,12 @@ use crate::ask::MAX_LINE_BYTES;
 use crate::conversation::Conversation;
 use crate::device::{Device, Turn};
 use crate::fault::Fault;
-use crate::signatures::Signatures;
 use mp_memory::Memory;
+use mp_signatures::Signatures;
 use mp_text::LineRead;
 use mp_tx::Salt;
 
-// Answers each line that is left. The line is where it is read to.
+// Answers each line that is left. `line` is the buffer for it.
 fn answer_all<D: Device>(
     memory: Memory,
     conversation: &mut Conversation,
@@ -43,12 +43,12 @@ fn answer_all<D: Device>(
     Err(Fault::ManyLines)
 }
 
-/// Answers each line of the input as it comes, until the input ends. The next line is read once the answer is written and handed on.
-/// A line that is too long, or for which there is no memory, is read to its end and answered so. The host picks the salt at random
-/// and keeps it secret; no answer depends on it.
+/// Answers each line of the input as it comes, until the input ends. The next line is read once the answer is written and
+/// flushed. A line that is too long, or for which an allocation fails, is read to its end, and the answer says so. The host picks
+/// the salt at random and keeps it secret. No answer depends on it.
 ///
 /// # Errors
-/// `ReadFault` and `WriteFault` where the device fails; `NoMemory` before the first line; `ManyLines` after 2^64 - 2 lines.
+/// `ReadFault` and `WriteFault` if the device fails. `NoMemory` before the first line. `ManyLines` after 2^64 - 2 lines.
 pub fn serve<D: Device>(
     memory: Memory,
     signatures: Signatures,

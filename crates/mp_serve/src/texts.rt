@@ -17,13 +17,13 @@ use std::sync::Arc;
 /// One line of text.
 pub type Text = Vec<u8, Memory>;
 
-/// What is written where an answer finds no memory.
+/// The answer if an allocation fails.
 pub const NO_MEMORY: &[u8] = b"fault: no memory\n";
 
-// The line of bytes that were read fits into so many bytes.
+// The line about bytes that were read fits into this many bytes.
 const TX_ROOM: usize = 80;
 
-/// What is answered where there is nothing to report.
+/// The answer if there is nothing to report.
 pub fn ok_line(memory: Memory) -> Result<Text, NoMemory>
     ensures { IfOk result (λ text. text.items ≡ ok_text) }
 {
@@ -53,7 +53,7 @@ fn put_hex(memory: Memory, text: &mut Text, bytes: &[u8]) -> Result<(), NoMemory
     put_word(text, digits.as_bytes())
 }
 
-// Each byte of an id as two digits, for which nothing is taken but their place in the text.
+// Each byte of an id as two digits. It allocates only their space in the text.
 fn put_id(text: &mut Text, id: &TxId) -> Result<(), NoMemory>
     ensures { OnOk result (text.new.items ≡ text.old.items ++ encode_lower id.now) }
 {
@@ -93,7 +93,7 @@ fn fault_name(fault: TxFault) -> &'static [u8]
     }
 }
 
-/// The line of bytes that were read.
+/// The line about bytes that are a transaction.
 #[tactic(auto, unfolding(crate::specs::Texts::bytes_text))]
 pub fn read_line(memory: Memory, tx: &Tx) -> Result<Text, NoMemory>
     ensures { IfOk result (λ text. text.items ≡ bytes_text (Ok tx.now)) }
@@ -104,7 +104,7 @@ pub fn read_line(memory: Memory, tx: &Tx) -> Result<Text, NoMemory>
     Ok(text)
 }
 
-/// The line of bytes that are no transaction.
+/// The line about bytes that are no transaction.
 #[tactic(auto, unfolding(crate::specs::Texts::bytes_text))]
 pub fn undecodable_line(memory: Memory, fault: TxFault) -> Result<Text, NoMemory>
     ensures { IfOk result (λ text. text.items ≡ bytes_text (Err fault)) }
@@ -116,7 +116,7 @@ pub fn undecodable_line(memory: Memory, fault: TxFault) -> Result<Text, NoMemory
     Ok(text)
 }
 
-/// The line of a transaction with its bytes.
+/// The line about a transaction, with its bytes.
 #[tactic(auto, unfolding(crate::specs::Texts::show_text))]
 pub fn show_line(memory: Memory, tx: &Tx) -> Result<Text, NoMemory>
     ensures { IfOk result (λ text. text.items ≡ show_text tx.now) }
@@ -141,7 +141,7 @@ fn put_pool_numbers(text: &mut Text, pool: &SeqPool) -> Result<(), NoMemory>
     put_number(text, pool.changes())
 }
 
-/// The line of a pool's numbers, and of how often each kind of refusal was answered.
+/// The line with a pool's numbers, and with how often each kind of refusal was answered.
 #[tactic(auto, unfolding(crate::specs::Texts::stats_text))]
 pub fn stats_line(memory: Memory, pool: &SeqPool, refused: &Counts) -> Result<Text, NoMemory>
     ensures { IfOk result (λ text. text.items ≡ stats_text pool.now.pool refused.now) }
@@ -168,14 +168,14 @@ fn tx_at(txs: &[Arc<Tx, Memory>], place: usize) -> Option<&Arc<Tx, Memory>>
     txs.get(place)
 }
 
-// The name of the transaction at the place, if there is one.
+// The name of the transaction at the index, if there is one.
 fn name_at<'a>(names: &'a Names, txs: &[Arc<Tx, Memory>], place: usize) -> &'a [u8]
     ensures { result.now ≡ name_if_any names.now (slice_get (map arc_value txs.now) place) }
 {
     name_if_any(names, tx_at(txs, place))
 }
 
-/// The line of a block of which the transaction at this place isn't valid after those before it.
+/// The line that refuses a block: the transaction at this index isn't valid after those before it.
 #[tactic(auto, unfolding(crate::specs::Texts::block_refused_text))]
 pub fn block_refused_line(
     memory: Memory,
@@ -196,7 +196,7 @@ pub fn block_refused_line(
     Ok(text)
 }
 
-/// The line of a ledger state so long ago that it isn't kept, as so many are.
+/// The line that refuses to go back: only `kept` ledger states are kept.
 #[tactic(auto, unfolding(crate::specs::Texts::back_refused_text))]
 pub fn back_refused_line(memory: Memory, kept: u64) -> Result<Text, NoMemory>
     ensures { IfOk result (λ text. text.items ≡ back_refused_text kept) }
@@ -208,7 +208,7 @@ pub fn back_refused_line(memory: Memory, kept: u64) -> Result<Text, NoMemory>
     Ok(text)
 }
 
-/// The line of so many names that were let go.
+/// The line that says how many names were forgotten.
 #[tactic(auto, unfolding(crate::specs::Texts::forgotten_text))]
 pub fn forgotten_line(memory: Memory, count: u64) -> Result<Text, NoMemory>
     ensures { IfOk result (λ text. text.items ≡ forgotten_text count) }

@@ -1,4 +1,3 @@
 pub mod Settings
 pub mod Ledgers
-pub mod Verifier
 pub mod Inside

@@ -6,11 +6,11 @@ use Rattle.std.proofs.lemmas.List.{drop_more}
 use Rattle.std.proofs.lemmas.Bool.Decides.{nat_tests}
 use Rattle.mp_text.specs.Numbers.{value_of_digits, if_below}
 
--- what a number and further digits write
+-- what a number and further digits denote
 abbrev pub completed : ℕ → List ℕ → ℕ
 completed n digits = n * 10 ^ length digits + value_of_digits digits
 
--- with t for a power of ten
+-- t is a power of ten
 regroup : (n x t v : ℕ) → n * (t * 10) + (x * t + v) ≡ (n * 10 + x) * t + v
 regroup n x t v = omega (arith, add-mul (n * 10) x t, mul_assoc n 10 t, mul_comm 10 t)
 
@@ -26,7 +26,7 @@ completed-ge n digits = omega (arith, le-mul_of_pos_right n (one-le-pow (length 
 pub completed-drop : (n place : ℕ) (digits : List ℕ) → place < length digits → completed n (drop place digits) ≡ completed (n * 10 + (get_or digits place 0 - 48)) (drop (place + 1) digits)
 completed-drop n place digits within = ap (completed n) (drop_more digits place 0 within) ∙ completed-next n (get_or digits place 0) (drop (place + 1) digits)
 
--- a number below the bound comes with its own value
+-- a number below the bound is returned as it is
 pub if_below-some : (bound v n : ℕ) → if_below bound v ≡ Some n → (v ≡ n) × (n < bound)
 if_below-some bound v n some =
     let both = cond_some (nat_lt v bound) v n some in
@@ -34,6 +34,6 @@ if_below-some bound v n some =
     let below : v < bound = grind (arith, nat_tests) in
     (both.1, subst (λ m. m < bound) both.1 below)
 
--- where a value is past the bound, so is each larger one
+-- if a value reaches the bound, so does each larger one
 pub if_below-none : (bound v w : ℕ) → if_below bound v ≡ None → v ≤ w → if_below bound w ≡ None
 if_below-none bound v w none le = grind (arith, nat_tests)

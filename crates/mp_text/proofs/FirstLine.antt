@@ -3,11 +3,11 @@ use Rattle.std.proofs.Common.{◌≡◌, ℕ, suc, ◌+◌, ◌==◌, ◌<◌, c
 use Rattle.std.specs.List.{position_or_len, onto_first}
 use Rattle.mp_text.specs.Lines.{lines_of}
 
--- how many bytes stand before the first line feed
+-- how many bytes precede the first line feed
 abbrev pub end_of : List ℕ → ℕ
 end_of text = position_or_len (λ b. b == 10) text
 
--- what `first_line` cuts at a place
+-- the lines, if `first_line` cuts at this index
 abbrev cut_at : ℕ → List ℕ → List (List ℕ)
 cut_at end text = take end text ∷ lines_of (drop (end + 1) text)
 

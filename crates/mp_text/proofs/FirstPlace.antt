@@ -1,4 +1,4 @@
--- The first place at which a test passes.
+-- The first index at which a test passes.
 use Rattle.std.proofs.Common.{◌≡◌, ℕ, ◌≤◌, Bool, List, length, cond, Some, None, arith, position, nat_lt}
 use Rattle.std.specs.Prelude.{unwrap_or}
 use Rattle.std.specs.List.{position_or_len}

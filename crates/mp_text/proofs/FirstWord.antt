@@ -14,11 +14,11 @@ is_space b = b == 32
 abbrev has_some : List ℕ → Bool
 has_some part = nat_lt 0 (length part)
 
--- how many bytes stand before the first space
+-- how many bytes precede the first space
 abbrev pub end_of : List ℕ → ℕ
 end_of line = position_or_len (λ b. b == 32) line
 
--- how many spaces stand at the front
+-- how many spaces the line begins with
 abbrev pub start_of : List ℕ → ℕ
 start_of line = position_or_len (λ b. not (b == 32)) line
 
@@ -66,7 +66,7 @@ end_of-some (b ∷ line) some other = some_before b line (b == 32) refl (λ e. o
 has_some-true : (part : List ℕ) → 0 < length part → has_some part ≡ true
 has_some-true part some = grind (arith, nat_tests)
 
--- the first word is as long as what stands before the first space
+-- the first word is as long as what precedes the first space
 word_some : (line : List ℕ) → 0 < end_of line → 0 < length (take (end_of line) line)
 word_some line some = subst (λ n. 0 < n) (sym (length-prefix_len (λ b. not (b == 32)) line)) some
 

@@ -1,4 +1,4 @@
--- The first line of bytes, after a front of it that has no line feed.
+-- The first line of bytes that begin with a prefix without a line feed.
 use Rattle.std.proofs.Common.{◌≡◌, ◌≢◌, ℕ, suc, ◌+◌, ◌-◌, ◌<◌, ◌≤◌, Bool, true, false, cond, List, [], ◌∷◌, ◌++◌, All, Option, None, Some, Result, Ok, Err, IfSome, IfOk, OnOk, take, drop, length, length-append, get_or, get_or-take, length-take-le, append_assoc, append-nil, take-append-drop, refl, sym, ap, subst, ◌∙◌, arith, ne_eqb, eqb-true}
 use Rattle.std.specs.Prelude.{◌==◌, ◌&&◌, nat_lt, slice_index}
 use Rattle.std.proofs.lemmas.Bool.{eqb-false}
@@ -74,7 +74,7 @@ first-all part clear = ap first_line (sym (append-nil part)) ∙ first-append pa
 first-part : (part xs : List ℕ) → IsClear part → first_line (part ++ 10 ∷ xs) ≡ part
 first-part part xs clear = first-append part (10 ∷ xs) clear ∙ ap (λ l. part ++ l) (first_feed xs) ∙ append-nil part
 
--- what is before the first feed has none
+-- what precedes the first feed has none
 pub clear-before : (shown : List ℕ) (n : ℕ) → n ≡ position_or_len (λ b. b == 10) shown → n ≤ length shown → IsClear (take n shown)
 clear-before shown n first within = λ k d lt is.
     let less : k < n = subst (λ m. k < m) (length-take-le n shown within) lt in
@@ -85,7 +85,7 @@ with_feed shown n first lt =
     let here : (get_or shown n 0 == 10) ≡ true = subst (λ m. (get_or shown m 0 == 10) ≡ true) (sym first) (passes_at_first (λ b. b == 10) shown 0 (subst (λ m. m < length shown) first lt)) in
     take_more shown n 0 lt ∙ ap (λ b. take n shown ++ b ∷ []) (eqb-true (get_or shown n 0) 10 here)
 
--- a line is no shorter than what is shown of it
+-- a line is at least as long as what the reader shows of it
 pub shown_le : (shown : List ℕ) (n : ℕ) (a : Option (List ℕ)) → n ≡ position_or_len (λ b. b == 10) shown → n ≤ length shown → IfSome a (λ xs. StartsWith xs shown) → IfSome a (λ xs. n ≤ length (first_line xs))
 shown_le shown n None first within starts = tt
 shown_le shown n (Some xs) first within starts =
@@ -95,14 +95,14 @@ shown_le shown n (Some xs) first within starts =
     let long = ap length (ap first_line split ∙ first-append front _ (clear-before shown n first within)) ∙ length-append front _ in
     omega (arith, long, length-take-le n shown within)
 
--- so it is too long where these don't fit
+-- so it is too long if that doesn't fit
 pub shown_long : (limit kept n : ℕ) (a : Option (List ℕ)) → limit - kept < n → IfSome a (λ xs. n ≤ length (first_line xs)) → IfSome a (λ xs. limit < kept + length (first_line xs))
 shown_long limit kept n None lt le = tt
 shown_long limit kept n (Some xs) lt le = omega (arith, lt, le)
 
 -- ---- a line, part by part
 
--- what was read is what is kept
+-- the bytes read so far are those kept
 pub record IsKept (limit : ℕ) (first now : Option (List ℕ)) (line : List ℕ) : Type 0 where
   pub clear : IsClear line
   pub read : Consumes first now line

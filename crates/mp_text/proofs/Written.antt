@@ -1,4 +1,4 @@
--- What writes have moved so far.
+-- What the writes have written so far.
 use Rattle.std.proofs.Common.{ℕ, ◌+◌, ◌-◌, List, ◌++◌, length, take, drop, ap, subst, sym, ◌∙◌, append_assoc, Option, Some, None}
 use Rattle.std.specs.Io.KnownBytes.{Appends}
 use Rattle.std.proofs.lemmas.List.{take_rest}
@@ -11,7 +11,7 @@ Appends-trans (Some x) None c bs cs p q = absurd p
 Appends-trans (Some x) (Some y) None bs cs p q = absurd q
 Appends-trans (Some x) (Some y) (Some z) bs cs p q = q ∙ ap (λ l. l ++ cs) p ∙ append_assoc x bs cs
 
--- a write of m bytes of those that are left, after a write of n
+-- after a write of n bytes, a write of m of the rest
 pub written_more : (a b c : Option (List ℕ)) (bytes : List ℕ) (n m : ℕ) → Appends a b (take n bytes) → Appends b c (take m (take (length bytes - n) (drop n bytes))) → Appends a c (take (n + m) bytes)
 written_more a b c bytes n m first second =
     let rest = subst (λ left. Appends b c (take m left)) (take_rest bytes n) second in

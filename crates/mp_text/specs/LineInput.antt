@@ -1,4 +1,4 @@
--- What comes of reading a line.
+-- The result of reading a line.
 use Rattle.std.specs.Prelude.{◌≡◌, ◌≢◌, ℕ, ◌<◌, ◌≤◌, List, [], length}
 use Rattle.std.specs.Io.BufRead.{first_piece}
 use Rattle.mp_text.specs.declared.line_input.LineRead.{LineRead}
@@ -8,7 +8,7 @@ use Rattle.mp_text.specs.declared.line_input.LineRead.TheVariants.{End, Whole, T
 abbrev pub first_line : List ℕ → List ℕ
 first_line bytes = first_piece 10 bytes
 
--- whether this may be answered where the first line of these bytes is read, and kept up to a limit
+-- whether reading the first line of these bytes, with a limit on what is kept, may return this
 abbrev pub IsLine : ℕ → List ℕ → LineRead → List ℕ → Type 0
 IsLine limit bytes End kept = bytes ≡ []
 IsLine limit bytes Whole kept = (bytes ≢ []) × (length (first_line bytes) ≤ limit) × (kept ≡ first_line bytes)

@@ -3,8 +3,7 @@ use Rattle.std.specs.Prelude.{ℕ, ◌≤◌, ◌==◌, ◌&&◌, List, [], ◌�
 use Rattle.std.specs.List.{onto_first, list_all}
 use Rattle.std.specs.Int.{IsInRange, is_in_range}
 
--- Each line feed, 10, ends a line. What stands after the last is a line too, where there is
--- anything.
+-- Each line feed, 10, ends a line. What follows the last one is a line too, unless it is empty.
 abbrev pub lines_of : List ℕ → List (List ℕ)
 lines_of [] = []
 lines_of (b ∷ text) = if b == 10 then [] ∷ lines_of text else onto_first b (lines_of text)
@@ -14,7 +13,7 @@ pub record IsClean (line : List ℕ) : Type 0 where
   pub short : length line ≤ 4096
   pub printable : All (IsInRange 0x20 0x7E) line
 
--- the tests of it
+-- the tests
 abbrev pub is_printable : ℕ → Bool
 is_printable b = is_in_range 0x20 0x7E b
 

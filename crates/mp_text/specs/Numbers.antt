@@ -1,14 +1,14 @@
--- The numbers that words write.
+-- The numbers that words denote.
 use Rattle.std.specs.Prelude.{ℕ, ◌+◌, ◌-◌, ◌*◌, ◌^◌, ◌&&◌, List, [], ◌∷◌, Bool, Option, Some, None, if◌then◌else◌, nat_lt, nat_le, length}
 use Rattle.std.specs.List.{list_all}
 use Rattle.std.specs.Char.{is_ascii_digit}
 
--- 1 to so many decimal digits
+-- 1 to this many decimal digits
 abbrev pub are_digits : ℕ → List ℕ → Bool
 are_digits most word =
     nat_lt 0 (length word) && nat_le (length word) most && list_all is_ascii_digit word
 
--- what digits write: each, less the 48 of `0`, counts ten times as much as the one after it
+-- what digits denote: each, less the 48 of `0`, counts ten times as much as the next
 abbrev pub value_of_digits : List ℕ → ℕ
 value_of_digits [] = 0
 value_of_digits (digit ∷ digits) = (digit - 48) * 10 ^ length digits + value_of_digits digits

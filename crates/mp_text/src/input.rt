@@ -9,10 +9,10 @@ use std::alloc::AllocError;
 use std::io::Read;
 use thiserror::Error;
 
-/// The most bytes of an input.
+/// The most bytes that an input may have.
 pub const MAX_BYTES: usize = 1 << 24;
 
-/// The most reads of an input, the one that finds its end included. Each other read gives a byte at least.
+/// The most reads of an input, with the one that finds its end. Each other read returns at least one byte.
 pub const MAX_READS: u64 = 1 << 25;
 
 const CHUNK_BYTES: usize = 4096;
@@ -22,7 +22,7 @@ const CHUNK_BYTES: usize = 4096;
 pub enum InputFault {
     #[error("no memory")]
     NoMemory,
-    /// A read failed, there are more than 2^24 bytes, or 2^25 reads did not find the end.
+    /// A read failed, the input has more than 2^24 bytes, or 2^25 reads didn't find its end.
     #[error("the input could not be read")]
     Read,
 }
@@ -35,7 +35,7 @@ impl From<AllocError> for InputFault {
     }
 }
 
-// One read, into the chunk: how many bytes came, which are none only at the end.
+// One read into the chunk. It returns how many bytes came: 0 only at the end.
 fn read_once<R: Read>(reader: &mut R, chunk: &mut [u8]) -> Result<usize, InputFault>
     requires { 0 < length chunk.old }
     ensures within { IfOk result (λ n. n ≤ length chunk.new) }
@@ -60,11 +60,11 @@ fn append(text: &mut Vec<u8, Memory>, bytes: &[u8]) -> Result<(), InputFault>
     Ok(())
 }
 
-/// All the bytes that a reader has left, at most 2^24.
+/// Returns all the bytes that a reader has left, at most 2^24.
 ///
 /// # Errors
-/// `Read` where a read fails, where there are more bytes, and where 2^25 reads do not find the end. `NoMemory` may stand in
-/// place of each answer. After an `Err` nothing is said of the reader.
+/// `Read` if a read fails, if there are more bytes, or if 2^25 reads don't find the end. `NoMemory` may replace any other answer.
+/// After an `Err` the contract says nothing about the reader.
 pub fn read_all<R: Read>(memory: Memory, reader: &mut R) -> Result<Vec<u8, Memory>, InputFault>
     ensures bytes { IfOk result
         (λ text. IfSome (R.remaining reader.old) (λ bytes. text.items ≡ bytes)) }

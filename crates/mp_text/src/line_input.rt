@@ -1,4 +1,4 @@
-//! A line of a reader, without keeping more of it than a limit.
+//! Reading a line of which at most a limit is kept.
 
 ghost use Rattle.std.specs.Prelude.{◌≡◌, ◌≤◌, length, IfSome, IfOk, OnOk};
 ghost use Rattle.std.specs.Io.BufRead.{DropsThrough};
@@ -12,16 +12,16 @@ use thiserror::Error;
 
 const LINE_FEED: u8 = b'\n';
 
-/// What came of reading a line.
+/// The result of reading a line.
 #[derive(Clone, Copy, Debug, PartialEq, Eq)]
 pub enum LineRead {
     /// The input had ended.
     End,
-    /// It was kept.
+    /// The line was kept.
     Whole,
-    /// It is longer than the limit.
+    /// The line is longer than the limit.
     TooLong,
-    /// Memory for it was refused.
+    /// Its allocation failed.
     Lost,
 }
 
@@ -30,7 +30,7 @@ pub enum LineRead {
 #[error("the input could not be read")]
 pub struct ReadFault;
 
-// What came of reading a part of a line.
+// The result of reading a part of a line.
 #[derive(Clone, Copy, PartialEq, Eq)]
 enum Step {
     More,
@@ -40,7 +40,7 @@ enum Step {
     Lost,
 }
 
-// Adds what the reader has of the line, and reads the feed that ends it. Where that isn't added, nothing is read.
+// Adds what the reader shows of the line, and consumes the feed that ends it. If it can't be added, nothing is consumed.
 fn read_part<R: BufRead>(
     reader: &mut R,
     line: &mut Vec<u8, Memory>,
@@ -74,7 +74,7 @@ fn read_part<R: BufRead>(
     Ok(Step::More)
 }
 
-// Reads what is left of the line, and keeps nothing of it.
+// Reads the rest of the line and keeps none of it.
 fn skip<R: BufRead>(reader: &mut R, read: LineRead) -> Result<LineRead, ReadFault>
     ensures read { IfOk result (λ r. r ≡ read) }
     ensures rest { OnOk result
@@ -86,11 +86,11 @@ fn skip<R: BufRead>(reader: &mut R, read: LineRead) -> Result<LineRead, ReadFaul
     }
 }
 
-/// Reads a line with its line feed, or what the input has left. Where the line has at most `limit` bytes it is kept, without its
-/// feed, in place of what was there. Of a longer one, or where memory for it is refused, at most so many bytes are kept.
+/// Reads a line with its line feed, or what is left of the input. A line of at most `limit` bytes replaces the former content,
+/// without its feed. Of a longer one, or if an allocation fails, at most `limit` bytes are kept.
 ///
 /// # Errors
-/// Where a read fails. Then nothing is said of the reader.
+/// If a read fails. Then the contract says nothing about the reader.
 pub fn read_line<R: BufRead>(
     reader: &mut R,
     line: &mut Vec<u8, Memory>,

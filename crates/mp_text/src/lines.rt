@@ -8,11 +8,11 @@ use crate::scan::length_before;
 
 const LINE_FEED: u8 = b'\n';
 
-/// The most bytes that a clean line has. A line feed is no byte of its line.
+/// The most bytes of a clean line, without its line feed.
 pub const MAX_LINE_BYTES: usize = 4096;
 
-/// The first line of a text, and the text after it. A line feed ends its line and belongs to none; the last line may lack
-/// it. Nothing else ends a line. `None` says that there is no line.
+/// Returns the first line of a text and the text after it, or `None` if there is no line. A line feed ends its line and belongs
+/// to none. The last line may lack it. Nothing else ends a line.
 pub fn first_line(text: &[u8]) -> Option<(&[u8], &[u8])>
     ensures none { IsNone result ↔ (lines_of text.now ≡ []) }
     ensures first { IfSome result
@@ -30,7 +30,7 @@ pub fn first_line(text: &[u8]) -> Option<(&[u8], &[u8])>
     }
 }
 
-// It looks at each byte whatever the others are, which is done for many at once.
+// It looks at every byte, so that the compiler can test many at once.
 fn are_printable(line: &[u8]) -> bool
     ensures { result ≡ list_all is_printable line.now }
 {

@@ -1,4 +1,4 @@
-//! The names that words are.
+//! Words that are names.
 
 ghost use Rattle.std.specs.Prelude.{◌≡◌, ◌↔◌, IsTrue};
 ghost use Rattle.std.specs.List.{list_all};
@@ -19,7 +19,7 @@ pub fn are_letters_or_digits(bytes: &[u8]) -> bool
     bytes.iter().all(|&byte| is_letter_or_digit(byte))
 }
 
-/// Whether a word is a name: a lower-case letter, and then up to 15 lower-case letters or digits.
+/// Whether a word is a name: a lower-case letter, then up to 15 lower-case letters or digits.
 pub fn is_name(word: &[u8]) -> bool
     ensures test { result ≡ is_name word.now }
     ensures name { IsTrue result ↔ IsName word.now }

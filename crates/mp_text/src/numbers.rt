@@ -1,4 +1,4 @@
-//! The numbers that words write.
+//! The numbers that words denote.
 
 ghost use Rattle.std.specs.Prelude.{◌≡◌, ◌+◌, ◌-◌, ◌*◌, ◌^◌, true, All};
 ghost use Rattle.std.specs.Char.{IsAsciiDigit, is_ascii_digit};
@@ -25,7 +25,7 @@ fn are_digits(word: &[u8], most: usize) -> bool
     !word.is_empty() && word.len() <= most && are_all_digits(word)
 }
 
-// The number that has the digits of `number`, and one more.
+// The number with the digits of `number` and one more.
 fn with_digit(number: u64, digit: u8) -> Option<u64>
     requires { IsAsciiDigit digit }
     ensures { result ≡ if_below (2 ^ 64) (number * 10 + (digit - 48)) }
@@ -44,7 +44,7 @@ fn value(digits: &[u8]) -> Option<u64>
     Some(number)
 }
 
-/// The number that a word writes: 1 to 20 decimal digits, which may begin with zeros, and at most 2^64 - 1.
+/// The number that a word denotes: 1 to 20 decimal digits, at most 2^64 - 1. Leading zeros are allowed.
 pub fn number(word: &[u8]) -> Option<u64>
     ensures { result ≡ number_of word.now }
 {
@@ -54,7 +54,7 @@ pub fn number(word: &[u8]) -> Option<u64>
     value(word)
 }
 
-/// The quantity that a word writes: 1 to 19 decimal digits, which may begin with zeros, and from 1 to 2^63 - 1.
+/// The quantity that a word denotes: 1 to 19 decimal digits, from 1 to 2^63 - 1. Leading zeros are allowed.
 pub fn quantity(word: &[u8]) -> Option<u64>
     ensures { result ≡ quantity_of word.now }
 {

@@ -1,4 +1,4 @@
-//! All of some bytes, to a writer.
+//! Writing all of some bytes.
 
 ghost use Rattle.std.specs.Prelude.{ℕ, ◌<◌, ◌≤◌, length, take, IfSome, IfNone, OnOk, OnErr};
 ghost use Rattle.std.specs.Io.KnownBytes.{Appends, Keeps};
@@ -12,7 +12,7 @@ use thiserror::Error;
 #[error("the output could not be written")]
 pub struct WriteFault;
 
-// One write: how many bytes it took, which is none only where it failed.
+// One write. It returns how many bytes were taken, or `None` if it failed.
 fn write_once<W: Write>(writer: &mut W, bytes: &[u8]) -> Option<usize>
     ensures taken { IfSome result (λ n. 0 < n) }
     ensures within { IfSome result (λ n. n ≤ length bytes.now) }
@@ -26,7 +26,7 @@ fn write_once<W: Write>(writer: &mut W, bytes: &[u8]) -> Option<usize>
     }
 }
 
-/// Writes all the bytes, in as many writes as the writer takes. It flushes nothing. After an `Err` the writer has a front
+/// Writes all the bytes, in as many writes as the writer needs, and doesn't flush. After an `Err` the writer has taken a prefix
 /// of the bytes, and never all.
 pub fn write_all<W: Write>(writer: &mut W, bytes: &[u8]) -> Result<(), WriteFault>
     ensures ok { OnOk result (Appends (W.contents writer.old) (W.contents writer.new) bytes.now) }

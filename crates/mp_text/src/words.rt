@@ -9,7 +9,7 @@ const SPACE: u8 = b' ';
 
 const COMMENT: u8 = b'#';
 
-// The line without the spaces at its front.
+// The line without its leading spaces.
 fn trimmed(line: &[u8]) -> &[u8]
     ensures same { words_of result.now ≡ words_of line.now }
     ensures within { length result.now ≤ length line.now }
@@ -18,7 +18,7 @@ fn trimmed(line: &[u8]) -> &[u8]
     &line[run_length(line, SPACE)..]
 }
 
-// The word at the front of a line, and the line after it.
+// The first word of a line that begins with one, and the rest of the line.
 fn cut(line: &[u8]) -> (&[u8], &[u8])
     requires some { 0 < length line.now }
     requires begins { slice_get line.now 0 ≢ Some 32 }
@@ -29,8 +29,8 @@ fn cut(line: &[u8]) -> (&[u8], &[u8])
     line.split_at(length_before(line, SPACE))
 }
 
-/// The first word of a line, and the line after it. Words stand between spaces; further spaces, also at the ends, count for
-/// nothing. `None` says that there is no word.
+/// Returns the first word of a line and the line after it, or `None` if there is no word. Spaces separate words; more spaces,
+/// also at the ends, have no meaning.
 pub fn first_word(line: &[u8]) -> Option<(&[u8], &[u8])>
     ensures none { IsNone result ↔ (words_of line.now ≡ []) }
     ensures first { IfSome result
@@ -45,7 +45,7 @@ pub fn first_word(line: &[u8]) -> Option<(&[u8], &[u8])>
     Some(cut(line))
 }
 
-/// Whether a line has no word, or a first one that begins with `#`.
+/// Whether a line has no word, or its first word begins with `#`.
 pub fn is_comment_or_blank(line: &[u8]) -> bool
     ensures { result ≡ is_comment_or_blank line.now }
 {

@@ -1,4 +1,4 @@
-//! Answers of which there are several kinds of lines.
+//! Expected results that several kinds of lines share.
 
 use crate::pieces;
 use crate::wrong::{NO_MEMORY, Result};
@@ -6,12 +6,12 @@ use mp_memory::Memory;
 use mp_script::Hash;
 use std::fmt::Debug;
 
-/// The name of a fault, and the values that come with it.
+/// The name of a fault and its values.
 pub fn name_of<F: Debug>(memory: Memory, fault: &F) -> Result<String<Memory>> {
     Ok(format!(in memory; "{fault:?}")?)
 }
 
-/// Whether a fault has the name that is wanted, and the values that come with it. It fails where the fault is want of memory.
+/// Whether a fault has the expected name and values. Fails for an allocation failure.
 pub fn is_fault<F: Debug>(memory: Memory, fault: &F, wanted: &str) -> Result<bool> {
     let name = name_of(memory, fault)?;
     if name.as_str() == "NoMemory" {
@@ -20,12 +20,12 @@ pub fn is_fault<F: Debug>(memory: Memory, fault: &F, wanted: &str) -> Result<boo
     Ok(name.as_str() == wanted)
 }
 
-/// Whether `yes` is wanted where it is so, and `no` where not.
+/// Whether the expected word fits: `yes` if it is so, `no` otherwise.
 pub fn is_told(is: bool, wanted: &str) -> bool {
     wanted == if is { "yes" } else { "no" }
 }
 
-/// Whether the number that is wanted was found, or none.
+/// Whether the expected number was found, or none.
 pub fn is_number(found: Option<u64>, wanted: &str) -> Result<bool> {
     match found {
         None => Ok(wanted == "none"),
@@ -33,7 +33,7 @@ pub fn is_number(found: Option<u64>, wanted: &str) -> Result<bool> {
     }
 }
 
-/// Whether `ok` is wanted, alone or with this hash.
+/// Whether `ok` is expected, alone or with this hash.
 pub fn is_hashed(memory: Memory, hash: &Hash, wanted: &str) -> Result<bool> {
     match wanted.split_once(' ') {
         None => Ok(wanted == "ok"),

@@ -9,13 +9,13 @@ use mp_memory::Memory;
 /// A policy and a name under it, of any length.
 pub type Named = (PolicyId, Vec<u8, Memory>);
 
-/// The token of a word such as `32*03/61`: the policy, and then the name.
+/// The token of a word like `32*03/61`: the policy, then the name.
 pub fn token(memory: Memory, word: &str) -> Result<Named> {
     let (policy, name) = word.split_once('/').ok_or(Wrong("no token"))?;
     Ok((pieces::array(memory, policy)?, pieces::bytes(memory, name)?))
 }
 
-// The entry of a word such as `32*03/61/5`: the token, and then the quantity.
+// The entry of a word like `32*03/61/5`: the token, then the quantity.
 fn entry(memory: Memory, word: &str) -> Result<Given> {
     let (named, quantity) = word.rsplit_once('/').ok_or(Wrong("no token"))?;
     let quantity = quantity.parse::<i64>()?;
@@ -37,7 +37,7 @@ fn entries(memory: Memory, words: &str) -> Result<Vec<Given, Memory>> {
     Ok(entries)
 }
 
-/// The bundle of these entries.
+/// The bundle with these entries.
 pub fn bundle(memory: Memory, words: &str) -> Result<Bundle> {
     let entries = entries(memory, words)?;
     Ok(Bundle::of_entries(memory, entries)?)
@@ -48,7 +48,7 @@ fn has_quantity(memory: Memory, bundle: &Bundle, word: &str) -> Result<bool> {
     Ok(bundle.quantity(&policy, &name) == quantity)
 }
 
-// Whether `ok` is wanted, and the bundle has each of these quantities.
+// Whether `ok` is expected, and the bundle has each of these quantities.
 fn has_quantities(memory: Memory, bundle: &Bundle, wanted: &str) -> Result<bool> {
     let Some(words) = wanted.strip_prefix("ok") else {
         return Ok(false);
@@ -61,7 +61,7 @@ fn has_quantities(memory: Memory, bundle: &Bundle, wanted: &str) -> Result<bool>
     Ok(true)
 }
 
-/// Whether entries make a bundle of these quantities, or have a fault.
+/// Whether entries make a bundle with these quantities, or have this fault.
 pub fn holds(memory: Memory, given: &str, wanted: &str) -> Result<bool> {
     let entries = entries(memory, given)?;
     match Bundle::of_entries(memory, entries) {

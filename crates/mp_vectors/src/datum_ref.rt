@@ -1,11 +1,11 @@
-//! What is read of a datum, and of the data in it.
+//! Reading a datum and the data in it.
 
 use crate::pieces;
 use crate::wrong::Result;
 use mp_memory::Memory;
 use mp_script::DatumRef;
 
-// The part that one place after the other leads to.
+// The part that is reached by these indexes, one after the other.
 fn part_at<'a>(whole: DatumRef<'a>, places: &str) -> Result<Option<DatumRef<'a>>> {
     let mut part = whole;
     for place in places.split_whitespace() {
@@ -29,7 +29,7 @@ fn is_part(memory: Memory, part: &DatumRef, wanted: &str) -> Result<bool> {
     }
 }
 
-/// Whether the part of a datum at these places is what is wanted, or there is none.
+/// Whether the part of a datum at these indexes is the expected one, or there is none.
 pub fn holds(memory: Memory, given: &str, wanted: &str) -> Result<bool> {
     let (words, places) = given.split_once('@').unwrap_or((given, ""));
     let datum = pieces::datum(memory, words)?;

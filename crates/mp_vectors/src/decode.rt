@@ -1,4 +1,4 @@
-//! Transactions in bytes.
+//! Encodings of transactions.
 
 use crate::answer::is_fault;
 use crate::pieces;
@@ -6,7 +6,7 @@ use crate::wrong::{Result, Wrong};
 use mp_memory::Memory;
 use mp_tx::Tx;
 
-// Whether a transaction has the id and the size that are wanted, and encodes to the bytes.
+// Whether a transaction has the expected id and size, and encodes to the bytes.
 fn is_whole(memory: Memory, tx: &Tx, bytes: &[u8], wanted: &str) -> Result<bool> {
     let Some(words) = wanted.strip_prefix("ok ") else {
         return Ok(false);
@@ -26,7 +26,7 @@ fn comes_to(memory: Memory, bytes: &[u8], wanted: &str) -> Result<bool> {
     }
 }
 
-/// Whether bytes spell a transaction as it is wanted, or have a fault.
+/// Whether bytes encode the expected transaction, or have this fault.
 pub fn holds(memory: Memory, given: &str, wanted: &str) -> Result<bool> {
     let bytes = pieces::bytes(memory, given)?;
     comes_to(memory, &bytes, wanted)
@@ -41,7 +41,7 @@ fn check_prefixes(memory: Memory, bytes: &[u8], wanted: &str) -> Result<u64> {
     Ok(bytes.len() as u64)
 }
 
-/// How many proper prefixes bytes have, where each comes to what is wanted.
+/// How many proper prefixes the bytes have, if each gives the expected result.
 pub fn prefixes_held(memory: Memory, given: &str, wanted: &str) -> Result<u64> {
     let bytes = pieces::bytes(memory, given)?;
     check_prefixes(memory, &bytes, wanted)

@@ -77,7 +77,7 @@ const AUDIT_FAULTS: [AuditFault; 3] = [
 
 const INPUT_FAULTS: [InputFault; 2] = [InputFault::NoMemory, InputFault::Read];
 
-// Whether a fault has a name, which stands before the values that come with it.
+// Whether a fault has a name, which is printed before its values.
 fn is_named<F: Debug>(memory: Memory, fault: &F, name: &str) -> Result<bool> {
     let told = name_of(memory, fault)?;
     match told.as_str().strip_prefix(name) {
@@ -86,7 +86,7 @@ fn is_named<F: Debug>(memory: Memory, fault: &F, name: &str) -> Result<bool> {
     }
 }
 
-// Whether a fault's number is wanted, or its number and text, or only its text where it has no number.
+// Whether the fault's number is the expected one, or its number and text, or only its text if it has no number.
 fn is_told<F: Numbered + Display>(memory: Memory, fault: &F, wanted: &str) -> Result<bool> {
     let told = match fault.number_if_any() {
         None => format!(in memory; "{fault}")?,
@@ -100,7 +100,7 @@ fn is_told<F: Numbered + Display>(memory: Memory, fault: &F, wanted: &str) -> Re
     Ok(told.as_str() == wanted)
 }
 
-// Whether the fault of a name is told as it is wanted.
+// Whether the fault with this name has the expected number and text.
 fn holds_among<F: Numbered + Debug + Display>(
     memory: Memory,
     faults: &[F],
@@ -115,7 +115,7 @@ fn holds_among<F: Numbered + Debug + Display>(
     Err(Wrong("no such word"))
 }
 
-/// Whether a fault has the number and the text that are wanted.
+/// Whether a fault has the expected number and text.
 pub fn holds(memory: Memory, given: &str, wanted: &str) -> Result<bool> {
     let (kind, name) = given.split_once("::").unwrap_or((given, given));
     match kind {

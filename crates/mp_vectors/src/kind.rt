@@ -30,7 +30,7 @@ pub enum Kind {
 }
 
 impl Kind {
-    /// Each of them, in the order in which they are checked.
+    /// All kinds, in the order in which they are checked.
     pub const ALL: [Kind; 15] = [
         Kind::Datum,
         Kind::DatumRef,
@@ -70,7 +70,7 @@ impl Kind {
         }
     }
 
-    /// Whether what it is about takes memory.
+    /// Whether what it is about allocates.
     pub fn takes_memory(self) -> bool {
         match self {
             Kind::Datum | Kind::Script | Kind::Bundle | Kind::Sum => true,
@@ -80,7 +80,7 @@ impl Kind {
         }
     }
 
-    /// Whether what is given comes to what is wanted.
+    /// Whether the given words lead to the expected result.
     pub fn holds(self, memory: Memory, given: &str, wanted: &str) -> Result<bool> {
         match self {
             Kind::Datum => datum::holds(memory, given, wanted),

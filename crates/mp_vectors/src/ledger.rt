@@ -7,10 +7,10 @@ use crate::wrong::{Result, Wrong};
 use mp_memory::Memory;
 use mp_tx::{Ledger, OutRef, Output, Salt};
 
-// What the outputs of a ledger state are made of.
+// The outputs of a ledger state.
 type Outputs = Vec<(OutRef, Output), Memory>;
 
-// Adds the output of a word such as `32*00:7/5`: the reference, and then the coin.
+// Adds the output of a word like `32*00:7/5`: the reference, then the coin.
 fn add_output(memory: Memory, outputs: &mut Outputs, word: &str) -> Result<()> {
     let (place, coin) = word.split_once('/').ok_or(Wrong("no output"))?;
     let reference = reference(memory, place)?;
@@ -33,7 +33,7 @@ fn parted(given: &str) -> Result<(u64, u64, &str)> {
     Ok((tick.parse::<u64>()?, block_bytes.parse::<u64>()?, words))
 }
 
-// Whether a reference leads to an output of so much coin, or to none.
+// Whether a reference leads to an output of this much coin, or to none.
 fn is_held(memory: Memory, ledger: &Ledger, word: &str) -> Result<bool> {
     let (place, coin) = word.split_once('/').ok_or(Wrong("no output"))?;
     match ledger.get(&reference(memory, place)?) {
@@ -43,7 +43,7 @@ fn is_held(memory: Memory, ledger: &Ledger, word: &str) -> Result<bool> {
     }
 }
 
-// Whether `ok` is wanted, and the outputs are as they are wanted.
+// Whether `ok` is expected, and the outputs are the expected ones.
 fn has_outputs(memory: Memory, ledger: &Ledger, wanted: &str) -> Result<bool> {
     let Some(words) = wanted.strip_prefix("ok") else {
         return Ok(false);
@@ -56,7 +56,7 @@ fn has_outputs(memory: Memory, ledger: &Ledger, wanted: &str) -> Result<bool> {
     Ok(true)
 }
 
-/// Whether outputs make a ledger state that has these outputs, or have a fault.
+/// Whether outputs make a ledger state with these outputs, or have this fault.
 pub fn holds(memory: Memory, given: &str, wanted: &str) -> Result<bool> {
     let (tick, block_bytes, words) = parted(given)?;
     let mut outputs = Vec::new(memory);

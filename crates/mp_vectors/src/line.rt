@@ -5,7 +5,7 @@ use crate::wrong::{Result, Wrong};
 use crate::{decode, refusals, signature, spoilt};
 use mp_memory::Memory;
 
-/// What a line says is given, and what it says that comes to. A blank line and a comment say nothing.
+/// What a line gives, and the result that it expects. A blank line and a comment have neither.
 pub fn parted(line: &str) -> Result<Option<(&str, &str)>> {
     if line.is_empty() || line.starts_with('#') {
         return Ok(None);
@@ -33,7 +33,7 @@ fn each_held(memory: Memory, kind: Kind, words: &str, wanted: &str) -> Result<u6
     Ok(cases)
 }
 
-/// How many cases a line has, where all hold: one, or as many as there are words after `each`, bytes after `prefixes`, ways to
+/// How many cases a line has, if all hold. It is one, or as many as there are words after `each`, bytes after `prefixes`, ways to
 /// spoil the bytes after `spoilt`, or bits after `flips`.
 pub fn held(memory: Memory, kind: Kind, given: &str, wanted: &str) -> Result<u64> {
     match given.split_once(' ') {

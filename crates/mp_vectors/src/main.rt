@@ -1,5 +1,5 @@
-//! Checks the test vectors: text files with a case in each line, for everybody who writes a client. It prints each line that
-//! doesn't hold, and for each file how many of its cases held.
+//! Checks the test vectors: text files with a case in each line, for everyone who writes a client. It prints each line that
+//! doesn't hold, and for each file how many cases held.
 #![tactic(auto)]
 
 mod answer;
@@ -35,7 +35,7 @@ use std::rt::Files;
 use std::{fs, io};
 use wrong::Wrong;
 
-// How many cases of a line held, where all did.
+// How many cases of a line held, if all did.
 fn cases_held(memory: Memory, kind: Kind, line: &str) -> wrong::Result<u64> {
     match line::parted(line)? {
         None => Ok(0),
@@ -43,7 +43,7 @@ fn cases_held(memory: Memory, kind: Kind, line: &str) -> wrong::Result<u64> {
     }
 }
 
-// Prints each line that doesn't hold, and gives how many cases held.
+// Prints each line that doesn't hold, and returns how many cases held.
 fn check_lines(rt: &impl Print, memory: Memory, kind: Kind, text: &str) -> io::Result<u64> {
     let name = kind.file_name();
     let mut held = 0u64;

@@ -1,4 +1,4 @@
-//! Bytes, as the lines write them.
+//! Bytes as the lines write them.
 
 use crate::wrong::{Result, Wrong};
 use mp_memory::Memory;
@@ -30,7 +30,7 @@ fn add_run(
     Ok(())
 }
 
-// Adds for each number from the first to the last the bytes before `#`, the number in two bytes, and the bytes after `#`.
+// For each number from the first to the last, adds the bytes before `#`, the number in two bytes, and the bytes after `#`.
 fn add_numbered(
     memory: Memory,
     bytes: &mut Vec<u8, Memory>,
@@ -44,8 +44,11 @@ fn add_numbered(
     add_run(bytes, numbers, (&before, &after))
 }
 
-// Adds the bytes of a piece: hexadecimal digits, a number of times such digits, as `16*030001`, a run of numbers between such
-// digits, as `0-255*aa#bb`, or `-`, which is no byte.
+// Adds the bytes of a piece, which has one of these forms:
+//
+// - hexadecimal digits; `-` for no byte
+// - such digits a number of times, as in `16*030001`
+// - a run of numbers between such digits, as in `0-255*aa#bb`
 fn add_piece(memory: Memory, bytes: &mut Vec<u8, Memory>, word: &str) -> Result<()> {
     if word == "-" {
         return Ok(());
@@ -64,19 +67,19 @@ fn add_pieces(memory: Memory, bytes: &mut Vec<u8, Memory>, words: &str) -> Resul
     Ok(())
 }
 
-/// The bytes of all pieces, one after the other. They have spaces or plus signs between them.
+/// The bytes of all pieces, one after the other. Spaces or plus signs separate the pieces.
 pub fn bytes(memory: Memory, words: &str) -> Result<Vec<u8, Memory>> {
     let mut bytes = Vec::new(memory);
     add_pieces(memory, &mut bytes, words)?;
     Ok(bytes)
 }
 
-/// Whether these are the bytes that pieces spell.
+/// Whether pieces encode these bytes.
 pub fn spell(memory: Memory, words: &str, found: &[u8]) -> Result<bool> {
     Ok(*bytes(memory, words)? == *found)
 }
 
-/// The bytes of pieces that spell as many.
+/// The bytes of pieces, exactly `N`.
 pub fn array<const N: usize>(memory: Memory, words: &str) -> Result<[u8; N]> {
     let bytes = bytes(memory, words)?;
     match bytes.split_first_chunk::<N>() {
@@ -85,24 +88,24 @@ pub fn array<const N: usize>(memory: Memory, words: &str) -> Result<[u8; N]> {
     }
 }
 
-/// The datum that pieces spell.
+/// The datum that pieces encode.
 pub fn datum(memory: Memory, words: &str) -> Result<Data> {
     let bytes = bytes(memory, words)?;
     Ok(Data::decode(memory, &bytes)?)
 }
 
-/// The script that pieces spell.
+/// The script that pieces encode.
 pub fn script(memory: Memory, words: &str) -> Result<Script> {
     let bytes = bytes(memory, words)?;
     Ok(Script::decode(memory, &bytes)?)
 }
 
-/// The hash of the datum that pieces spell.
+/// The hash of the datum that pieces encode.
 pub fn datum_hash(memory: Memory, words: &str) -> Result<Hash> {
     Ok(*datum(memory, words)?.hash())
 }
 
-/// The hash of the script that pieces spell.
+/// The hash of the script that pieces encode.
 pub fn script_hash(memory: Memory, words: &str) -> Result<Hash> {
     Ok(*script(memory, words)?.hash())
 }

@@ -22,7 +22,7 @@ pub fn input(memory: Memory, from: OutRef, datum: &str) -> Result<Input> {
     })
 }
 
-// So much coin, which is the token without name under the policy of zeros, or nothing at 0.
+// This much coin: the token without a name under the policy of zeros. Nothing for 0.
 fn coin(memory: Memory, quantity: &str) -> Result<Bundle> {
     if quantity == "0" {
         return Ok(Bundle::empty());
@@ -31,7 +31,7 @@ fn coin(memory: Memory, quantity: &str) -> Result<Bundle> {
     bundle(memory, entry.as_str())
 }
 
-/// The output of so much coin.
+/// The output of this much coin.
 pub fn output(memory: Memory, quantity: &str) -> Result<Output> {
     Ok(Output {
         address: pieces::script_hash(memory, SCRIPT)?,

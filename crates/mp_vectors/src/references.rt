@@ -5,7 +5,7 @@ use crate::wrong::{Result, Wrong};
 use mp_memory::Memory;
 use mp_tx::OutRef;
 
-/// The reference of a word such as `32*00:7`: the id, and then the index.
+/// The reference of a word like `32*00:7`: the id, then the index.
 pub fn reference(memory: Memory, word: &str) -> Result<OutRef> {
     let (id, index) = word.split_once(':').ok_or(Wrong("no reference"))?;
     Ok(OutRef {
@@ -14,8 +14,7 @@ pub fn reference(memory: Memory, word: &str) -> Result<OutRef> {
     })
 }
 
-/// The references of a word such as `32*00:7`, or `32*00:0-255`, where the index goes from the first to the last: the first, and
-/// the last index.
+/// The references of a word like `32*00:7`, or `32*00:0-255` for a range of indexes: the first reference, and the last index.
 pub fn run(memory: Memory, word: &str) -> Result<(OutRef, u16)> {
     match word.split_once('-') {
         None => {

@@ -1,4 +1,4 @@
-//! What the views of scripts are made of.
+//! The parts of the views of scripts.
 
 use mp_script::{Address, Hash, Key};
 
@@ -27,13 +27,13 @@ pub const DATUM: &str =
 /// The number 9.
 pub const REDEEMER: &str = "010000000000000009";
 
-/// What the spent output, the second and the third output, and the second reference hold.
+/// What the spent output, the second and third output, and the second reference hold.
 pub const LITTLE: &str = "32*03/61/7 32*04/-/2 32*04/32*6e/5";
 
 /// What the first output and the first reference hold.
 pub const MUCH: &str = "32*03/61/9223372036854775807";
 
-/// What is spent: both of these.
+/// What is spent: the sum of both.
 pub const SPENT: &str = "32*03/61/7 32*04/-/2 32*04/32*6e/5 + 32*03/61/9223372036854775807";
 
 /// What is forged.

@@ -1,11 +1,11 @@
-//! What spells a script.
+//! Encodings of scripts.
 
 use crate::wrong::Result;
 use crate::{answer, pieces};
 use mp_memory::Memory;
 use mp_script::Script;
 
-/// Whether bytes spell a script of a hash, or have a fault.
+/// Whether bytes encode a script with this hash, or have this fault.
 pub fn holds(memory: Memory, given: &str, wanted: &str) -> Result<bool> {
     let bytes = pieces::bytes(memory, given)?;
     match Script::decode(memory, &bytes) {

@@ -5,7 +5,7 @@ use crate::wrong::{Result, Wrong};
 use mp_ed25519::Base;
 use mp_memory::Memory;
 use mp_rules::Verifier;
-use mp_signatures::Ed25519Verifier;
+use mp_signatures::{Scheme, Signatures};
 
 #[derive(Clone, Copy)]
 struct Case<'a> {
@@ -34,8 +34,8 @@ fn is_wanted(is_good: bool, wanted: &str) -> Result<bool> {
     }
 }
 
-// Whether a pool's verifier answers the same, if the message can be the id of a transaction.
-fn is_answered_alike(verifier: &Ed25519Verifier, case: &Case<'_>, is_good: bool) -> bool {
+// Whether a pool's verifier returns the same, if the message can be the id of a transaction.
+fn is_answered_alike(verifier: &Signatures, case: &Case<'_>, is_good: bool) -> bool {
     match case.message.split_first_chunk::<32>() {
         Some((id, rest)) if rest.is_empty() => {
             verifier.verify(case.key, id, case.signature) == is_good
@@ -44,11 +44,11 @@ fn is_answered_alike(verifier: &Ed25519Verifier, case: &Case<'_>, is_good: bool)
     }
 }
 
-/// Whether a key, a signature and a message, one after the other, are good or bad, as it is wanted.
+/// Whether the signature of a message by a key is good or bad, as expected. The bytes are the key, the signature and the message.
 pub fn holds(memory: Memory, given: &str, wanted: &str) -> Result<bool> {
     let bytes = pieces::bytes(memory, given)?;
     let base = Base::new(memory)?;
-    let verifier = Ed25519Verifier::new(memory)?;
+    let verifier = Signatures::new(memory, Scheme::Ed25519)?.share()?;
     let case = case_of(&bytes)?;
     let is_good = base.verify(case.key, case.message, case.signature);
     Ok(is_wanted(is_good, wanted)? && is_answered_alike(&verifier, &case, is_good))
@@ -60,7 +60,7 @@ fn flip(bytes: &mut [u8], place: usize, bit: u8) {
     }
 }
 
-// How many of a byte's bits can be flipped, where each such flip is as it is wanted.
+// How many bits a byte has, if the result is the expected one after each flip of a bit.
 fn flips_held_at(base: &Base, bytes: &mut [u8], place: usize, wanted: &str) -> Result<u64> {
     for bit in [1, 2, 4, 8, 16, 32, 64, 128] {
         flip(bytes, place, bit);
@@ -82,7 +82,7 @@ fn all_flips_held(base: &Base, bytes: &mut [u8], wanted: &str) -> Result<u64> {
     Ok(cases)
 }
 
-/// How many bits a key, a signature and a message have, where a flip of each of them is good or bad, as it is wanted.
+/// How many bits a key, a signature and a message have, if the result is the expected one after each flip of a bit.
 pub fn flips_held(memory: Memory, given: &str, wanted: &str) -> Result<u64> {
     let mut bytes = pieces::bytes(memory, given)?;
     let base = Base::new(memory)?;

@@ -1,4 +1,4 @@
-//! Transactions in bytes, of which one is replaced by each other value.
+//! Encodings of transactions in which one byte is replaced by each other value.
 
 use crate::answer::name_of;
 use crate::faults::TX_FAULTS;
@@ -7,7 +7,7 @@ use crate::wrong::{Result, Wrong};
 use mp_memory::Memory;
 use mp_tx::{Tx, TxFault};
 
-// How many bytes spelled a transaction, at 0, and how many had each fault, at its number.
+// At 0 how many encoded a transaction, and at each fault's number how many had that fault.
 type Counts = [u64; 13];
 
 fn place_of(fault: TxFault) -> usize {
@@ -20,7 +20,7 @@ fn add(counts: &mut Counts, place: usize) {
     }
 }
 
-// Counts what bytes come to. A transaction has to encode to them.
+// Counts the result for these bytes. A transaction has to encode to them.
 fn count(memory: Memory, counts: &mut Counts, bytes: &[u8]) -> Result<()> {
     match Tx::decode(memory, bytes) {
         Ok(tx) if *tx.encode(memory)? == *bytes => add(counts, 0),
@@ -63,7 +63,7 @@ fn counts_of(memory: Memory, words: &str) -> Result<Counts> {
     spoil_all(memory, &mut bytes)
 }
 
-// How many came to a fault of this name, or at `ok` to a transaction.
+// How many had the fault of this name, or for `ok` encoded a transaction.
 fn count_named(memory: Memory, counts: &Counts, name: &str) -> Result<u64> {
     if name == "ok" {
         return Ok(counts[0]);
@@ -89,7 +89,7 @@ fn check_count(memory: Memory, counts: &Counts, wanted: &str) -> Result<u64> {
     }
 }
 
-/// How many cases there are, where as many of them as it is wanted spell a transaction or have each fault.
+/// How many cases there are, if the expected numbers encode a transaction or have each fault.
 pub fn held(memory: Memory, given: &str, wanted: &str) -> Result<u64> {
     let counts = counts_of(memory, given)?;
     let mut cases = 0u64;

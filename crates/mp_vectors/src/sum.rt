@@ -25,7 +25,7 @@ fn add_all(memory: Memory, sum: &mut Sum, words: &str) -> Result<()> {
     Ok(())
 }
 
-/// The sum of the bundles between plus signs. Where nothing is written, it is that of no bundle.
+/// The sum of the bundles between plus signs. An empty text is the sum of no bundles.
 pub fn sum(memory: Memory, words: &str) -> Result<Sum> {
     let mut sum = Sum::new(memory);
     add_all(memory, &mut sum, words)?;
@@ -39,7 +39,7 @@ fn has_total(memory: Memory, sum: &Sum, word: &str) -> Result<bool> {
     Ok(sum.total(&policy, &name) == total)
 }
 
-// Whether so many bundles were added, and come to these totals.
+// Whether this many bundles were added, with these totals.
 fn has_totals(memory: Memory, sum: &Sum, wanted: &str) -> Result<bool> {
     let (added, words) = wanted.split_once(' ').unwrap_or((wanted, ""));
     for word in words.split_whitespace() {
@@ -50,7 +50,7 @@ fn has_totals(memory: Memory, sum: &Sum, wanted: &str) -> Result<bool> {
     Ok(sum.added() == added.parse::<u64>()?)
 }
 
-// Whether the least token with two totals is the one that is wanted.
+// Whether the least token with two totals is the expected one.
 fn differ_at(memory: Memory, first: &Sum, second: &Sum, wanted: &str) -> Result<bool> {
     match first.first_difference(second) {
         None => Ok(wanted == "none"),

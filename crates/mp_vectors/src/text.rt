@@ -6,14 +6,14 @@ use crate::wrong::{Result, Wrong};
 use mp_memory::Memory;
 use mp_text::{first_line, first_word, is_clean, is_comment_or_blank};
 
-// What a text is cut into.
+// The pieces of a text.
 #[derive(Clone, Copy)]
 enum Cut {
     Lines,
     Words,
 }
 
-// The first line or word, and what comes after it.
+// The first line or word, and the rest.
 fn first_cut(cut: Cut, text: &[u8]) -> Option<(&[u8], &[u8])> {
     match cut {
         Cut::Lines => first_line(text),

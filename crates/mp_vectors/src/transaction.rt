@@ -10,7 +10,7 @@ use mp_bundle::Bundle;
 use mp_memory::Memory;
 use mp_tx::{Input, OutRef, Output, Script, Signature, Tx, TxParts};
 
-// Adds the inputs of a word such as `32*00:7`, or `32*00:0-255`, or `32*00:7/0200021234`, where the datum is another.
+// Adds the inputs of a word like `32*00:7`, `32*00:0-255`, or `32*00:7/0200021234` with another datum.
 fn add_inputs(memory: Memory, inputs: &mut Vec<Input, Memory>, word: &str) -> Result<()> {
     let (spent, datum) = word.split_once('/').unwrap_or((word, UNIT));
     let (OutRef { id, index: first }, last) = run(memory, spent)?;
@@ -21,7 +21,7 @@ fn add_inputs(memory: Memory, inputs: &mut Vec<Input, Memory>, word: &str) -> Re
     Ok(())
 }
 
-// Adds the outputs of a word such as `100`, the coin, or `152*100`, as many times.
+// Adds the outputs of a word: `100` for one with this much coin, `152*100` for 152 of them.
 fn add_outputs(memory: Memory, outputs: &mut Vec<Output, Memory>, word: &str) -> Result<()> {
     let (times, coin) = word.split_once('*').unwrap_or(("1", word));
     for _ in 0..times.parse::<u16>()? {
@@ -36,7 +36,7 @@ fn add_script(memory: Memory, scripts: &mut Vec<Script, Memory>, word: &str) -> 
     Ok(scripts.push(script)?)
 }
 
-// Adds the signature of a word such as `32*05/64*00`: the key, and then the signature.
+// Adds the signature of a word like `32*05/64*00`: the key, then the signature.
 fn add_signature(
     memory: Memory,
     signatures: &mut Vec<Signature, Memory>,
@@ -112,7 +112,7 @@ fn is_transaction(memory: Memory, tx: &Tx, wanted: &str) -> Result<bool> {
     }
 }
 
-/// Whether parts make a transaction as it is wanted, or have a fault.
+/// Whether parts make the expected transaction, or have this fault.
 pub fn holds(memory: Memory, given: &str, wanted: &str) -> Result<bool> {
     let mut parts = no_parts(memory);
     put_parts(memory, &mut parts, given)?;

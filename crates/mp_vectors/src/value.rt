@@ -1,11 +1,11 @@
-//! What scripts come to.
+//! Results of scripts.
 
 use crate::pieces;
 use crate::views::{Role, holds_in_most, holds_in_nothing, holds_in_scene};
 use crate::wrong::{Result, Wrong};
 use mp_memory::Memory;
 
-/// Whether a script comes to what is wanted in a view.
+/// Whether a script has the expected result in a view.
 pub fn holds(memory: Memory, given: &str, wanted: &str) -> Result<bool> {
     let (view, words) = given.split_once(':').ok_or(Wrong("no such word"))?;
     let bytes = pieces::bytes(memory, words)?;

@@ -31,7 +31,7 @@ fn of_guard<T>(role: Role, part: &T) -> Option<&T> {
     }
 }
 
-// Whether a script comes to what is wanted, and takes no memory on the way.
+// Whether a script has the expected result and doesn't allocate.
 fn comes_to<'a>(memory: Memory, script: &'a Script, view: &View<'a>, wanted: &str) -> Result<bool>
     requires { length view.now.outputs.now ≤ 256 }
 {
@@ -42,7 +42,7 @@ fn comes_to<'a>(memory: Memory, script: &'a Script, view: &View<'a>, wanted: &st
     Ok(is_wanted(memory, &value, wanted)? && takes_none)
 }
 
-// Two outputs with one address, and between them one with another.
+// Two outputs with one address, and another one between them.
 fn outputs_of<'a>(much: &'a Bundle, little: &'a Bundle) -> [PaidTo<'a>; 3] {
     [
         PaidTo {
@@ -81,14 +81,14 @@ fn data(memory: Memory) -> Result<(Data, Data)> {
     Ok((datum, pieces::datum(memory, REDEEMER)?))
 }
 
-// What much, little and what is forged are.
+// The bundles `much`, `little` and the forged one.
 fn bundles(memory: Memory) -> Result<(Bundle, Bundle, Bundle)> {
     let much = bundle(memory, MUCH)?;
     let little = bundle(memory, LITTLE)?;
     Ok((much, little, bundle(memory, FORGE)?))
 }
 
-/// Whether a script of a role comes to what is wanted in the transaction of the scene.
+/// Whether a script in a role has the expected result in the transaction of the scene.
 pub fn holds_in_scene(memory: Memory, role: Role, bytes: &[u8], wanted: &str) -> Result<bool> {
     let script = Script::decode(memory, bytes)?;
     let (datum, redeemer) = data(memory)?;
@@ -112,7 +112,7 @@ pub fn holds_in_scene(memory: Memory, role: Role, bytes: &[u8], wanted: &str) ->
     comes_to(memory, &script, &view, wanted)
 }
 
-// The datum that is written, if there is one.
+// The datum that is given, if there is one.
 fn datum_of(memory: Memory, words: &str) -> Result<Option<Data>> {
     if words.is_empty() {
         return Ok(None);
@@ -120,7 +120,7 @@ fn datum_of(memory: Memory, words: &str) -> Result<Option<Data>> {
     Ok(Some(pieces::datum(memory, words)?))
 }
 
-// A script, its datum, if it has one, and nothing.
+// A script, its datum if it has one, and an empty transaction.
 #[derive(Drop)]
 struct Alone {
     script: Script,
@@ -146,7 +146,7 @@ fn comes_alone_to(memory: Memory, alone: &Alone, wanted: &str) -> Result<bool> {
     comes_to(memory, &alone.script, &view, wanted)
 }
 
-/// Whether a script comes to what is wanted with the datum that is written, or none, in a transaction of nothing.
+/// Whether a script has the expected result with the given datum, or none, in an empty transaction.
 pub fn holds_in_nothing(memory: Memory, datum: &str, bytes: &[u8], wanted: &str) -> Result<bool> {
     let alone = Alone {
         script: Script::decode(memory, bytes)?,
@@ -157,7 +157,7 @@ pub fn holds_in_nothing(memory: Memory, datum: &str, bytes: &[u8], wanted: &str)
     comes_alone_to(memory, &alone, wanted)
 }
 
-// As many as there may be.
+// The most outputs that are allowed.
 fn most_outputs(value: &Bundle) -> [PaidTo<'_>; 256] {
     [PaidTo {
         address: &HOME,
@@ -165,7 +165,7 @@ fn most_outputs(value: &Bundle) -> [PaidTo<'_>; 256] {
     }; 256]
 }
 
-// As many as there may be, of which the last has another address.
+// The most references that are allowed. The last one has another address.
 fn most_references(value: &Bundle) -> [Referred<'_>; 256] {
     let mut references = [Referred {
         address: &HOME,
@@ -176,7 +176,7 @@ fn most_references(value: &Bundle) -> [Referred<'_>; 256] {
     references
 }
 
-/// Whether a script comes to what is wanted where as many outputs and references as there may be hold much.
+/// Whether a script has the expected result with the most outputs and references, each of which holds much.
 pub fn holds_in_most(memory: Memory, bytes: &[u8], wanted: &str) -> Result<bool> {
     let script = Script::decode(memory, bytes)?;
     let much = bundle(memory, MUCH)?;

@@ -1,11 +1,11 @@
-//! What a script is wanted to come to.
+//! The expected result of a script.
 
 use crate::pieces;
 use crate::wrong::Result;
 use mp_memory::Memory;
 use mp_script::Value;
 
-// Whether a value has the bytes that are wanted, as octets or as a datum.
+// Whether a value has the expected bytes, as octets or as a datum.
 fn has_bytes(memory: Memory, value: &Value, kind: &str, words: &str) -> Result<bool> {
     match (kind, value) {
         ("octets", Value::Octets(octets)) => pieces::spell(memory, words, octets),
@@ -24,7 +24,7 @@ fn is_word(value: &Value, word: &str) -> bool {
     }
 }
 
-/// Whether a value is the one that words say: `nothing`, a truth, a number, or octets or a datum by their bytes.
+/// Whether a value is the one in words: `nothing`, a truth value, a number, or octets or a datum by their bytes.
 pub fn is_wanted(memory: Memory, value: &Value, wanted: &str) -> Result<bool> {
     match wanted.split_once(' ') {
         None => Ok(is_word(value, wanted)),

@@ -8,21 +8,21 @@ use mp_tx::TxFault;
 use std::alloc::{AllocError, AllocFailed};
 use std::num::ParseIntError;
 
-/// Why a line doesn't hold, as a text. Nothing is dropped with it, and so little has to be proved where a line is given up.
+/// Why a line doesn't hold, as a text. It owns nothing, so little has to be proved at each early return.
 #[derive(Clone, Copy)]
 pub struct Wrong(pub &'static str);
 
-/// There was no memory.
+/// An allocation failed.
 pub const NO_MEMORY: Wrong = Wrong("no memory");
 
 impl Wrong {
-    /// Whether there was no memory.
+    /// Whether an allocation failed.
     pub fn is_no_memory(self) -> bool {
         self.0 == NO_MEMORY.0
     }
 }
 
-/// What comes of a line, or of a part of it.
+/// The result of a line, or of a part of it.
 pub type Result<T> = std::result::Result<T, Wrong>;
 
 impl From<NoMemory> for Wrong {

@@ -1,4 +1,4 @@
--- What a version keeps of items that come and go.
+-- What a version stores about its items, when items come and go.
 use Rattle.std.proofs.Common.{◌≡◌, ℕ, ◌+◌, ◌<◌, ◌≤◌, ◌^◌, List, [], ◌∷◌, ◌++◌, length, sym, ap, subst, ◌∙◌, arith}
 use Rattle.std.specs.Prelude.{All}
 use Rattle.std.specs.List.{AllByRecursion}
@@ -24,7 +24,7 @@ given_push last (i ∷ is) t a =
     let h = All-head (λ k. k ≤ last) i.0 (tickets is) a in
     All-cons (λ k. k ≤ last + 1) i.0 (tickets (is ++ (last + 1, t) ∷ [])) (omega (arith, h)) (given_push last is t (All-tail (λ k. k ≤ last) i.0 (tickets is) a))
 
--- all that is kept is right of these items
+-- all that is stored is right for these items
 pub counted : (v : Inside) (items : List (ℕ × Transaction)) → items_in v.layout ≡ items → IsLaid v.layout → IsRising items → All (λ k. k ≤ v.last) (tickets items) → v.count ≡ length items → v.bytes ≡ bytes_of items → v.bytes ≤ 2 ^ 40
     → v.changes ≤ v.config.limit → IsCounted v
 counted v items all laid rising given count bytes most changes = record {
@@ -37,7 +37,7 @@ counted v items all laid rising given count bytes most changes = record {
   changes = changes;
 }
 
--- and of those with one more, under the next ticket
+-- and for these items and one more, under the next ticket
 pub counted_more : (v w : Inside) (t : Transaction) (size : ℕ) → IsCounted v → items_in w.layout ≡ items_in v.layout ++ (v.last + 1, t) ∷ [] → IsLaid w.layout → w.last ≡ v.last + 1 → w.count ≡ v.count + 1
     → size ≡ size_of t → w.bytes ≡ v.bytes + size → bytes_of (items_in v.layout) + size_of t ≤ 2 ^ 40 → w.changes ≤ w.config.limit → IsCounted w
 counted_more v w t size is all laid last count sized bytes most changes =

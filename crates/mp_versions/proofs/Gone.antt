@@ -1,4 +1,4 @@
--- Items that go, and items that stay.
+-- Items that are removed, and items that stay.
 use Rattle.std.proofs.Common.{◌≡◌, ℕ, ◌+◌, ◌-◌, ◌<◌, ◌≤◌, Bool, true, false, cond, List, [], ◌∷◌, length, refl, ap, ◌∙◌, arith}
 use Rattle.std.specs.Prelude.{not, All}
 use Rattle.std.proofs.lemmas.List.Elements.{All-cons, All-head, All-tail}
@@ -16,7 +16,7 @@ parts : (b : Bool) (n : ℕ) (i : ℕ × Transaction) (gone stay : List (ℕ × 
 parts true n i gone stay is = let more = sum_first i.1 (transactions gone) in omega (arith, is, more)
 parts false n i gone stay is = let more = sum_first i.1 (transactions stay) in omega (arith, is, more)
 
--- the bytes of those that go and of those that stay are the bytes of all
+-- the bytes of the items removed and of those that stay are the bytes of all
 pub bytes_parted : (ts : List ℕ) (items : List (ℕ × Transaction)) → bytes_of items ≡ bytes_of (among ts items) + bytes_of (apart ts items)
 bytes_parted ts [] = refl
 bytes_parted ts (i ∷ is) =
@@ -37,7 +37,7 @@ pub rising_apart : (ts : List ℕ) (low : ℕ) (items : List (ℕ × Transaction
 rising_apart ts low [] r = tt
 rising_apart ts low (i ∷ is) r = rising_step (not (has_ticket ts i.0)) low i (apart ts is) r.0 (rising_apart ts i.0 is r.1)
 
--- tickets rise, so there are no more items than the last ticket says
+-- tickets are strictly increasing, so there are at most as many items as the last ticket
 pub count_within : (low last : ℕ) (items : List (ℕ × Transaction)) → low ≤ last → IsRisingFrom low items → All (λ k. k ≤ last) (tickets items) → low + length items ≤ last
 count_within low last [] h r a = omega arith
 count_within low last (i ∷ is) h r a =
@@ -45,7 +45,7 @@ count_within low last (i ∷ is) h r a =
     let n = count_within i.0 last is (All-head (λ k. k ≤ last) i.0 (tickets is) a) r.1 (All-tail (λ k. k ≤ last) i.0 (tickets is) a) in
     omega arith
 
--- nothing goes where no ticket is named
+-- without tickets, nothing is removed
 pub apart_none : (items : List (ℕ × Transaction)) → apart [] items ≡ items
 apart_none [] = refl
 apart_none (i ∷ is) = ap (λ l. i ∷ l) (apart_none is)

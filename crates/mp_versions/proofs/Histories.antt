@@ -33,14 +33,14 @@ module _ (accepts : Accepts) where
       let n = next_counts p e.command e.reply legal.0.true_reply in
       counts callers (next accepts p e.command) es legal.1 ∙ omega (arith, n)
 
-  -- a change for each entry
+  -- one change for each entry
   pub number_of : (callers : ℕ) (log : Log) → IsLegalLog accepts callers log → (state_after accepts log).changes ≡ length log.entries
   number_of callers log legal = let zero_changes = legal.unchanged in counts callers log.opening log.entries legal.legal ∙ omega (arith, zero_changes)
 
   first_part : (es rest : List Entry) → take (length (commands es)) (commands (es ++ rest)) ≡ commands es
   first_part es rest = ap (take (length (commands es))) (map-append (λ (e : Entry). e.command) es rest) ∙ take-append_seam (commands es) (commands rest)
 
-  -- what a later state has under tickets that an earlier one gave stood there
+  -- what a later state has under a ticket that the earlier one had given, the earlier one has too
   pub lasts : (callers : ℕ) (a b : Log) → IsLegalLog accepts callers b → Begins a b → Lasts (state_after accepts a) (state_after accepts b)
   lasts callers a b legal begins =
       let p : Pool = b.opening in

@@ -1,4 +1,4 @@
--- What a prepared step says of the pool, read off its command and its reply.
+-- What a prepared step says about the pool, by its command and its reply.
 use Rattle.std.proofs.Common.{◌≡◌, ℕ, ◌+◌, ◌≤◌, ◌^◌, List, sym, ap, subst, ◌∙◌, arith}
 use Rattle.mp_tx.specs.Transaction.{Transaction}
 use Rattle.mp_tx.specs.Spelling.{size_of}
@@ -22,7 +22,7 @@ place h (Keep overlay kept) t can e = absurd (not_itself h.pool.last (sym (ap (�
 place h (TakeOut gone) t can e = absurd (not_itself h.pool.last (sym (ap (λ (q : Pool). q.last) e)))
 place h (Adopt ledger gone) t can e = absurd (not_itself h.pool.last (sym (ap (λ (q : Pool). q.last) e)))
 
--- a step that takes a transaction in has room for it
+-- a step that adds a transaction has room for it
 pub submit_tells : (h : Holding) (q : Prepared) (t : Transaction) → q.command ≡ Submit t → IsPrepared h q → HasPlace h.pool t × (leads_to h.pool q ≡ pool_with h.pool t)
 submit_tells h q t command is =
     let leads : leads_to h.pool q ≡ pool_with h.pool t = is.tells ∙ ap (λ c. told h.pool c q.reply) command in

@@ -9,14 +9,14 @@ use mp_memory::{Memory, NoMemory};
 use std::sync::Wait;
 use std::sync::atomic::{AtomicUsize, Ordering};
 
-// A board with so many versions is full. With its own version, a pass that keeps a board keeps at most 64.
+// A board with this many versions is full. With its own version, a pass that keeps a board keeps at most 64.
 const MAX_VERSIONS: usize = 63;
 
-/// What shows that a board has a version.
+/// Evidence that a board has a version.
 pub(crate) type Published<N> = Pushed<Shown<N>, Memory>;
 
-/// Published versions, for all threads at once, and a hint which of them is the newest. They are freed with the board. What a
-/// reader gets is a `Shown`, whose type says that it is a true one: no clause depends on the hint.
+/// Published versions, for all threads at once, and a hint which of them is the newest. They are freed with the board. A reader
+/// gets a `Shown`, whose type says that it is a true version: no clause depends on the hint.
 pub(crate) struct Board<N: PoolName> {
     // How many boards were opened before this one.
     pub(crate) number: u64,
@@ -35,7 +35,7 @@ impl<N: PoolName> Drop for Board<N> {
 }
 
 impl<N: PoolName> Board<N> {
-    /// A board without versions, the one after so many others.
+    /// A board without versions. `number` boards were opened before it.
     pub(crate) fn new(memory: Memory, number: u64) -> Result<Board<N>, NoMemory> {
         Ok(Board {
             number,
@@ -44,10 +44,10 @@ impl<N: PoolName> Board<N> {
         })
     }
 
-    /// Adds the version: from now on it is the newest, until another is added. It may spin while another thread makes room.
+    /// Adds the version. It is the newest until another is added. It may spin while another thread makes room.
     ///
     /// # Errors
-    /// Returns the version if memory is refused.
+    /// Returns the version if an allocation fails.
     pub(crate) fn add(&self, rt: &impl Wait, shown: Shown<N>) -> Result<Published<N>, Shown<N>>
         ensures board { IfOk result (Shows self.now.shown) }
         ensures version { IfOk result (λ p. p.value ≡ shown) }
@@ -58,7 +58,7 @@ impl<N: PoolName> Board<N> {
         Ok(published)
     }
 
-    /// The version that was added last, if any was. It allocates nothing and waits for nobody.
+    /// The version that was added last, if any. It allocates nothing and waits for nobody.
     pub(crate) fn newest(&self) -> Option<&Shown<N>> {
         self.shown.get(self.newest.load(Ordering::SeqCst))
     }

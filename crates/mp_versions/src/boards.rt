@@ -9,20 +9,20 @@ use mp_memory::{Memory, NoMemory};
 use std::sync::atomic::{AtomicU64, Ordering};
 use std::sync::{Arc, RwLock, RwLockWriteGuard, Wait};
 
-// The number of places. While readers are at one, the next board goes to another.
+// While readers are at one place, the next board goes to another.
 const PLACES: u64 = 8;
 
-// How often a reader looks again. It does if another board was opened while it looked.
+// How often a reader looks again. It does if another board was opened in the meantime.
 const TRIES: u32 = 8;
 
-// No reader keeps a guard, but a share of the board.
+// A reader keeps no guard, only a share of the board.
 type Place<N> = RwLock<Arc<Board<N>, Memory>>;
 
-/// The published versions of a pool, for all threads at once: where the newest board is found. A `Publisher` publishes, one
-/// thread at a time, and any number of `Subscriber`s read, each with a board of its own. A board is freed once nobody keeps it.
+/// The published versions of a pool, for all threads at once: where the newest board is found. One `Publisher` publishes, one
+/// thread at a time. Any number of `Subscriber`s read, each with a board of its own. A board is freed once nobody keeps it.
 pub struct Boards<N: PoolName> {
     places: Vec<Place<N>, Memory>,
-    // The number of the newest board, times the number of places, and the place where it is.
+    // The number of the newest board, times the number of places, plus its place.
     newest: AtomicU64,
     ghost sized: { length places.items ≡ 8 },
 }
@@ -50,13 +50,13 @@ fn fill<N: PoolName>(
     Ok(())
 }
 
-// A board's number and its place in one word.
+// A board's number and its place, in one word.
 fn mark(number: u64, place: u64) -> u64 {
     number.wrapping_mul(PLACES).wrapping_add(place % PLACES)
 }
 
 impl<N: PoolName> Boards<N> {
-    /// Publishes this version, and returns who publishes the next ones.
+    /// Publishes this version, and returns the right to publish the next ones.
     pub fn open(
         rt: &impl Wait,
         memory: Memory,
@@ -71,7 +71,7 @@ impl<N: PoolName> Boards<N> {
         Ok((Boards { places, newest }, publisher))
     }
 
-    // The place that is named by the word.
+    // The place that the word names.
     fn place(&self, word: u64) -> &Place<N> {
         &self.places[(word % PLACES) as usize]
     }
@@ -89,14 +89,14 @@ impl<N: PoolName> Boards<N> {
         (at, self.place(at).write(rt))
     }
 
-    // Puts the board in such a place, and returns which.
+    // Puts the board in such a place, and returns which one.
     fn put(&self, rt: &impl Wait, board: Arc<Board<N>, Memory>) -> u64 {
         let (at, mut place) = self.vacate(rt);
         *place = board;
         at
     }
 
-    // Puts the board in each other place where nobody reads, so that older ones are let go.
+    // Puts the board in each other place where nobody reads, so that older boards are released.
     fn sweep(&self, at: u64, board: &Arc<Board<N>, Memory>) {
         for step in 1..PLACES {
             if let Some(mut place) = self.place(at.wrapping_add(step)).try_write() {
@@ -107,10 +107,10 @@ impl<N: PoolName> Boards<N> {
         }
     }
 
-    /// From now on this board is the newest, until another is announced. It allocates nothing.
+    /// This board is the newest until another is announced. It allocates nothing.
     ///
     /// # Errors
-    /// `NoMemory` if the board has too many owners, and nothing has changed.
+    /// `NoMemory` if the board has too many owners. Then nothing has changed.
     pub(crate) fn announce(
         &self,
         rt: &impl Wait,
@@ -122,8 +122,8 @@ impl<N: PoolName> Boards<N> {
         Ok(())
     }
 
-    /// The newest board, if that is newer than the one with this number. It is one load if there is none. It allocates nothing and
-    /// waits for nobody.
+    /// Returns the newest board if it is newer than the one with this number. If there is none, it is one load. It allocates
+    /// nothing and waits for nobody.
     pub(crate) fn newer(&self, number: u64) -> Option<Arc<Board<N>, Memory>> {
         for _ in 0..TRIES {
             let newest = self.newest.load(Ordering::SeqCst);

@@ -7,9 +7,8 @@ use crate::version::Version;
 use mp_items::Item;
 use mp_items::layout::chunk_at;
 
-/// The chunk at this place, counted from 0, of those that make up the version's items: joined in
-/// order they are its items, and each has 1 to 64. Versions share the chunks that don't change
-/// between them.
+/// The chunk at this index, from 0, of the chunks that make up the version's items. Joined in order they are its items, and each
+/// has 1 to 64. Versions share the chunks that don't change between them.
 pub fn chunk(version: &Version, place: usize) -> Option<&[Item]>
     ensures which { option_map (λ c. items_of c.now) result ≡ slice_get version.now.chunks place }
     ensures joined { flat_map (λ c. c) version.now.chunks ≡ version.now.pool.items }

@@ -1,4 +1,4 @@
-//! Versions of a pool, which never change: each shares nearly everything with the versions before it.
+//! Versions of a pool, which never change. Each shares nearly everything with the versions before it.
 #![tactic(auto)]
 
 mod board;

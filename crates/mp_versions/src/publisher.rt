@@ -10,8 +10,8 @@ use mp_memory::{Memory, NoMemory};
 use std::marker::Model;
 use std::sync::{Arc, Wait};
 
-/// The right to publish versions on the boards that it came with. There is one. Contracts see what the version that it published
-/// last is after: its board has that version.
+/// The right to publish versions on the boards that it came with. There is one. Contracts see it as the history of the version
+/// that it published last, which its board has.
 pub struct Publisher<N: PoolName> {
     board: Arc<Board<N>, Memory>,
     last: Published<N>,
@@ -40,7 +40,7 @@ impl<N: PoolName> Model for Publisher<N> {
 }
 
 impl<N: PoolName> Publisher<N> {
-    /// Publishes the version on a new board, the one after so many others.
+    /// Publishes the version on a new board. `number` boards were opened before it.
     pub(crate) fn new(
         rt: &impl Wait,
         memory: Memory,
@@ -61,7 +61,7 @@ impl<N: PoolName> Publisher<N> {
         &self.board
     }
 
-    /// Someone who reads what is published from now on.
+    /// A subscriber that reads what is published from now on.
     pub fn subscriber(&self) -> Result<Subscriber<N>, NoMemory> {
         Ok(Subscriber::of(Arc::try_clone(&self.board)?))
     }
@@ -94,11 +94,11 @@ impl<N: PoolName> Publisher<N> {
         Ok(())
     }
 
-    /// Publishes the version: from now on it is the newest, until another is published. If its board is full it opens the next
-    /// one, or goes on with the full one if memory for that is refused. It may wait for a reader who takes a share of a board.
+    /// Publishes the version. It is the newest until another is published. If the board is full, this opens the next one. If
+    /// memory for that is refused, it goes on with the full one. It may wait for a reader that takes a share of a board.
     ///
     /// # Errors
-    /// Returns the version if memory is refused.
+    /// Returns the version if an allocation fails.
     pub fn publish(
         &mut self,
         rt: &impl Wait,

@@ -1,4 +1,4 @@
-//! Versions with the front that they stand after.
+//! Versions with their fronts.
 ghost use Rattle.std.specs.Prelude.{◌≡◌, IfOk};
 ghost use Rattle.std.specs.Arc.{arc_value};
 ghost use Rattle.mp_history.specs.Log.{IsLegalLog, state_after};
@@ -10,8 +10,8 @@ use mp_memory::{Memory, NoMemory};
 use std::marker::Model;
 use std::sync::Arc;
 
-/// A version that callers may hold, with its front: the history is legal, and the version is the
-/// slow pool after it. Contracts see it as that history.
+/// A version that callers may hold, with its front. The history is legal, and the version is the slow pool after it. Contracts
+/// see it as that history.
 pub struct Shown<N: PoolName> {
     version: Arc<Version, Memory>,
     front: Front<N>,
@@ -43,7 +43,7 @@ impl<N: PoolName> Model for Shown<N> {
 }
 
 impl<N: PoolName> Shown<N> {
-    /// The version with its front. It takes no memory.
+    /// The version with its front. It allocates nothing.
     pub fn of(version: Arc<Version, Memory>, front: Front<N>) -> Shown<N>
         requires { IsVersionOf N.accepts N.callers front (arc_value version) }
         ensures { result ≡ front }
@@ -51,7 +51,7 @@ impl<N: PoolName> Shown<N> {
         Shown { version, front }
     }
 
-    /// The version: the slow pool after the front's entries.
+    /// The version: the slow pool after the entries of the front.
     pub fn version(&self) -> &Version
         ensures state { result.now.pool ≡ state_after N.accepts self.now }
         ensures legal { IsLegalLog N.accepts N.callers self.now }
@@ -59,14 +59,14 @@ impl<N: PoolName> Shown<N> {
         &self.version
     }
 
-    /// The front that it stands after.
+    /// The front: the prefix of the history that the version is after.
     pub fn front(&self) -> &Front<N>
         ensures { result.now ≡ self.now }
     {
         &self.front
     }
 
-    /// The same version with the same front. The version is shared, and not copied.
+    /// The same version with the same front. The version is shared, not copied.
     pub fn share(&self) -> Result<Shown<N>, NoMemory>
         ensures { IfOk result (λ s. s ≡ self.now) }
     {

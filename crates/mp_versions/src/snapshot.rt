@@ -1,4 +1,4 @@
-//! What a caller reads of the pool.
+//! What a caller reads from the pool.
 ghost use Rattle.std.specs.Prelude.{◌≡◌, ◌≤◌, ◌*◌, length, is_some, IfSome};
 ghost use Rattle.std.specs.Prelude.{option_map};
 ghost use Rattle.std.specs.Arc.{arc_value};
@@ -16,8 +16,8 @@ use mp_tx::{Tx, TxId};
 use std::marker::Model;
 use std::sync::Arc;
 
-/// What one version of the pool says (the Mempool API of ouroboros-consensus). It lends what it
-/// answers with and takes no memory. Contracts see it as the history that the version stands after.
+/// Answers questions about one version of the pool (the Mempool API of ouroboros-consensus). It lends its answers and allocates
+/// nothing. Contracts see it as the history that the version is after.
 #[derive(Drop)]
 pub struct Snapshot<'a, N: PoolName> {
     shown: &'a Shown<N>,
@@ -50,7 +50,7 @@ impl<'a, N: PoolName> Snapshot<'a, N> {
         self.shown.version().contents()
     }
 
-    /// Those with a greater ticket, oldest first.
+    /// The transactions with a greater ticket, oldest first.
     pub fn after(&self, ticket: u64) -> Run<'a>
         ensures { result ≡ after (state_after N.accepts self.now).items ticket }
     {
@@ -65,14 +65,14 @@ impl<'a, N: PoolName> Snapshot<'a, N> {
         self.shown.version().lookup(ticket)
     }
 
-    /// Whether a transaction with this id is there.
+    /// Whether the version has a transaction with this id.
     pub fn has(&self, id: &TxId) -> bool
         ensures { result ≡ is_some (ticket_of id.now (state_after N.accepts self.now).items) }
     {
         self.shown.version().has(id)
     }
 
-    /// How many transactions there are, and how many bytes they have together.
+    /// How many transactions there are, and how many bytes in all.
     pub fn size(&self) -> (usize, u64)
         ensures count { result.0 ≡ length (state_after N.accepts self.now).items }
         ensures bytes { result.1 ≡ bytes_held (state_after N.accepts self.now) }
@@ -81,7 +81,7 @@ impl<'a, N: PoolName> Snapshot<'a, N> {
         (version.len(), version.bytes())
     }
 
-    /// How many bytes the transactions may have together: twice those of a block of the adopted ledger state.
+    /// How many bytes the transactions may have in all: twice the block bytes of the adopted ledger state.
     pub fn capacity(&self) -> u64
         ensures { result ≡ 2 * (state_after N.accepts self.now).ledger.block_bytes }
     {
@@ -95,7 +95,7 @@ impl<'a, N: PoolName> Snapshot<'a, N> {
         self.shown.version().ledger().tick()
     }
 
-    /// How many entries the history has up to here.
+    /// How many entries its history has.
     pub fn number(&self) -> u64
         ensures { result ≡ length self.now.entries }
     {
@@ -109,15 +109,15 @@ impl<'a, N: PoolName> Snapshot<'a, N> {
         self.shown.version().last_ticket()
     }
 
-    /// The transactions from the oldest on, as long as they fit into so many bytes together.
+    /// The transactions from the oldest on, as long as they fit into `bytes` bytes in all.
     pub fn take(&self, bytes: u64) -> RunWithin<'a>
         ensures { result ≡ within bytes (state_after N.accepts self.now).items }
     {
         self.shown.version().within(bytes)
     }
 
-    /// Of two snapshots of one pool, the later one has under the tickets that were given when the
-    /// earlier one was taken only what stood there. That costs nothing when it runs.
+    /// Of two snapshots of one pool, take the tickets that were given when the earlier one was taken. Under these the later one
+    /// has only what the earlier one has. This costs nothing at run time.
     pub fn lasts(&self, later: &Snapshot<'_, N>)
         ensures { length self.now.entries ≤ length later.now.entries
             → Lasts (state_after N.accepts self.now) (state_after N.accepts later.now) }

@@ -1,4 +1,4 @@
-//! Reading what is published.
+//! Reading published versions.
 
 use crate::board::Board;
 use crate::boards::Boards;
@@ -7,7 +7,7 @@ use mp_history::PoolName;
 use mp_memory::Memory;
 use std::sync::Arc;
 
-/// Reads what is published. It keeps one board, so at most 63 versions, but for those that were published while memory for another
+/// Reads published versions. It keeps one board, so at most 63 versions, and those that were published while memory for another
 /// board was refused.
 pub struct Subscriber<N: PoolName> {
     board: Arc<Board<N>, Memory>,
@@ -25,14 +25,15 @@ impl<N: PoolName> Subscriber<N> {
         Subscriber { board }
     }
 
-    /// Reads the newest board from now on. It is one load if that is its own. It allocates nothing and waits for nobody.
+    /// Reads the newest board from now on. If it has that board already, this is one load. It allocates nothing and waits for
+    /// nobody.
     pub fn catch_up(&mut self, boards: &Boards<N>) {
         if let Some(board) = boards.newer(self.board.number) {
             self.board = board;
         }
     }
 
-    /// The version that was published last on its board. It allocates nothing and waits for nobody.
+    /// The version that was published last on the subscriber's board. It allocates nothing and waits for nobody.
     pub fn newest(&self) -> Option<&Shown<N>> {
         self.board.newest()
     }

@@ -1,4 +1,4 @@
-//! States of a pool that stay as they are.
+//! Immutable states of a pool.
 ghost use Rattle.std.specs.Prelude.{◌≡◌, ◌==◌, ◌<◌, ◌≤◌, ◌^◌, length, reverse, is_some, option_map, All, IfOk};
 ghost use Rattle.std.specs.List.Sorted.{IsStrictlyIncreasing};
 ghost use Rattle.std.specs.Arc.{arc_value};
@@ -21,8 +21,8 @@ use mp_tx::{Ledger, Tx, TxId};
 use std::marker::Model;
 use std::sync::Arc;
 
-/// A state of the pool, which stays as it is. It shares nearly everything with the version that it
-/// was made from. Contracts see it as the slow pool's state and the chunks that make up its items.
+/// An immutable state of the pool. It shares nearly everything with the version that it was made from. Contracts see it as the
+/// slow pool's state and the chunks that make up its items.
 pub struct Version {
     pub(crate) layout: Layout,
     ledger: Ledger,
@@ -69,7 +69,7 @@ struct Rest {
     bytes: u64,
 }
 
-// Takes out the items with these tickets. The bytes are those of all items together.
+// Removes the items with these tickets. `bytes` is the total of all items.
 fn take_out(memory: Memory, layout: &Layout, bytes: u64, tickets: &[u64]) -> Result<Rest, NoMemory>
     requires laid { IsLaid layout.now }
     requires rising { IsRising (items_in layout.now) }
@@ -85,7 +85,7 @@ fn take_out(memory: Memory, layout: &Layout, bytes: u64, tickets: &[u64]) -> Res
     })
 }
 
-// What the reply to a remove or a sync leaves.
+// What is left after the reply to a remove or a sync.
 fn rest_after(memory: Memory, layout: &Layout, bytes: u64, reply: &Reply) -> Result<Rest, NoMemory>
     requires laid { IsLaid layout.now }
     requires rising { IsRising (items_in layout.now) }
@@ -103,7 +103,7 @@ fn rest_after(memory: Memory, layout: &Layout, bytes: u64, reply: &Reply) -> Res
     }
 }
 
-// How many items there are: no more than the last ticket says.
+// How many items there are: at most `last`.
 fn count_up_to(layout: &Layout, last: u64) -> usize
     requires rising { IsRising (items_in layout.now) }
     requires given { All (λ k. k ≤ last) (tickets (items_in layout.now)) }
@@ -113,7 +113,7 @@ fn count_up_to(layout: &Layout, last: u64) -> usize
 }
 
 impl Version {
-    /// The version of the pool as it is.
+    /// The version of the pool in its present state.
     pub fn of(memory: Memory, pool: &SeqPool) -> Result<Version, NoMemory>
         ensures { IfOk result (λ v. v.pool ≡ pool.now.pool) }
     {
@@ -128,7 +128,7 @@ impl Version {
         })
     }
 
-    // The transaction last, under the next ticket.
+    // Adds the transaction as the last one, under the next ticket.
     fn with_tx(&self, memory: Memory, tx: &Arc<Tx, Memory>) -> Result<Version, NoMemory>
         requires { HasPlace self.now.pool (arc_value tx.now) }
         ensures { IfOk result (λ v. v.pool ≡ pool_with self.now.pool (arc_value tx.now)) }
@@ -150,7 +150,7 @@ impl Version {
         })
     }
 
-    // What the reply to a remove or a sync leaves, upon this ledger state.
+    // What is left after the reply to a remove or a sync, on this ledger state.
     fn upon(&self, memory: Memory, ledger: &Ledger, reply: &Reply) -> Result<Version, NoMemory>
         requires { self.now.pool.changes < self.now.pool.limit }
         ensures { IfOk result (λ v. v.pool
@@ -168,9 +168,8 @@ impl Version {
         })
     }
 
-    /// The version of the pool as `SeqPool::finish` will leave it with this step, where this is the
-    /// version of the pool as it is. Of the items only those are made anew that stand beside what
-    /// comes or goes; all others are shared.
+    /// The version of the pool as `SeqPool::finish` will leave it with this step. It requires that this is the version of the
+    /// pool now. Only the items next to what comes or goes are copied. All others are shared.
     pub fn after(
         &self,
         memory: Memory,
@@ -189,8 +188,8 @@ impl Version {
         }
     }
 
-    /// The version of the pool as `SeqPool::renew` leaves it: no change was made, and there may be so
-    /// many (1 to 2^32). All items are shared. `NoMemory` where they are shared too often.
+    /// The version of the pool as `SeqPool::renew` leaves it: no change was made yet, and `limit` (1 to 2^32) may follow. All
+    /// items are shared. `NoMemory` if they have too many owners.
     pub fn renewed(&self, limit: u64) -> Result<Version, NoMemory>
         requires least { 1 ≤ limit }
         requires greatest { limit ≤ 2 ^ 32 }
@@ -224,14 +223,14 @@ impl Version {
         run_back(&self.layout)
     }
 
-    /// Those with a greater ticket, oldest first.
+    /// The transactions with a greater ticket, oldest first.
     pub fn after_ticket(&self, ticket: u64) -> Run<'_>
         ensures { result ≡ after self.now.pool.items ticket }
     {
         run_after(&self.layout, ticket)
     }
 
-    /// The transactions from the oldest on, as long as they fit into so many bytes together.
+    /// The transactions from the oldest on, as long as they fit into `bytes` bytes in all.
     pub fn within(&self, bytes: u64) -> RunWithin<'_>
         ensures { result ≡ within bytes self.now.pool.items }
     {
@@ -246,7 +245,7 @@ impl Version {
         Some(&find(&self.layout, ticket)?.tx)
     }
 
-    /// Whether a transaction with this id is there. It is a walk over all.
+    /// Whether the version has a transaction with this id. It walks over all.
     pub fn has(&self, id: &TxId) -> bool
         ensures { result ≡ is_some (ticket_of id.now self.now.pool.items) }
     {
@@ -281,7 +280,7 @@ impl Version {
         self.len() == 0
     }
 
-    /// How many bytes the transactions have together, at most 2^40.
+    /// How many bytes the transactions have in all, at most 2^40.
     pub fn bytes(&self) -> u64
         ensures bytes { result ≡ bytes_held self.now.pool }
         ensures most { result ≤ 2 ^ 40 }

@@ -1,4 +1,4 @@
--- A command that makes the same of all words as another.
+-- A command that reads all words as another one does.
 use Rattle.std.specs.Prelude.{◌≡◌, List}
 use Rattle.clap.specs.Faults.{fault_of, is_simple_and_free}
 use Rattle.clap.specs.Words.{App, Text, is_simple, subcommand_of, takes}

@@ -1,10 +1,10 @@
--- Field elements as five limbs of 51 bits each, the lowest first.
+-- Field elements as five limbs of 51 bits each, lowest first.
 use Rattle.std.specs.Prelude.{ℕ, ◌+◌, ◌*◌, ◌%◌, ◌^◌, ◌≤◌, Option, Some, None}
 use Rattle.mp_ed25519.specs.Field.{prime}
 use Rattle.mp_ed25519.specs.declared.field_element.FieldElement.{FieldElement}
 use Rattle.mp_ed25519.specs.declared.wide_element.WideElement.{WideElement}
 
--- the number that five limbs write
+-- the number that five limbs denote
 abbrev pub value : ℕ → ℕ → ℕ → ℕ → ℕ → ℕ
 value a b c d e = a + 2 ^ 51 * b + 2 ^ 102 * c + 2 ^ 153 * d + 2 ^ 204 * e
 
@@ -21,7 +21,7 @@ abbrev pub element_of : Option FieldElement → Option ℕ
 element_of None = None
 element_of (Some f) = Some (element f)
 
--- the most that a limb has after the carries
+-- the greatest value of a limb after the carries
 abbrev pub tight : ℕ
 tight = 2 ^ 51 + 2 ^ 13
 

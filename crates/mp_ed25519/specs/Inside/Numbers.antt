@@ -1,4 +1,4 @@
--- Numbers of 256 bits as four words of 64, the lowest first.
+-- Numbers of 256 bits as four words of 64, lowest first.
 use Rattle.std.specs.Prelude.{ℕ, ◌+◌, ◌*◌, ◌^◌}
 use Rattle.mp_ed25519.specs.declared.number.Number.{Number}
 

@@ -1,4 +1,4 @@
--- The points of the curve that the code's types stand for.
+-- The points of the curve that the code's types represent.
 use Rattle.std.specs.Prelude.{◌≡◌, ◌<◌, ℕ, List, Option, Some, None, slice_index_or}
 use Rattle.mp_ed25519.specs.Field.{add, sub, mul}
 use Rattle.mp_ed25519.specs.Inside.Limbs.{element}
@@ -25,7 +25,7 @@ abbrev pub IsCached : CachedPoint → Point → Type 0
 IsCached c p = (element c.sum ≡ add p.y p.x) × (element c.difference ≡ sub p.y p.x)
     × (element c.double ≡ add p.z p.z) × (element c.product ≡ mul (add d d) p.t)
 
--- the first n multiples of p, from 0 on
+-- the first n multiples of p, from 0 times p on
 abbrev pub IsTable : List CachedPoint → Point → ℕ → Type 0
 IsTable t p n =
     (j : ℕ) → j < n → (c : CachedPoint) → c ≡ slice_index_or t j c → IsCached c (multiple p j)

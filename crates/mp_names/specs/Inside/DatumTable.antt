@@ -1,4 +1,4 @@
--- What data are found by.
+-- The keys by which data are found.
 use Rattle.std.specs.Prelude.{ℕ, Bool, nat_eq, List}
 use Rattle.std.specs.Cmp.Lexicographic.{pointwise}
 use Rattle.mp_names.specs.declared.names.NamedDatum.{NamedDatum}

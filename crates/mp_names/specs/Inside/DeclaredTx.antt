@@ -1,4 +1,4 @@
--- What a declared transaction keeps.
+-- What a declared transaction stores.
 use Rattle.std.specs.Arc.{arc_value}
 use Rattle.mp_names.specs.declared.declared_tx.DeclaredTx.TheInside.{Inside}
 use Rattle.mp_names.specs.DeclaredTx.{DeclaredTx}

@@ -1,4 +1,4 @@
--- What a name keeps.
+-- What a name stores.
 use Rattle.std.specs.Prelude.{ℕ, List}
 use Rattle.mp_names.specs.declared.names.Name.TheInside.{Inside}
 

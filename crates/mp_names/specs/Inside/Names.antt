@@ -1,4 +1,4 @@
--- What names keep.
+-- What `Names` stores.
 use Rattle.mp_names.specs.declared.names.Names.TheInside.{Inside}
 use Rattle.mp_names.specs.Names.{Names}
 

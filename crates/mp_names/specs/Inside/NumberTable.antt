@@ -5,7 +5,7 @@ use Rattle.std.specs.Cmp.Lexicographic.{pointwise}
 use Rattle.std.specs.Map.{lookup}
 use Rattle.std.specs.declared.vec.Vec.{Vec}
 
--- keys of bytes, each with numbers
+-- keys of bytes with their numbers
 abbrev pub Numbered : Type 0 → Type 0
 Numbered Z = List (Vec ℕ Z × Vec ℕ Z)
 
@@ -20,12 +20,12 @@ is_key key q = option_map_or (pointwise nat_eq q) key false
 abbrev pub without_number : ℕ → List ℕ → List ℕ
 without_number number numbers = filter (λ n. not (nat_eq n number)) numbers
 
--- the number is put last under the key, if there is one
+-- the number is added as the last one under the key, if there is a key
 abbrev pub Puts : {Z : Type 0} → Numbered Z → Option (List ℕ) → ℕ → Numbered Z → Type 0
 Puts old key number new =
     (q : List ℕ) → numbers_at new q ≡ numbers_at old q ++ (if is_key key q then number ∷ [] else [])
 
--- the number is taken from the key, if there is one
+-- the number is removed from the key, if there is a key
 abbrev pub Takes : {Z : Type 0} → Numbered Z → Option (List ℕ) → ℕ → Numbered Z → Type 0
 Takes old key number new =
     (q : List ℕ) → numbers_at new q ≡ (if is_key key q then without_number number (numbers_at old q) else numbers_at old q)

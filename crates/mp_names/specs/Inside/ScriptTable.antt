@@ -1,4 +1,4 @@
--- What scripts are found by.
+-- The keys by which scripts are found.
 use Rattle.std.specs.Prelude.{ℕ, Bool, nat_eq, List}
 use Rattle.std.specs.Cmp.Lexicographic.{pointwise}
 use Rattle.mp_names.specs.declared.names.NamedScript.{NamedScript}

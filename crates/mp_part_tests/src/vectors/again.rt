@@ -1,4 +1,4 @@
-//! Transactions whose scripts were run before, and what `check_with` answers.
+//! Transactions whose scripts were run before, and what `check_with` returns.
 
 use crate::vectors::answer::{check_answer, is_fault};
 use crate::vectors::case;
@@ -10,7 +10,7 @@ use crate::vectors::wrong::{Result, Wrong};
 use mp_rules::{Invalid, check_with, precheck};
 use mp_tx::{Ledger, Output, Tx};
 
-// What is found first before, and what is answered then.
+// The first result, and the result after it.
 #[derive(Clone, Copy)]
 struct Wanted<'a> {
     before: &'a str,
@@ -68,7 +68,7 @@ fn check_wanted(names: &Names, given: &str, wanted: Wanted<'_>) -> Result<()> {
     check_again(names, &tx, &ledger, given, wanted)
 }
 
-/// Fails unless what was found before and what is answered now are as they are wanted, and `check` answers the same.
+/// Fails unless the earlier and the present result are the expected ones, and `check` returns the same.
 pub fn check_case(names: &Names, given: &str, wanted: &str) -> Result<()> {
     match wanted.split_once(',') {
         Some((before, answer)) => {

@@ -1,4 +1,4 @@
-//! What is answered of a transaction, and what is wanted.
+//! The result of checking a transaction, and the expected one.
 
 use crate::vectors::names::Names;
 use crate::vectors::plain;
@@ -37,7 +37,7 @@ fn is_told(names: &Names, found: &Invalid, wanted: &str) -> wrong::Result<bool> 
     Ok(format!(in names.memory(); "{number} {found}")?.as_str() == wanted)
 }
 
-// Whether a fault has this name, and what is told with it.
+// Whether a fault has this name and these values.
 fn is_fault_of(names: &Names, found: &Invalid, name: &str, words: &str) -> wrong::Result<bool> {
     match name {
         "Unbalanced" => is_unbalanced(names, found, words),
@@ -53,7 +53,7 @@ fn is_fault_of(names: &Names, found: &Invalid, name: &str, words: &str) -> wrong
     }
 }
 
-/// Whether a fault is the one of words such as `NoInputs`, `InputMissing 1`, `ForgeWithoutPolicy p`, `Unbalanced p.x 5 4`,
+/// Whether a fault is the one in words like `NoInputs`, `InputMissing 1`, `ForgeWithoutPolicy p`, `Unbalanced p.x 5 4`,
 /// `BadSignature 7` or `2 the transaction has no input`.
 pub fn is_fault(names: &Names, found: &Invalid, wanted: &str) -> wrong::Result<bool> {
     match wanted.split_once(' ') {
@@ -90,7 +90,7 @@ fn are_referred(ledger: &Ledger, tx: &Tx, resolved: &Resolved) -> bool {
     true
 }
 
-// Fails unless so many outputs were found as are wanted, each of them in the ledger.
+// Fails unless the expected number of outputs was found, each of them in the ledger.
 fn check_resolved(
     ledger: &Ledger,
     tx: &Tx,
@@ -116,7 +116,7 @@ fn check_fault(names: &Names, found: &Invalid, wanted: &str) -> wrong::Result<()
     }
 }
 
-/// Fails unless the answer is the one that is wanted: `ok 2+1`, where two outputs are spent and one is referred to, or a fault.
+/// Fails unless the result is the expected one: a fault, or `ok 2+1` if two outputs are spent and one is referred to.
 pub fn check_answer(
     names: &Names,
     ledger: &Ledger,

@@ -1,4 +1,4 @@
-//! What stands beside the transaction of a case.
+//! The parts of a case in addition to the transaction.
 
 use crate::vectors::names::Names;
 use crate::vectors::plain;
@@ -6,7 +6,7 @@ use crate::vectors::wrong::{Result, Wrong};
 use mp_memory::Memory;
 use mp_tx::{Ledger, OutRef, Output, Salt, TxId};
 
-// The tick of `tick=7`, which is 0 where none stands.
+// The tick of `tick=7`, or 0 without one.
 fn tick(words: &str) -> Result<u64> {
     for word in words.split_whitespace() {
         if let Some(("tick", digits)) = word.split_once('=') {
@@ -16,7 +16,7 @@ fn tick(words: &str) -> Result<u64> {
     Ok(0)
 }
 
-// Adds the output of a word such as `3.0:100@s`: the reference, and then the output.
+// Adds the output of a word like `3.0:100@s`: the reference, then the output.
 fn add_referred(
     names: &Names,
     own: Option<TxId>,
@@ -43,7 +43,7 @@ fn add_all_referred(
     Ok(())
 }
 
-/// The ledger of all outputs such as `has=3.0:100`, at the tick of `tick=7`.
+/// The ledger of all outputs like `has=3.0:100`, at the tick of `tick=7`.
 pub fn ledger(names: &Names, own: Option<TxId>, words: &str) -> Result<Ledger> {
     let tick = tick(words)?;
     let mut outputs = Vec::new(names.memory());
@@ -61,7 +61,7 @@ fn add_upon(names: &Names, outputs: &mut Vec<Output, Memory>, words: &str) -> Re
     Ok(())
 }
 
-/// All outputs such as `upon=100@s`, in their order.
+/// All outputs like `upon=100@s`, in their order.
 pub fn upon(names: &Names, words: &str) -> Result<Vec<Output, Memory>> {
     let mut outputs = Vec::new(names.memory());
     add_upon(names, &mut outputs, words)?;

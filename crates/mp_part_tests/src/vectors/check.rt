@@ -1,4 +1,4 @@
-//! Transactions and what `check` answers.
+//! Transactions and what `check` returns.
 
 use crate::vectors::answer::check_answer;
 use crate::vectors::case;
@@ -9,13 +9,13 @@ use crate::vectors::wrong::Result;
 use mp_rules::check;
 use mp_tx::{Ledger, Tx};
 
-/// Fails unless the transaction is answered as it is wanted upon the ledger state.
+/// Fails unless checking the transaction on the ledger state gives the expected result.
 pub fn check_tx(names: &Names, tx: &Tx, ledger: &Ledger, wanted: &str) -> Result<()> {
     let answer = check(names.memory(), tx, ledger, ledger.tick(), &KeyThenId);
     check_answer(names, ledger, tx, &answer, wanted)
 }
 
-/// Fails unless the transaction is answered as it is wanted.
+/// Fails unless checking the transaction gives the expected result.
 pub fn check_case(names: &Names, given: &str, wanted: &str) -> Result<()> {
     let tx = transaction(names, given)?;
     let ledger = case::ledger(names, Some(*tx.id()), given)?;

@@ -13,7 +13,7 @@ pub enum Kind {
 }
 
 impl Kind {
-    /// Each of them, in the order in which they are checked.
+    /// All kinds, in the order in which they are checked.
     pub const ALL: [Kind; 3] = [Kind::Check, Kind::Again, Kind::Overlay];
 
     /// The name of its file.
@@ -25,7 +25,7 @@ impl Kind {
         }
     }
 
-    /// Fails unless what is given comes to what is wanted.
+    /// Fails unless what is given leads to the expected result.
     pub fn check_case(self, names: &Names, given: &str, wanted: &str) -> Result<()> {
         match self {
             Kind::Check => check::check_case(names, given, wanted),
@@ -34,8 +34,8 @@ impl Kind {
         }
     }
 
-    /// How many cases a line such as `GIVEN = WANTED` has, which is one. Fails unless what is given comes to what is wanted, and tells
-    /// each growth that is refused.
+    /// How many cases a line like `GIVEN = WANTED` has, which is one. Fails unless what is given leads to the expected result,
+    /// and reports each allocation that fails.
     pub fn check(self, names: &Names, line: &str) -> Result<u64> {
         let (given, wanted) = line.rsplit_once('=').ok_or(Wrong::Because("no '='"))?;
         let (given, wanted) = (given.trim(), wanted.trim());

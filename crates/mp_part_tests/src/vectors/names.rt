@@ -1,4 +1,4 @@
-//! What lines of a file give a name to.
+//! What the lines of a file name.
 
 use crate::vectors::pieces;
 use crate::vectors::transaction::transaction;
@@ -7,7 +7,7 @@ use mp_memory::Memory;
 use mp_tx::{Tx, TxId};
 use std::sync::Arc;
 
-// A name for bytes.
+// Bytes with a name.
 #[derive(Drop)]
 struct Word {
     name: String<Memory>,
@@ -29,7 +29,7 @@ pub struct Names {
 }
 
 impl Names {
-    /// No name.
+    /// No names.
     pub fn new(memory: Memory) -> Names {
         Names {
             memory,
@@ -38,12 +38,12 @@ impl Names {
         }
     }
 
-    /// Where things are made.
+    /// The memory handle for everything that is made.
     pub fn memory(&self) -> Memory {
         self.memory
     }
 
-    /// The bytes that have this name, if there are any.
+    /// The bytes with this name, if there are any.
     pub fn bytes(&self, name: &str) -> Option<&[u8]> {
         for word in &self.words {
             if word.name.as_str() == name {
@@ -53,7 +53,7 @@ impl Names {
         None
     }
 
-    /// The transaction of this name.
+    /// The transaction with this name.
     pub fn transaction(&self, name: &str) -> Result<&Arc<Tx, Memory>> {
         for named in &self.transactions {
             if named.name.as_str() == name {
@@ -63,7 +63,7 @@ impl Names {
         Err(Wrong::Because("no such transaction"))
     }
 
-    /// The id of a name: that of a transaction, or 32 bytes of a number.
+    /// The id that a name denotes: that of a transaction, or 32 bytes of a number.
     pub fn id(&self, name: &str) -> Result<TxId> {
         match name.parse::<u8>() {
             Ok(byte) => Ok([byte; 32]),
@@ -71,7 +71,7 @@ impl Names {
         }
     }
 
-    /// Gives a name to bytes, as in `yes 01`. That is no case.
+    /// Names bytes, as in `yes 01`. That is no case.
     pub fn put_word(&mut self, words: &str) -> Result<u64> {
         let (name, pieces) = words.split_once(' ').ok_or(Wrong::Because("no bytes"))?;
         let bytes = pieces::bytes(self, pieces)?;
@@ -80,7 +80,7 @@ impl Names {
         Ok(0)
     }
 
-    /// Gives a name to a transaction, as in `a in=1.0 out=100`. That is no case.
+    /// Names a transaction, as in `a in=1.0 out=100`. That is no case.
     pub fn put_transaction(&mut self, words: &str) -> Result<u64> {
         let (name, parts) = words.split_once(' ').ok_or(Wrong::Because("no parts"))?;
         let tx = Arc::new(self.memory, transaction(self, parts)?)?;

@@ -1,4 +1,4 @@
-//! Transactions applied upon a ledger, and what may be spent then.
+//! Transactions applied to a ledger, and what may be spent then.
 
 use crate::vectors::names::Names;
 use crate::vectors::wrong::{Result, Wrong};
@@ -28,7 +28,7 @@ fn is_output(names: &Names, found: &Output, written: &str) -> Result<bool> {
     Ok(*found == plain::output(names, written)?)
 }
 
-// Whether the reference leads to the output that is wanted, or to none.
+// Whether the reference leads to the expected output, or to none.
 fn leads(names: &Names, overlay: &Overlay, word: &str) -> Result<bool> {
     let (place, written) = word.split_once(':').ok_or(Wrong::Because("no output"))?;
     match overlay.get(&plain::reference(names, None, place)?) {
@@ -57,8 +57,8 @@ fn check_over(names: &Names, ledger: &Ledger, given: &str, wanted: &str) -> Resu
     check_applied(names, &mut overlay, given, wanted)
 }
 
-/// Fails unless each reference leads to the output that is wanted, where each transaction such as `apply=a` is applied upon the
-/// ledger's outputs, in this order.
+/// Applies each transaction like `apply=a` to the ledger's outputs, in this order. Fails unless each reference then leads to the
+/// expected output.
 pub fn check_case(names: &Names, given: &str, wanted: &str) -> Result<()> {
     let ledger = case::ledger(names, None, given)?;
     check_over(names, &ledger, given, wanted)

@@ -1,4 +1,4 @@
-//! Bytes, as the lines write them.
+//! Bytes as the lines write them.
 
 use crate::vectors::names::Names;
 use crate::vectors::wrong::Result;
@@ -12,7 +12,7 @@ fn add_repeated(bytes: &mut Vec<u8, Memory>, piece: &[u8], times: u64) -> Result
     Ok(())
 }
 
-// Adds the bytes of hexadecimal digits, or of a number of times such digits, as `32*07`.
+// Adds the bytes of hexadecimal digits, or of such digits a number of times, as in `32*07`.
 fn add_digits(memory: Memory, bytes: &mut Vec<u8, Memory>, piece: &str) -> Result<()> {
     let (times, digits) = piece.split_once('*').unwrap_or(("1", piece));
     let times = times.parse::<u64>()?;
@@ -30,31 +30,31 @@ fn add_pieces(names: &Names, bytes: &mut Vec<u8, Memory>, pieces: &str) -> Resul
     Ok(())
 }
 
-/// The bytes of all pieces, one after the other: names, and digits. They have spaces or plus signs between them.
+/// The bytes of all pieces, names and digits, one after the other. Spaces or plus signs separate the pieces.
 pub fn bytes(names: &Names, pieces: &str) -> Result<Vec<u8, Memory>> {
     let mut bytes = Vec::new(names.memory());
     add_pieces(names, &mut bytes, pieces)?;
     Ok(bytes)
 }
 
-/// The datum that pieces spell.
+/// The datum that pieces encode.
 pub fn datum(names: &Names, pieces: &str) -> Result<Data> {
     let bytes = bytes(names, pieces)?;
     Ok(Data::decode(names.memory(), &bytes)?)
 }
 
-/// The hash of the datum that pieces spell.
+/// The hash of the datum that pieces encode.
 pub fn datum_hash(names: &Names, pieces: &str) -> Result<Hash> {
     Ok(*datum(names, pieces)?.hash())
 }
 
-/// The script that pieces spell.
+/// The script that pieces encode.
 pub fn script(names: &Names, pieces: &str) -> Result<Script> {
     let bytes = bytes(names, pieces)?;
     Ok(Script::decode(names.memory(), &bytes)?)
 }
 
-/// The hash of the script that pieces spell.
+/// The hash of the script that pieces encode.
 pub fn script_hash(names: &Names, pieces: &str) -> Result<Hash> {
     Ok(*script(names, pieces)?.hash())
 }

@@ -1,4 +1,4 @@
-//! References, bundles, outputs and inputs, as the lines write them.
+//! References, bundles, outputs and inputs as the lines write them.
 
 use crate::vectors::names::Names;
 use crate::vectors::pieces;
@@ -12,7 +12,7 @@ const YES: &str = "01";
 
 const UNIT: &str = "030000";
 
-/// The reference of a word such as `3.0` or `a.0`: a name, and then the index. The name `own` is the id that is handed in.
+/// The reference of a word like `3.0` or `a.0`: a name, then the index. The name `own` is the given id.
 pub fn reference(names: &Names, own: Option<TxId>, word: &str) -> Result<OutRef> {
     let (name, digits) = word.split_once('.').ok_or(Wrong::Because("no reference"))?;
     let index = digits.parse::<u16>()?;
@@ -23,7 +23,7 @@ pub fn reference(names: &Names, own: Option<TxId>, word: &str) -> Result<OutRef>
     Ok(OutRef { id, index })
 }
 
-/// The token of a word such as `coin`, `p` or `p.x`: the policy's script, and then the name.
+/// The token of a word like `coin`, `p` or `p.x`: the policy's script, then the name.
 pub fn token<'a>(names: &Names, word: &'a str) -> Result<(PolicyId, &'a str)> {
     if word == "coin" {
         return Ok(([0; 32], ""));
@@ -32,7 +32,7 @@ pub fn token<'a>(names: &Names, word: &'a str) -> Result<(PolicyId, &'a str)> {
     Ok((pieces::script_hash(names, script)?, name))
 }
 
-// The entry of a word such as `5` or `5*p.x`.
+// The entry of a word like `5` or `5*p.x`.
 fn entry(names: &Names, word: &str) -> Result<Given> {
     let (quantity, named) = word.split_once('*').unwrap_or((word, "coin"));
     let quantity = quantity.parse::<i64>()?;
@@ -55,7 +55,7 @@ fn filled_bundle(names: &Names, words: &str) -> Result<Bundle> {
     Ok(Bundle::of_entries(names.memory(), entries)?)
 }
 
-/// The bundle of a word such as `100,5*p.x`, whose entries rise, or `-`, which is empty.
+/// The bundle of a word like `100,5*p.x`, whose entries are strictly increasing, or `-` for none.
 pub fn bundle(names: &Names, word: &str) -> Result<Bundle> {
     if word == "-" {
         Ok(Bundle::empty())
@@ -64,7 +64,7 @@ pub fn bundle(names: &Names, word: &str) -> Result<Bundle> {
     }
 }
 
-/// The output of a word such as `100`, `100@s` or `100@s/d`: the bundle, the script and the datum.
+/// The output of a word like `100`, `100@s` or `100@s/d`: the bundle, the script and the datum.
 pub fn output(names: &Names, word: &str) -> Result<Output> {
     let (value, lock) = word.split_once('@').unwrap_or((word, YES));
     let (script, datum) = lock.split_once('/').unwrap_or((lock, UNIT));
@@ -75,8 +75,7 @@ pub fn output(names: &Names, word: &str) -> Result<Output> {
     })
 }
 
-/// The input of a word such as `3.0`, `3.0:s`, `3.0:s/d` or `3.0:s/d/r`: what it spends, the validator, the datum and the
-/// redeemer.
+/// The input of a word like `3.0`, `3.0:s`, `3.0:s/d` or `3.0:s/d/r`: what it spends, the validator, the datum and the redeemer.
 pub fn input(names: &Names, word: &str) -> Result<Input> {
     let (spent, rest) = word.split_once(':').unwrap_or((word, YES));
     let (script, data) = rest.split_once('/').unwrap_or((rest, UNIT));

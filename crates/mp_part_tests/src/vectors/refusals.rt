@@ -1,13 +1,13 @@
-//! Each case once more for each growth that it makes: where that is refused, the case ends for want of memory.
+//! Each case is repeated for each of its allocations. If that fails, the case must end with an allocation failure.
 
 use crate::vectors::kind::Kind;
 use crate::vectors::names::Names;
 use crate::vectors::wrong::{Result, Wrong};
 
-// Cases of hundreds of parts make more growths, of which the later ones are like the first.
+// Cases of hundreds of parts allocate more often. The later allocations are like the first ones.
 const MOST_REFUSED: u64 = 200;
 
-// What the case comes to where this growth is refused, and whether it came to that growth. No refusal waits afterwards.
+// The result of the case when this allocation fails, and whether it made this allocation. Afterwards no failure is armed.
 fn try_refused(
     kind: Kind,
     names: &Names,
@@ -23,8 +23,8 @@ fn try_refused(
     (ended, is_met)
 }
 
-/// Fails unless the case ends for want of memory where its first growth is refused, its second and so on, and as it is wanted
-/// where it makes no such growth. Up to 200 are refused.
+/// Fails unless the case ends with an allocation failure when its first allocation fails, its second, and so on up to the 200th.
+/// A case with fewer allocations must then give the expected result.
 pub fn check(kind: Kind, names: &Names, given: &str, wanted: &str) -> Result<()> {
     for nth in 1..=MOST_REFUSED {
         match try_refused(kind, names, given, wanted, nth) {

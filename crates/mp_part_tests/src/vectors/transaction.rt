@@ -1,4 +1,4 @@
-//! Transactions, as the lines write them.
+//! Transactions as the lines write them.
 
 use crate::vectors::names::Names;
 use crate::vectors::wrong::{Result, Wrong};
@@ -28,7 +28,7 @@ fn add_script(names: &Names, scripts: &mut Vec<Script, Memory>, value: &str) -> 
     Ok(scripts.push(script)?)
 }
 
-// Adds a signature: the key followed by the id, with these bits of the first byte turned.
+// Adds a signature: the key followed by the id, with these bits of the first byte flipped.
 fn add_signature(
     signatures: &mut Vec<Signature, Memory>,
     id: &TxId,
@@ -53,7 +53,7 @@ fn put_number(number: &mut u64, digits: &str) -> Result<()> {
     Ok(())
 }
 
-// Puts in the part of a word such as `in=3.0`. A word of another kind is passed over.
+// Adds the part of a word like `in=3.0`. It skips words of other kinds.
 fn put_part(names: &Names, parts: &mut TxParts, id: &TxId, word: &str) -> Result<()> {
     let (kind, value) = word.split_once('=').ok_or(Wrong::Because("no '='"))?;
     match kind {
@@ -83,9 +83,9 @@ fn signed_for(names: &Names, id: &TxId, words: &str) -> Result<Tx> {
     Ok(Tx::of_parts(names.memory(), parts)?)
 }
 
-/// The transaction of words such as `in=3.0 out=100`. Words that are no part of it are passed over.
+/// The transaction of words like `in=3.0 out=100`. It skips words that are no part of it.
 pub fn transaction(names: &Names, words: &str) -> Result<Tx> {
-    // Its id is the same whoever signs it.
+    // Its id doesn't depend on the signatures.
     let unsigned = signed_for(names, &[0; 32], words)?;
     signed_for(names, unsigned.id(), words)
 }

@@ -6,7 +6,7 @@ ghost use Rattle.std.specs.Cmp.Lexicographic.{pointwise};
 use mp_rules::Verifier;
 use mp_tx::{Key, Sig, TxId};
 
-/// It accepts the key followed by the id, and nothing else.
+/// Accepts the key followed by the id, and nothing else.
 #[derive(Clone, Copy)]
 pub struct KeyThenId;
 

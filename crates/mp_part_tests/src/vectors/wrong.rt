@@ -8,18 +8,18 @@ use mp_tx::{LedgerFault, TxFault};
 use std::alloc::{AllocError, AllocFailed};
 use std::num::ParseIntError;
 
-/// Why a line doesn't hold. Nothing is dropped with it, and so little has to be proved where a line is given up.
+/// Why a line doesn't hold. It owns nothing, so little has to be proved at each early return.
 #[derive(Clone, Copy)]
 pub enum Wrong {
-    /// There was no memory.
+    /// An allocation failed.
     NoMemory,
-    /// It can't be read, or comes to something else.
+    /// It can't be read, or gives another result.
     Because(&'static str),
-    /// A fault of this number was found, and another or none was wanted.
+    /// A fault with this number was found, and another or none was expected.
     Fault(u64),
 }
 
-/// What comes of a line, or of a part of it.
+/// The result of a line, or of a part of it.
 pub type Result<T> = std::result::Result<T, Wrong>;
 
 impl From<NoMemory> for Wrong {

@@ -1,4 +1,4 @@
--- What is told at one place of a history.
+-- The record at one place of a history.
 use Rattle.std.specs.Prelude.{◌≡◌, ◌≢◌, ◌⊎◌, ℕ, ◌<◌, List, length, take, HoldsAt, Some}
 use Rattle.mp_rules.specs.Verifier.{Accepts}
 use Rattle.mp_seqpool.specs.Pool.{Pool}
@@ -11,7 +11,7 @@ use Rattle.mp_race.specs.declared.told.Told.{Told}
 use Rattle.mp_race.specs.Task.{Task}
 use Rattle.mp_race.specs.History.{IsUndealt, IsLate, next_of}
 
--- why what is told at this place is no entry there
+-- why the record at this place is no entry there
 abbrev pub IsUnfit : ℕ → List Task → List ℕ → ℕ → Told → Fault → Type 0
 IsUnfit workers ts next place t NoMemory = Unit {0}
 IsUnfit workers ts next place t (BadLine line) = ⊥
@@ -22,12 +22,12 @@ IsUnfit workers ts next place t (Audit (audit.WrongReply p)) = ⊥
 IsUnfit workers ts next place t (Audit (audit.StrangeCaller p)) = (p ≡ place) × (t.place ≡ place) × (IsUndealt workers ts t ⊎ IsLate next t)
 IsUnfit workers ts next place t (MissingEntry p) = (p ≡ place) × (t.place ≢ place)
 
--- What is told at this place is no entry there, and why.
+-- The record at this place is no entry there, with the reason.
 pub record EndsAt (workers : ℕ) (ts : List Task) (told : List Told) (place : ℕ) (fault : Fault) : Type 0 where
   pub there : place < length told
   pub unfit : HoldsAt (λ t. IsUnfit workers ts (next_of (take place told)) place t fault) told place
 
--- why entries aren't legal: a reply is wrong. Memory may be wanting for any
+-- why entries aren't legal: a reply is wrong; any allocation may fail
 abbrev pub IsOfReplay : Accepts → ℕ → Pool → List Entry → Fault → Type 0
 IsOfReplay accepts workers opening es NoMemory = Unit {0}
 IsOfReplay accepts workers opening es (BadLine line) = ⊥

@@ -1,4 +1,4 @@
--- What the draft of the code says.
+-- How contracts see the draft of the code.
 use Rattle.mp_race.specs.declared.draft.Draft.{Draft}
 use Rattle.mp_race.specs.Scenario as told
 use Rattle.mp_race.specs.Inside.Task.{tasks_of}

@@ -1,4 +1,4 @@
--- What all workers came back with.
+-- What all workers return.
 use Rattle.std.specs.Prelude.{◌≡◌, ℕ, true, List, All, Result, Ok, Err}
 use Rattle.mp_memory.specs.declared.no_memory.NoMemory.{NoMemory}
 use Rattle.mp_rules.specs.Verifier.{Accepts}
@@ -16,13 +16,13 @@ use Rattle.mp_race.specs.declared.worker.Worker.{Worker}
 use Rattle.mp_race.specs.Inside.Work.{IsDone, HasDone, HasMade}
 
 module _ (accepts : Accepts) (workers : ℕ) (opening : Pool) (ts : List Task) where
-  -- Where a worker comes back that was sure of its entries, it has done its tasks and has made these changes.
+  -- A worker that was sure of its entries has done its tasks and made these changes.
   abbrev pub IsBack : {N : Type 0} → Result (Worker N) NoMemory → Type 0
   IsBack (Ok w) = w.is_sure ≡ true → HasMade accepts workers opening ts w.pass w.done.items w.refused.items
   IsBack (Err error) = Unit {0}
 
-  -- Each of these workers has done what was dealt to it, and has seen a beginning of this history, in which the changes stand, and at
-  -- beginnings of which the others are refused.
+  -- Each of these workers has done its tasks and has seen a prefix of this history. The history has the changes, and the others
+  -- are refused at prefixes of it.
   pub record AreGathered (log : Log) (ps : List Pass) (ds : List Done) (rs : List Refused) : Type 0 where
     pub opens : log.opening ≡ opening
     pub legal : IsLegalLog accepts workers log
@@ -31,7 +31,7 @@ module _ (accepts : Accepts) (workers : ℕ) (opening : Pool) (ts : List Task) w
     pub changes : All (IsDone ts log) ds
     pub refusals : All (IsRefusal accepts workers ts log) rs
 
--- There is a history of the race. These are its entries, of each of which is told, and these are refused.
+-- The race has a history. These are its entries, each with its record, and these changes are refused.
 pub record IsExplained (accepts : Accepts) (opening : Pool) (workers : ℕ) (ts : List Task) (o : Ordered) (rs : List Refused) : Type 0 where
   pub log : Log
   pub entries : log.entries ≡ o.entries.items

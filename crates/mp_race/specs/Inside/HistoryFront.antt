@@ -1,4 +1,4 @@
--- The front of an entry's line, as the code has it.
+-- The beginning of an entry's line, as the code reads it.
 use Rattle.mp_text.specs.Words.{words_of}
 use Rattle.mp_race.specs.declared.reading.Front.{Front}
 use Rattle.mp_race.specs.Inside.HistoryWords as told

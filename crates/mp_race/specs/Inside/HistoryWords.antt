@@ -1,4 +1,4 @@
--- What the words of a line seem to tell. It is written again and compared, so nothing is looked at closely.
+-- What the words of a line seem to denote. The result is written again and compared, so the reading checks little.
 use Rattle.std.specs.Prelude.{ℕ, ◌+◌, ◌^◌, ◌&&◌, nat_eq, nat_le, List, [], ◌∷◌, codes, Option, None, Some, option_map, option_and_then, Bool, if◌then◌else◌}
 use Rattle.std.specs.Cmp.Lexicographic.{pointwise}
 use Rattle.mp_text.specs.Numbers.{number_of, if_below}
@@ -10,25 +10,25 @@ use Rattle.mp_race.specs.declared.told.Told.{Told}
 abbrev pub Words : Type 0
 Words = List (List ℕ)
 
--- the number that the first word writes, and the words behind it
+-- the number that the first word denotes, and the words after it
 abbrev pub number_in : Words → Option (ℕ × Words)
 number_in [] = None
 number_in (word ∷ words) = option_map (λ n. (n, words)) (number_of word)
 
--- the same, of 32 bits
+-- the same for 32 bits
 abbrev pub small_in : Words → Option (ℕ × Words)
 small_in words = option_and_then (λ f. option_map (λ n. (n, f.1)) (if_below (2 ^ 32) f.0)) (number_in words)
 
--- the ticket that a word writes, where it is no less than the least
+-- the ticket that a word denotes, if it is at least `least`
 abbrev pub ticket_in : ℕ → List ℕ → Option ℕ
 ticket_in least word = option_and_then (λ n. if nat_le least n then Some n else None) (number_of word)
 
--- a ticket, and then those of the others; or what stands behind the word
+-- a ticket and then those of the other words; or no ticket, and the words after this one
 abbrev pub and_others : Words → (ℕ → List ℕ × Words) → Option ℕ → List ℕ × Words
 and_others words others None = ([], words)
 and_others words others (Some ticket) = (ticket ∷ (others (ticket + 1)).0, (others (ticket + 1)).1)
 
--- the tickets, as long as they increase, up to a word that is none, and what stands behind that
+-- the tickets, as long as they are strictly increasing, up to a word that is none, and the words after that
 abbrev pub tickets_in : ℕ → Words → List ℕ × Words
 tickets_in least [] = ([], [])
 tickets_in least (word ∷ words) = and_others words (λ next. tickets_in next words) (ticket_in least word)
@@ -46,13 +46,13 @@ lists_in kind first =
     if is_word kind (codes "removed") then Removed first.0 (tickets_in 0 first.1).0
     else Synced first.0 (tickets_in 0 first.1).0
 
--- the reply of the kind that the words behind it tell
+-- the reply of this kind that the words after it denote
 abbrev pub reply_in : List ℕ → Words → Reply
 reply_in kind words =
     if is_word kind (codes "accepted") then Accepted (first_or_zero (number_in words))
     else lists_in kind (tickets_in 0 words)
 
--- The front of an entry's line: its numbers, the kind of the reply, and the words behind that.
+-- The beginning of an entry's line: its numbers, the kind of the reply, and the words after that.
 pub record Front : Type 0 where
   pub place : ℕ
   pub worker : ℕ
@@ -78,11 +78,11 @@ abbrev pub told_of_front : Front → Told
 told_of_front f =
     record { place = f.place; worker = f.worker; task = f.task; reply = reply_in f.kind f.words }
 
--- the entry that the words of its line tell
+-- the entry that the words of its line denote
 abbrev pub told_in : Words → Option Told
 told_in words = option_map told_of_front (front_in words)
 
--- The first line: the number of workers, 1 to 64, and that of the entries.
+-- The first line: the number of workers, 1 to 64, and the number of entries.
 abbrev pub entries_in : ℕ → Words → Option (ℕ × ℕ)
 entries_in workers [] = None
 entries_in workers (word ∷ words) = option_map (λ f. (workers, f.0)) (number_in words)

@@ -1,4 +1,4 @@
--- Marks of commands. Of those that have no place among them nothing is known.
+-- Marks of commands. Nothing is known of commands without a place among them.
 use Rattle.std.specs.Prelude.{◌≡◌, ℕ, Bool, true, false, List, get_or}
 
 abbrev pub IsMarked : List Bool → ℕ → Type 0

@@ -7,7 +7,7 @@ use Rattle.mp_race.specs.declared.ordering.Ordered.{Ordered}
 use Rattle.mp_race.specs.Task.{Task}
 use Rattle.mp_race.specs.History.{AreEntriesOf, next_of}
 
--- what is told of a change
+-- the record of a change
 abbrev pub told_of : Done → Told
 told_of d = record {
   place = d.receipt.place;
@@ -16,7 +16,7 @@ told_of d = record {
   reply = d.receipt.entry.reply;
 }
 
--- The entries are the first of the history, and what is told are these, one by one.
+-- The entries are the first of the history, and the records are of these, one by one.
 pub record IsOrdered (workers : ℕ) (ts : List Task) (log : Log) (o : Ordered) : Type 0 where
   pub first : o.entries.items ≡ take (length o.entries.items) log.entries
   pub told : AreEntriesOf workers ts o.told.items o.entries.items

@@ -1,4 +1,4 @@
--- A task without the shares that its parts are held by.
+-- A task without the shares that hold its parts.
 use Rattle.std.specs.Prelude.{List, map}
 use Rattle.mp_seqpool.specs.Inside.Command.{command_of}
 use Rattle.mp_race.specs.declared.task.Task.{Task}

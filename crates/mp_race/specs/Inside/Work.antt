@@ -1,4 +1,4 @@
--- How far a worker is.
+-- The progress of a worker.
 use Rattle.std.specs.Prelude.{◌≡◌, ◌⊎◌, ℕ, ◌+◌, ◌<◌, List, [], ◌∷◌, ◌++◌, length, take, Option, None, Some, IfSome, All, slice_get}
 use Rattle.mp_rules.specs.Verifier.{Accepts}
 use Rattle.mp_seqpool.specs.declared.refusal.Refusal.{Refusal}
@@ -15,7 +15,7 @@ use Rattle.mp_race.specs.Task.{Task, Change, Read}
 use Rattle.mp_race.specs.Race.{own, dealt, Plays}
 use Rattle.mp_race.specs.Refusals.{IsRefusal}
 
--- up to the last place, and with it
+-- up to the last place, including it
 abbrev pub upto : Option ℕ → List Entry → List Entry
 upto None es = []
 upto (Some k) es = take (k + 1) es
@@ -24,22 +24,22 @@ upto (Some k) es = take (k + 1) es
 abbrev pub made : Pass → List Entry
 made p = own p.caller (upto p.last p.front.entries)
 
--- The change is the scenario's with this number, and its entry stands at its place.
+-- The change is the one with this number in the scenario, and its entry is at its place.
 pub record IsDone (ts : List Task) (log : Log) (d : Done) : Type 0 where
   pub asked : slice_get ts d.task ≡ Some (Change d.receipt.entry.command)
   pub stands : slice_get log.entries d.receipt.place ≡ Some d.receipt.entry
 
--- a pass that hasn't been used, of a pool that opened so
+-- an unused pass of a pool with this opening
 pub record IsUnused (opening : Pool) (p : Pass) : Type 0 where
   pub opens : p.front.opening ≡ opening
   pub last : p.last ≡ None
 
--- what is told where the command with this number is refused
+-- the record of a refusal of the command with this number
 abbrev pub refused_at : ℕ → Pass → Refused
 refused_at n p = record { worker = p.caller; task = n; entries = length p.front.entries }
 
 module _ (accepts : Accepts) (callers : ℕ) where
-  -- A worker enters the change with this number.
+  -- A worker commits the change with this number.
   pub record Enters (p : Pass) (ds : List Done) (n : ℕ) (c : Command) (q : Pass) (es : List Done) : Type 0 where
     pub change : Done
     pub entered : IsEntered accepts callers p c change.receipt.place change.receipt.entry q
@@ -52,13 +52,13 @@ module _ (accepts : Accepts) (callers : ℕ) where
     pub refused : IsRefusedAt accepts callers p c refusal q
     pub more : ss ≡ rs ++ refused_at n q ∷ []
 
-  -- A worker does the task with this number: from its pass, its changes and its refusals to those after it.
+  -- A worker does the task with this number: its pass, its changes and its refusals before and after.
   abbrev pub Does : Pass → List Done → List Refused → ℕ → Task → Pass → List Done → List Refused → Type 0
   Does p ds rs n Read q es ss = IsSeen accepts callers p q × (es ≡ ds) × (ss ≡ rs)
   Does p ds rs n (Change c) q es ss =
       (Enters p ds n c q es × (ss ≡ rs)) ⊎ (IsTurnedDown p rs n c q ss × (es ≡ ds))
 
--- The worker has done what is dealt to it of these tasks.
+-- The worker has done those of these tasks that are dealt to it.
 pub record HasDone (accepts : Accepts) (workers : ℕ) (opening : Pool) (ts : List Task) (p : Pass) : Type 0 where
   pub opens : p.front.opening ≡ opening
   pub within : IfSome p.last (λ k. k < length p.front.entries)
@@ -70,7 +70,7 @@ pub record HasMade (accepts : Accepts) (workers : ℕ) (opening : Pool) (ts : Li
   pub changes : All (IsDone ts p.front) ds
   pub refusals : All (IsRefusal accepts workers ts p.front) rs
 
--- Each of these passes belongs to the caller with its number, from k on, and knows its last entry.
+-- Each of these passes belongs to the caller with its number, from k on, and knows that caller's last entry.
 abbrev pub AreNumbered : List Entry → ℕ → List Pass → Type 0
 AreNumbered es k [] = Unit {0}
 AreNumbered es k (p ∷ ps) = (p.caller ≡ k) × (last_of k es ≡ p.last) × AreNumbered es (k + 1) ps

@@ -1,4 +1,4 @@
--- What an ask of the code says.
+-- How contracts see an `Ask` of the code.
 use Rattle.std.specs.Prelude.{map}
 use Rattle.std.specs.Arc.{arc_value}
 use Rattle.mp_lines.specs.Inside.Line.{to_line}

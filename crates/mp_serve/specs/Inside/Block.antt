@@ -1,4 +1,4 @@
--- What a block keeps.
+-- What a block stores.
 use Rattle.std.specs.Prelude.{map}
 use Rattle.std.specs.Arc.{arc_value}
 use Rattle.mp_serve.specs.declared.block.Block.TheInside.{Inside}

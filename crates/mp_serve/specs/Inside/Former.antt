@@ -1,4 +1,4 @@
--- The ledger states that a pool had, by what leads back to them, the oldest first.
+-- The ledger states that a pool had, given what leads back to them, oldest first.
 use Rattle.std.specs.Prelude.{◌≡◌, List, [], ◌∷◌}
 use Rattle.mp_tx.specs.Ledger.{LedgerState}
 use Rattle.mp_tx.specs.Undo.{undone, CanUndo, GoesBack}
@@ -15,22 +15,22 @@ abbrev pub CanGoBack : LedgerState → Former → Type 0
 CanGoBack now (Block undo) = CanUndo now undo
 CanGoBack now (Whole ledger) = Unit {0}
 
--- it leads back from the one to the other
+-- it leads back from the first to the second
 abbrev pub LeadsBack : LedgerState → Former → LedgerState → Type 0
 LeadsBack now (Block undo) before = GoesBack now undo before
 LeadsBack now (Whole ledger) before = ledger ≡ before
 
--- the first of those that lead to this one
+-- the first of the ledger states that lead to this one
 abbrev pub earliest : List Former → LedgerState → LedgerState
 earliest [] now = now
 earliest (f ∷ fs) now = state_before (earliest fs now) f
 
--- all that lead to it
+-- all ledger states that lead to this one
 abbrev pub states_of : List Former → LedgerState → List LedgerState
 states_of [] now = []
 states_of (f ∷ fs) now = earliest (f ∷ fs) now ∷ states_of fs now
 
--- each can be gone back to
+-- each of them can be restored
 abbrev pub CanAllGoBack : List Former → LedgerState → Type 0
 CanAllGoBack [] now = Unit {0}
 CanAllGoBack (f ∷ fs) now = CanGoBack (earliest fs now) f × CanAllGoBack fs now

@@ -1,4 +1,4 @@
--- What a request of the code says.
+-- How contracts see a request of the code.
 use Rattle.std.specs.Arc.{arc_value}
 use Rattle.mp_serve.specs.declared.request.Request as code
 use Rattle.mp_serve.specs.declared.request.Request.TheVariants as requests

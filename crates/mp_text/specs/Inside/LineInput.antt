@@ -1,11 +1,11 @@
--- What comes of reading a part of a line.
+-- The result of reading a part of a line.
 use Rattle.std.specs.Prelude.{◌≡◌, ◌≢◌, ℕ, ◌+◌, ◌<◌, List, [], ◌∷◌, ◌++◌, length, All, Option, IfSome}
 use Rattle.std.specs.Io.KnownBytes.{Keeps, Consumes, IsAtEnd}
 use Rattle.mp_text.specs.declared.line_input.Step.{Step}
 use Rattle.mp_text.specs.declared.line_input.Step.TheVariants.{More, Feed, End, TooLong, Lost}
 use Rattle.mp_text.specs.LineInput.{first_line}
 
--- the reader gave this part of a line, and then these bytes
+-- this part of a line was added, and the reader consumed it and these bytes
 abbrev pub Adds : Option (List ℕ) → Option (List ℕ) → List ℕ → List ℕ → List ℕ → Type 0
 Adds before after old new behind =
     (part : List ℕ) × All (λ b. b ≢ 10) part × (new ≡ old ++ part) × Consumes before after (part ++ behind)

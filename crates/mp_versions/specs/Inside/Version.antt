@@ -1,4 +1,4 @@
--- What a version keeps.
+-- What a version stores.
 use Rattle.std.specs.Prelude.{◌≡◌, ℕ, ◌≤◌, ◌^◌, List, length, All}
 use Rattle.mp_tx.specs.Transaction.{Transaction}
 use Rattle.mp_tickets.specs.Tickets.{IsRising}
@@ -22,22 +22,22 @@ state v = record {
 abbrev pub version : Inside → Version
 version v = record { pool = state v; chunks = chunks_in v.layout }
 
--- What is kept along the way is right, and the items lie as they may.
+-- The stored figures are right, and the layout of the items is allowed.
 pub record IsCounted (v : Inside) : Type 0 where
   pub laid : IsLaid v.layout
-  -- tickets rise, and none is 0
+  -- tickets are strictly increasing, and none is 0
   pub rising : IsRising (items_in v.layout)
   -- no ticket is above the last one
   pub given : All (λ k. k ≤ v.last) (tickets (items_in v.layout))
   pub count : v.count ≡ length (items_in v.layout)
-  -- the bytes are those of all its transactions together
+  -- the total bytes of all its transactions
   pub bytes : v.bytes ≡ bytes_of (items_in v.layout)
-  -- no pool can hold more
+  -- no pool can hold more bytes
   pub most : v.bytes ≤ 2 ^ 40
-  -- no more changes were made than there may be
+  -- the changes made, within the limit
   pub changes : v.changes ≤ v.config.limit
 
--- what is left of items that are these
+-- what is left of these items
 pub record IsRestOf (items : List (ℕ × Transaction)) (r : Rest) : Type 0 where
   pub all : items_in r.layout ≡ items
   pub laid : IsLaid r.layout

@@ -28,7 +28,7 @@ returns-in-Ok g c =
       history = subst (λ m. spec.HasHistory (spec.history_of m) asked) met c.read_matches.ensures.history;
       picture = subst (λ m. spec.HasPicture (spec.picture_of m) asked) met c.read_matches.ensures.picture;
       verify_us = subst (λ m. spec.HasDelay (spec.verify_us_of m) asked) met c.read_matches.ensures.verify_us;
-      signatures = subst (λ m. spec.HasSignatures (spec.signatures_of m) asked) met c.read_matches.ensures.signatures;
+      signatures = subst (λ m. spec.IsChoice (spec.signatures_of m) (spec.scheme_of asked)) met c.read_matches.ensures.signatures;
       salt = subst (λ m. spec.HasSalt (spec.salt_of m) asked) met c.read_matches.ensures.salt;
       passes = tt;
     }

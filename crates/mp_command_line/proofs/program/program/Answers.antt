@@ -1,6 +1,6 @@
 use Rattle.std.proofs.Common.{refl, sym, subst}
 use Rattle.std.proofs.lemmas.Result.{IfOk-weaker}
-use Rattle.clap.specs.Simple.{App, with_subcommand}
+use Rattle.clap.specs.Simple.{App}
 use Rattle.mp_command_line.specs.CommandLine as spec
 use Rattle.mp_command_line.specs.Inside.Alike.{IsAlike}
 use Rattle.mp_command_line.proofs.Places.{program_alike}
@@ -8,11 +8,8 @@ use Rattle.mp_command_line.proofs.program.program.Goals as goal
 
 pub returns : goal.returns
 returns c =
-    let run = with_subcommand spec.bare_program spec.run_command.top in
-    let race = with_subcommand run spec.race_command.top in
-    let audit = with_subcommand race spec.audit_command.top in
-    let by_run = c.add_command-program.ensures spec.bare_program spec.run_command c.bare_program.ensures c.run_command.ensures in
-    let by_race = c.add_command-program-2.ensures run spec.race_command by_run c.race_command.ensures in
-    let by_audit = c.add_command-program-3.ensures race spec.audit_command by_race c.audit_command.ensures in
-    IfOk-weaker c.add_command.result _ _ (λ p h. subst (λ (a : App). IsAlike a spec.program) (sym h) (program_alike _ refl))
-    (c.add_command.ensures audit _ by_audit c.serve_command.ensures)
+    let by_run = c.add_command-program.ensures spec.bare_program _ c.bare_program.ensures c.run_command.ensures in
+    let by_race = c.add_command-program-2.ensures _ _ by_run c.race_command.ensures in
+    let by_audit = c.add_command-program-3.ensures _ _ by_race c.audit_command.ensures in
+    let by_serve = c.add_command.ensures _ _ by_audit c.serve_command.ensures in
+    IfOk-weaker c.add_command.result _ _ (λ p h. subst (λ (a : App). IsAlike a spec.program) (sym h) (program_alike _ refl)) by_serve

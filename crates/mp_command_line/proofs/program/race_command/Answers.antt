@@ -12,7 +12,11 @@ returns c =
     let explained = with_rule wishful spec.explain_rule in
     let by_workers = added c.new_command.result c.workers_option.result bare spec.workers_rule c.arg-command.result
     c.new_command.ensures c.workers_option.ensures.rule c.workers_option.ensures.local c.arg-command.ensures in
-    let by_flag = ruled c.add_arg-command.result wishful (rule_of c.explain_flag.result) spec.explain_rule
-    c.explain_flag.ensures.rule (c.add_arg-command.ensures wishful (c.add_wishes.ensures staffed by_workers)) in
-    ruled c.add_arg.result explained (rule_of c.scenario_file.result) spec.file_rule c.scenario_file.ensures.rule
-    (c.add_arg.ensures explained by_flag)
+    let rule = spec.signatures_rule c.args.names in
+    let signed = with_rule explained rule in
+    let by_flag = ruled c.add_arg-explained.result wishful (rule_of c.explain_flag.result) spec.explain_rule
+    c.explain_flag.ensures.rule (c.add_arg-explained.ensures wishful (c.add_wishes.ensures staffed by_workers)) in
+    let by_signatures = ruled c.add_arg-signed.result explained (rule_of c.signatures_option.result) rule
+    c.signatures_option.ensures.rule (c.add_arg-signed.ensures explained by_flag) in
+    ruled c.add_arg.result signed (rule_of c.scenario_file.result) spec.file_rule c.scenario_file.ensures.rule
+    (c.add_arg.ensures signed by_signatures)

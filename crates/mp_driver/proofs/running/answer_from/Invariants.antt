@@ -7,7 +7,7 @@ use Rattle.mp_driver.proofs.running.answer_from.Given as goal
 -- the lines before the rest are executed, and each had at least one byte
 abbrev pub invariant-loop-line : goal.invariant-loop-line
 invariant-loop-line g l =
-    Progress (g.W.Write.contents l.fn.writer) (g.W.Write.contents l.writer) (lines_of l.text) (lines_of l.rest) (scene_of l.scene) l.number
+    Progress (scene_of l.fn.scene).scheme (g.W.Write.contents l.fn.writer) (g.W.Write.contents l.writer) (lines_of l.text) (lines_of l.rest) (scene_of l.scene) l.number
     × (l.number + length l.rest ≤ 2 ^ 24 + 1)
 
 abbrev pub decreases-loop-line : goal.decreases-loop-line

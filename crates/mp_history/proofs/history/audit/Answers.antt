@@ -2,10 +2,11 @@ use Rattle.std.proofs.Common.{refl, sym, ap, subst, ◌∙◌}
 use Rattle.mp_seqpool.specs.Pool.{Pool}
 use Rattle.mp_seqpool.specs.PoolLaws.{IsLawful}
 use Rattle.mp_seqpool.proofs.Exits.{no_value, not_ok, passed_on}
-use Rattle.mp_seqpool.proofs.Histories.{lawful-empty}
+use Rattle.mp_seqpool.specs.Config.{fresh_pool}
+use Rattle.mp_seqpool.proofs.Histories.{lawful-empty, lawful-after}
 use Rattle.mp_history.specs.declared.fault.AuditFault.TheVariants.{NoMemory}
 use Rattle.mp_history.specs.AuditFault.{IsFaultOf, IsIllegal}
-use Rattle.mp_history.specs.Log.{IsLegal, pool_of}
+use Rattle.mp_history.specs.Log.{commands, IsLegal, pool_of}
 use Rattle.mp_history.proofs.history.audit.Goals as goal
 
 pub returns-in_err-pool-clause-legal : goal.returns-in_err-pool-clause-legal
@@ -13,6 +14,9 @@ returns-in_err-pool-clause-legal g c = not_ok c.from_residual.result _ c.from_re
 
 pub returns-in_err-pool-clause-pool : goal.returns-in_err-pool-clause-pool
 returns-in_err-pool-clause-pool g c = no_value c.from_residual.result _ c.from_residual.ensures.0
+
+pub returns-in_err-pool-clause-lawful : goal.returns-in_err-pool-clause-lawful
+returns-in_err-pool-clause-lawful g c = no_value c.from_residual.result _ c.from_residual.ensures.0
 
 pub returns-in_err-pool-clause-fault : goal.returns-in_err-pool-clause-fault
 returns-in_err-pool-clause-fault g c = passed_on c.from_residual.result _ NoMemory c.from_residual.ensures.1 tt
@@ -30,6 +34,9 @@ returns-in_err-replay_all-clause-legal g c = not_ok c.from_residual-in_err-repla
 
 pub returns-in_err-replay_all-clause-pool : goal.returns-in_err-replay_all-clause-pool
 returns-in_err-replay_all-clause-pool g c = no_value c.from_residual-in_err-replay_all.result _ c.from_residual-in_err-replay_all.ensures.0
+
+pub returns-in_err-replay_all-clause-lawful : goal.returns-in_err-replay_all-clause-lawful
+returns-in_err-replay_all-clause-lawful g c = no_value c.from_residual-in_err-replay_all.result _ c.from_residual-in_err-replay_all.ensures.0
 
 pub returns-in_err-replay_all-clause-fault : goal.returns-in_err-replay_all-clause-fault
 returns-in_err-replay_all-clause-fault g c =
@@ -54,3 +61,10 @@ pub returns-clause-pool : goal.returns-clause-pool
 returns-clause-pool g c =
     let accepts = g.V.Verifier.accepts c.args.verifier.now in
     c.in_ok-replay_all.ensures.pool ∙ ap (λ (p : Pool). pool_of accepts p c.args.entries.now) c.in_ok-pool.ensures
+
+pub returns-clause-lawful : goal.returns-clause-lawful
+returns-clause-lawful g c =
+    let accepts = g.V.Verifier.accepts c.args.verifier.now in
+    let fresh = fresh_pool c.args.config c.args.ledger.now in
+    subst (IsLawful accepts) (sym (returns-clause-pool g c))
+    (lawful-after accepts fresh (commands c.args.entries.now) (lawful-empty accepts c.args.config.limit c.args.config.last c.args.ledger.now))

@@ -7,12 +7,12 @@ use Rattle.std.proofs.lemmas.List.Elements.{All-head, All-tail}
 use Rattle.mp_history.specs.Caller.{Caller}
 use Rattle.mp_mempool.proofs.opening.put_passes.Goals as goal
 
--- what the iterator has given stands before what it has left
+-- what the iterator has given precedes what it has left
 given : {X A : Type 0} (s : IntoIter X A) (xs : List X) (t : IntoIter X A) → Yields into_iter_steps s xs t → into_iter_items s ≡ xs ++ into_iter_items t
 given s [] t y = ap into_iter_items y
 given s (x ∷ xs) t y = y.1.0 ∙ ap (λ ys. x ∷ ys) (given y.0 xs t y.2)
 
--- what holds of all holds of each
+-- what holds for all holds for each
 each : {X : Type 0} (P : X → Type 0) (xs : List X) (x : X) (rest : List X) → All P (xs ++ x ∷ rest) → P x
 each P [] x rest all = All-head P x rest all
 each P (y ∷ xs) x rest all = each P xs x rest (All-tail P y (xs ++ x ∷ rest) all)

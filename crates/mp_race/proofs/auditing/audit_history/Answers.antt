@@ -4,7 +4,7 @@ use Rattle.mp_seqpool.specs.Pool.{Pool}
 use Rattle.mp_history.specs.Entry.{Entry}
 use Rattle.mp_history.specs.Log.{IsLegal}
 use Rattle.mp_mempool.specs.Opening.{fresh_log}
-use Rattle.mp_settings.specs.Verifier.{is_key_and_id}
+use Rattle.mp_signatures.specs.Scheme.{accepted_by}
 use Rattle.mp_race.specs.Task as told
 use Rattle.mp_race.specs.History.{AreEntriesOf}
 use Rattle.mp_race.specs.Inside.Auditing.{EndsAt}
@@ -28,8 +28,8 @@ returns-in-Some-clause-fault c =
     let fault = c.in-Some.fault in
     let opening : Pool = (fresh_log c.args.scenario.now.config c.args.scenario.now.ledger).opening in
     let same = ap tasks_of c.deref.ensures.value ∙ ap (λ s. s.tasks) c.scenario.view_is in
-    ended workers c.args.scenario.now.tasks is_key_and_id opening lines es fault
+    ended workers c.args.scenario.now.tasks (accepted_by c.args.signatures.now) opening lines es fault
     (subst (λ (ts : List told.Task). AreEntriesOf workers ts (take (length es) lines) es) same c.in_ok-entries.ensures.entries)
-    (subst (λ (l : List Entry). IsLegal is_key_and_id workers opening l) c.deref-2.ensures.value c.in_ok-replay.ensures.legal)
+    (subst (λ (l : List Entry). IsLegal (accepted_by c.args.signatures.now) workers opening l) c.deref-2.ensures.value c.in_ok-replay.ensures.legal)
     (subst (λ (ts : List told.Task). EndsAt workers ts lines (length es) fault) same
     (subst (λ o. IfSome o (EndsAt workers (tasks_of c.deref.result.now) lines (length es))) c.in-Some.is c.in_ok-entries.ensures.ends))

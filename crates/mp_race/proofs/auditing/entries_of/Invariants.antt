@@ -3,7 +3,7 @@ use Rattle.mp_race.specs.History.{AreEntriesOf, next_of}
 use Rattle.mp_race.specs.Inside.Task.{tasks_of}
 use Rattle.mp_race.proofs.auditing.entries_of.Given as goal
 
--- what is told so far is the entries
+-- the records so far are the entries
 abbrev pub invariant-loop-place : goal.invariant-loop-place
 invariant-loop-place l =
     AreEntriesOf l.history.workers (tasks_of l.tasks) (take l.place l.history.told.items) l.entries.items

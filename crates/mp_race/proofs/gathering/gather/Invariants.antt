@@ -5,7 +5,7 @@ use Rattle.mp_race.specs.Task.{Task}
 use Rattle.mp_race.specs.Inside.Gathered.{IsBack, AreGathered}
 use Rattle.mp_race.proofs.gathering.gather.Given as goal
 
--- those who have come back so far
+-- the workers that have returned so far
 abbrev pub invariant-loop-worker : goal.invariant-loop-worker
 invariant-loop-worker g l =
     let accepts = g.N.PoolName.accepts in

@@ -3,7 +3,7 @@ use Rattle.std.specs.Prelude.{All}
 use Rattle.mp_race.specs.HistoryText.{lines_text, IsTellable}
 use Rattle.mp_race.proofs.history.read_lines.Given as goal
 
--- the entries so far are told by the lines before the rest
+-- the lines before the rest are those of the entries so far
 abbrev pub invariant-loop-rest : goal.invariant-loop-rest
 invariant-loop-rest l = record {
   reads : l.text ≡ lines_text l.told.items ++ l.rest;

@@ -12,15 +12,15 @@ use Rattle.mp_race.proofs.racing.run_workers.Goals as goal
 pub first_front-front-requires : goal.first_front-front-requires
 first_front-front-requires g c =
     let s = c.args.scenario.now in
-    let len : length c.deref.result.now ≡ c.args.workers = ap length (c.deref.ensures.value ∙ c.in_ok-pool.ensures) ∙ number c.args.workers (fresh_log s.config s.ledger) in
+    let len : length c.deref.result.now ≡ c.args.workers = ap length (c.deref.ensures.value ∙ c.in_ok-mempool.ensures) ∙ number c.args.workers (fresh_log s.config s.ledger) in
     omega (arith, len, c.requires.some)
 
 pub returns : goal.returns
 returns g c =
     let s = c.args.scenario.now in
     let log = fresh_log s.config s.ledger in
-    let same = c.first_front-front.ensures.same log (subst (All (λ p. p.front ≡ log)) (sym (c.deref.ensures.value ∙ c.in_ok-pool.ensures)) (fronts c.args.workers log)) in
-    let open_so : c.in_ok-pool.passes.items ≡ fresh_passes c.args.workers log = c.in_ok-pool.ensures in
+    let same = c.first_front-front.ensures.same log (subst (All (λ p. p.front ≡ log)) (sym (c.deref.ensures.value ∙ c.in_ok-mempool.ensures)) (fronts c.args.workers log)) in
+    let open_so : c.in_ok-mempool.passes.items ≡ fresh_passes c.args.workers log = c.in_ok-mempool.ensures in
     let tasks : tasks_of c.deref-2.result.now ≡ s.tasks = ap tasks_of c.deref-2.ensures.value ∙ ap (λ (x : Scenario). x.tasks) c.scenario.view_is in
     let back = c.in_ok-done.ensures log.opening (subst (All (IsUnused log.opening)) (sym open_so) (unused c.args.workers log)) in
     c.gather.ensures log.opening s.tasks (ap (λ (l : Log). l.opening) same) (

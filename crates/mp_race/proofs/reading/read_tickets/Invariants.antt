@@ -5,7 +5,7 @@ use Rattle.mp_race.specs.Inside.HistoryWords.{tickets_in}
 use Rattle.mp_race.proofs.TicketsRead.{with_tickets}
 use Rattle.mp_race.proofs.reading.read_tickets.Given as goal
 
--- the tickets so far, and those of the words that are left; no ticket so far is as great as the least that may come next
+-- the tickets so far, and those of the words that are left; `least` is above all tickets so far
 abbrev pub invariant-loop-word : goal.invariant-loop-word
 invariant-loop-word l = record {
   reads : with_tickets l.tickets (tickets_in l.least (words_of l.rest)) ≡ tickets_in 0 (words_of l.words);

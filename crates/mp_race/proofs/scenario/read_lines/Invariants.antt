@@ -4,7 +4,7 @@ use Rattle.mp_race.specs.Scenario.{reading}
 use Rattle.mp_race.specs.Inside.Draft.{draft_of}
 use Rattle.mp_race.proofs.scenario.read_lines.Given as goal
 
--- what is read of all lines is what is read of the rest from here, and each line before had a byte
+-- reading the rest from here gives what reading all lines gives, and each line before had a byte
 abbrev pub invariant-loop-line : goal.invariant-loop-line
 invariant-loop-line l =
     (reading (draft_of l.fn.draft) 1 (lines_of l.text) ≡ reading (draft_of l.draft) l.number (lines_of l.rest))

@@ -4,7 +4,7 @@ use Rattle.mp_race.specs.Inside.Task.{tasks_of}
 use Rattle.mp_race.specs.Inside.Work.{IsUnused, HasMade}
 use Rattle.mp_race.proofs.worker.work.Given as goal
 
--- of the tasks so far the worker has done what is dealt to it
+-- the worker has done those of the tasks so far that are dealt to it
 abbrev pub invariant-loop-place : goal.invariant-loop-place
 invariant-loop-place g l =
     (opening : Pool) → IsUnused opening l.fn.pass

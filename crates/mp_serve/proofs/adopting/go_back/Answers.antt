@@ -1,7 +1,7 @@
 use Rattle.std.proofs.Common.{◌≡◌, List, take, drop, sym, ap, subst, ◌∙◌}
 use Rattle.mp_tx.specs.Ledger.{LedgerState}
 use Rattle.mp_seqpool.specs.Pool.{Pool}
-use Rattle.mp_serve.specs.ServedPool.{accepted_by}
+use Rattle.mp_signatures.specs.Scheme.{accepted_by}
 use Rattle.mp_serve.specs.declared.former.Former.{Former}
 use Rattle.mp_serve.specs.Inside.Former.{earliest, states_of, CanAllGoBack}
 use Rattle.mp_serve.proofs.Pools.{ledger-synced}
@@ -18,7 +18,7 @@ returns-clause-formers c =
     let p : Pool = c.args.pool.now.pool in
     let new : LedgerState = c.obey.new.pool.pool.ledger in
     let same : new ≡ earliest (drop c.args.left fs) p.ledger =
-    ap (λ (q : Pool). q.ledger) c.in_ok-text.ensures.pool ∙ ledger-synced (accepted_by c.args.signatures) p c.in_ok-ledger.ledger c.requires.ready.change
+    ap (λ (q : Pool). q.ledger) c.in_ok-text.ensures.pool ∙ ledger-synced (accepted_by c.args.signatures.now) p c.in_ok-ledger.ledger c.requires.ready.change
     ∙ c.in_ok-ledger.ensures ∙ earliest-behind c.args.left fs c.deref.result.now p.ledger c.ledger.result.now c.deref.ensures.value c.ledger.ensures in
     ap (λ (gs : List Former). states_of gs new) c.truncate.ensures.items ∙ ap (states_of (take c.args.left fs)) same ∙ states-take c.args.left fs p.ledger
 
@@ -28,7 +28,7 @@ returns-clause-can c =
     let p : Pool = c.args.pool.now.pool in
     let new : LedgerState = c.obey.new.pool.pool.ledger in
     let same : new ≡ earliest (drop c.args.left fs) p.ledger =
-    ap (λ (q : Pool). q.ledger) c.in_ok-text.ensures.pool ∙ ledger-synced (accepted_by c.args.signatures) p c.in_ok-ledger.ledger c.requires.ready.change
+    ap (λ (q : Pool). q.ledger) c.in_ok-text.ensures.pool ∙ ledger-synced (accepted_by c.args.signatures.now) p c.in_ok-ledger.ledger c.requires.ready.change
     ∙ c.in_ok-ledger.ensures ∙ earliest-behind c.args.left fs c.deref.result.now p.ledger c.ledger.result.now c.deref.ensures.value c.ledger.ensures in
     subst (λ (gs : List Former). CanAllGoBack gs new) (sym c.truncate.ensures.items)
     (subst (CanAllGoBack (take c.args.left fs)) (sym same) (can-take c.args.left fs p.ledger c.requires.can))

@@ -4,7 +4,7 @@ use Rattle.mp_text.specs.Words.{words_of}
 use Rattle.mp_serve.specs.Ask.{put_txs}
 use Rattle.mp_serve.proofs.ask.put_txs.Given as goal
 
--- the rest makes of those so far what all make of the first ones
+-- adding the rest to the transactions so far gives what adding all to the first ones gives
 abbrev pub invariant-loop-word : goal.invariant-loop-word
 invariant-loop-word l = put_txs l.names (map arc_value l.txs.items) (words_of l.rest) ≡ put_txs l.names (map arc_value l.fn.txs.items) (words_of l.words)
 

@@ -2,7 +2,7 @@ use Rattle.std.proofs.Common.{◌≡◌, length}
 use Rattle.mp_serve.specs.Inside.Former.{earliest, CanAllGoBack}
 use Rattle.mp_serve.proofs.former.earliest.Given as goal
 
--- those that are left lead to this one as all do to the first
+-- going back over those that are left leads from here to the first state
 abbrev pub invariant-loop-last : goal.invariant-loop-last
 invariant-loop-last l = (earliest l.rest l.ledger ≡ earliest l.formers l.now) × CanAllGoBack l.rest l.ledger
 

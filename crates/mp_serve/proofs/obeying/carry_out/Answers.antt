@@ -4,21 +4,21 @@ use Rattle.std.specs.Result.{result_err}
 use Rattle.mp_seqpool.specs.Inside.Command.{command_of}
 use Rattle.mp_seqpool.proofs.Histories.{signed, told}
 use Rattle.mp_answers.specs.AnswerText.{answer_text}
-use Rattle.mp_serve.specs.ServedPool.{accepted_by}
+use Rattle.mp_signatures.specs.Scheme.{accepted_by}
 use Rattle.mp_serve.proofs.Answers.{on_ok, on_err}
 use Rattle.mp_serve.proofs.Pools.{refused_same}
 use Rattle.mp_serve.proofs.obeying.carry_out.Goals as goal
 
 pub prepare-requires : goal.prepare-requires
-prepare-requires c = signed (accepted_by c.args.signatures) c.args.pool.now.pool c.requires.lawful
+prepare-requires c = signed (accepted_by c.args.signatures.now) c.args.pool.now.pool c.requires.lawful
 
 pub returns-in_default : goal.returns-in_default
 returns-in_default c =
     let p = c.args.pool.now.pool in
     let command = command_of c.args.command.now in
-    let is = told (accepted_by c.args.signatures) p command c.in-Err.refusal c.in-Err.ensures.refused c.in_default.not-NoMemory in
+    let is = told (accepted_by c.args.signatures.now) p command c.in-Err.refusal c.in-Err.ensures.refused c.in_default.not-NoMemory in
     record {
-      pool = on_ok c.refused.result _ (c.in-Err.ensures.same ∙ refused_same (accepted_by c.args.signatures) p command c.in-Err.refusal c.requires.change is);
+      pool = on_ok c.refused.result _ (c.in-Err.ensures.same ∙ refused_same (accepted_by c.args.signatures.now) p command c.in-Err.refusal c.requires.change is);
       text = subst (λ a. IfOk c.refused.result (λ r. r.0.items ≡ answer_text c.args.names.now a)) (sym is) c.refused.ensures.text;
       refusal = subst (λ a. IfOk c.refused.result (λ r. r.1 ≡ result_err a)) (sym is) c.refused.ensures.refusal;
       err = on_err c.refused.result _ c.in-Err.ensures.same;

@@ -2,7 +2,7 @@ use Rattle.std.proofs.Common.{◌≤◌, ◌^◌, vec_len}
 use Rattle.std.specs.Io.KnownBytes.{Consumes}
 use Rattle.mp_text.proofs.input.read_all.Given as goal
 
--- what came so far and what is left are all the bytes
+-- the bytes read so far and those left are all the bytes
 abbrev pub invariant-loop : goal.invariant-loop
 invariant-loop g l = record {
   small : vec_len l.text ≤ 2 ^ 24;

@@ -1,6 +1,6 @@
 use Rattle.mp_bench.specs.Signatures.{any}
 use Rattle.mp_bench.proofs.trial.soak.soak.Given as goal
 
--- the name that was just made, for so many callers
+-- the new name, for this many callers
 abbrev pub ghosts-open : goal.ghosts-open
 ghosts-open g a = record { book = a.name.book; root = a.name.key; callers = a.trial.now.callers; accepts = any }

@@ -1,6 +1,6 @@
 use Rattle.std.proofs.Common.{rules}
 use Rattle.mp_seqpool.proofs.Histories.{signed}
-use Rattle.mp_serve.specs.ServedPool.{accepted_by}
+use Rattle.mp_signatures.specs.Scheme.{accepted_by}
 use Rattle.mp_serve.proofs.pool.ServedPool.respond.Goals as goal
 use Rattle.mp_serve.proofs.pool.ServedPool.respond.Goals.{in-Remove+in_ok-text-in-Remove, in-Adopt+in_ok-text-in-Adopt, in-Extend+in_ok-text-in-Extend, in-Return+in_ok-text-in-Return, in-Try+in_ok-text-in-Try, in-Check+in_ok-text-in-Check, in-Count+in_ok-text-in-Count}
 
