@@ -136,7 +136,7 @@ fn audit_sample(rt: &impl Wait, trial: &Trial, sample: Sample) -> Result<()> {
     Ok(())
 }
 
-// Plays until there are so many entries, and audits a sample.
+// Plays until there are this many entries, and audits a sample.
 fn play_part<N: PoolName + Send + Sync, R: Clock + Threads + Wait + Sync>(
     rt: &R,
     trial: &Trial,
