@@ -169,10 +169,10 @@ fn obey<R: Clock + Threads + Wait + Print + Files + AllocGlobal + Sync>(
             trial::run(rt, memory, numbers(words, [1, 3_600, 64])?)?;
         }
         "mempool-soak" => {
-            trial::soak(rt, memory, numbers(words, SOAK)?, false)?;
+            trial::soak_pool(rt, memory, numbers(words, SOAK)?, false)?;
         }
         "mempool-soak-held" => {
-            trial::soak(rt, memory, numbers(words, SOAK)?, true)?;
+            trial::soak_pool(rt, memory, numbers(words, SOAK)?, true)?;
         }
         _ => bail!("expected nothing, 'run', 'mempool-hour' or 'mempool-soak'"),
     }

@@ -219,7 +219,7 @@ pub fn run<R: Clock + Threads + Wait + Print + Sync>(
 ///
 /// # Errors
 /// What went wrong.
-pub fn soak<R: Clock + Threads + Wait + Print + Files + AllocGlobal + Sync>(
+pub fn soak_pool<R: Clock + Threads + Wait + Print + Files + AllocGlobal + Sync>(
     rt: &R,
     memory: Memory,
     [seed, changes, callers]: [u64; 3],
