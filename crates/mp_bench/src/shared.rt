@@ -193,7 +193,7 @@ fn take_steps<N: PoolName + Send + Sync, R: Threads + Wait + Sync>(
             round.tally.answered.store(seen, Ordering::SeqCst);
         }
         Work::FourThreads | Work::Watch(_) => {
-            let threads = count_threads(round.work);
+            let threads = count_threads(round.work).max(1);
             for_each_mut(
                 rt,
                 passes.get_mut(..threads)?,

@@ -50,12 +50,12 @@ impl Drop for Tale {
 }
 
 // All callers play to the end.
-fn play_all<N: PoolName + Send + Sync, R: Clock + Threads + Wait + Sync>(
+fn play_all<'a, N: PoolName + Send + Sync, R: Clock + Threads + Wait + Sync>(
     rt: &R,
-    trial: &Trial,
+    trial: &'a Trial,
     part: Part,
-    mempool: &Mempool<N, Spinning>,
-    reader: &Reader<N, Spinning>,
+    mempool: &'a Mempool<N, Spinning>,
+    reader: &'a Reader<N, Spinning>,
     passes: &mut [Pass<N>],
 ) -> Option<()> {
     let post = Mutex::new(passes.first()?.shown().share().ok()?);

@@ -71,11 +71,11 @@ fn clear<N: PoolName>(
 }
 
 // All play until each has seen this number of entries.
-fn play_all<N: PoolName + Send + Sync, R: Clock + Threads + Wait + Sync>(
+fn play_all<'a, N: PoolName + Send + Sync, R: Clock + Threads + Wait + Sync>(
     rt: &R,
-    trial: &Trial,
-    mempool: &Mempool<N, Spinning>,
-    reader: &Reader<N, Spinning>,
+    trial: &'a Trial,
+    mempool: &'a Mempool<N, Spinning>,
+    reader: &'a Reader<N, Spinning>,
     passes: &mut [Pass<N>],
     seed: u64,
     first: u64,
