@@ -17,7 +17,7 @@ pub trait Job<T, U>: Sync {
         ensures { does self.now item result };
 }
 
-/// Does the job with each item, in a thread of its own if one can be made. Returns the results in the order of the items.
+/// Does the job with each item, in a thread of its own if one can be made. Each result is of one of the items.
 ///
 /// # Errors
 /// An allocation failed, and then some items may have been dropped.
