@@ -2,13 +2,13 @@
 #![tactic(auto)]
 
 mod auditing;
-mod draft;
 mod fault;
 mod gate;
 mod gathering;
 mod history;
 mod input;
 mod jobs;
+mod lines;
 mod ordering;
 mod racing;
 mod reading;

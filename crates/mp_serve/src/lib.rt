@@ -2,9 +2,9 @@
 #![tactic(auto)]
 
 mod adopting;
+mod answer;
 mod answering;
 mod ask;
-mod beginning;
 mod block;
 mod conversation;
 mod device;
@@ -20,6 +20,7 @@ mod request;
 mod serving;
 mod texts;
 
+pub use answer::Answer;
 pub use ask::MAX_LINE_BYTES;
 pub use conversation::Conversation;
 pub use device::{Device, Streams, Turn};

@@ -1,0 +1,2 @@
+-- What only the crate's own clauses, views and invariants cite.
+pub mod Request
