@@ -75,8 +75,7 @@ impl Scene {
     /// Parses and executes the line, and returns what it writes. A bad line changes nothing.
     ///
     /// # Errors
-    /// `Bad` if the line isn't in the language, if a setting comes twice or after the first request, and if an output comes after
-    /// the first request or is the 65,537th. `NoMemory` if an allocation fails.
+    /// `Bad` if the line isn't in the language, and the errors of `Session::take`. `NoMemory` if an allocation fails.
     #[tactic(auto, unfolding(crate::specs::Scene::line_step))]
     pub fn read_line<'a>(&mut self, memory: Memory, line: &'a [u8]) -> Result<Text, LineFault<'a>>
         ensures ok { IfOk result (λ text.

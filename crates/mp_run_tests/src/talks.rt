@@ -157,7 +157,7 @@ fn say(
         answer => answer,
     };
     match answer {
-        Ok(text) => told.extend_from_slice(&text).ok(),
+        Ok(answer) => told.extend_from_slice(answer.text()).ok(),
         Err(LineFault::Bad(_)) => told.extend_from_slice(b"bad\n").ok(),
         Err(LineFault::NoMemory) => None,
     }

@@ -18,6 +18,10 @@ use Rattle.mp_session.specs.Beginning.{empty_beginning, with_out, with_utxo}
 use Rattle.mp_session.specs.Ledgers.{ledger_at}
 use Rattle.mp_session.specs.Request.{Request, Change, Try, Read}
 
+-- the state after a line, and what it asks of the pool
+abbrev pub Step : Type 0 → Type 0
+Step P = Option (Session P × Option Request)
+
 module _ {P : Type 0} where
   -- before the first line
   abbrev pub new_session : ℕ → Session P
@@ -50,19 +54,15 @@ module _ {P : Type 0} where
   abbrev pub with_names : Session P → Names → Session P
   with_names s names = record s { names = names }
 
-  -- the state after a line, and what it asks of the pool
-  abbrev pub Step : Type 0
-  Step = Option (Session P × Option Request)
-
   -- the line only declares something
-  abbrev pub declares : Option (Session P) → Step
+  abbrev pub declares : Option (Session P) → Step P
   declares s = option_map (λ s. (s, None)) s
 
   -- the line declares nothing
-  abbrev pub asks : Session P → Request → Step
+  abbrev pub asks : Session P → Request → Step P
   asks s request = Some (s, Some request)
 
-  abbrev pub take : Session P → Line → Step
+  abbrev pub take : Session P → Line → Step P
   take s Blank = Some (s, None)
   take s (Sets setting) = declares (set_at s setting s.stage)
   take s (Script named) = Some (with_names s (with_script s.names named), None)
