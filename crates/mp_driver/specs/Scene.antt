@@ -8,7 +8,6 @@ use Rattle.mp_signatures.specs.declared.scheme.Scheme.{Scheme}
 use Rattle.mp_signatures.specs.Scheme.{accepted_by}
 use Rattle.mp_session.specs.declared.settings.Settings.{Settings}
 use Rattle.mp_session.specs.declared.beginning.Beginning.{Beginning}
-use Rattle.mp_session.specs.declared.session.Session.{Session}
 use Rattle.mp_session.specs.declared.session.Stage.{Stage}
 use Rattle.mp_session.specs.declared.session.Stage.TheVariants.{Before, Open}
 use Rattle.mp_session.specs.Settings.{limit_of, last_of}

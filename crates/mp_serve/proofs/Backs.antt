@@ -1,6 +1,6 @@
 -- What a pool answers to a request to go back.
 use Rattle.std.proofs.Common.{◌≡◌, ℕ, ◌-◌, ◌<◌, ◌≤◌, List, length, take, drop, sym, ap, ◌∙◌}
-use Rattle.std.specs.Prelude.{Option, None, Some, Result, Ok, Err, OnOk, IfOk}
+use Rattle.std.specs.Prelude.{None, Some, Result, Ok, Err, OnOk, IfOk}
 use Rattle.std.specs.declared.vec.Vec.{Vec}
 use Rattle.mp_tx.specs.Ledger.{LedgerState}
 use Rattle.mp_seqpool.specs.Command.{Sync}

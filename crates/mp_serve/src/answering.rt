@@ -27,12 +27,7 @@ fn answer_bad(memory: Memory, number: u64, reason: Reason<'_>) -> Answer
 }
 
 // The answer to the line with this number.
-fn answer_line(
-    conversation: &mut Conversation,
-    memory: Memory,
-    number: u64,
-    line: &[u8],
-) -> Answer
+fn answer_line(conversation: &mut Conversation, memory: Memory, number: u64, line: &[u8]) -> Answer
     ensures { IsAnswer number conversation.old line.now (text_of result) conversation.new }
 {
     match conversation.hear(memory, line) {

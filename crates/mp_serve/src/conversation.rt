@@ -207,9 +207,10 @@ impl Conversation {
             forget self.old listed.items ≡ (self.new, text.items)) }
         ensures err { OnErr result (self.new ≡ self.old) }
     {
-        let goes = names_to_go(memory, &self.session.names, &self.session.stage, listed)?;
+        let Session { names, stage, .. } = &mut self.session;
+        let goes = names_to_go(memory, names, stage, listed)?;
         let text = forgotten_line(memory, goes.len() as u64)?;
-        let _ = self.session.names.forget(&goes);
+        let _ = names.forget(&goes);
         Ok(text)
     }
 

@@ -216,12 +216,7 @@ impl ServedPool {
     }
 
     // Makes the change.
-    fn change(
-        &mut self,
-        memory: Memory,
-        names: &Names,
-        command: &Command,
-    ) -> Result<Text, NoMemory>
+    fn change(&mut self, memory: Memory, names: &Names, command: &Command) -> Result<Text, NoMemory>
         ensures ok { IfOk result (λ text. change names.now self.old (command_of command.now)
             ≡ (self.new, text.items)) }
         ensures err { OnErr result (self.new ≡ self.old) }

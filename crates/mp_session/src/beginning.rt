@@ -95,7 +95,13 @@ pub fn open_ledger(
 {
     let ledger = &beginning.ledger;
     let made = Vec::new(memory);
-    match with_made(memory, ledger, settings.tick(), settings.block_bytes(), made)? {
+    match with_made(
+        memory,
+        ledger,
+        settings.tick(),
+        settings.block_bytes(),
+        made,
+    )? {
         Some(ledger) => Ok(ledger),
         None => unreachable!(),
     }

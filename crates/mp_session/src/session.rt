@@ -122,11 +122,7 @@ impl<P: Drop> Session<P> {
     /// # Errors
     /// `Bad` for a setting that comes twice or after the first request. `Bad` for an output that comes after the first request,
     /// has a reference that is taken, or is the 65,537th with a name.
-    pub fn take<'a>(
-        &mut self,
-        memory: Memory,
-        line: Line,
-    ) -> Result<Option<Request>, LineFault<'a>>
+    pub fn take<'a>(&mut self, memory: Memory, line: Line) -> Result<Option<Request>, LineFault<'a>>
         ensures ok { IfOk result (λ request.
             take self.old (to_line line) ≡ Some (self.new, option_map to_request request)) }
         ensures bad { IsBad result → take self.old (to_line line) ≡ None }

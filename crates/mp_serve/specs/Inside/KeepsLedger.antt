@@ -1,5 +1,4 @@
 -- Commands that keep the ledger state.
-use Rattle.std.specs.Prelude.{Unit, ⊥}
 use Rattle.mp_seqpool.specs.Command.{Command, Submit, Remove, Sync}
 
 abbrev pub KeepsLedger : Command → Type 0

@@ -1,4 +1,4 @@
-use Rattle.std.proofs.Common.{subst, sym, ◌≡◌}
+use Rattle.std.proofs.Common.{subst}
 use Rattle.std.specs.Io.KnownBytes.{Appends}
 use Rattle.mp_text.specs.Output.{AppendsFront}
 use Rattle.mp_serve.proofs.Answers.{on_ok, on_err, of_front, of_all, appends-kept}

@@ -3,4 +3,4 @@ use Rattle.mp_signatures.specs.Scheme.{accepted_by}
 use Rattle.mp_serve.proofs.pool.ServedPool.respond_plainly.Goals as goal
 
 pub kept_line-requires : goal.kept_line-requires
-kept_line-requires c = signed (accepted_by c.self-in-Try.inside.signatures) c.self-in-Try.inside.pool.pool c.self-in-Try.invariant.ready.lawful
+kept_line-requires c = signed (accepted_by c.self.inside.signatures) c.self.inside.pool.pool c.self.invariant.ready.lawful
