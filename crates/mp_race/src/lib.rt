@@ -8,7 +8,7 @@ mod gathering;
 mod history;
 mod input;
 mod jobs;
-mod lines;
+
 mod ordering;
 mod racing;
 mod reading;
@@ -18,6 +18,7 @@ mod report_text;
 mod scenario;
 mod stop;
 mod task;
+mod task_lines;
 mod told;
 mod worker;
 

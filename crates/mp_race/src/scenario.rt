@@ -6,9 +6,9 @@ ghost use Rattle.mp_race.specs.Scenario.{reading, scenario_of};
 ghost use Rattle.mp_race.specs.Reading.{IsStopOf};
 
 use crate::fault::Fault;
-use crate::lines::read_line;
 use crate::stop::Stop;
 use crate::task::Task;
+use crate::task_lines::read_line;
 use mp_memory::{Memory, NoMemory};
 use mp_mempool::Config;
 use mp_names::LineFault;
@@ -87,9 +87,7 @@ fn read_lines<'a>(
 fn finish(memory: Memory, session: Session<Scenario>) -> Result<Scenario, NoMemory>
     ensures { IfOk result (λ s. s ≡ scenario_of session) }
 {
-    let Session {
-        settings, stage, ..
-    } = session;
+    let (settings, stage) = session.into_stage();
     match stage {
         Stage::Open(scenario) => Ok(scenario),
         Stage::Before(beginning) => Scenario::begin(memory, &settings, &beginning),

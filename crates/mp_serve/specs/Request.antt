@@ -1,7 +1,9 @@
 -- Requests to the pool, and its responses.
-use Rattle.std.specs.Prelude.{ℕ, ◌-◌, List, [], ◌∷◌, ◌++◌, length, take, Option, None, Some, Result, Ok, Err, if◌then◌else◌}
+use Rattle.std.specs.Prelude.{ℕ, ◌-◌, nat_eq, List, [], ◌∷◌, ◌++◌, length, take, Option, None, Some, Result, Ok, Err, if◌then◌else◌}
+use Rattle.std.specs.Cmp.Lexicographic.{pointwise}
 use Rattle.std.specs.Result.{result_err}
 use Rattle.mp_tx.specs.Transaction.{Transaction}
+use Rattle.mp_tx.specs.Spelling.{id_of}
 use Rattle.mp_tx.specs.Ledger.{LedgerState}
 use Rattle.mp_rules.specs.declared.invalid.Invalid.{Invalid}
 use Rattle.mp_block.specs.Block.{apply_block}
@@ -14,7 +16,7 @@ use Rattle.mp_seqpool.specs.Command as commands
 use Rattle.mp_seqpool.specs.Config.{renewed}
 use Rattle.mp_seqpool.specs.Pool.{Pool}
 use Rattle.mp_seqpool.specs.SlowPool.{is_at_limit, answer, next}
-use Rattle.mp_names.specs.Names.{Names, with_reported}
+use Rattle.mp_names.specs.Names.{Names, name_of, with_reported}
 use Rattle.mp_lines.specs.declared.query.Query.{Query}
 use Rattle.mp_answers.specs.AnswerText.{answer_text}
 use Rattle.mp_answers.specs.QueryText.{query_text, for_text, cursor_after}
@@ -58,10 +60,14 @@ obeyed p c = counted_anew (next (accepted_by p.signatures) p.pool c)
 abbrev pub answer_to : ServedPool → Command → Result Reply Refusal
 answer_to p c = answer (accepted_by p.signatures) p.pool c
 
--- an accepted transaction is reported under the name from then on
-abbrev pub reported_if : Names → List ℕ → Result Reply Refusal → Names
-reported_if names name (Ok reply) = with_reported names name
-reported_if names name (Err refusal) = names
+-- the transaction is reported under the name from then on
+abbrev pub reported_as : Names → List ℕ → Transaction → Names
+reported_as names name t = if pointwise nat_eq name (name_of (id_of t) names) then names else with_reported names name
+
+-- the same if it is accepted
+abbrev pub reported_if : Names → List ℕ → Transaction → Result Reply Refusal → Names
+reported_if names name t (Ok reply) = reported_as names name t
+reported_if names name t (Err refusal) = names
 
 abbrev pub answered : Names → ServedPool → Command → List ℕ
 answered names p c = answer_text names (answer_to p c)

@@ -76,7 +76,7 @@ with_names c names = with_session c (sessions.with_names c.session names)
 abbrev pub submit : Conversation → List ℕ → Transaction → Conversation × List ℕ
 submit c name t =
     with_response
-    (with_names c (reported_if c.session.names name (answer_to (served_in c) (commands.Submit t))))
+    (with_names c (reported_if c.session.names name t (answer_to (served_in c) (commands.Submit t))))
     (do_command c.session.names (served_in c) (commands.Submit t))
 
 -- ---- names

@@ -9,7 +9,7 @@ ghost use Rattle.mp_seqpool.specs.Prepared.{Prepares};
 ghost use Rattle.mp_seqpool.specs.SlowPool.{answer, next, AreSigned, IsRefused};
 ghost use Rattle.mp_answers.specs.AnswerText.{answer_text};
 ghost use Rattle.mp_signatures.specs.Scheme.{accepted_by};
-ghost use Rattle.mp_serve.specs.Request.{counted_anew, reported_if};
+ghost use Rattle.mp_serve.specs.Request.{counted_anew, reported_as, reported_if};
 ghost use Rattle.mp_serve.specs.Inside.Pool.{IsReady};
 ghost use Rattle.mp_serve.specs.Inside.KeepsLedger.{KeepsLedger};
 
@@ -118,6 +118,17 @@ pub fn obey(
     carry_out(memory, names, signatures, pool, command)
 }
 
+// From now on the transaction is reported under the name.
+fn report_under(names: &mut Names, name: &Name, tx: &Tx) -> Result<(), NoMemory>
+    ensures ok { OnOk result (names.new ≡ reported_as names.old name.now tx.now) }
+    ensures err { OnErr result (names.new ≡ names.old) }
+{
+    if name.as_bytes() == names.name_of(tx.id()) {
+        return Ok(());
+    }
+    names.report(name.as_bytes())
+}
+
 // Submits the transaction. The line is allocated and the name noted first, so that nothing has to be undone.
 fn take_in(
     memory: Memory,
@@ -131,7 +142,7 @@ fn take_in(
     ensures pool { OnOk result (pool.new.pool
         ≡ counted_anew (next (accepted_by signatures.now) pool.old.pool
         (Submit (arc_value tx.now)))) }
-    ensures names { OnOk result (names.new ≡ reported_if names.old name.now
+    ensures names { OnOk result (names.new ≡ reported_if names.old name.now (arc_value tx.now)
         (answer (accepted_by signatures.now) pool.old.pool (Submit (arc_value tx.now)))) }
     ensures text { IfOk result (λ r. r.0.items ≡ answer_text names.old
         (answer (accepted_by signatures.now) pool.old.pool (Submit (arc_value tx.now)))) }
@@ -144,7 +155,7 @@ fn take_in(
     match pool.prepare_submit(tx, None, signatures) {
         Ok(prepared) => {
             let text = reply_line(memory, prepared.reply())?;
-            names.report(name.as_bytes())?;
+            report_under(names, name, tx)?;
             let _ = pool.finish(prepared);
             count_anew(pool);
             Ok((text, None))
@@ -170,7 +181,7 @@ pub fn submit(
     ensures pool { OnOk result (pool.new.pool
         ≡ counted_anew (next (accepted_by signatures.now) pool.old.pool
         (Submit (arc_value tx.now)))) }
-    ensures names { OnOk result (names.new ≡ reported_if names.old name.now
+    ensures names { OnOk result (names.new ≡ reported_if names.old name.now (arc_value tx.now)
         (answer (accepted_by signatures.now) pool.old.pool (Submit (arc_value tx.now)))) }
     ensures text { IfOk result (λ r. r.0.items ≡ answer_text names.old
         (answer (accepted_by signatures.now) pool.old.pool (Submit (arc_value tx.now)))) }

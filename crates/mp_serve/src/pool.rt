@@ -116,7 +116,8 @@ impl ServedPool {
         ensures ok { IfOk result (λ text.
             do_command names.old self.old (Submit (arc_value tx.now)) ≡ (self.new, text.items)) }
         ensures names { OnOk result (names.new
-            ≡ reported_if names.old name.now (answer_to self.old (Submit (arc_value tx.now)))) }
+            ≡ reported_if names.old name.now (arc_value tx.now)
+            (answer_to self.old (Submit (arc_value tx.now)))) }
         ensures err { OnErr result (self.new ≡ self.old) }
         ensures kept { OnErr result (names.new ≡ names.old) }
     {

@@ -25,20 +25,11 @@ pub enum Stage<P> {
 }
 
 /// What the lines of a session have declared, and its pool.
+#[derive(Drop)]
 pub struct Session<P> {
     pub names: Names,
     pub settings: Settings,
     pub stage: Stage<P>,
-}
-
-impl<P: Drop> Drop for Session<P> {
-    fn drop(self) {
-        let Session {
-            names: _,
-            settings: _,
-            stage: _,
-        } = self;
-    }
 }
 
 fn remove_command(memory: Memory, ids: Vec<TxId, Memory>) -> Result<Command, NoMemory>
@@ -64,6 +55,16 @@ impl<P: Drop> Session<P> {
             settings: Settings::new(salt),
             stage: Stage::Before(Beginning::new(memory, salt)?),
         })
+    }
+
+    /// Its settings and its stage.
+    pub fn into_stage(self) -> (Settings, Stage<P>)
+        ensures { result ≡ (self.settings, self.stage) }
+    {
+        let Session {
+            settings, stage, ..
+        } = self;
+        (settings, stage)
     }
 
     // Settings are allowed before the first request.
