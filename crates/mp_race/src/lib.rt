@@ -8,6 +8,7 @@ mod gathering;
 mod history;
 mod input;
 mod jobs;
+mod laws;
 
 mod ordering;
 mod racing;
@@ -27,6 +28,7 @@ pub use fault::Fault;
 pub use gate::{Gate, NoGate};
 pub use history::History;
 pub use input::MAX_HISTORY_BYTES;
+pub use laws::one_worker_runs;
 pub use racing::{Raced, race};
 pub use report::Report;
 pub use scenario::Scenario;
