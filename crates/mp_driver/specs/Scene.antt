@@ -7,11 +7,10 @@ use Rattle.mp_lines.specs.Lines.{Line, line_of}
 use Rattle.mp_signatures.specs.declared.scheme.Scheme.{Scheme}
 use Rattle.mp_signatures.specs.Scheme.{accepted_by}
 use Rattle.mp_session.specs.declared.settings.Settings.{Settings}
-use Rattle.mp_session.specs.declared.beginning.Beginning.{Beginning}
+use Rattle.mp_session.specs.Beginning.{Beginning, opening_ledger}
 use Rattle.mp_session.specs.declared.session.Stage.{Stage}
 use Rattle.mp_session.specs.declared.session.Stage.TheVariants.{Before, Open}
 use Rattle.mp_session.specs.Settings.{limit_of, last_of}
-use Rattle.mp_session.specs.Beginning.{opening_ledger}
 use Rattle.mp_session.specs.Request.{Request, Change, Try, Read}
 use Rattle.mp_session.specs.Session.{new_session}
 use Rattle.mp_session.specs.Session as sessions

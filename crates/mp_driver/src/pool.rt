@@ -10,7 +10,7 @@ use mp_answers::{answer_line, kept_line, query_line};
 use mp_memory::{Memory, NoMemory};
 use mp_names::Names;
 use mp_seqpool::{Answer, Command, Config, SeqPool};
-use mp_session::{Beginning, Request, Settings, open_ledger};
+use mp_session::{Beginning, Request, Settings};
 use mp_signatures::Signatures;
 use std::marker::Model;
 
@@ -83,7 +83,7 @@ impl ScenarioPool {
     ) -> Result<ScenarioPool, NoMemory>
         ensures { IfOk result (λ p. p ≡ opened signatures.now settings.now beginning.now) }
     {
-        let ledger = open_ledger(memory, settings, beginning)?;
+        let ledger = beginning.open(memory, settings)?;
         let config = Config {
             limit: settings.limit(),
             last: settings.last(),

@@ -4,6 +4,7 @@ use Rattle.std.specs.Prelude.{◌==◌, ◌%◌, Result, Ok, Err}
 use mathlib.Core.Logic.{inl, inr}
 use Rattle.std.proofs.lemmas.List.{append_cancel_left}
 use Rattle.mp_rules.specs.Verifier.{Accepts}
+use Rattle.mp_seqpool.specs.declared.command.Reply.{Reply}
 use Rattle.mp_seqpool.specs.Command.{Command}
 use Rattle.mp_seqpool.specs.Pool.{Pool}
 use Rattle.mp_seqpool.specs.SlowPool.{answer, next}
@@ -52,19 +53,21 @@ module _ (accepts : Accepts) where
       (is.0 ∷ rest.0, rest.1 ∙ append_assoc made (is.0 ∷ []) rest.0)
   goes_on log made (Change c ∷ ts) end (inr is) = goes_on log made ts end is.1
 
+  abbrev pub entry : ℕ → Command → Reply → Entry
+  entry caller c reply = record { caller = caller; command = c; reply = reply }
+
   entry_is : (c : Command) (e : Entry) (p : Pool) → e.caller ≡ 0 → e.command ≡ c → answer accepts p e.command ≡ Ok e.reply → entry_of c (answer accepts p c) ≡ e ∷ []
   entry_is c e p by asked is =
       ap (entry_of c) (ap (answer accepts p) (sym asked) ∙ is)
-      ∙ ap (λ (n : ℕ). (record { caller = n; command = c; reply = e.reply } : Entry) ∷ []) (sym by)
-      ∙ ap (λ (d : Command). (record { caller = e.caller; command = d; reply = e.reply } : Entry) ∷ []) (sym asked)
+      ∙ ap (λ (n : ℕ). entry n c e.reply ∷ []) (sym by)
+      ∙ ap (λ (d : Command). entry e.caller d e.reply ∷ []) (sym asked)
 
   module _ (log : Log) (legal : IsLegal accepts 1 log.opening log.entries) where
-    at : List Entry → Pool
+    abbrev pub at : List Entry → Pool
     at made = pool_of accepts log.opening made
 
     -- a refused change finds exactly what was made before
     refused_there : (made : List Entry) (c : Command) (is : IsRefused accepts log 0 made c) → answer accepts (at made) c ≡ Err is.refusal
-    unfolding at
     refused_there made c is =
         let front : List Entry = is.front.entries in
         let within : IsLegal accepts 1 log.opening front =
@@ -75,7 +78,6 @@ module _ (accepts : Accepts) where
         ∙ is.refused
 
     plays : (made rest : List Entry) (ts : List Task) → log.entries ≡ made ++ rest → Plays accepts log 0 made ts log.entries → rest ≡ entries_from accepts (at made) ts
-    unfolding at
     plays made rest [] whole is = append_cancel_left made rest [] (sym whole ∙ sym is ∙ sym (append-nil made))
     plays made rest (Read ∷ ts) whole is = plays made rest ts whole is
     plays made rest (Change c ∷ ts) whole (inl is) =
@@ -83,12 +85,12 @@ module _ (accepts : Accepts) where
         let more = goes_on log (made ++ e ∷ []) ts log.entries is.2 in
         let after : log.entries ≡ made ++ e ∷ more.0 = more.1 ∙ append_assoc made (e ∷ []) more.0 in
         let right : IsRight accepts 1 (at made) e = right_at log.opening made e more.0 (subst (IsLegal accepts 1 log.opening) after legal) in
-        let entry : entry_of c (answer accepts (at made) c) ≡ e ∷ [] = entry_is c e (at made) is.1.by is.1.asked right.true_reply in
+        let one : entry_of c (answer accepts (at made) c) ≡ e ∷ [] = entry_is c e (at made) is.1.by is.1.asked right.true_reply in
         let then : at (made ++ e ∷ []) ≡ next accepts (at made) c = pool_of-append accepts log.opening made e ∙ ap (next accepts (at made)) is.1.asked in
         append_cancel_left made rest (e ∷ more.0) (sym whole ∙ after)
         ∙ ap (λ l. e ∷ l) (plays (made ++ e ∷ []) more.0 ts more.1 is.2)
         ∙ ap (λ p. e ∷ entries_from accepts p ts) then
-        ∙ ap (λ l. l ++ entries_from accepts (next accepts (at made) c) ts) (sym entry)
+        ∙ ap (λ l. l ++ entries_from accepts (next accepts (at made) c) ts) (sym one)
     plays made rest (Change c ∷ ts) whole (inr is) =
         let refused : answer accepts (at made) c ≡ Err is.0.refusal = refused_there made c is.0 in
         plays made rest ts whole is.1

@@ -6,12 +6,11 @@ use Rattle.mp_lines.specs.declared.query.Query.TheVariants.{Snapshot}
 use Rattle.mp_lines.specs.Lines.{Line, line_of}
 use Rattle.mp_mempool.specs.declared.config.Config.{Config}
 use Rattle.mp_session.specs.declared.settings.Settings.{Settings}
-use Rattle.mp_session.specs.declared.beginning.Beginning.{Beginning}
+use Rattle.mp_session.specs.Beginning.{Beginning, opening_ledger}
 use Rattle.mp_session.specs.declared.session.Session.{Session}
 use Rattle.mp_session.specs.declared.session.Stage.{Stage}
 use Rattle.mp_session.specs.declared.session.Stage.TheVariants.{Before, Open}
 use Rattle.mp_session.specs.Settings.{limit_of, last_of}
-use Rattle.mp_session.specs.Beginning.{opening_ledger}
 use Rattle.mp_session.specs.Request as requests
 use Rattle.mp_session.specs.Session.{new_session}
 use Rattle.mp_session.specs.Session as sessions

@@ -12,7 +12,7 @@ use crate::task_lines::read_line;
 use mp_memory::{Memory, NoMemory};
 use mp_mempool::Config;
 use mp_names::LineFault;
-use mp_session::{Beginning, Session, Settings, Stage, open_ledger};
+use mp_session::{Beginning, Session, Settings, Stage};
 use mp_text::{InputFault, MAX_BYTES, first_line, read_all};
 use mp_tx::{Ledger, Salt};
 use std::io::Read;
@@ -114,7 +114,7 @@ impl Scenario {
                 limit: settings.limit(),
                 last: settings.last(),
             },
-            ledger: open_ledger(memory, settings, beginning)?,
+            ledger: beginning.open(memory, settings)?,
             tasks: Vec::new(memory),
         })
     }

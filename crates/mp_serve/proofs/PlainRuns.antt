@@ -23,12 +23,11 @@ use Rattle.mp_answers.specs.QueryText.{words_text, query_text, for_text}
 use Rattle.mp_signatures.specs.declared.scheme.Scheme.{Scheme}
 use Rattle.mp_signatures.specs.Scheme.{accepted_by}
 use Rattle.mp_session.specs.declared.settings.Settings.{Settings}
-use Rattle.mp_session.specs.declared.beginning.Beginning.{Beginning}
+use Rattle.mp_session.specs.Beginning.{Beginning, with_out}
 use Rattle.mp_session.specs.declared.session.Session.{Session}
 use Rattle.mp_session.specs.declared.session.Stage.{Stage}
 use Rattle.mp_session.specs.declared.session.Stage.TheVariants.{Before, Open}
 use Rattle.mp_session.specs.Settings.{with_setting}
-use Rattle.mp_session.specs.Beginning.{with_out}
 use Rattle.mp_session.specs.Request.{Request, Change, Try, Read}
 use Rattle.mp_session.specs.Session as sessions
 use Rattle.mp_driver.specs.Pool.{ScenarioPool}

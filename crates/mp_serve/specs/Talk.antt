@@ -14,12 +14,11 @@ use Rattle.mp_names.specs.declared.names.Binding.TheVariants.{Opening, Made}
 use Rattle.mp_names.specs.Names.{Names, binding_named, with_binding, without_bindings, name_of}
 use Rattle.mp_lines.specs.Lines.{Line}
 use Rattle.mp_session.specs.declared.settings.Settings.{Settings}
-use Rattle.mp_session.specs.declared.beginning.Beginning.{Beginning}
+use Rattle.mp_session.specs.Beginning.{Beginning, opening_ledger}
 use Rattle.mp_session.specs.declared.session.Session.{Session}
 use Rattle.mp_session.specs.declared.session.Stage.{Stage}
 use Rattle.mp_session.specs.declared.session.Stage.TheVariants.{Before, Open}
 use Rattle.mp_session.specs.Settings.{block_bytes_of, limit_of, last_of}
-use Rattle.mp_session.specs.Beginning.{opening_ledger}
 use Rattle.mp_session.specs.Session.{new_session, hold_at}
 use Rattle.mp_session.specs.Session as sessions
 use Rattle.mp_session.specs.Request as requests

@@ -15,7 +15,7 @@ use mp_memory::{Memory, NoMemory};
 use mp_names::{Name, Names};
 use mp_seqpool::{Command, Config, SeqPool};
 use mp_session as session;
-use mp_session::{Beginning, Settings, open_ledger};
+use mp_session::{Beginning, Settings};
 use mp_signatures::Signatures;
 use mp_tx::{Ledger, Tx, TxId};
 use std::marker::Model;
@@ -81,7 +81,7 @@ impl ServedPool {
     ) -> Result<ServedPool, NoMemory>
         ensures { IfOk result (λ p. p ≡ opened signatures.now settings.now beginning.now) }
     {
-        let ledger = open_ledger(memory, settings, beginning)?;
+        let ledger = beginning.open(memory, settings)?;
         let config = Config {
             limit: settings.limit(),
             last: settings.last(),

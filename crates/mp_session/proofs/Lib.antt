@@ -1,1 +1,2 @@
 mod Repeats
+mod Pending

@@ -8,9 +8,14 @@ use Rattle.mp_block.specs.Block.{at_tick}
 use Rattle.mp_names.specs.declared.payment.Payment.{Payment}
 use Rattle.mp_names.specs.Payments.{output_of}
 use Rattle.mp_names.specs.References.{opening_ref}
-use Rattle.mp_session.specs.declared.beginning.Beginning.{Beginning}
 use Rattle.mp_session.specs.declared.settings.Settings.{Settings}
 use Rattle.mp_session.specs.Settings.{block_bytes_of, tick_of}
+
+pub record Beginning : Type 0 where
+  -- how many outputs have names
+  pub outs : ℕ
+  -- all of them; the tick and the block bytes have no meaning yet
+  pub ledger : LedgerState
 
 -- no outputs
 abbrev pub empty_beginning : ℕ → Beginning

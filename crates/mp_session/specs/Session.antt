@@ -9,12 +9,11 @@ use Rattle.mp_names.specs.declared.settings.Setting.{Setting}
 use Rattle.mp_names.specs.Names.{Names, first_names, with_binding, with_script, with_datum}
 use Rattle.mp_names.specs.References.{opening_ref}
 use Rattle.mp_lines.specs.Lines.{Line, Blank, Sets, Script, Data, Out, Tx, Submit, Remove, Sync, For, Asks}
-use Rattle.mp_session.specs.declared.beginning.Beginning.{Beginning}
+use Rattle.mp_session.specs.Beginning.{Beginning, empty_beginning, with_out, with_utxo}
 use Rattle.mp_session.specs.declared.session.Session.{Session}
 use Rattle.mp_session.specs.declared.session.Stage.{Stage}
 use Rattle.mp_session.specs.declared.session.Stage.TheVariants.{Before, Open}
 use Rattle.mp_session.specs.Settings.{no_settings, with_setting}
-use Rattle.mp_session.specs.Beginning.{empty_beginning, with_out, with_utxo}
 use Rattle.mp_session.specs.Ledgers.{ledger_at}
 use Rattle.mp_session.specs.Request.{Request, Change, Try, Read}
 

@@ -1,12 +1,13 @@
 //! The outputs that a pool opens with.
 
-ghost use Rattle.std.specs.Prelude.{◌≡◌, ℕ, [], Some, None, IfOk, IfSome, IfNone, OnOk, OnErr};
+ghost use Rattle.std.specs.Prelude.{◌≡◌, ◌<◌, ◌^◌, ℕ, [], ◌∷◌, ◌++◌, is_some, IfOk, IfSome, IfNone, OnOk, OnErr};
+ghost use Rattle.std.specs.FinMap.{get};
 ghost use Rattle.mp_tx.specs.Ledger.{HasBlockBytes, ledger_after, AreFree, IsFirstTaken};
 ghost use Rattle.mp_names.specs.declared.names.Binding.TheVariants.{Opening};
-ghost use Rattle.mp_names.specs.Fault.{IsBad};
 ghost use Rattle.mp_names.specs.Names.{with_binding};
+ghost use Rattle.mp_names.specs.Payments.{output_of};
 ghost use Rattle.mp_names.specs.References.{opening_ref};
-ghost use Rattle.mp_session.specs.Beginning.{put_in, with_utxo, with_out, opening_ledger};
+ghost use Rattle.mp_session.specs.Beginning.{put_in};
 
 use crate::ledgers::make_ledger;
 use crate::settings::Settings;
@@ -14,38 +15,64 @@ use mp_lines::MAX_OUTPUTS;
 use mp_memory::{Memory, NoMemory};
 use mp_names::{Binding, LineFault, Name, Names, Payment, Reason};
 use mp_tx::{BlockFault, Ledger, OutRef, Output, Salt};
+use std::marker::Model;
 
-/// The outputs that a pool opens with.
+// Outputs with their references.
+type Entries = Vec<(OutRef, Output), Memory>;
+
+/// The outputs that a pool opens with. Contracts see how many of them have names, and a ledger state with all of them.
 pub struct Beginning {
-    /// How many of them have names.
-    pub outs: u64,
-    /// All of them. The tick has no meaning yet.
-    pub ledger: Ledger,
+    outs: u64,
+    // Outputs with names that aren't in the ledger state yet, since adding many at once costs less.
+    pending: Entries,
+    ledger: Ledger,
 }
 
 impl Drop for Beginning {
     fn drop(self) {
-        let Beginning { outs: _, ledger: _ } = self;
+        let Beginning {
+            outs: _,
+            pending: _,
+            ledger: _,
+        } = self;
     }
+}
+
+impl Model for Beginning {
+    ghost use Rattle.std.specs.Coded.{codes};
+    ghost use Rattle.std.specs.FinMap as finite;
+    ghost use Rattle.mp_session.specs.Beginning as told;
+    ghost use Rattle.mp_session.specs.Inside.Beginning.{beginning_of, IsPending};
+
+    ghost Value = { told.Beginning };
+
+    ghost coded = { Prim.hlevel (codes, finite.code) };
+
+    ghost view = { beginning_of };
+
+    ghost invariant = { IsPending };
 }
 
 // The block bytes have no meaning yet.
 const BLOCK_BYTES: u64 = 500_000;
 
-impl Beginning {
-    ghost use Rattle.std.specs.Prelude.{◌≡◌, IfOk};
-    ghost use Rattle.mp_session.specs.Beginning.{empty_beginning};
-
-    /// No outputs.
-    pub fn new(memory: Memory, salt: Salt) -> Result<Beginning, NoMemory>
-        ensures { IfOk result (λ b. b ≡ empty_beginning salt) }
-    {
-        let ledger = make_ledger(memory, salt, 0, BLOCK_BYTES, Vec::new(memory))?;
-        Ok(Beginning { outs: 0, ledger })
-    }
+fn put_share(entries: &mut Entries, entry: &(OutRef, Output)) -> Result<(), NoMemory>
+    ensures { OnOk result (entries.new.items ≡ entries.old.items ++ entry.now ∷ []) }
+{
+    entries.push((entry.0, entry.1.share()?))?;
+    Ok(())
 }
 
-type Entries = Vec<(OutRef, Output), Memory>;
+fn share_all(memory: Memory, entries: &[(OutRef, Output)]) -> Result<Entries, NoMemory>
+    ensures { IfOk result (λ shares. shares.items ≡ entries.now) }
+{
+    let mut shares = Vec::new(memory);
+    shares.reserve_exact(entries.len())?;
+    for entry in entries {
+        put_share(&mut shares, entry)?;
+    }
+    Ok(shares)
+}
 
 // The ledger state with these outputs too, unless one of their references is taken.
 fn with_made(
@@ -71,6 +98,25 @@ fn with_made(
     }
 }
 
+// The ledger state with these outputs too.
+fn add_all(
+    memory: Memory,
+    ledger: &Ledger,
+    tick: u64,
+    block_bytes: u64,
+    entries: &[(OutRef, Output)],
+) -> Result<Ledger, NoMemory>
+    requires bytes { HasBlockBytes block_bytes }
+    requires free { AreFree ledger.now.utxo entries.now }
+    ensures { IfOk result (λ l. l ≡ ledger_after ledger.now tick block_bytes [] entries.now) }
+{
+    let made = share_all(memory, entries)?;
+    match with_made(memory, ledger, tick, block_bytes, made)? {
+        Some(ledger) => Ok(ledger),
+        None => unreachable!(),
+    }
+}
+
 // The ledger state with one more output, unless its reference is taken.
 fn put_in(
     memory: Memory,
@@ -85,85 +131,139 @@ fn put_in(
     with_made(memory, ledger, ledger.tick(), ledger.block_bytes(), made)
 }
 
-/// The ledger state with which the pool opens. `beginning` doesn't change.
-pub fn open_ledger(
-    memory: Memory,
-    settings: &Settings,
-    beginning: &Beginning,
-) -> Result<Ledger, NoMemory>
-    ensures { IfOk result (λ l. l ≡ opening_ledger settings.now beginning.now) }
+fn opening_ref(number: u64) -> OutRef
+    requires { number < 2 ^ 16 }
+    ensures { result ≡ opening_ref number }
 {
-    let ledger = &beginning.ledger;
-    let made = Vec::new(memory);
-    match with_made(
-        memory,
-        ledger,
-        settings.tick(),
-        settings.block_bytes(),
-        made,
-    )? {
-        Some(ledger) => Ok(ledger),
-        None => unreachable!(),
+    OutRef {
+        id: [0; 32],
+        index: number as u16,
     }
 }
 
-/// Adds an output under the next reference, and declares the name for it. After an `Err` nothing has changed.
-pub fn put_out<'a>(
-    memory: Memory,
+fn is_taken(ledger: &Ledger, reference: &OutRef) -> bool
+    ensures { result ≡ is_some (get ledger.now.utxo reference.now) }
+{
+    ledger.get(reference).is_some()
+}
+
+// Adds an output under the reference, and declares the name for it.
+fn put_named(
+    pending: &mut Entries,
     names: &mut Names,
-    beginning: &mut Beginning,
     name: Name,
+    reference: OutRef,
     payment: Payment,
-) -> Result<(), LineFault<'a>>
-    ensures ok { OnOk result (with_out beginning.old payment ≡ Some beginning.new) }
+) -> Result<(), NoMemory>
+    ensures pending { OnOk result (pending.new.items
+        ≡ pending.old.items ++ (reference, output_of payment) ∷ []) }
     ensures names { OnOk result (names.new ≡ with_binding names.old (record {
       name = name;
-      binding = Opening (opening_ref beginning.old.outs) payment;
+      binding = Opening reference payment;
     })) }
-    ensures bad { IsBad result → with_out beginning.old payment ≡ None }
-    ensures err { OnErr result ((names.new ≡ names.old) × (beginning.new ≡ beginning.old)) }
+    ensures err { OnErr result
+        ((names.new ≡ names.old) × (pending.new.items ≡ pending.old.items)) }
 {
-    if beginning.outs >= MAX_OUTPUTS as u64 {
-        return Err(LineFault::Bad(Reason::ManyOutputs));
-    }
-    let reference = OutRef {
-        id: [0; 32],
-        index: beginning.outs as u16,
-    };
     let output = payment.to_output()?;
-    match put_in(memory, &beginning.ledger, reference, output)? {
-        Some(ledger) => {
-            names.declare(name, Binding::Opening(reference, payment))?;
-            beginning.outs += 1;
-            beginning.ledger = ledger;
-            Ok(())
+    pending.push((reference, output))?;
+    match names.declare(name, Binding::Opening(reference, payment)) {
+        Ok(()) => Ok(()),
+        Err(NoMemory) => {
+            let _ = pending.pop();
+            Err(NoMemory)
         }
-        None => Err(LineFault::Bad(Reason::Repeats {
-            later: b"out",
-            earlier: b"utxo",
-        })),
     }
 }
 
-/// Adds an output under its reference. After an `Err` nothing has changed.
-pub fn put_utxo<'a>(
-    memory: Memory,
-    beginning: &mut Beginning,
-    reference: OutRef,
-    output: Output,
-) -> Result<(), LineFault<'a>>
-    ensures ok { OnOk result (with_utxo beginning.old reference output ≡ Some beginning.new) }
-    ensures bad { IsBad result → with_utxo beginning.old reference output ≡ None }
-    ensures err { OnErr result (beginning.new ≡ beginning.old) }
-{
-    match put_in(memory, &beginning.ledger, reference, output)? {
-        Some(ledger) => {
-            beginning.ledger = ledger;
-            Ok(())
+impl Beginning {
+    ghost use Rattle.std.specs.Prelude.{◌≡◌, Some, None, IfOk, OnOk, OnErr};
+    ghost use Rattle.mp_names.specs.declared.names.Binding.TheVariants.{Opening};
+    ghost use Rattle.mp_names.specs.Fault.{IsBad};
+    ghost use Rattle.mp_names.specs.Names.{with_binding};
+    ghost use Rattle.mp_names.specs.References.{opening_ref};
+    ghost use Rattle.mp_session.specs.Beginning.{empty_beginning, with_out, with_utxo, opening_ledger};
+
+    /// No outputs.
+    pub fn new(memory: Memory, salt: Salt) -> Result<Beginning, NoMemory>
+        ensures { IfOk result (λ b. b ≡ empty_beginning salt) }
+    {
+        let ledger = make_ledger(memory, salt, 0, BLOCK_BYTES, Vec::new(memory))?;
+        Ok(Beginning {
+            outs: 0,
+            pending: Vec::new(memory),
+            ledger,
+        })
+    }
+
+    // The ledger state with all outputs.
+    fn whole(&self, memory: Memory) -> Result<Ledger, NoMemory>
+        ensures { IfOk result (λ l. l ≡ self.now.ledger) }
+    {
+        let ledger = &self.ledger;
+        let (tick, block_bytes) = (ledger.tick(), ledger.block_bytes());
+        add_all(memory, ledger, tick, block_bytes, &self.pending)
+    }
+
+    /// Adds an output under the next reference, and declares the name for it. After an `Err` nothing has changed.
+    pub fn put_out<'a>(
+        &mut self,
+        names: &mut Names,
+        name: Name,
+        payment: Payment,
+    ) -> Result<(), LineFault<'a>>
+        ensures ok { OnOk result (with_out self.old payment ≡ Some self.new) }
+        ensures names { OnOk result (names.new ≡ with_binding names.old (record {
+          name = name;
+          binding = Opening (opening_ref self.old.outs) payment;
+        })) }
+        ensures bad { IsBad result → with_out self.old payment ≡ None }
+        ensures err { OnErr result ((names.new ≡ names.old) × (self.new ≡ self.old)) }
+    {
+        if self.outs >= MAX_OUTPUTS as u64 {
+            return Err(LineFault::Bad(Reason::ManyOutputs));
         }
-        None => Err(LineFault::Bad(Reason::Repeats {
-            later: b"utxo",
-            earlier: b"utxo",
-        })),
+        let reference = opening_ref(self.outs);
+        if is_taken(&self.ledger, &reference) {
+            return Err(LineFault::Bad(Reason::Repeats {
+                later: b"out",
+                earlier: b"utxo",
+            }));
+        }
+        put_named(&mut self.pending, names, name, reference, payment)?;
+        self.outs += 1;
+        Ok(())
+    }
+
+    /// Adds an output under its reference. After an `Err` nothing has changed.
+    pub fn put_utxo<'a>(
+        &mut self,
+        memory: Memory,
+        reference: OutRef,
+        output: Output,
+    ) -> Result<(), LineFault<'a>>
+        ensures ok { OnOk result (with_utxo self.old reference output ≡ Some self.new) }
+        ensures bad { IsBad result → with_utxo self.old reference output ≡ None }
+        ensures err { OnErr result (self.new ≡ self.old) }
+    {
+        let whole = self.whole(memory)?;
+        match put_in(memory, &whole, reference, output)? {
+            Some(ledger) => {
+                self.ledger = ledger;
+                self.pending.clear();
+                Ok(())
+            }
+            None => Err(LineFault::Bad(Reason::Repeats {
+                later: b"utxo",
+                earlier: b"utxo",
+            })),
+        }
+    }
+
+    /// The ledger state with which the pool opens.
+    pub fn open(&self, memory: Memory, settings: &Settings) -> Result<Ledger, NoMemory>
+        ensures { IfOk result (λ l. l ≡ opening_ledger settings.now self.now) }
+    {
+        let (tick, block_bytes) = (settings.tick(), settings.block_bytes());
+        add_all(memory, &self.ledger, tick, block_bytes, &self.pending)
     }
 }

@@ -7,7 +7,7 @@ mod request;
 mod session;
 mod settings;
 
-pub use beginning::{Beginning, open_ledger};
+pub use beginning::Beginning;
 pub use ledgers::{block_bytes_at, ledger_at};
 pub use request::Request;
 pub use session::{Session, Stage};

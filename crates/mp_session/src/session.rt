@@ -4,7 +4,7 @@ ghost use Rattle.std.specs.Prelude.{◌≡◌, IfOk};
 ghost use Rattle.mp_seqpool.specs.Command.{Remove};
 ghost use Rattle.mp_seqpool.specs.Inside.Command.{command_of};
 
-use crate::beginning::{Beginning, put_out, put_utxo};
+use crate::beginning::Beginning;
 use crate::ledgers::ledger_at;
 use crate::request::Request;
 use crate::settings::Settings;
@@ -62,7 +62,9 @@ impl<P: Drop> Session<P> {
         ensures { result ≡ (self.settings, self.stage) }
     {
         let Session {
-            settings, stage, ..
+            settings,
+            stage,
+            ..
         } = self;
         (settings, stage)
     }
@@ -80,19 +82,14 @@ impl<P: Drop> Session<P> {
     }
 
     // Outputs are allowed before the first request.
-    fn put_out<'a>(
-        &mut self,
-        memory: Memory,
-        name: Name,
-        payment: Payment,
-    ) -> Result<(), LineFault<'a>>
+    fn put_out<'a>(&mut self, name: Name, payment: Payment) -> Result<(), LineFault<'a>>
         ensures ok { OnOk result
             (output_at self.old name payment self.old.stage ≡ Some self.new) }
         ensures bad { IsBad result → output_at self.old name payment self.old.stage ≡ None }
         ensures err { OnErr result (self.new ≡ self.old) }
     {
         match &mut self.stage {
-            Stage::Before(beginning) => put_out(memory, &mut self.names, beginning, name, payment),
+            Stage::Before(beginning) => beginning.put_out(&mut self.names, name, payment),
             Stage::Open(_) => Err(LineFault::Bad(Reason::LateOutput)),
         }
     }
@@ -113,7 +110,7 @@ impl<P: Drop> Session<P> {
         ensures err { OnErr result (self.new ≡ self.old) }
     {
         match &mut self.stage {
-            Stage::Before(beginning) => put_utxo(memory, beginning, reference, output),
+            Stage::Before(beginning) => beginning.put_utxo(memory, reference, output),
             Stage::Open(_) => Err(LineFault::Bad(Reason::LateOutput)),
         }
     }
@@ -134,7 +131,7 @@ impl<P: Drop> Session<P> {
             Line::Sets(setting) => self.set(setting)?,
             Line::Script(named) => self.names.declare_script(named)?,
             Line::Data(named) => self.names.declare_datum(named)?,
-            Line::Out(name, payment) => self.put_out(memory, name, payment)?,
+            Line::Out(name, payment) => self.put_out(name, payment)?,
             Line::Tx(name, declared) => self.names.declare(name, Binding::Made(declared))?,
             Line::Submit(tx) => return Ok(Some(Request::Change(Command::Submit(tx)))),
             Line::Remove(ids) => {
