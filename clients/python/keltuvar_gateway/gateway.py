@@ -46,7 +46,7 @@ class Gateway:
         self._guards = Guards(options.limits)
         self._tasks: list[asyncio.Task[None]] = []
         self._servers: list[asyncio.Server] = []
-        self._sockets: list[str] = []
+        self._lines: dict[str, LineServer] = {}
         self._web: web.Server | None = None
 
     @property
@@ -79,9 +79,10 @@ class Gateway:
         """Closes all connections, saves, and ends the pool. Returns whether all was saved."""
         for server in self._servers:
             server.close()
-        for path in self._sockets:
+        for path, lines in self._lines.items():
             with contextlib.suppress(OSError):
                 os.unlink(path)
+            await lines.close()
         for task in self._tasks:
             task.cancel()
         if self._tasks:
@@ -110,7 +111,7 @@ class Gateway:
 
     async def _listen(self, lines: LineServer, path: str) -> None:
         self._servers.append(await lines.listen(path))
-        self._sockets.append(path)
+        self._lines[path] = lines
 
     def _run(self, work: Coroutine[Any, Any, None]) -> None:
         self._tasks.append(asyncio.create_task(work))

@@ -41,7 +41,7 @@ class Keeper:
         while True:
             began = time.monotonic()
             if self._program is not None:
-                _LOG.error("%s", await self._program.ended)
+                _LOG.error("%s", await asyncio.shield(self._program.ended))
             if time.monotonic() - began >= _RAN_WELL:
                 pause = _FIRST_PAUSE
             await asyncio.sleep(pause)

@@ -41,12 +41,19 @@ class LineServer(ABC):
 
     def __init__(self, limits: Limits) -> None:
         self._limits = limits
-        self._open = 0
+        self._open: set[asyncio.Task[None]] = set()
 
     async def listen(self, path: str) -> asyncio.Server:
         """Starts to listen. Raises an OSError if that isn't possible."""
         listener = _listen(path, self.mode)
         return await asyncio.start_unix_server(self._accept, sock=listener, limit=_MOST_LINE)
+
+    async def close(self) -> None:
+        """Closes all connections."""
+        for task in self._open:
+            task.cancel()
+        if self._open:
+            await asyncio.wait(self._open)
 
     @abstractmethod
     async def answer(self, line: str) -> str:
@@ -57,9 +64,11 @@ class LineServer(ABC):
         """Answers a connection's lines until it ends."""
 
     async def _accept(self, reader: asyncio.StreamReader, writer: asyncio.StreamWriter) -> None:
-        self._open += 1
+        task = asyncio.current_task()
+        assert task
+        self._open.add(task)
         try:
-            if self._open <= self._limits.connections:
+            if len(self._open) <= self._limits.connections:
                 await self.talk(reader, writer)
             async with asyncio.timeout(self._limits.request_seconds):
                 writer.close()
@@ -67,7 +76,7 @@ class LineServer(ABC):
         except (Down, OSError, TimeoutError) as error:
             _LOG.info("a connection is closed: %s", error or type(error).__name__)
         finally:
-            self._open -= 1
+            self._open.discard(task)
             writer.transport.abort()
 
     async def _answer_lines(

@@ -87,13 +87,13 @@ class _Session:
         return {"acquired": "mempool", "slot": view.tick}
 
     def _next(self, fields: object) -> object:
+        if fields not in (None, "all"):
+            raise _Fault(_BAD_PARAMS, "fields is 'all' or absent")
         held = next(self._left, None)
         if held is None:
             return {"transaction": None}
         if fields is None:
             return {"transaction": {"id": held.id}}
-        if fields != "all":
-            raise _Fault(_BAD_PARAMS, "fields is 'all' or absent")
         return {"transaction": {"id": held.id, "ticket": held.ticket, "cbor": held.data.hex()}}
 
     def _has(self, transaction_id: object) -> bool:

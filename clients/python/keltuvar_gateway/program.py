@@ -28,6 +28,7 @@ class Program(asyncio.SubprocessProtocol):
         self._unfinished: list[bytes] = []
         self._error_end = b""
         self._fault = ""
+        self._is_ending = False
 
     @classmethod
     async def start(cls, command: Sequence[str]) -> Program:
@@ -78,6 +79,7 @@ class Program(asyncio.SubprocessProtocol):
     async def end(self, patience: float) -> None:
         """Closes the process's input, waits this long for its end, and then kills it."""
         self._flush()
+        self._is_ending = True
         self._input.close()
         await asyncio.wait([self.ended], timeout=patience)
         self.kill("it didn't end by itself")
@@ -127,12 +129,13 @@ class Program(asyncio.SubprocessProtocol):
             self.kill(f"{text!r:.80}: {error}")
 
     def pipe_connection_lost(self, fd: int, exc: Exception | None) -> None:
-        if fd != 2:
-            self.kill("" if self._input.is_closing() else "it closed a stream")
+        if fd == 1 or (fd == 0 and not self._is_ending):
+            self.kill("it closed a stream")
 
     def connection_lost(self, exc: Exception | None) -> None:
         """Fails what still waits: the process has ended, and all that it wrote was read."""
         status = self._transport.get_returncode()
+        self._transport.close()
         details = [self._fault, self._error_end.decode("utf-8", "backslashreplace").strip()]
         reason = ": ".join([f"the pool's process ended with status {status}", *filter(None, details)])
         for _, future in self._waiting:

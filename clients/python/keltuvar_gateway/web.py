@@ -60,7 +60,8 @@ class Site:
 
     def make_app(self) -> web.Application:
         """Returns the application with all paths."""
-        app = web.Application(client_max_size=MOST_BODY, middlewares=[self._limit])
+        # aiohttp refuses bodies of that size, and not only longer ones.
+        app = web.Application(client_max_size=MOST_BODY + 1, middlewares=[self._limit])
         app.add_routes(
             [
                 web.post("/api/submit/tx", self._submit),
@@ -90,7 +91,8 @@ class Site:
         except web.HTTPRequestEntityTooLarge:
             return _say(413, f"a transaction has at most {MOST_BODY} bytes")
         except web.HTTPException as error:
-            return _say(error.status, error.reason, {"Allow": error.headers.get("Allow", "")})
+            allowed = {name: error.headers[name] for name in error.headers if name == "Allow"}
+            return _say(error.status, error.reason, allowed)
         finally:
             if guard:
                 guard.finish()
@@ -161,7 +163,7 @@ class Site:
     async def _metrics(self, request: web.Request) -> web.Response:
         gauge = format_gauge
         lines = [
-            gauge("keltuvar_up", "Whether the pool takes transactions.", self._pool.running),
+            gauge("keltuvar_up", "Whether the pool takes transactions.", int(self._pool.running)),
             gauge("keltuvar_connections", "Open HTTP connections.", len(self._guards)),
             gauge("keltuvar_waiting_lines", "Lines the pool hasn't answered.", self._pool.waiting),
             format_counter(
