@@ -51,6 +51,13 @@ def write_ledger(path: str) -> None:
             file.write(f"utxo {OPENING}#{place} {output_bytes(100).hex()}\n")
 
 
+def pool_of(gateway: Gateway) -> int:
+    """Returns the number of the pool's process."""
+    program = gateway._keeper._program
+    assert program
+    return program.pid
+
+
 class GatewayCase(unittest.IsolatedAsyncioTestCase):
     """A test with a folder, a session of HTTP, and gateways that end with it."""
 

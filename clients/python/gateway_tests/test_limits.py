@@ -3,10 +3,12 @@
 from __future__ import annotations
 
 import asyncio
+import os
+import signal
 
 from keltuvar_gateway.limits import Rates
 
-from . import LONG, GatewayCase, id_of, pay
+from . import LONG, GatewayCase, id_of, pay, pool_of
 
 
 class Limits(GatewayCase):
@@ -33,15 +35,16 @@ class Limits(GatewayCase):
         self.assertEqual(await self.held(), [id_of(pay(0))])
 
     async def test_silent_clients(self) -> None:
-        await self.start("--request-seconds", "0.5", "--idle-seconds", "0.5")
+        await self.start("--request-seconds", "2")
         head = b"POST /api/submit/tx HTTP/1.1\r\nHost: x\r\n"
-        for start in (b"", b"G", head, head + b"Content-Length: 100\r\n\r\nabc"):
-            reader, _ = await self.send(start)
-            self.assertEqual(await self.ends(reader), b"")
+        starts = (b"", b"G", head, head + b"Content-Length: 100\r\n\r\nabc")
+        opened = [await self.send(start) for start in starts]
+        ends = await asyncio.gather(*(self.ends(reader) for reader, _ in opened))
+        self.assertEqual(ends, [b""] * len(starts))
         await self.still_serves()
 
     async def test_a_client_that_sends_a_byte_at_a_time(self) -> None:
-        await self.start("--request-seconds", "0.5")
+        await self.start("--request-seconds", "2")
         reader, writer = await self.send(b"GET /health HTTP/1.1\r\nX: ")
 
         async def drip() -> None:
@@ -79,7 +82,12 @@ class Limits(GatewayCase):
     async def test_requests_sent_ahead(self) -> None:
         await self.start("--rate", "0")
         request = b"GET /mempool HTTP/1.1\r\nHost: x\r\n\r\n"
-        reader, writer = await self.send(request * 20000)
+        reader, _ = await self.send(request * 5)
+        async with asyncio.timeout(LONG):
+            received = b""
+            while received.count(b"HTTP/1.1 200 OK") < 5:
+                received += await reader.read(65536)
+        reader, _ = await self.send(request * 20000)
         answered = (await self.ends(reader)).count(b"HTTP/1.1 200 OK")
         self.assertLess(answered, 20000)
         await self.still_serves()
@@ -120,8 +128,24 @@ class Limits(GatewayCase):
         self.assertTrue(all(Rates(0).take("a") for _ in range(100)))
 
     async def test_too_many_submits_wait(self) -> None:
-        await self.start("--waiting", "1", "--rate", "0")
-        got = await asyncio.gather(*(self.post(pay(place)) for place in range(40)))
-        self.assertEqual({status for status, _ in got}, {202, 503})
+        gateway = await self.start("--waiting", "2", "--rate", "0", "--request-seconds", "60")
+        os.kill(pool_of(gateway), signal.SIGSTOP)
+        posts = [asyncio.create_task(self.post(pay(place))) for place in range(9)]
+        async with asyncio.timeout(LONG):
+            while sum(post.done() for post in posts) < 7:
+                await asyncio.sleep(0.05)
+        os.kill(pool_of(gateway), signal.SIGCONT)
+        got = await asyncio.gather(*posts)
+        self.assertEqual(sorted(status for status, _ in got), [202, 202, *[503] * 7])
         accepted = [answer for status, answer in got if status == 202]
         self.assertEqual(sorted(accepted), sorted(await self.held()))
+
+    async def test_a_pool_that_doesnt_answer(self) -> None:
+        gateway = await self.start("--request-seconds", "1")
+        os.kill(pool_of(gateway), signal.SIGSTOP)
+        status, answer = await self.post(pay(0))
+        self.assertEqual((status, answer["message"][:7]), (503, "the poo"))
+        os.kill(pool_of(gateway), signal.SIGCONT)
+        async with asyncio.timeout(LONG):
+            while await self.held() != [id_of(pay(0))]:
+                await asyncio.sleep(0.1)

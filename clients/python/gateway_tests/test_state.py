@@ -5,13 +5,14 @@ from __future__ import annotations
 import asyncio
 import os
 import signal
+import socket
 import sys
 from typing import Any
 
 from keltuvar_gateway.gateway import Gateway, NoStart
 from keltuvar_gateway.state import BadFile, State, read_state, write_state
 
-from . import LONG, OPENING, OUTPUTS, PROGRAM, GatewayCase, id_of, pay, spend
+from . import LONG, OPENING, OUTPUTS, PROGRAM, GatewayCase, id_of, pay, pool_of, spend
 
 
 class Files(GatewayCase):
@@ -122,7 +123,7 @@ class Restarts(GatewayCase):
         self.assertEqual((await post)[0], 503)
 
     async def test_the_gateway_is_killed(self) -> None:
-        first, port = pay(0), "18231"
+        first, port = pay(0), free_port()
         for number in range(2):
             program = await self.start_process(port)
             await self.until("/health", 200)
@@ -144,7 +145,8 @@ class Restarts(GatewayCase):
         files = ["--ledger", self.ledger, "--state", self.state]
         sockets = ["--operator-socket", self.operator_socket]
         program = await asyncio.create_subprocess_exec(
-            sys.executable, "-m", "keltuvar_gateway", *words, *files, *sockets
+            *(sys.executable, "-m", "keltuvar_gateway", *words, *files, *sockets),
+            stderr=asyncio.subprocess.DEVNULL,
         )
         async with asyncio.timeout(LONG):
             while True:
@@ -155,11 +157,10 @@ class Restarts(GatewayCase):
                     await asyncio.sleep(0.1)
 
 
-def pool_of(gateway: Gateway) -> int:
-    """Returns the number of the pool's process."""
-    program = gateway._keeper._program
-    assert program
-    return program.pid
+def free_port() -> str:
+    """Returns a port that no program uses now."""
+    with socket.create_server(("127.0.0.1", 0)) as server:
+        return str(server.getsockname()[1])
 
 
 def kill_pool(gateway: Gateway) -> None:

@@ -25,6 +25,8 @@ def main(arguments: Sequence[str] | None = None) -> int:
     from .gateway import NoStart, allow_files, run
 
     logging.basicConfig(format="keltuvar-gateway: %(message)s", level=logging.WARNING)
+    # aiohttp logs each broken request with a traceback. No client may fill the log.
+    logging.getLogger("aiohttp").setLevel(logging.CRITICAL)
     allow_files(options.limits)
     try:
         return asyncio.run(run(options))

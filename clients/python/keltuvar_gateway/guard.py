@@ -14,8 +14,8 @@ from typing import cast
 
 from .limits import Limits
 
-# How many bytes a client may send before its request is answered.
-_MOST_AHEAD = 1 << 18
+# How many bytes, and how many requests, a client may send before its first one is answered.
+_MOST_AHEAD, _MOST_REQUESTS = 1 << 18, 16
 _FULL = b"HTTP/1.1 503 Service Unavailable\r\nConnection: close\r\nContent-Length: 0\r\n\r\n"
 
 
@@ -66,10 +66,11 @@ class Guard(asyncio.Protocol):
             self.deadline = time.monotonic() + self._guards.limits.request_seconds
         if self._ahead >= 0:
             self._ahead += len(data)
-        if self._ahead > _MOST_AHEAD:
-            self.abort()
-        else:
+        if self._ahead <= _MOST_AHEAD:
             self._inner.data_received(data)
+        # aiohttp keeps all requests that have come.
+        if self._ahead > _MOST_AHEAD or len(getattr(self._inner, "_messages", ())) > _MOST_REQUESTS:
+            self.abort()
 
     def eof_received(self) -> bool | None:
         return self._inner.eof_received() if self in self._guards else None

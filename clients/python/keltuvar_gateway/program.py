@@ -28,7 +28,7 @@ class Program(asyncio.SubprocessProtocol):
         self._unfinished: list[bytes] = []
         self._error_end = b""
         self._fault = ""
-        self._is_ending = False
+        self._is_ending = self._is_lost = False
 
     @classmethod
     async def start(cls, command: Sequence[str]) -> Program:
@@ -58,7 +58,7 @@ class Program(asyncio.SubprocessProtocol):
         If `take` raises a ValueError, the answer has no known form, and the process is ended. If
         the answer doesn't come, the future gets `Down`.
         """
-        if self.ended.done() or self._fault:
+        if self.ended.done() or self._is_lost:
             raise Down("the pool's process has ended")
         if not self._unsent:
             asyncio.get_running_loop().call_soon(self._flush)
@@ -85,10 +85,10 @@ class Program(asyncio.SubprocessProtocol):
         self.kill("it didn't end by itself")
         await asyncio.wait([self.ended], timeout=patience)
 
-    def kill(self, fault: str) -> None:
-        """Kills the process if it hasn't ended."""
+    def kill(self, fault: str = "") -> None:
+        """Kills the process if it hasn't ended. The fault says why."""
         if not self.ended.done():
-            self._fault = self._fault or fault
+            self._is_lost, self._fault = True, self._fault or fault
             with contextlib.suppress(ProcessLookupError):
                 self._transport.kill()
 
@@ -130,7 +130,7 @@ class Program(asyncio.SubprocessProtocol):
 
     def pipe_connection_lost(self, fd: int, exc: Exception | None) -> None:
         if fd == 1 or (fd == 0 and not self._is_ending):
-            self.kill("it closed a stream")
+            self.kill()
 
     def connection_lost(self, exc: Exception | None) -> None:
         """Fails what still waits: the process has ended, and all that it wrote was read."""

@@ -3,6 +3,7 @@
 from __future__ import annotations
 
 import asyncio
+import logging
 import re
 import time
 from collections.abc import Awaitable, Callable
@@ -21,6 +22,7 @@ from .monitor import Monitor
 from .program import Down
 from .shapes import is_final, shape_list, shape_pool, shape_refusal, shape_transaction
 
+_LOG = logging.getLogger(__name__)
 Handler = Callable[[web.Request], Awaitable[web.StreamResponse]]
 
 _ID = re.compile("[0-9a-fA-F]{64}")
@@ -93,6 +95,11 @@ class Site:
         except web.HTTPException as error:
             allowed = {name: error.headers[name] for name in error.headers if name == "Allow"}
             return _say(error.status, error.reason, allowed)
+        except (ConnectionError, web.RequestPayloadError):
+            return _say(400, "the request is broken off, or its body is wrong")
+        except Exception:
+            _LOG.exception("a request of %s failed", request.path)
+            return _say(500, "this is a fault of the gateway's")
         finally:
             if guard:
                 guard.finish()
