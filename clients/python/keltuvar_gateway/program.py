@@ -9,6 +9,8 @@ from collections.abc import Callable, Sequence
 from typing import Any, cast
 
 _ERROR_BYTES = 4096
+# How many seconds a process has to end once it has closed a stream.
+_GRACE = 1.0
 
 
 class Down(Exception):
@@ -130,7 +132,9 @@ class Program(asyncio.SubprocessProtocol):
 
     def pipe_connection_lost(self, fd: int, exc: Exception | None) -> None:
         if fd == 1 or (fd == 0 and not self._is_ending):
-            self.kill()
+            # Most likely it is about to end by itself, with a status of its own.
+            self._is_lost = True
+            asyncio.get_running_loop().call_later(_GRACE, self.kill)
 
     def connection_lost(self, exc: Exception | None) -> None:
         """Fails what still waits: the process has ended, and all that it wrote was read."""
