@@ -10,7 +10,11 @@ from hashlib import sha256
 from pathlib import Path
 from typing import Any
 
-from aiohttp import ClientSession, ClientTimeout
+try:
+    from aiohttp import ClientSession, ClientTimeout
+except ImportError:
+    raise unittest.SkipTest("there is no aiohttp: apt-get install python3-aiohttp") from None
+
 from example import output_bytes, transaction_bytes
 from keltuvar_gateway.gateway import Gateway
 from keltuvar_gateway.options import read_options
