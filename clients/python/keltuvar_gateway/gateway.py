@@ -16,7 +16,7 @@ from aiohttp import web
 from .client_lines import ClientLines
 from .guard import Guards
 from .keeper import Keeper
-from .limits import Limits
+from .limits import MOST_BODY, Limits
 from .lines import LineServer
 from .one_conversation import BadStart, OneConversation
 from .operator_lines import OperatorLines
@@ -92,20 +92,20 @@ class Gateway:
         return await self._keeper.end(save=save)
 
     async def _listen_http(self) -> None:
-        app = Site(self._pool, self._keeper, self._guards, self._options.limits).make_app()
+        options, loop = self._options, asyncio.get_running_loop()
+        site = Site(self._pool, self._keeper, self._guards, options.limits)
         # Bodies aren't unpacked: a small one could become a large one.
-        runner = web.AppRunner(
-            app,
+        self._web = web.Server(
+            site.handle,
+            request_factory=_make_request,
             access_log=None,
             auto_decompress=False,
-            keepalive_timeout=self._options.limits.idle_seconds,
+            keepalive_timeout=options.limits.idle_seconds,
             lingering_time=1.0,
         )
-        await runner.setup()
-        self._web = runner.server
         inner = cast(Callable[[], asyncio.Protocol], self._web)
-        server = await asyncio.get_running_loop().create_server(
-            lambda: self._guards.make(inner), self._options.host, self._options.port, backlog=1024
+        server = await loop.create_server(
+            lambda: self._guards.make(inner), options.host, options.port, backlog=1024
         )
         self._servers.append(server)
 
@@ -115,6 +115,14 @@ class Gateway:
 
     def _run(self, work: Coroutine[Any, Any, None]) -> None:
         self._tasks.append(asyncio.create_task(work))
+
+
+def _make_request(message: Any, payload: Any, protocol: Any, writer: Any, task: Any) -> web.BaseRequest:
+    """Returns a request whose body has at most the bytes of a transaction."""
+    loop = asyncio.get_running_loop()
+    # aiohttp refuses bodies of that size, and not only longer ones.
+    most = MOST_BODY + 1
+    return web.BaseRequest(message, payload, protocol, writer, task, loop, client_max_size=most)
 
 
 def _read_first(options: Options) -> State:

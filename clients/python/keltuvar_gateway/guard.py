@@ -13,6 +13,7 @@ from collections.abc import Callable
 from typing import cast
 
 from .limits import Limits
+from .one_write import OneWrite
 
 # How many bytes, and how many requests, a client may send before its first one is answered.
 _MOST_AHEAD, _MOST_REQUESTS = 1 << 18, 16
@@ -50,10 +51,10 @@ class Guard(asyncio.Protocol):
     # What asyncio calls.
 
     def connection_made(self, transport: asyncio.BaseTransport) -> None:
-        self.transport = cast(asyncio.Transport, transport)
+        self.transport = OneWrite(cast(asyncio.Transport, transport))
         if self._guards.add(self):
             self.deadline = time.monotonic() + self._guards.limits.request_seconds
-            self._inner.connection_made(transport)
+            self._inner.connection_made(self.transport)
         else:
             self.transport.write(_FULL)
             self.transport.close()

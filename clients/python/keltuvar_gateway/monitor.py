@@ -117,7 +117,7 @@ class Monitor:
     def __init__(self, pool: Backend, rates: Rates, limits: Limits) -> None:
         self._pool, self._rates, self._limits = pool, rates, limits
 
-    async def talk(self, request: web.Request) -> web.StreamResponse:
+    async def talk(self, request: web.BaseRequest) -> web.StreamResponse:
         """Holds a session until the connection ends."""
         socket = web.WebSocketResponse(
             heartbeat=self._limits.idle_seconds / 2,

@@ -23,10 +23,11 @@ from .program import Down
 from .shapes import is_final, shape_list, shape_pool, shape_refusal, shape_transaction
 
 _LOG = logging.getLogger(__name__)
-Handler = Callable[[web.Request], Awaitable[web.StreamResponse]]
+Handler = Callable[[web.BaseRequest], Awaitable[web.StreamResponse]]
 
 _ID = re.compile("[0-9a-fA-F]{64}")
 _MOST_LISTED = 1000
+_SUBMIT, _ONE = "/api/submit/tx", "/mempool/txs/"
 _FILES = resources.files(__package__)
 _PAGE_HEADERS = {
     "Content-Security-Policy": "default-src 'none'; style-src 'unsafe-inline'; "
@@ -34,6 +35,7 @@ _PAGE_HEADERS = {
     "Cache-Control": "no-cache",
 }
 _NOT_NOW = {"Retry-After": "1"}
+_JSON = {"Content-Type": "application/json"}
 
 
 def _say(status: int, message: str, headers: dict[str, str] | None = None) -> web.Response:
@@ -41,7 +43,7 @@ def _say(status: int, message: str, headers: dict[str, str] | None = None) -> we
     return web.json_response({"message": message}, status=status, headers=headers)
 
 
-def _number(request: web.Request, name: str, default: int, most: int) -> int:
+def _number(request: web.BaseRequest, name: str, default: int, most: int) -> int:
     """Returns a number of the query. Raises a ValueError if there is something else."""
     text = request.query.get(name, str(default))
     if not re.fullmatch("[0-9]{1,20}", text) or int(text) > most:
@@ -50,7 +52,11 @@ def _number(request: web.Request, name: str, default: int, most: int) -> int:
 
 
 class Site:
-    """The handlers of all paths."""
+    """All that is answered over HTTP.
+
+    It is a handler of aiohttp's low-level server, as an application's routes and middlewares take
+    a third of the time of a request.
+    """
 
     def __init__(self, pool: Backend, keeper: Keeper, guards: Guards, limits: Limits) -> None:
         self._pool, self._keeper, self._guards, self._limits = pool, keeper, guards, limits
@@ -59,29 +65,18 @@ class Site:
         self._monitor = Monitor(pool, self._rates, limits)
         self._page = _FILES.joinpath("page.html").read_text("utf-8")
         self._description = _FILES.joinpath("openapi.json").read_text("utf-8")
+        self._reads: dict[str, Handler] = {
+            "/mempool": self._mempool,
+            "/mempool/txs": self._list,
+            "/metrics": self._metrics,
+            "/health": self._health,
+            "/openapi.json": self._openapi,
+            "/monitor": self._watch,
+            "/": self._index,
+        }
 
-    def make_app(self) -> web.Application:
-        """Returns the application with all paths."""
-        # aiohttp refuses bodies of that size, and not only longer ones.
-        app = web.Application(client_max_size=MOST_BODY + 1, middlewares=[self._limit])
-        app.add_routes(
-            [
-                web.post("/api/submit/tx", self._submit),
-                web.get("/mempool", self._mempool),
-                web.get("/mempool/txs", self._list),
-                web.get("/mempool/txs/{id}", self._transaction),
-                web.get("/metrics", self._metrics),
-                web.get("/health", self._health),
-                web.get("/openapi.json", self._openapi),
-                web.get("/monitor", self._watch),
-                web.get("/", self._index),
-            ]
-        )
-        return app
-
-    @web.middleware
-    async def _limit(self, request: web.Request, handler: Handler) -> web.StreamResponse:
-        """Reads the whole request, has it handled in time, and answers what went wrong."""
+    async def handle(self, request: web.BaseRequest) -> web.StreamResponse:
+        """Reads the whole request, has it answered in time, and answers what went wrong."""
         guard = self._guards.of(request.transport)
         try:
             if not self._rates.take(request.remote or ""):
@@ -89,12 +84,9 @@ class Site:
             await request.read()
             if guard:
                 guard.handle()
-            return await self._answer(request, handler)
+            return await self._answer(request)
         except web.HTTPRequestEntityTooLarge:
             return _say(413, f"a transaction has at most {MOST_BODY} bytes")
-        except web.HTTPException as error:
-            allowed = {name: error.headers[name] for name in error.headers if name == "Allow"}
-            return _say(error.status, error.reason, allowed)
         except (ConnectionError, web.RequestPayloadError):
             return _say(400, "the request is broken off, or its body is wrong")
         except Exception:
@@ -104,12 +96,12 @@ class Site:
             if guard:
                 guard.finish()
 
-    async def _answer(self, request: web.Request, handler: Handler) -> web.StreamResponse:
-        """Has a request handled, in time unless it is a WebSocket's."""
+    async def _answer(self, request: web.BaseRequest) -> web.StreamResponse:
+        """Has a request answered, in time unless it is a WebSocket's."""
         seconds = None if request.path == "/monitor" else self._limits.request_seconds
         try:
             async with asyncio.timeout(seconds):
-                return await handler(request)
+                return await self._find_handler(request)(request)
         except ValueError as error:
             return _say(400, str(error))
         except Busy:
@@ -119,7 +111,25 @@ class Site:
         except (Down, KeltuvarError) as error:
             return _say(503, str(error), _NOT_NOW)
 
-    async def _submit(self, request: web.Request) -> web.Response:
+    def _find_handler(self, request: web.BaseRequest) -> Handler:
+        """Returns what answers a request."""
+        path, method = request.path, request.method
+        is_submit = path == _SUBMIT
+        found = self._submit if is_submit else self._reads.get(path)
+        if path.startswith(_ONE):
+            found = self._transaction
+        if found is None:
+            return self._say_not_found
+        return found if method in (("POST",) if is_submit else ("GET", "HEAD")) else self._say_wrong_method
+
+    async def _say_not_found(self, request: web.BaseRequest) -> web.Response:
+        return _say(404, "there is no such path")
+
+    async def _say_wrong_method(self, request: web.BaseRequest) -> web.Response:
+        allowed = "POST" if request.path == _SUBMIT else "GET, HEAD"
+        return _say(405, f"the methods are {allowed}", {"Allow": allowed})
+
+    async def _submit(self, request: web.BaseRequest) -> web.Response:
         data = await request.read()
         if not data:
             return web.json_response(
@@ -129,17 +139,17 @@ class Site:
         receipt = await self._pool.submit(data)
         self._times.observe(time.perf_counter() - began)
         if receipt.error is None:
-            return web.json_response(receipt.id, status=202)
+            return web.Response(body=f'"{receipt.id}"'.encode(), status=202, headers=_JSON)
         if not is_final(receipt.error):
             raise receipt.error
         held = self._pool.find(receipt.id) if receipt.id else None
         return web.json_response(shape_refusal(receipt, held, data), status=400)
 
-    async def _mempool(self, request: web.Request) -> web.Response:
+    async def _mempool(self, request: web.BaseRequest) -> web.Response:
         tick, stats = await self._pool.stats()
         return web.json_response(shape_pool(tick, stats, dict(self._pool.answers)))
 
-    async def _list(self, request: web.Request) -> web.Response:
+    async def _list(self, request: web.BaseRequest) -> web.Response:
         newest = _number(request, "newest", 0, _MOST_LISTED)
         if newest:
             found = self._pool.newest(newest)
@@ -149,8 +159,8 @@ class Site:
             found = await self._pool.after(after, limit)
         return web.json_response({"transactions": shape_list(found)})
 
-    async def _transaction(self, request: web.Request) -> web.Response:
-        held = self._find(request.match_info["id"])
+    async def _transaction(self, request: web.BaseRequest) -> web.Response:
+        held = self._find(request.path.removeprefix(_ONE))
         if held is None:
             return _say(404, "the pool has no such transaction")
         if _number(request, "decoded", 0, 1):
@@ -167,7 +177,7 @@ class Site:
             raise Down("the pool's process isn't there")
         return self._pool.find(transaction_id.lower())
 
-    async def _metrics(self, request: web.Request) -> web.Response:
+    async def _metrics(self, request: web.BaseRequest) -> web.Response:
         gauge = format_gauge
         lines = [
             gauge("keltuvar_up", "Whether the pool takes transactions.", int(self._pool.running)),
@@ -196,18 +206,18 @@ class Site:
             ]
         return web.Response(text="".join(lines), headers={"Content-Type": "text/plain; version=0.0.4"})
 
-    async def _health(self, request: web.Request) -> web.Response:
+    async def _health(self, request: web.BaseRequest) -> web.Response:
         if self._pool.running:
             return web.json_response({"status": "up"})
         return web.json_response({"status": "down"}, status=503, headers=_NOT_NOW)
 
-    async def _openapi(self, request: web.Request) -> web.Response:
+    async def _openapi(self, request: web.BaseRequest) -> web.Response:
         return web.Response(text=self._description, content_type="application/json")
 
-    async def _index(self, request: web.Request) -> web.Response:
+    async def _index(self, request: web.BaseRequest) -> web.Response:
         return web.Response(text=self._page, content_type="text/html", headers=_PAGE_HEADERS)
 
-    async def _watch(self, request: web.Request) -> web.StreamResponse:
+    async def _watch(self, request: web.BaseRequest) -> web.StreamResponse:
         guard = self._guards.of(request.transport)
         if guard:
             guard.release()
