@@ -29,6 +29,7 @@ class Copies(GatewayCase):
             await step(rng)
         held, unspent = await self.compare_pool(), await self.saved_outputs()
         await self.check_outputs(unspent)
+        self.assertEqual(gateway._keeper.counts["starts"], 1)
         await gateway.end(save=False)
         await self.start("--rate", "0")
         self.assertEqual([await self.compare_pool(), await self.saved_outputs()], [held, unspent])
@@ -72,6 +73,8 @@ class Copies(GatewayCase):
         self.assertEqual([str(one["ticket"]) for one in listed], [ticket for ticket, _ in items])
         self.assertEqual([one["id"] for one in listed], [words[2] for words in shown])
         self.assertEqual((await self.get("/mempool"))["count"], len(items))
+        newest = (await self.get("/mempool/txs?newest=1000"))["transactions"]
+        self.assertEqual(newest, listed[::-1])
         for _, size, transaction_id, digits in shown:
             async with self.http.get(f"{self.url}/mempool/txs/{transaction_id}") as answer:
                 data = await answer.read()

@@ -92,6 +92,14 @@ class OperatorSocket(GatewayCase):
             self.assertTrue(answers[number - 1].startswith(f"bad {number}: "), answers[number - 1])
         self.assertEqual((answers[1], answers[5]), ("ok", "ok"))
 
+    async def test_the_gateway_forgets_its_names(self) -> None:
+        await self.start()
+        await self.post(spend(pay(1), 0, 100))
+        await self.accept(pay(0))
+        got = await self.operate("forget z1", "adopt 8 z2", "stats", "forget z2", "show z2")
+        self.assertEqual(got[:2], ["forgotten 0", "kept dropped 11"])
+        self.assertEqual((got[3], got[4][:6]), ("forgotten 0", "bad 5:"))
+
     async def test_its_submits_are_known(self) -> None:
         await self.start()
         data = pay(0)
