@@ -88,6 +88,16 @@ class Session(GatewayCase):
                 found = await self.ask(socket, "nextTransaction")
                 self.assertEqual(found, {"transaction": {"id": id_of(data)}})
 
+    async def test_too_many_sessions(self) -> None:
+        await self.start("--rate", "0")
+        sockets = [await self.open() for _ in range(64)]
+        await self.get("/monitor", 503)
+        await sockets[0].close()
+        async with asyncio.timeout(LONG):
+            while (await self.http.get(f"{self.url}/monitor")).status == 503:
+                await asyncio.sleep(0.05)
+        await self.get("/monitor", 400)
+
     async def test_a_message_that_is_too_long(self) -> None:
         await self.start()
         socket = await self.open()

@@ -6,7 +6,7 @@ from abc import ABC, abstractmethod
 from collections import Counter
 from dataclasses import dataclass
 
-from keltuvar import KeltuvarError, Stats
+from keltuvar import KeltuvarError, Refused, Stats, Undecodable
 
 from .holdings import Held
 from .state import State
@@ -30,9 +30,14 @@ class Receipt:
     @property
     def word(self) -> str:
         """What came of it in a word: `accepted`, `undecodable`, or the refusal's."""
-        if self.error is None:
-            return "accepted"
-        return str(getattr(self.error, "word", type(self.error).__name__.lower()))
+        match self.error:
+            case None:
+                return "accepted"
+            case Refused(word=word):
+                return word
+            case Undecodable():
+                return "undecodable"
+        return "no-memory"
 
 
 @dataclass(frozen=True, slots=True)

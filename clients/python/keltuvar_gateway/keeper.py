@@ -49,7 +49,7 @@ class Keeper:
             self._program = None
             try:
                 await self.start()
-                _LOG.warning("the pool runs again, with %d transactions", len(self._pool.newest(2**63)))
+                _LOG.warning("the pool runs again, with %d transactions", self._pool.count)
             except (OSError, Down) as error:
                 _LOG.error("the pool can't be started: %s", error)
 

@@ -9,13 +9,15 @@ from typing import Any
 
 from aiohttp import WSMsgType, web
 
-from .backend import Backend, View
+from .backend import Backend, Busy, View
 from .holdings import Held
 from .limits import Limits, Rates
 from .program import Down
 
 # The longest message, and how many may wait while one is answered.
 _MOST_MESSAGE, _MOST_QUEUED = 4096, 64
+# A session may keep transactions in memory that the pool has dropped since.
+_MOST_SESSIONS = 64
 # The code of a request that needs a snapshot first is that of Ogmios; the others are JSON-RPC's.
 _NOT_ACQUIRED, _NOT_JSON, _NOT_A_REQUEST, _NO_METHOD, _BAD_PARAMS, _FAILED = (
     4000,
@@ -116,9 +118,20 @@ class Monitor:
 
     def __init__(self, pool: Backend, rates: Rates, limits: Limits) -> None:
         self._pool, self._rates, self._limits = pool, rates, limits
+        self._sessions = 0
 
     async def talk(self, request: web.BaseRequest) -> web.StreamResponse:
-        """Holds a session until the connection ends."""
+        """Holds a session until the connection ends. Raises `Busy` if there are too many."""
+        if self._sessions >= _MOST_SESSIONS:
+            raise Busy
+        self._sessions += 1
+        try:
+            return await self._hold(request)
+        finally:
+            self._sessions -= 1
+
+    async def _hold(self, request: web.BaseRequest) -> web.StreamResponse:
+        """Reads the requests of a session, and has them answered."""
         socket = web.WebSocketResponse(
             heartbeat=self._limits.idle_seconds / 2,
             max_msg_size=_MOST_MESSAGE,

@@ -35,13 +35,17 @@ class Names:
         return _FIRST + digits
 
     def release(self, names: Iterable[str]) -> bool:
-        """Keeps names for `forget_lines`. Returns whether there were none before, but now."""
+        """Keeps names for `take_released`. Returns whether there were none before, but now."""
         were = len(self._released)
         self._released.extend(names)
         return not were and bool(self._released)
 
-    def forget_lines(self) -> Iterator[str]:
-        """Returns lines that forget the released names."""
+    def drop_released(self) -> None:
+        """Drops the released names, as a new process of the pool doesn't know them."""
+        self._released.clear()
+
+    def take_released(self) -> Iterator[list[str]]:
+        """Returns the released names, as many at a time as fit on a line."""
         released, self._released = self._released, []
         for place in range(0, len(released), _NAMES_OF_A_LINE):
-            yield " ".join(["forget", *released[place : place + _NAMES_OF_A_LINE]])
+            yield released[place : place + _NAMES_OF_A_LINE]

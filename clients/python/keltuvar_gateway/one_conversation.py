@@ -8,7 +8,7 @@ from collections import Counter
 from collections.abc import Callable, Iterable, Sequence
 from typing import Any, TypeVar
 
-from keltuvar import Stats, answers, error_in
+from keltuvar import KeltuvarError, Stats, answers, error_in
 
 from .backend import Backend, Busy, Receipt, View
 from .holdings import Held, Holdings
@@ -60,6 +60,7 @@ class OneConversation(Backend):
         state = self.copy_state()
         self._is_open, self._missing, self._holdings = False, state.transactions, Holdings()
         self._ledger.forget_former()
+        self._names.drop_released()
         self._program = program = await Program.start(self._command)
         await self._ask_each(program, [*state.settings(), *state.utxo_lines(), "stats"])
         await self._give_missing(program)
@@ -94,6 +95,11 @@ class OneConversation(Backend):
     @property
     def waiting(self) -> int:
         return self._program.waiting if self._program else 0
+
+    @property
+    def count(self) -> int:
+        """How many transactions the pool holds."""
+        return len(self._holdings)
 
     def _live(self) -> Program:
         if not self.running or self._program is None:
@@ -147,6 +153,7 @@ class OneConversation(Backend):
         return reference in self._ledger.outputs
 
     def newest(self, count: int) -> tuple[Held, ...]:
+        self._live()
         return tuple(held for held, _ in zip(reversed(self._holdings), range(count), strict=False))
 
     async def after(self, ticket: int, limit: int) -> tuple[Held, ...]:
@@ -171,12 +178,17 @@ class OneConversation(Backend):
     async def snapshot(self) -> View:
         items: list[str] = []
 
-        def read(answer: str) -> View:
+        def read(answer: str) -> View | KeltuvarError:
+            error = error_in(items[0]) or error_in(answer)
+            if error is not None:
+                return error
             tickets = (item.ticket for item in answers.read_snapshot(items[0]).items)
             stats = answers.read_stats(answer)
             return View(self._ledger.tick, stats, self._holdings.pick(tickets))
 
-        return await self._send(self._live(), ["snapshot"], items.append, "stats", read)
+        return _raise_error(
+            await self._send(self._live(), ["snapshot"], items.append, "stats", read)
+        )
 
     async def wait_for_change(self) -> None:
         await self._changed.wait()
@@ -209,17 +221,21 @@ class OneConversation(Backend):
         return answer
 
     def copy_state(self) -> State:
-        last = max([self._last, *(held.ticket for held in self.newest(1))])
         transactions = [*(held.data for held in self._holdings), *self._missing]
         ledger = self._ledger
         outputs = dict(ledger.outputs)
-        return State(ledger.block, last, ledger.tick, self._limit, outputs, transactions)
+        return State(ledger.block, self._last, ledger.tick, self._limit, outputs, transactions)
 
     # Sending lines, and the copies.
 
     async def _read(self, line: str, read: Callable[[str], T]) -> T:
         """Sends a line, and returns what is read of its answer. Raises the error that it reports."""
-        return await self._send(self._live(), [], str, line, read)
+
+        def read_or_error(answer: str) -> T | KeltuvarError:
+            error = error_in(answer)
+            return read(answer) if error is None else error
+
+        return _raise_error(await self._send(self._live(), [], str, line, read_or_error))
 
     def _send(
         self,
@@ -263,11 +279,28 @@ class OneConversation(Backend):
             asyncio.get_running_loop().call_soon(self._forget_released)
 
     def _forget_released(self) -> None:
-        for line in self._names.forget_lines():
-            if self._program is not None and not self._program.ended.done():
-                self._program.send(line, lambda answer: None)
+        if self._program is None or self._program.is_lost:
+            return
+        for names in self._names.take_released():
+            self._program.send(f"forget {' '.join(names)}", self._make_sure_of(names))
+
+    def _make_sure_of(self, names: list[str]) -> Callable[[str], None]:
+        """Returns what releases names again if the pool couldn't forget them."""
+
+        def take(answer: str) -> None:
+            if error_in(answer) is not None:
+                self._release(names)
+
+        return take
 
     def _tell_change(self) -> None:
         """Wakes those who wait for a change."""
         self._changed.set()
         self._changed = asyncio.Event()
+
+
+def _raise_error(result: T | KeltuvarError) -> T:
+    """Returns a result, or raises the error that it is."""
+    if isinstance(result, KeltuvarError):
+        raise result
+    return result

@@ -49,6 +49,11 @@ class Program(asyncio.SubprocessProtocol):
         """How many lines wait for an answer."""
         return len(self._waiting)
 
+    @property
+    def is_lost(self) -> bool:
+        """Whether the process takes no more lines."""
+        return self._is_lost or self.ended.done()
+
     def send(
         self,
         line: str,
@@ -60,7 +65,7 @@ class Program(asyncio.SubprocessProtocol):
         If `take` raises a ValueError, the answer has no known form, and the process is ended. If
         the answer doesn't come, the future gets `Down`.
         """
-        if self.ended.done() or self._is_lost:
+        if self.is_lost:
             raise Down("the pool's process has ended")
         if not self._unsent:
             asyncio.get_running_loop().call_soon(self._flush)

@@ -87,6 +87,8 @@ class Site:
             return await self._answer(request)
         except web.HTTPRequestEntityTooLarge:
             return _say(413, f"a transaction has at most {MOST_BODY} bytes")
+        except web.HTTPException as error:
+            return _say(error.status, error.text or error.reason)
         except (ConnectionError, web.RequestPayloadError):
             return _say(400, "the request is broken off, or its body is wrong")
         except Exception:
@@ -105,7 +107,7 @@ class Site:
         except ValueError as error:
             return _say(400, str(error))
         except Busy:
-            return _say(503, "too many transactions wait for the pool", _NOT_NOW)
+            return _say(503, "too many wait, or too many sessions of the monitor are open", _NOT_NOW)
         except TimeoutError:
             return _say(503, "the pool didn't answer in time; it may do so yet", _NOT_NOW)
         except (Down, KeltuvarError) as error:
