@@ -68,7 +68,9 @@ class Copies(GatewayCase):
     async def compare_pool(self) -> list[str]:
         """Compares the list, the ids and the bytes with what the conversation says."""
         items = [item.split(":") for item in (await self.operate("snapshot"))[0].split()[4:]]
-        shown = [line.split() for line in await self.operate(*(f"show {name}" for _, name in items))]
+        shown = [
+            line.split() for line in await self.operate(*(f"show {name}" for _, name in items))
+        ]
         listed = (await self.get("/mempool/txs?limit=1000"))["transactions"]
         self.assertEqual([str(one["ticket"]) for one in listed], [ticket for ticket, _ in items])
         self.assertEqual([one["id"] for one in listed], [words[2] for words in shown])

@@ -43,7 +43,8 @@ class Http(GatewayCase):
         first, second = pay(0), spend(pay(0), 0, 60, 50)
         await self.accept(first)
         self.assertEqual(
-            await self.refuse(second), {"refused": "unbalanced", "policy": "coin", "id": id_of(second)}
+            await self.refuse(second),
+            {"refused": "unbalanced", "policy": "coin", "id": id_of(second)},
         )
         already = {"refused": "already", "ticket": 11, "id": id_of(first)}
         self.assertEqual(await self.refuse(first), already | {"sameBytes": True})
@@ -134,7 +135,14 @@ class Http(GatewayCase):
         self.assertEqual(await self.get("/health"), {"status": "up"})
         await self.get("/nothing", 404)
         await self.get("/api/submit/tx", 405)
-        for query in ("after=-1", "after=x", "limit=1001", "limit=", f"after={2**64}", "newest=1e3"):
+        for query in (
+            "after=-1",
+            "after=x",
+            "limit=1001",
+            "limit=",
+            f"after={2**64}",
+            "newest=1e3",
+        ):
             await self.get(f"/mempool/txs?{query}", 400)
 
     async def test_the_description_names_every_path(self) -> None:

@@ -14,7 +14,9 @@ from . import LONG, GatewayCase, id_of, pay, pool_of
 class Limits(GatewayCase):
     async def send(self, *parts: bytes) -> tuple[asyncio.StreamReader, asyncio.StreamWriter]:
         """Opens a connection to the HTTP port, and sends bytes."""
-        reader, writer = await asyncio.open_connection("127.0.0.1", int(self.url.rpartition(":")[2]))
+        reader, writer = await asyncio.open_connection(
+            "127.0.0.1", int(self.url.rpartition(":")[2])
+        )
         self.addCleanup(writer.close)
         for part in parts:
             writer.write(part)
@@ -94,7 +96,12 @@ class Limits(GatewayCase):
 
     async def test_broken_http(self) -> None:
         await self.start()
-        wrong = [b"\x16\x03\x01\x02\x00\x01", b"GET\r\n\r\n", b"\r\n" * 9 + b"x\r\n\r\n", bytes(999)]
+        wrong = [
+            b"\x16\x03\x01\x02\x00\x01",
+            b"GET\r\n\r\n",
+            b"\r\n" * 9 + b"x\r\n\r\n",
+            bytes(999),
+        ]
         wrong.append(b"GET / HTTP/1.1\r\n" + b"X: " + b"y" * 70000 + b"\r\n\r\n")
         wrong.append(b"POST /api/submit/tx HTTP/1.1\r\nContent-Length: -1\r\n\r\n")
         wrong.append(b"POST /api/submit/tx HTTP/1.1\r\nTransfer-Encoding: chunked\r\n\r\nzz\r\n")

@@ -40,8 +40,24 @@ class ClientSocket(GatewayCase):
 
     async def test_bad_lines(self) -> None:
         await self.start()
-        lines = ["", "adopt 8", "forge 100", "give", "give 0", "give zz", f"show #{'0' * 64}", "has a"]
-        lines += ["after x", f"after {2**64}", "remove z1", "bytes a 00", "sn\xe4pshot", "z" * 70000]
+        lines = [
+            "",
+            "adopt 8",
+            "forge 100",
+            "give",
+            "give 0",
+            "give zz",
+            f"show #{'0' * 64}",
+            "has a",
+        ]
+        lines += [
+            "after x",
+            f"after {2**64}",
+            "remove z1",
+            "bytes a 00",
+            "sn\xe4pshot",
+            "z" * 70000,
+        ]
         answers = await self.ask(*lines)
         for number in range(1, len(lines)):
             self.assertTrue(answers[number - 1].startswith(f"bad {number}: "), answers[number - 1])
@@ -77,7 +93,9 @@ class OperatorSocket(GatewayCase):
         word, count, size, item = forged.split()
         self.assertEqual((word, count, size, item[:3]), ("block", "1", "288", "11:"))
         lines = [f"bytes b {pay(2).hex()}", f"adopt 8 {item[3:]} b", "forget b", "snapshot"]
-        self.assertEqual((await self.operate(*lines))[1:3], ["kept 12 13 dropped 11", "forgotten 1"])
+        self.assertEqual(
+            (await self.operate(*lines))[1:3], ["kept 12 13 dropped 11", "forgotten 1"]
+        )
         self.assertEqual(await self.held(), [id_of(second), id_of(third)])
         self.assertEqual((await self.get("/mempool"))["tick"], 8)
         self.assertEqual(await self.operate("back 1"), ["kept 13 dropped 12"])

@@ -22,7 +22,9 @@ class Session(GatewayCase):
         request = {"jsonrpc": "2.0", "method": method, "params": params, "id": [1, "x"]}
         await socket.send_json(request)
         answer = await socket.receive_json(timeout=LONG)
-        self.assertEqual((answer["jsonrpc"], answer["method"], answer["id"]), ("2.0", method, [1, "x"]))
+        self.assertEqual(
+            (answer["jsonrpc"], answer["method"], answer["id"]), ("2.0", method, [1, "x"])
+        )
         return answer["result"] if "result" in answer else answer["error"]["code"]
 
     async def test_one_snapshot(self) -> None:
@@ -37,7 +39,9 @@ class Session(GatewayCase):
         await self.operate("remove z1")
         size = await self.ask(socket, "sizeOfMempool")
         self.assertEqual(size["maxCapacity"], {"bytes": 40000})
-        self.assertEqual((size["currentSize"], size["transactions"]), ({"bytes": 362}, {"count": 2}))
+        self.assertEqual(
+            (size["currentSize"], size["transactions"]), ({"bytes": 362}, {"count": 2})
+        )
         for data, held in ((first, True), (second, True), (pay(2), False)):
             self.assertIs(await self.ask(socket, "hasTransaction", id=id_of(data)), held)
         one = {"transaction": {"id": id_of(first)}}

@@ -14,7 +14,10 @@ CHROMIUM = shutil.which("chromium")
 # A folder for pictures of the page.
 PICTURES = os.environ.get("PICTURES")
 
-ROWS = "[...document.querySelectorAll('#{0} tr')].map(row => [...row.cells].map(cell => cell.innerText))"
+ROWS = (
+    "[...document.querySelectorAll('#{0} tr')]"
+    ".map(row => [...row.cells].map(cell => cell.innerText))"
+)
 
 
 @unittest.skipUnless(CHROMIUM, "there is no chromium")
@@ -38,11 +41,17 @@ class InABrowser(GatewayCase):
     async def check_numbers(self, page: Page) -> None:
         """Compares each number on the page with what is in the pool."""
         size = sum(map(len, self.transactions))
-        await page.until(f"document.getElementById('count').innerText === '{len(self.transactions)}'")
+        await page.until(
+            f"document.getElementById('count').innerText === '{len(self.transactions)}'"
+        )
         shown = {name: await page.text(name) for name in ("bytes", "capacity", "ticket", "tick")}
-        self.assertEqual(shown, {"bytes": f"{size:,}", "capacity": "40,000", "ticket": "34", "tick": "7"})
+        self.assertEqual(
+            shown, {"bytes": f"{size:,}", "capacity": "40,000", "ticket": "34", "tick": "7"}
+        )
         self.assertEqual(await page.text("share"), f"{size / 400:.1f}%")
-        self.assertAlmostEqual(await page.read("document.getElementById('meter').value"), size / 40000)
+        self.assertAlmostEqual(
+            await page.read("document.getElementById('meter').value"), size / 40000
+        )
         self.assertRegex(await page.text("age"), r"^snapshot \d+\.\d s old$")
         answers = await page.read(ROWS.format("answers"))
         counts = {word: count for word, _, count in answers}
@@ -61,7 +70,9 @@ class InABrowser(GatewayCase):
         more = pay(30)
         await self.accept(more)
         self.transactions.append(more)
-        await page.until("document.querySelector('[data-answer=accepted] .number').innerText > '0.1'")
+        await page.until(
+            "document.querySelector('[data-answer=accepted] .number').innerText > '0.1'"
+        )
         await self.check_newest(page)
 
     async def check_details(self, page: Page) -> None:
@@ -72,11 +83,19 @@ class InABrowser(GatewayCase):
         await page.press("Enter")
         await page.until("document.getElementById('details').open")
         text = await page.text("parts")
-        for part in (first, "288 bytes", f"{'aa' * 32}#0 from the ledger state", "0: 60 coin", "1: 40 coin"):
+        for part in (
+            first,
+            "288 bytes",
+            f"{'aa' * 32}#0 from the ledger state",
+            "0: 60 coin",
+            "1: 40 coin",
+        ):
             self.assertIn(part, text)
         self.assertIn(f"Dependents in the pool (1)\n{second}", text)
         await self.picture(page, "details")
-        await page.read(f"document.querySelector('#parts ul:last-child [title=\"{second}\"]').focus()")
+        await page.read(
+            f"document.querySelector('#parts ul:last-child [title=\"{second}\"]').focus()"
+        )
         await page.press("Enter")
         await page.until(f"document.getElementById('parts').innerText.startsWith('{second}')")
         self.assertIn(f"{first}#1 from the pool", await page.text("parts"))
@@ -103,6 +122,8 @@ class InABrowser(GatewayCase):
             await page.picture(f"{PICTURES}/{name}.png")
 
     async def check_that_nothing_else_is_loaded(self, page: Page) -> None:
-        names: Any = await page.read("performance.getEntriesByType('resource').map(one => one.name)")
+        names: Any = await page.read(
+            "performance.getEntriesByType('resource').map(one => one.name)"
+        )
         self.assertTrue(names)
         self.assertEqual({name.startswith(f"{self.url}/mempool") for name in names}, {True})

@@ -14,6 +14,16 @@ from keltuvar_gateway.state import BadFile, State, read_state, write_state
 
 from . import LONG, OPENING, OUTPUTS, PROGRAM, GatewayCase, id_of, pay, pool_of, spend
 
+# The second time that it starts it ends at once, and the third time it has no memory.
+FAILING = """#!/bin/sh
+echo start >> {folder}/starts
+case $(wc -l < {folder}/starts) in
+  2) exit 3 ;;
+  3) while read line; do echo 'fault: no memory'; done ;;
+esac
+exec {program} "$@"
+"""
+
 
 class Files(GatewayCase):
     async def test_what_is_written_is_read(self) -> None:
@@ -34,7 +44,14 @@ class Files(GatewayCase):
                 read_state(self.state, whole=True)
 
     async def test_bad_files(self) -> None:
-        for text in ("end\nend\n", "block x\n", "utxo 00#0 00\n", "give zz\n", "out g0 100\n", "\xff\n"):
+        for text in (
+            "end\nend\n",
+            "block x\n",
+            "utxo 00#0 00\n",
+            "give zz\n",
+            "out g0 100\n",
+            "\xff\n",
+        ):
             with open(self.ledger, "w", encoding="latin-1") as file:
                 file.write(text)
             with self.assertRaises(BadFile):
@@ -86,19 +103,17 @@ class Restarts(GatewayCase):
         before = await self.held()
         self.assertEqual(len(before), 3)
         kill_pool(gateway)
-        await self.until("/metrics", 200)
-        await self.until("/health", 200)
-        while await self.starts() < 2:
-            await asyncio.sleep(0.05)
-        await self.until("/health", 200)
+        await self.comes_back(gateway)
         self.assertEqual(await self.held(), before)
         self.assertEqual((await self.get("/mempool"))["tick"], 8)
         await self.accept(pay(4))
 
-    async def starts(self) -> int:
-        async with self.http.get(f"{self.url}/metrics") as answer:
-            text = await answer.text()
-        return int(text.partition('event="starts"} ')[2].split()[0])
+    async def comes_back(self, gateway: Gateway) -> None:
+        """Waits until the pool's second process takes transactions."""
+        async with asyncio.timeout(LONG):
+            while gateway._keeper.counts["starts"] < 2:
+                await asyncio.sleep(0.05)
+        await self.until("/health", 200)
 
     async def test_no_answer_is_lost_while_the_pool_is_killed(self) -> None:
         gateway = await self.start("--rate", "0")
@@ -108,10 +123,21 @@ class Restarts(GatewayCase):
         got = await asyncio.gather(*posts)
         self.assertLessEqual({status for status, _ in got}, {202, 503})
         accepted = {answer for status, answer in got if status == 202}
-        while await self.starts() < 2:
-            await asyncio.sleep(0.05)
-        await self.until("/health", 200)
+        await self.comes_back(gateway)
         self.assertLessEqual(accepted, set(await self.held()))
+
+    async def test_starts_that_fail(self) -> None:
+        program = f"{self.folder}/program"
+        with open(program, "w", encoding="ascii") as file:
+            file.write(FAILING.format(folder=self.folder, program=PROGRAM))
+        os.chmod(program, 0o755)
+        gateway = await self.start(program=program)
+        await self.accept(pay(0))
+        kill_pool(gateway)
+        await self.comes_back(gateway)
+        self.assertEqual(await self.held(), [id_of(pay(0))])
+        with open(f"{self.folder}/starts", encoding="ascii") as file:
+            self.assertEqual(len(file.readlines()), 4)
 
     async def test_it_is_down_meanwhile(self) -> None:
         gateway = await self.start()

@@ -18,7 +18,9 @@ REFERENCE = bytes([1]) * 32 + b"\x00\x02"
 SIGNATURE = bytes([5]) * 64 + bytes.fromhex(
     "e381298c6980f5ff7dabdbf4d015f2e2e41737a01e13a8654f23b6053625ea8f"
 )
-SECOND = b"\x02" + PLAIN[1:52 - 2] + b"\x00\x01" + REFERENCE + PLAIN[50:-2] + b"\x00\x01" + SIGNATURE
+SECOND = (
+    b"\x02" + PLAIN[1 : 52 - 2] + b"\x00\x01" + REFERENCE + PLAIN[50:-2] + b"\x00\x01" + SIGNATURE
+)
 
 
 class Transactions(unittest.TestCase):
@@ -27,7 +29,9 @@ class Transactions(unittest.TestCase):
         self.assertEqual((parts.version, parts.references, parts.keys), (1, (), ()))
         (spent,), (output,) = parts.inputs, parts.outputs
         self.assertEqual(format_reference(spent.reference), "00" * 32 + "#0")
-        self.assertEqual((spent.validator, spent.datum, spent.redeemer), (b"\1", b"\3\0\0", b"\3\0\0"))
+        self.assertEqual(
+            (spent.validator, spent.datum, spent.redeemer), (b"\1", b"\3\0\0", b"\3\0\0")
+        )
         self.assertEqual((output.address.hex(), output.data), (ADDRESS, PLAIN[52:159]))
         (entry,) = output.bundle
         self.assertEqual((entry.policy, entry.name, entry.quantity), (bytes(32), b"", 100))

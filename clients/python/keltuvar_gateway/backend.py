@@ -54,7 +54,7 @@ class Backend(ABC):
     """A pool. A call raises `Down` while the pool's process isn't there."""
 
     answers: Counter[str]
-    """How often each word was the receipt's of a submit."""
+    """How often each word was the receipt's of a client's submit."""
 
     @property
     @abstractmethod

@@ -66,7 +66,9 @@ class ClientLines(LineServer):
                 return f"lookup {found.id if found else 'none'}"
             case ["stats"]:
                 return await self._stats()
-        raise ValueError("a line is give HEX, show #ID, has #ID, snapshot, after N, lookup N or stats")
+        raise ValueError(
+            "a line is give HEX, show #ID, has #ID, snapshot, after N, lookup N or stats"
+        )
 
     async def _give(self, digits: str) -> str:
         if not _HEX.fullmatch(digits):

@@ -117,7 +117,9 @@ class Gateway:
         self._tasks.append(asyncio.create_task(work))
 
 
-def _make_request(message: Any, payload: Any, protocol: Any, writer: Any, task: Any) -> web.BaseRequest:
+def _make_request(
+    message: Any, payload: Any, protocol: Any, writer: Any, task: Any
+) -> web.BaseRequest:
     """Returns a request whose body has at most the bytes of a transaction."""
     loop = asyncio.get_running_loop()
     # aiohttp refuses bodies of that size, and not only longer ones.

@@ -63,7 +63,7 @@ class Holdings:
         return tuple(self._at(ticket) for ticket in tickets)
 
     def dependents(self, transaction_id: str, outputs: int) -> dict[str, list[int]]:
-        """Returns, by their ids, what spends or refers to outputs of a transaction, and to which."""
+        """Returns, by their ids, what names outputs of a transaction, and which of them."""
         made = {make_reference(transaction_id, index): index for index in range(outputs)}
         found = ((held, held.references & made.keys()) for held in self)
         return {held.id: sorted(made[one] for one in used) for held, used in found if used}

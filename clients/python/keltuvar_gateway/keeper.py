@@ -7,7 +7,7 @@ import logging
 import time
 from collections import Counter
 
-from .one_conversation import OneConversation
+from .one_conversation import BadStart, OneConversation
 from .program import Down, Program
 from .state import write_state
 
@@ -50,7 +50,7 @@ class Keeper:
             try:
                 await self.start()
                 _LOG.warning("the pool runs again, with %d transactions", self._pool.count)
-            except (OSError, Down) as error:
+            except (OSError, BadStart, Down) as error:
                 _LOG.error("the pool can't be started: %s", error)
 
     async def save(self) -> int:

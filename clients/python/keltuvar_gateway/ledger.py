@@ -33,7 +33,9 @@ class Ledger:
         """Forgets the former ledger states, as a new process of the pool has none."""
         self._former.clear()
 
-    def adopt(self, tick: int, block: int | None, transactions: Iterable[tuple[str, bytes]]) -> None:
+    def adopt(
+        self, tick: int, block: int | None, transactions: Iterable[tuple[str, bytes]]
+    ) -> None:
         """Adopts the ledger state after a block of these transactions, each an id and its bytes."""
         spent: dict[Reference, bytes] = {}
         made: list[Reference] = []

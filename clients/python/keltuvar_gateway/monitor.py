@@ -151,7 +151,9 @@ class Monitor:
             await socket.close()
         return socket
 
-    async def _answer_all(self, socket: web.WebSocketResponse, requests: asyncio.Queue[str]) -> None:
+    async def _answer_all(
+        self, socket: web.WebSocketResponse, requests: asyncio.Queue[str]
+    ) -> None:
         """Answers the requests of a session, one after the other."""
         session = _Session(self._pool)
         try:

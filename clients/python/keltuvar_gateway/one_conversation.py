@@ -5,7 +5,8 @@ from __future__ import annotations
 import asyncio
 import logging
 from collections import Counter
-from collections.abc import Callable, Iterable, Sequence
+from collections.abc import Callable, Iterable, Iterator, Sequence
+from itertools import chain, islice
 from typing import Any, TypeVar
 
 from keltuvar import KeltuvarError, Stats, answers, error_in
@@ -62,15 +63,19 @@ class OneConversation(Backend):
         self._ledger.forget_former()
         self._names.drop_released()
         self._program = program = await Program.start(self._command)
-        await self._ask_each(program, [*state.settings(), *state.utxo_lines(), "stats"])
-        await self._give_missing(program)
+        try:
+            # The last line opens the pool.
+            await self._ask_each(program, chain(state.settings(), state.utxo_lines(), ["stats"]))
+            await self._give_missing(program)
+        except BaseException:
+            program.kill("it couldn't be given what it is to begin with")
+            raise
         self._is_open = True
         return program
 
-    async def _ask_each(self, program: Program, lines: Sequence[str]) -> None:
-        """Sends the lines of a start. The last one opens the pool."""
-        for place in range(0, len(lines), _BATCH):
-            batch = lines[place : place + _BATCH]
+    async def _ask_each(self, program: Program, lines: Iterator[str]) -> None:
+        """Sends the lines of a start."""
+        while batch := list(islice(lines, _BATCH)):
             got = await asyncio.gather(*(program.ask(line) for line in batch))
             for line, answer in zip(batch, got, strict=True):
                 error = error_in(answer)
@@ -79,12 +84,12 @@ class OneConversation(Backend):
 
     async def _give_missing(self, program: Program) -> None:
         """Submits again what the pool held, in order."""
-        refused = 0
+        counts: Counter[str] = Counter()
         while self._missing:
             batch = self._missing[:_BATCH]
-            got = await asyncio.gather(*(self._give(program, data) for data in batch))
+            await asyncio.gather(*(self._give(program, data, counts) for data in batch))
             del self._missing[: len(batch)]
-            refused += sum(receipt.word not in ("accepted", "already") for receipt in got)
+        refused = counts.total() - counts["accepted"] - counts["already"]
         if refused:
             _LOG.warning("%d transactions aren't valid any more, and were dropped", refused)
 
@@ -112,21 +117,20 @@ class OneConversation(Backend):
         program = self._live()
         if program.waiting >= 2 * self._most_waiting:
             raise Busy
-        receipt = await self._give(program, data)
-        self.answers[receipt.word] += 1
-        return receipt
+        return await self._give(program, data, self.answers)
 
-    def _give(self, program: Program, data: bytes) -> asyncio.Future[Receipt]:
+    def _give(self, program: Program, data: bytes, counts: Counter[str]) -> asyncio.Future[Receipt]:
         """Declares and submits a transaction under a name of the gateway's."""
         name = self._names.make()
         declared: list[str] = []
-        return self._send(
-            program,
-            [f"bytes {name} {data.hex()}"],
-            declared.append,
-            f"submit {name}",
-            lambda submitted: self._read_receipt(name, data, declared[0], submitted),
-        )
+
+        def read(submitted: str) -> Receipt:
+            receipt = self._read_receipt(name, data, declared[0], submitted)
+            counts[receipt.word] += 1
+            return receipt
+
+        before, take = [f"bytes {name} {data.hex()}"], declared.append
+        return self._send(program, before, take, f"submit {name}", read)
 
     def _read_receipt(self, name: str, data: bytes, declared: str, submitted: str) -> Receipt:
         error = error_in(declared)
@@ -154,7 +158,7 @@ class OneConversation(Backend):
 
     def newest(self, count: int) -> tuple[Held, ...]:
         self._live()
-        return tuple(held for held, _ in zip(reversed(self._holdings), range(count), strict=False))
+        return tuple(islice(reversed(self._holdings), count))
 
     async def after(self, ticket: int, limit: int) -> tuple[Held, ...]:
         def read(answer: str) -> tuple[Held, ...]:
@@ -229,7 +233,7 @@ class OneConversation(Backend):
     # Sending lines, and the copies.
 
     async def _read(self, line: str, read: Callable[[str], T]) -> T:
-        """Sends a line, and returns what is read of its answer. Raises the error that it reports."""
+        """Sends a line, and returns what is read of its answer, or raises the error there."""
 
         def read_or_error(answer: str) -> T | KeltuvarError:
             error = error_in(answer)

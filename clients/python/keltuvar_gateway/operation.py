@@ -64,10 +64,11 @@ class Operation:
         for word in _without_block(self.words[2:]):
             name, _, place = word.partition(".")
             shown = known[name]
-            outputs[make_reference(shown.id, int(place))] = decode(shown.data).outputs[int(place)].data
+            outputs[make_reference(shown.id, int(place))] = (
+                decode(shown.data).outputs[int(place)].data
+            )
         return outputs
 
 
 def _without_block(rest: list[str]) -> list[str]:
     return [word for word in rest if not word.startswith("block=")]
-

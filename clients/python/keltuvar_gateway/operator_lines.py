@@ -39,7 +39,9 @@ class OperatorLines(LineServer):
         except OSError as error:
             return f"fault: {error.strerror}"
 
-    async def _answer_http(self, reader: asyncio.StreamReader, writer: asyncio.StreamWriter) -> None:
+    async def _answer_http(
+        self, reader: asyncio.StreamReader, writer: asyncio.StreamWriter
+    ) -> None:
         """Saves, and answers one request of HTTP, as `curl --unix-socket` sends it."""
         while (await self._read_line(reader, self._limits.request_seconds)).strip():
             continue

@@ -78,7 +78,9 @@ def _make_parser() -> argparse.ArgumentParser:
     add("--operator-socket", metavar="PATH", help="a Unix socket for the operator, of mode 0600")
     add("--ledger", metavar="FILE", help="settings and 'utxo' lines to begin with")
     add("--state", metavar="FILE", help="where all is saved; if it exists, --ledger isn't read")
-    add("--save-seconds", metavar="N", type=_rate, default=0.0, help="saves so often; 0: at the end")
+    add(
+        "--save-seconds", metavar="N", type=_rate, default=0.0, help="saves so often; 0: at the end"
+    )
     add("--waiting", metavar="N", type=_count, default=1024, help="submits that wait for the pool")
     limits = {
         "connections": (_count, "N", "connections of each listener"),

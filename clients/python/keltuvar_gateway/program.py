@@ -146,7 +146,9 @@ class Program(asyncio.SubprocessProtocol):
         status = self._transport.get_returncode()
         self._transport.close()
         details = [self._fault, self._error_end.decode("utf-8", "backslashreplace").strip()]
-        reason = ": ".join([f"the pool's process ended with status {status}", *filter(None, details)])
+        reason = ": ".join(
+            [f"the pool's process ended with status {status}", *filter(None, details)]
+        )
         for _, future in self._waiting:
             if future is not None and not future.done():
                 future.set_exception(Down(reason))

@@ -3,6 +3,7 @@
 from __future__ import annotations
 
 import asyncio
+import contextlib
 import logging
 import re
 import time
@@ -107,7 +108,9 @@ class Site:
         except ValueError as error:
             return _say(400, str(error))
         except Busy:
-            return _say(503, "too many wait, or too many sessions of the monitor are open", _NOT_NOW)
+            return _say(
+                503, "too many wait, or too many sessions of the monitor are open", _NOT_NOW
+            )
         except TimeoutError:
             return _say(503, "the pool didn't answer in time; it may do so yet", _NOT_NOW)
         except (Down, KeltuvarError) as error:
@@ -122,7 +125,11 @@ class Site:
             found = self._transaction
         if found is None:
             return self._say_not_found
-        return found if method in (("POST",) if is_submit else ("GET", "HEAD")) else self._say_wrong_method
+        return (
+            found
+            if method in (("POST",) if is_submit else ("GET", "HEAD"))
+            else self._say_wrong_method
+        )
 
     async def _say_not_found(self, request: web.BaseRequest) -> web.Response:
         return _say(404, "there is no such path")
@@ -196,7 +203,7 @@ class Site:
             ),
             self._times.format("keltuvar_submit_seconds", "How long the pool took for a submit."),
         ]
-        if self._pool.running:
+        with contextlib.suppress(Down, KeltuvarError):
             tick, stats = await self._pool.stats()
             lines += [
                 gauge("keltuvar_transactions", "Transactions in the pool.", stats.count),
@@ -206,7 +213,9 @@ class Site:
                 gauge("keltuvar_changes", "Changes of the pool's process.", stats.changes),
                 gauge("keltuvar_tick", "The tick of the ledger state.", tick),
             ]
-        return web.Response(text="".join(lines), headers={"Content-Type": "text/plain; version=0.0.4"})
+        return web.Response(
+            text="".join(lines), headers={"Content-Type": "text/plain; version=0.0.4"}
+        )
 
     async def _health(self, request: web.BaseRequest) -> web.Response:
         if self._pool.running:
