@@ -53,8 +53,8 @@ pub record SpendsAt (ps : Places) (place : ℕ) (r : OutRef) : Type 0 where
 abbrev pub SomeSpends : List Transaction → OutRef → Type 0
 SomeSpends ts r = IsTrue (list_any (λ t. spends t.inputs r) ts)
 
--- the transaction at the place made what is recorded as made, and no other did; one of them, or the one at the second
--- place, spent what is recorded as spent
+-- The transaction at the place made what is recorded as made, and no other did. The one at the second place, or one of
+-- them, spent what is recorded as spent.
 abbrev pub IsMadeSo : Places → OutRef → Option Change → Type 0
 IsMadeSo ps r None = NoneMakes (those ps) r
 IsMadeSo ps r (Some Spent) = NoneMakes (those ps) r × SomeSpends (those ps) r

@@ -1,12 +1,12 @@
-use Rattle.std.proofs.Common.{◌≡◌, ℕ, List, ap, sym, subst, ◌∙◌}
-use Rattle.std.specs.Prelude.{Option, Some, IfSome, slice_get}
+use Rattle.std.proofs.Common.{ℕ, List, ap, sym, subst, ◌∙◌}
+use Rattle.std.specs.Prelude.{Option, IfSome, slice_get}
 use Rattle.std.specs.Option.{option_map}
 use Rattle.mp_utxo.specs.declared.applied.Applied.{Applied}
 use Rattle.mp_utxo.specs.Overlay.{Overlay}
 use Rattle.mp_utxo.specs.Leaf.{IsMadeBy}
 use Rattle.mp_utxo.specs.Inside.Applied.{items}
 use Rattle.mp_utxo.specs.Inside.Changes.{last_change}
-use Rattle.mp_utxo.proofs.Ends.{IsFoundMaker, maker}
+use Rattle.mp_utxo.proofs.Ends.{maker}
 use Rattle.mp_utxo.proofs.overlay.Overlay.maker_of.Goals as goal
 
 pub returns-in-Some : goal.returns-in-Some
