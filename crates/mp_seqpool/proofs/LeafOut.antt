@@ -28,7 +28,7 @@ use Rattle.mp_seqpool.proofs.Dependents.{weaker, unlike}
 pub none_there : {A : Type 0} (o : Option A) → o ≡ None → IsSome o → ⊥
 none_there o none there = true≢false (sym (subst IsSome none there))
 
-none_from : {A : Type 0} (o : Option A) → (IsSome o → ⊥) → o ≡ None
+pub none_from : {A : Type 0} (o : Option A) → (IsSome o → ⊥) → o ≡ None
 none_from None h = refl
 none_from (Some x) h = absurd (h refl)
 
@@ -39,14 +39,14 @@ own_by true m there = refl
 own_by false m there = absurd (true≢false (sym there))
 
 -- it is at the transaction's id
-made_id : (t : Transaction) (r : OutRef) → IsSome (output_made t r) → r.id ≡ id_of t
+pub made_id : (t : Transaction) (r : OutRef) → IsSome (output_made t r) → r.id ≡ id_of t
 made_id t r there = (bytes_decides r.id (id_of t)).0 (own_by (pointwise nat_eq r.id (id_of t)) (slice_get t.outputs r.index) there)
 
 not_made : (t : Transaction) (r : OutRef) → (r.id ≡ id_of t → ⊥) → output_made t r ≡ None
 not_made t r other = ap (λ b. cond b (slice_get t.outputs r.index) None) (unlike r.id (id_of t) other)
 
 -- a transaction with another id doesn't make it too
-made_once : (t y : Transaction) (r : OutRef) → id_of y ≢ id_of t → IsSome (output_made t r) → output_made y r ≡ None
+pub made_once : (t y : Transaction) (r : OutRef) → id_of y ≢ id_of t → IsSome (output_made t r) → output_made y r ≡ None
 made_once t y r other there = not_made y r (λ e. other (sym e ∙ made_id t r there))
 
 there_within : (outputs : List Output) (k : ℕ) → k < length outputs → IsSome (slice_get outputs k)
@@ -76,7 +76,7 @@ pub still_gone : (t : Transaction) (u : Unspent) (r : OutRef) → output_made t 
 still_gone t u r unmade none =
     ap (λ m. option_or m (cond (spends t.inputs r) None (u r))) unmade ∙ none_either (spends t.inputs r) (u r) none
 
-gone_after : (ts : List Transaction) (u : Unspent) (r : OutRef) → AllByRecursion (λ t. output_made t r ≡ None) ts → u r ≡ None → after u ts r ≡ None
+pub gone_after : (ts : List Transaction) (u : Unspent) (r : OutRef) → AllByRecursion (λ t. output_made t r ≡ None) ts → u r ≡ None → after u ts r ≡ None
 gone_after [] u r unmade none = none
 gone_after (t ∷ ts) u r unmade none = gone_after ts (apply t u) r unmade.1 (still_gone t u r unmade.0 none)
 
@@ -85,7 +85,7 @@ after_same : (ts : List Transaction) (u v : Unspent) (r : OutRef) → u r ≡ v 
 after_same [] u v r e = e
 after_same (t ∷ ts) u v r e = after_same ts (apply t u) (apply t v) r (ap (λ o. option_or (output_made t r) (cond (spends t.inputs r) None o)) e)
 
-after-joined : (u : Unspent) (xs ys : List Transaction) → after u (xs ++ ys) ≡ after (after u xs) ys
+pub after-joined : (u : Unspent) (xs ys : List Transaction) → after u (xs ++ ys) ≡ after (after u xs) ys
 after-joined u [] ys = refl
 after-joined u (x ∷ xs) ys = after-joined (apply x u) xs ys
 
@@ -97,7 +97,7 @@ spends_each inputs k d lt =
     list_any_at (λ i. same_ref r i.from) inputs k d lt (same_itself r)
 
 -- what holds of the reference of each input holds of each that is spent
-of_spent : (P : OutRef → Type 0) (inputs : List Input) (r : OutRef) → All (λ i. P i.from) inputs → spends inputs r ≡ true → P r
+pub of_spent : (P : OutRef → Type 0) (inputs : List Input) (r : OutRef) → All (λ i. P i.from) inputs → spends inputs r ≡ true → P r
 of_spent P [] r all e = absurd (true≢false (sym e))
 of_spent P (i ∷ is) r all e = elim (or_cases (same_ref r i.from) (spends is r) e) [
   | inl here ↦ subst P (sym (same_exact r i.from here)) (All-head (λ i. P i.from) i is all)
@@ -110,7 +110,7 @@ All-behind : {A : Type 0} (P : A → Type 0) (xs ys : List A) → All P (xs ++ y
 All-behind P [] ys all = all
 All-behind P (x ∷ xs) ys all = All-behind P xs ys (All-tail P x (xs ++ ys) all)
 
-AllPairs-behind : {A : Type 0} (R : A → A → Type 0) (xs ys : List A) → AllPairs R (xs ++ ys) → AllPairs R ys
+pub AllPairs-behind : {A : Type 0} (R : A → A → Type 0) (xs ys : List A) → AllPairs R (xs ++ ys) → AllPairs R ys
 AllPairs-behind R [] ys pairs = pairs
 AllPairs-behind R (x ∷ xs) ys pairs = AllPairs-behind R xs ys (AllPairs-tail R x (xs ++ ys) pairs)
 

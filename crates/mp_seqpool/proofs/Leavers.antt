@@ -129,7 +129,7 @@ swapped a b = elim (a == b) as (λ (v : Bool). (a == b) ≡ v → v ≡ (b == a)
 abbrev pub less : {T : Type 0} → List ℕ → List (ℕ × T) → List (ℕ × T)
 less gone items = filter (λ e. not (has_ticket gone e.0)) items
 
-step : {T : Type 0} (gone : List ℕ) (t : ℕ) (items : List (ℕ × T)) (more : List ℕ) → ((n : ℕ) → has_ticket more n ≡ (has_ticket gone n || (t == n))) → without (less gone items) t ≡ less more items
+pub step : {T : Type 0} (gone : List ℕ) (t : ℕ) (items : List (ℕ × T)) (more : List ℕ) → ((n : ℕ) → has_ticket more n ≡ (has_ticket gone n || (t == n))) → without (less gone items) t ≡ less more items
 step gone t [] more is = refl
 step gone t (x ∷ xs) more is =
     let rest = step gone t xs more is in

@@ -38,7 +38,7 @@ Items = List (ℕ × Transaction)
 -- ---- one ticket
 
 -- the transaction with another ticket is still there
-still_at : (gone : List ℕ) (items : Items) (n : ℕ) → has_ticket gone n ≡ false → item_at (apart gone items) n ≡ item_at items n
+pub still_at : (gone : List ℕ) (items : Items) (n : ℕ) → has_ticket gone n ≡ false → item_at (apart gone items) n ≡ item_at items n
 still_at gone [] n out = refl
 still_at gone (i ∷ is) n out =
     let rest = still_at gone is n out in
@@ -52,12 +52,12 @@ all_apart [] = refl
 all_apart (i ∷ is) = ap (λ l. i ∷ l) (all_apart is)
 
 -- the transaction of the ticket, and all the others
-record StandsAt (n : ℕ) (t : Transaction) (items : Items) : Type 0 where
-  there : Contains (transactions items) t
-  without_it : transactions (without items n) ≡ others (id_of t) (transactions items)
-  other_items : without items n ≡ other_items (id_of t) items
+pub record StandsAt (n : ℕ) (t : Transaction) (items : Items) : Type 0 where
+  pub there : Contains (transactions items) t
+  pub without_it : transactions (without items n) ≡ others (id_of t) (transactions items)
+  pub other_items : without items n ≡ other_items (id_of t) items
 
-stands_at : (items : Items) (n : ℕ) (t : Transaction) → IsRising items → AllPairs (λ a b. a ≢ b) (map id_of (transactions items)) → item_at items n ≡ Some t → StandsAt n t items
+pub stands_at : (items : Items) (n : ℕ) (t : Transaction) → IsRising items → AllPairs (λ a b. a ≢ b) (map id_of (transactions items)) → item_at items n ≡ Some t → StandsAt n t items
 stands_at items n t rising distinct at =
     let c = cut 0 items n t rising at in
     let front : List Transaction = transactions c.front in
@@ -95,7 +95,7 @@ module _ (accepts : Accepts) (u : Unspent) (tick : ℕ) (all : Items) where
     -- what was a leaf of all is one of the remaining ones
     pub leaves : (s : Transaction) → Contains (transactions left) s → IsLeaf u (transactions all) s → IsLeaf u (transactions left) s
 
-  one_less : (left : Items) (n : ℕ) (t : Transaction) → item_at left n ≡ Some t → IsLeaf u (transactions all) t → AreLeft left → AreLeft (without left n)
+  pub one_less : (left : Items) (n : ℕ) (t : Transaction) → item_at left n ≡ Some t → IsLeaf u (transactions all) t → AreLeft left → AreLeft (without left n)
   one_less left n t at leaf l =
       let ts : List Transaction = transactions left in
       let stands = stands_at left n t l.rising l.distinct at in
@@ -155,7 +155,7 @@ pub record CanGo (o : Overlay) (t : Transaction) : Type 0 where
   pub distinct : AllPairs (λ a b. a ≢ b) (map id_of o.applied)
   pub there : Contains o.applied t
 
-can_go_from : (now : Overlay) (ledger : LedgerState) (left : Items) (n : ℕ) (t : Transaction) → now.ledger ≡ ledger → now.applied ≡ transactions left → item_at left n ≡ Some t
+pub can_go_from : (now : Overlay) (ledger : LedgerState) (left : Items) (n : ℕ) (t : Transaction) → now.ledger ≡ ledger → now.applied ≡ transactions left → item_at left n ≡ Some t
     → IsRising left → AllPairs (λ a b. a ≢ b) (map id_of (transactions left)) → Chain all_accepted (get ledger.utxo) ledger.tick (transactions left) → IsLeaf (get ledger.utxo) (transactions left) t → CanGo now t
 can_go_from now ledger left n t base applied at rising distinct chained leaf =
     let u = get ledger.utxo in

@@ -7,7 +7,10 @@ pub mod DependentsFollowed
 pub mod Distinct
 pub mod Exits
 pub mod Finishing
+pub mod FollowedOut
+pub mod Following
 pub mod Histories
+pub mod InTurn
 pub mod Keeping
 pub mod LeafOut
 pub mod Leavers
@@ -17,6 +20,8 @@ pub mod Moving
 pub mod Opening
 pub mod Reading
 pub mod Recounting
+pub mod SpentOnce
 pub mod Submits
+pub mod TakingFollowed
 pub mod TakingOut
 pub mod TicketsNamed

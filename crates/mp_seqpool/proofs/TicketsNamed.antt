@@ -25,7 +25,7 @@ use Rattle.mp_seqpool.proofs.Keeping.{AllPairs-nil, AllPairs-head, AllPairs-tail
 abbrev Items : Type 0
 Items = List (ℕ × Transaction)
 
-abbrev Rise : List ℕ → Type 0
+abbrev pub Rise : List ℕ → Type 0
 Rise = AllPairs (λ a b. a < b)
 
 -- ---- tests
@@ -34,7 +34,7 @@ or_nothing : (b : Bool) → (b || false) ≡ b
 or_nothing true = refl
 or_nothing false = refl
 
-same_test : (a b : Bool) → (a ≡ true → b ≡ true) → (b ≡ true → a ≡ true) → a ≡ b
+pub same_test : (a b : Bool) → (a ≡ true → b ≡ true) → (b ≡ true → a ≡ true) → a ≡ b
 same_test true b f g = sym (f refl)
 same_test false b f g = sym (false_from_ne_true b (λ e. true≢false (sym (g e))))
 
@@ -50,15 +50,15 @@ least n m ns rise has = elim (or_cases (nat_eq n m) (has_ticket ns m) has) [
       omega arith
 ]
 
-has_first : (n : ℕ) (ns : List ℕ) → has_ticket (n ∷ ns) n ≡ true
+pub has_first : (n : ℕ) (ns : List ℕ) → has_ticket (n ∷ ns) n ≡ true
 has_first n ns = ap (λ b. b || has_ticket ns n) (eq-eqb n n refl)
 
 -- it isn't among greater ones
-has_none : (n m : ℕ) (ns : List ℕ) → Rise (n ∷ ns) → m ≤ n → has_ticket ns m ≡ false
+pub has_none : (n m : ℕ) (ns : List ℕ) → Rise (n ∷ ns) → m ≤ n → has_ticket ns m ≡ false
 has_none n m ns rise le =
     not_among m ns (weaker (λ k. n < k) (λ k. m < k) (λ k lt. omega arith) ns (recursion_from_All (λ k. n < k) ns (AllPairs-head (λ a b. a < b) n ns rise)))
 
-has_later : (n m : ℕ) (ns : List ℕ) → n < m → has_ticket (n ∷ ns) m ≡ has_ticket ns m
+pub has_later : (n m : ℕ) (ns : List ℕ) → n < m → has_ticket (n ∷ ns) m ≡ has_ticket ns m
 has_later n m ns lt = ap (λ b. b || has_ticket ns m) (ne_eqb n m (λ e. omega arith))
 
 same_rest : (x y : ℕ) (xs ys : List ℕ) → Rise (x ∷ xs) → Rise (y ∷ ys) → x ≡ y → ((n : ℕ) → has_ticket (x ∷ xs) n ≡ has_ticket (y ∷ ys) n) → (n : ℕ) → has_ticket xs n ≡ has_ticket ys n
@@ -67,7 +67,7 @@ same_rest x y xs ys up too e same n = elim (cases_lt x n) [
   | inl lt ↦ sym (has_later x n xs lt) ∙ same n ∙ has_later y n ys (omega arith)
 ]
 
-same_rising : (xs ys : List ℕ) → Rise xs → Rise ys → ((n : ℕ) → has_ticket xs n ≡ has_ticket ys n) → xs ≡ ys
+pub same_rising : (xs ys : List ℕ) → Rise xs → Rise ys → ((n : ℕ) → has_ticket xs n ≡ has_ticket ys n) → xs ≡ ys
 same_rising [] [] up too same = refl
 same_rising [] (y ∷ ys) up too same = absurd (true≢false (sym (has_first y ys) ∙ sym (same y)))
 same_rising (x ∷ xs) [] up too same = absurd (true≢false (sym (has_first x xs) ∙ same x))

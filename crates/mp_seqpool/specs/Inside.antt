@@ -4,6 +4,7 @@ pub mod Chained
 pub mod Effect
 pub mod Leaving
 pub mod NamedLeaves
+pub mod Followed
 pub mod Place
 pub mod Rules
 pub mod Steps

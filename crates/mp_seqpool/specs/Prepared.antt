@@ -1,5 +1,5 @@
 -- Prepared steps.
-use Rattle.std.specs.Prelude.{◌≡◌, ℕ, ◌<◌, not, List, All, None, IfSome, Ok}
+use Rattle.std.specs.Prelude.{◌≡◌, ℕ, ◌<◌, not, List, [], ◌∷◌, All, None, IfSome, Ok}
 use Rattle.std.specs.List.{filter}
 use Rattle.std.specs.FinMap.{get}
 use Rattle.mp_tx.specs.Transaction.{Transaction}
@@ -71,6 +71,13 @@ pub record CanAppend (h : Holding) (item : ValidatedTx) : Type 0 where
 abbrev pub IsLeafAt : Pool → ℕ → Type 0
 IsLeafAt p ticket = IfSome (item_at p.items ticket) (IsLeaf (get p.ledger.utxo) (transactions p.items))
 
+-- Those with these tickets go one after another, from the last to the first. None of the items that are then left
+-- depends on the one that goes.
+abbrev pub GoInTurn : LedgerState → List (ℕ × Transaction) → List ℕ → Type 0
+GoInTurn ledger items [] = Unit {0}
+GoInTurn ledger items (n ∷ ns) =
+    IfSome (item_at (apart ns items) n) (IsLeaf (get ledger.utxo) (transactions (apart ns items))) × GoInTurn ledger items ns
+
 -- these were applied to the overlay, with their tickets
 pub record HasApplied (overlay : Overlay) (items : List (ℕ × Transaction)) : Type 0 where
   pub applied : overlay.applied ≡ transactions items
@@ -79,7 +86,7 @@ pub record HasApplied (overlay : Overlay) (items : List (ℕ × Transaction)) : 
 abbrev pub CanChange : Holding → Effect → Type 0
 CanChange h (Append item) = CanAppend h item
 CanChange h (Keep overlay kept) = HasApplied overlay (among kept h.pool.items)
-CanChange h (TakeOut gone) = All (IsLeafAt h.pool) gone
+CanChange h (TakeOut gone) = GoInTurn h.pool.ledger h.pool.items gone
 CanChange h (Adopt ledger gone) = All (IsLeafAt h.pool) gone
 
 -- The pool has room for the step, whatever the reference pool says of it.

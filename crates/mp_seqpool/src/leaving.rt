@@ -1,14 +1,13 @@
 //! Taking items out of a pool.
 
-ghost use Rattle.std.specs.Prelude.{◌≡◌, ◌+◌, ◌≤◌, ◌^◌, IfOk};
-ghost use Rattle.std.specs.List.Sorted.{IsStrictlyIncreasing};
+ghost use Rattle.std.specs.Prelude.{◌≡◌, ◌+◌, ◌≤◌, ◌^◌};
 ghost use Rattle.mp_tickets.specs.Tickets.{without};
 ghost use Rattle.mp_resync.specs.ValidatedTx.{ticketed};
 ghost use Rattle.mp_seqpool.specs.Inside.Leaving.{bytes_in, AreKnown, TakesOut, Leaves};
 ghost use Rattle.mp_seqpool.specs.Inside.NamedLeaves.{HasLeaves, Lacks};
+ghost use Rattle.mp_seqpool.specs.Inside.Followed.{HasInTurn};
 
 use crate::command::Reply;
-use mp_memory::{Memory, NoMemory};
 use mp_resync::ValidatedTx;
 use mp_tickets::{TicketList, Tickets};
 use mp_utxo::Overlay;
@@ -16,18 +15,6 @@ use mp_utxo::Overlay;
 /// How many of `count` items are few: to take out more of them one by one costs more than to check all items again.
 pub fn few_of(count: usize) -> usize {
     (count / 16).max(16)
-}
-
-/// The strictly increasing tickets, as a list.
-pub fn as_tickets(memory: Memory, rising: &[u64]) -> Result<Tickets, NoMemory>
-    requires { IsStrictlyIncreasing rising.now }
-    ensures { IfOk result (λ tickets. tickets ≡ rising.now) }
-{
-    let mut tickets = Tickets::new(memory);
-    for ticket in rising {
-        tickets.push(*ticket)?;
-    }
-    Ok(tickets)
 }
 
 // Takes out the item of the ticket. Returns the number of bytes of its transaction, or 0 if there is none.
@@ -69,6 +56,21 @@ pub fn take_told(items: &mut TicketList<ValidatedTx>, reply: &Reply) -> u64
             bytes + take_out(items, dropped)
         }
         Reply::Synced { dropped, .. } => take_out(items, dropped),
+    }
+}
+
+/// Takes the transactions with these tickets out of the overlay, from the last to the first.
+pub fn take_in_turn(overlay: &mut Overlay, items: &TicketList<ValidatedTx>, gone: &Tickets)
+    requires { HasInTurn overlay.old (ticketed items.now) gone.now }
+    ensures { Lacks overlay.old (ticketed items.now) gone.now overlay.new }
+{
+    let tickets = gone.as_slice();
+    let count = tickets.len();
+    for index in 0..count {
+        let ticket = tickets[count - 1 - index];
+        if let Some(item) = items.get(ticket) {
+            overlay.take_out(&item.tx);
+        }
     }
 }
 

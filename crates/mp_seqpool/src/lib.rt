@@ -4,6 +4,7 @@
 
 mod command;
 mod config;
+mod going;
 mod ids;
 mod item;
 pub mod laws;
@@ -12,6 +13,7 @@ mod playing;
 mod pool;
 mod prepared;
 mod refusal;
+mod steps;
 
 pub use command::{Answer, Command, Reply};
 pub use config::Config;

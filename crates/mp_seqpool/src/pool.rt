@@ -1,22 +1,18 @@
 //! The sequential pool.
 
-ghost use Rattle.std.specs.Prelude.{◌≡◌, ◌<◌, [], IfOk};
-ghost use Rattle.std.specs.Arc.{arc_value};
-ghost use Rattle.mp_seqpool.specs.Command.{Submit, Remove, Sync};
-ghost use Rattle.mp_seqpool.specs.Prepared.{Append, Keep, TakeOut, Adopt};
-ghost use Rattle.mp_seqpool.specs.declared.command.Reply.TheVariants.{Accepted, Removed, Synced};
-
 use crate::command::{Answer, Command, Reply};
 use crate::config::Config;
+use crate::going::{are_among, as_tickets, in_order, insert_in_order};
 use crate::ids::Ids;
-use crate::leaving::{as_tickets, few_of, take_leaves, take_told};
+use crate::leaving::{few_of, take_in_turn, take_leaves, take_told};
 use crate::prepared::{Effect, Prepared, keep_effect};
 use crate::refusal::Refusal;
+use crate::steps::{adopt_step, append_step, sync_step, take_out_step};
 use mp_memory::{Memory, NoMemory};
-use mp_resync::{Kept, Parted, ValidatedTx, part, revalidate};
+use mp_resync::{Kept, ValidatedTx, part, revalidate};
 use mp_rules::{Checked, Resolved, Verifier, check, check_with};
 use mp_tickets::{Iter, Node, TicketList, Tickets, make_node};
-use mp_tx::{Ledger, Tx, TxId};
+use mp_tx::{Ledger, OutRef, Tx, TxId};
 use mp_utxo::Overlay;
 use std::marker::Model;
 use std::sync::Arc;
@@ -70,117 +66,31 @@ impl Model for SeqPool {
     ghost invariant = { IsCounted };
 }
 
-// The step that adds the transaction with this ticket.
-fn append_step(
-    memory: Memory,
-    tx: &Arc<Tx, Memory>,
-    resolved: Resolved,
-    ticket: u64,
-) -> Result<Prepared, NoMemory>
-    ensures command { IfOk result (λ q. q.command ≡ Submit (arc_value tx.now)) }
-    ensures reply { IfOk result (λ q. q.reply ≡ Accepted ticket) }
-    ensures effect { IfOk result (λ q. q.effect
-        ≡ Append (record { tx = arc_value tx.now; resolved = resolved })) }
-{
-    let asked = Arc::try_clone(tx)?;
-    let applied = Arc::try_clone(tx)?;
-    let item = ValidatedTx {
-        tx: Arc::try_clone(tx)?,
-        resolved,
-    };
-    let Ok(node) = make_node(memory, item) else {
-        return Err(NoMemory);
-    };
-    Ok(Prepared {
-        command: Command::Submit(asked),
-        reply: Reply::Accepted { ticket },
-        effect: Effect::Append(node, applied),
-    })
-}
-
-// The step of a sync after which these stay. The reply and the effect have the same tickets.
-fn sync_step(memory: Memory, adopted: Ledger, left: Kept) -> Result<Prepared, NoMemory>
-    ensures command { IfOk result (λ q. q.command ≡ Sync adopted) }
-    ensures reply { IfOk result (λ q. q.reply ≡ Synced left.kept left.dropped) }
-    ensures effect { IfOk result (λ q. q.effect ≡ Keep left.overlay left.kept) }
-{
-    let told = left.kept.copy()?;
-    let effect = keep_effect(memory, left.overlay, left.kept)?;
-    Ok(Prepared {
-        command: Command::Sync(adopted),
-        reply: Reply::Synced {
-            kept: told,
-            dropped: left.dropped,
-        },
-        effect,
-    })
-}
-
-// The step of a remove that takes out only the items with these tickets. The reply and the effect have the same
-// tickets.
-fn take_out_step(
-    memory: Memory,
-    asked: Arc<Ids, Memory>,
-    gone: Tickets,
-) -> Result<Prepared, NoMemory>
-    ensures command { IfOk result (λ q. q.command ≡ Remove (arc_value asked)) }
-    ensures reply { IfOk result (λ q. q.reply ≡ Removed gone []) }
-    ensures effect { IfOk result (λ q. q.effect ≡ TakeOut gone) }
-{
-    let named = gone.copy()?;
-    Ok(Prepared {
-        command: Command::Remove(asked),
-        reply: Reply::Removed {
-            named,
-            dropped: Tickets::new(memory),
-        },
-        effect: Effect::TakeOut(gone),
-    })
-}
-
-// The step of a sync in which no others depend on those that go, and the others stay as they are. The reply and
-// the effect have the same tickets.
-fn adopt_step(ledger: &Ledger, parted: Parted) -> Result<Prepared, NoMemory>
-    ensures command { IfOk result (λ q. q.command ≡ Sync ledger.now) }
-    ensures reply { IfOk result (λ q. q.reply ≡ Synced parted.kept parted.dropped) }
-    ensures effect { IfOk result (λ q. q.effect ≡ Adopt ledger.now parted.dropped) }
-{
-    let asked = ledger.share()?;
-    let adopted = ledger.share()?;
-    let gone = parted.dropped.copy()?;
-    Ok(Prepared {
-        command: Command::Sync(asked),
-        reply: Reply::Synced {
-            kept: parted.kept,
-            dropped: parted.dropped,
-        },
-        effect: Effect::Adopt(adopted, gone),
-    })
-}
-
 impl SeqPool {
-    ghost use Rattle.std.specs.Prelude.{◌≡◌, ◌≢◌, ◌+◌, ◌≤◌, ◌^◌, ◌==◌, List, [], ◌∷◌, length, All, None, IfNone, IfSome, IfOk, IfErr, OnOk, OnErr, Ok, IsTrue};
+    ghost use Rattle.std.specs.Prelude.{◌≡◌, ◌≢◌, ◌⊎◌, ◌+◌, ◌<◌, ◌≤◌, ◌^◌, ◌==◌, true, List, [], ◌∷◌, length, All, None, IfNone, IfSome, IfOk, IfErr, OnOk, OnErr, Ok, IsTrue};
     ghost use Rattle.std.specs.Arc.{arc_value};
     ghost use Rattle.std.specs.List.{filter_map};
+    ghost use Rattle.std.specs.List.Sorted.{IsStrictlyIncreasing};
     ghost use Rattle.std.specs.Map.Iter.{ShowsInOrder};
     ghost use Rattle.mp_tx.specs.Spelling.{id_of};
     ghost use Rattle.mp_rules.specs.Validity.{IsValid};
     ghost use Rattle.mp_rules.specs.FirstFault.{first_fault};
     ghost use Rattle.mp_rules.specs.Checked.{IsChecked, WasValid};
-    ghost use Rattle.mp_tickets.specs.Tickets.{IsRising, shown};
+    ghost use Rattle.mp_tickets.specs.Tickets.{IsRising, has_ticket, shown};
     ghost use Rattle.mp_resync.specs.ValidatedTx as resync;
     ghost use Rattle.mp_resync.specs.ValidatedTx.{ticketed};
     ghost use Rattle.mp_resync.specs.Keep.{transactions, tickets, dropped};
     ghost use Rattle.mp_resync.specs.Kept.{IsKeptOf};
     ghost use Rattle.mp_seqpool.specs.Inside.Chained.{all_accepted};
-    ghost use Rattle.mp_seqpool.specs.Inside.NamedLeaves.{tickets_named, TakesNamed};
+    ghost use Rattle.mp_seqpool.specs.Inside.NamedLeaves.{tickets_named};
+    ghost use Rattle.mp_seqpool.specs.Inside.Followed.{EndsAt, IsMadeAmong, DependsOn, DependsAt, AreFollowed, TakesFollowed};
     ghost use Rattle.mp_seqpool.specs.Inside.Steps.{IsKeep, IsAdoption, AdoptsParted};
     ghost use Rattle.mp_seqpool.specs.Inside.Place.{misplaced};
     ghost use Rattle.mp_seqpool.specs.Inside.Rules.{IsBrokenRule};
     ghost use Rattle.mp_seqpool.specs.Command.{Submit, Remove, Sync};
     ghost use Rattle.mp_seqpool.specs.Config.{fresh_pool, renewed};
     ghost use Rattle.mp_seqpool.specs.SlowPool.{answer, next, IsRefused, AreSigned, bytes_held, unspent, ticket_of, HasPlace, pool_with, pool_upon};
-    ghost use Rattle.mp_seqpool.specs.Prepared.{Append, Keep, CanAppend, HasApplied, IsLeafAt, HasRoom, Prepares, IsPrepared, apart, left_by, leads_to};
+    ghost use Rattle.mp_seqpool.specs.Prepared.{Append, Keep, CanAppend, HasApplied, IsLeafAt, GoInTurn, HasRoom, Prepares, IsPrepared, apart, left_by, leads_to};
     ghost use Rattle.mp_seqpool.specs.declared.command.Reply.TheVariants.{Accepted};
     ghost use Rattle.mp_seqpool.specs.Inside.Command.{command_of};
 
@@ -334,36 +244,129 @@ impl SeqPool {
         as_tickets(self.memory, &found)
     }
 
-    // Whether the transaction with the ticket has no dependents. `false` may be returned although it has none.
-    fn is_leaf_at(&self, ticket: u64) -> bool
-        ensures { IsTrue result → IsLeafAt self.now.pool ticket }
+    // Adds the tickets of the transactions that spend an output of the one with the ticket.
+    fn add_spenders(&self, ticket: u64, found: &mut Vec<u64, Memory>) -> Result<(), NoMemory> {
+        let Some(tx) = self.get(ticket) else {
+            return Ok(());
+        };
+        let count = tx.outputs().len() as u16;
+        for index in 0..count {
+            let own = OutRef {
+                id: *tx.id(),
+                index,
+            };
+            if let Some(spender) = self.overlay.spender_of(&own) {
+                insert_in_order(found, spender)?;
+            }
+        }
+        Ok(())
+    }
+
+    // The named tickets and those of all that spend an output of one that goes, in order, if these are at most `most`.
+    // Nothing depends on that: `are_followed` checks the result.
+    fn follow(&self, named: &Tickets, most: usize) -> Result<Option<Tickets>, NoMemory> {
+        let mut found = Vec::from_slice(self.memory, named.as_slice())?;
+        for index in 0..most {
+            let Some(ticket) = found.get(index).copied() else {
+                break;
+            };
+            self.add_spenders(ticket, &mut found)?;
+            if found.len() > most {
+                break;
+            }
+        }
+        if found.len() > most {
+            return Ok(None);
+        }
+        Ok(Some(in_order(self.memory, found)?))
+    }
+
+    // Whether the pool has a transaction with the ticket, and all its dependents are among those with these tickets.
+    // `false` may be returned although they are.
+    fn ends_at(&self, ticket: u64, gone: &Tickets) -> bool
+        ensures { IsTrue result → EndsAt self.now.pool gone.now ticket }
     {
         match self.get(ticket) {
-            Some(tx) => self.overlay.is_leaf(tx),
-            None => true,
+            Some(tx) => self.overlay.has_dependents_among(tx, gone.as_slice()),
+            None => false,
         }
     }
 
-    // Whether this holds of each of these tickets.
-    fn are_leaves(&self, tickets: &Tickets) -> bool
-        ensures { IsTrue result → All (IsLeafAt self.now.pool) tickets.now }
+    // Whether a transaction with one of these tickets makes an output at the reference.
+    fn is_made_among(&self, reference: &OutRef, gone: &Tickets) -> bool
+        ensures { IsTrue result → IsMadeAmong self.now.pool.items gone.now reference.now }
     {
-        tickets
-            .as_slice()
-            .iter()
-            .all(|ticket| self.is_leaf_at(*ticket))
+        match self.overlay.maker_of(reference) {
+            Some(ticket) => gone.contains(ticket),
+            None => false,
+        }
     }
 
-    // The step that takes out only the transactions with these ids, if no others depend on them.
-    fn prepare_leaves(&self, ids: &Arc<Ids, Memory>) -> Result<Option<Prepared>, NoMemory>
-        ensures { IfOk result (λ step. IfSome step (TakesNamed self.now.pool (arc_value ids.now))) }
+    // Whether the transaction spends or reads what one of those makes.
+    fn depends_on(&self, tx: &Tx, gone: &Tickets) -> bool
+        ensures { IsTrue result → DependsOn self.now.pool.items gone.now tx.now }
+    {
+        tx.inputs()
+            .iter()
+            .any(|i| self.is_made_among(&i.from, gone))
+            || tx.references().iter().any(|r| self.is_made_among(r, gone))
+    }
+
+    fn depends_at(&self, ticket: u64, gone: &Tickets) -> bool
+        ensures { IsTrue result → DependsAt self.now.pool gone.now ticket }
+    {
+        match self.get(ticket) {
+            Some(tx) => self.depends_on(tx, gone),
+            None => false,
+        }
+    }
+
+    fn all_end(&self, gone: &Tickets) -> bool
+        ensures ended { IsTrue result → All (EndsAt self.now.pool gone.now) gone.now }
+        ensures rise { IsStrictlyIncreasing gone.now }
+    {
+        gone.as_slice()
+            .iter()
+            .all(|ticket| self.ends_at(*ticket, gone))
+    }
+
+    // Whether each of these tickets is named or of a transaction that depends on one that goes.
+    fn all_depend(&self, named: &Tickets, gone: &Tickets) -> bool
+        ensures { IsTrue result
+            → All (λ n. (has_ticket named.now n ≡ true) ⊎ DependsAt self.now.pool gone.now n) gone.now }
+    {
+        gone.as_slice().iter().all(|ticket| named.contains(*ticket)
+            || self.depends_at(*ticket, gone))
+    }
+
+    // Whether those with these tickets are the named ones and all that depend on one that goes. `false` may be returned
+    // although they are.
+    fn are_followed(&self, named: &Tickets, gone: &Tickets) -> bool
+        ensures { IsTrue result → AreFollowed self.now.pool named.now gone.now }
+    {
+        if !are_among(named, gone) {
+            return false;
+        }
+        if !self.all_end(gone) {
+            return false;
+        }
+        self.all_depend(named, gone)
+    }
+
+    // The step that takes out the transactions with these ids and their dependents, if these are few.
+    fn prepare_followed(&self, ids: &Arc<Ids, Memory>) -> Result<Option<Prepared>, NoMemory>
+        ensures { IfOk result (λ step. IfSome step (TakesFollowed self.now.pool (arc_value ids.now))) }
     {
         let named = self.named(ids.as_slice())?;
-        if !self.are_leaves(&named) {
+        let most = few_of(self.items.len()).max(named.as_slice().len());
+        let Some(gone) = self.follow(&named, most)? else {
+            return Ok(None);
+        };
+        if !self.are_followed(&named, &gone) {
             return Ok(None);
         }
         let asked = Arc::try_clone(ids)?;
-        Ok(Some(take_out_step(self.memory, asked, named)?))
+        Ok(Some(take_out_step(self.memory, asked, named, gone)?))
     }
 
     /// Prepares to take out the transactions with these ids, whether they are valid or not, and those that aren't valid
@@ -387,7 +390,7 @@ impl SeqPool {
         if self.changes >= self.config.limit {
             return Err(Refusal::HistoryFull);
         }
-        if let Some(step) = self.prepare_leaves(ids)? {
+        if let Some(step) = self.prepare_followed(ids)? {
             return Ok(step);
         }
         let asked = Arc::try_clone(ids)?;
@@ -519,15 +522,15 @@ impl SeqPool {
     }
 
     // Takes out the transactions with these tickets, as the reply says. No others depend on them.
-    fn take_leaves_out(&mut self, gone: &Tickets, reply: &Reply)
+    fn take_out(&mut self, gone: &Tickets, reply: &Reply)
         requires change { self.old.pool.changes < self.old.pool.limit }
-        requires leaves { All (IsLeafAt self.old.pool) gone.now }
+        requires turn { GoInTurn self.old.pool.ledger self.old.pool.items gone.now }
         requires told { apart gone.now self.old.pool.items
             ≡ left_by reply.now self.old.pool.items }
         ensures { self.new.pool ≡ pool_upon self.old.pool self.old.pool.ledger
             (left_by reply.now self.old.pool.items) }
     {
-        take_leaves(&mut self.overlay, &self.items, gone);
+        take_in_turn(&mut self.overlay, &self.items, gone);
         let bytes = take_told(&mut self.items, reply);
         self.bytes -= bytes;
         self.changes += 1;
@@ -562,7 +565,7 @@ impl SeqPool {
         match effect {
             Effect::Append(node, applied) => self.append(node, applied),
             Effect::Keep(overlay, _kept) => self.leave(Box::into_inner(overlay), &reply),
-            Effect::TakeOut(gone) => self.take_leaves_out(&gone, &reply),
+            Effect::TakeOut(gone) => self.take_out(&gone, &reply),
             Effect::Adopt(ledger, gone) => self.adopt(ledger, &gone, &reply),
         }
         reply

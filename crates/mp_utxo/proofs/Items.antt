@@ -93,7 +93,7 @@ ticket-at [] place t e = absurd (none-some t e)
 ticket-at (a ∷ more) zero t e = record { ticket = a.ticket; at = refl; slot = one_slot arc_value a.ticket a.tx t e }
 ticket-at (a ∷ more) (suc k) t e = let back = ticket-at more k t e in record { ticket = back.ticket; at = back.at; slot = back.slot }
 
-in-given : (ss : Slots) (k : ℕ) (x : ℕ × Transaction) → option_and_then (λ s. s) (slice_get ss k) ≡ Some x → In (given ss) x
+pub in-given : (ss : Slots) (k : ℕ) (x : ℕ × Transaction) → option_and_then (λ s. s) (slice_get ss k) ≡ Some x → In (given ss) x
 in-given [] k x e = absurd (none-some x e)
 in-given (None ∷ ss) zero x e = absurd (none-some x e)
 in-given (Some y ∷ ss) zero x e = inl (same_Some y x e)
@@ -194,11 +194,11 @@ items-less old new place t stands vacated apart =
 
 -- ---- the transaction of an id
 
-made_place : (ps : Places) (r : OutRef) (o : Option Change) (place : ℕ) → place_of o ≡ Some place → IsMadeSo ps r o → MakesAt ps place r
+pub made_place : (ps : Places) (r : OutRef) (o : Option Change) (place : ℕ) → place_of o ≡ Some place → IsMadeSo ps r o → MakesAt ps place r
 made_place ps r None place e made = absurd (none-some place e)
 made_place ps r (Some Spent) place e made = absurd (none-some place e)
 made_place ps r (Some (Made p)) place e made = subst (λ (k : ℕ). MakesAt ps k r) (same_Some p place e) made
-made_place ps r (Some (MadeThenSpent p)) place e made = subst (λ (k : ℕ). MakesAt ps k r) (same_Some p place e) made
+made_place ps r (Some (MadeThenSpent p by)) place e made = subst (λ (k : ℕ). MakesAt ps k r) (same_Some p place e) made.0
 
 -- the ticket at the place that made its first output
 pub record IsFound (applied : List Applied) (id : List ℕ) (place : ℕ) : Type 0 where
@@ -224,7 +224,7 @@ unmade : (ps : Places) (r : OutRef) (o : Option Change) → place_of o ≡ None 
 unmade ps r None e made = made
 unmade ps r (Some Spent) e made = made.0
 unmade ps r (Some (Made place)) e made = absurd (none-some place (sym e))
-unmade ps r (Some (MadeThenSpent place)) e made = absurd (none-some place (sym e))
+unmade ps r (Some (MadeThenSpent place by)) e made = absurd (none-some place (sym e))
 
 no_id : (es : Items) (id : List ℕ) → AllByRecursion (λ t. output_made t (key_of id) ≡ None) (txs es) → AllByRecursion (λ e. id_of e.1 ≡ id → 0 < length e.1.outputs) es → AllByRecursion (λ e. id_of e.1 ≢ id) es
 no_id [] id a b = tt

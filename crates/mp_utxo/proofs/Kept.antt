@@ -20,7 +20,7 @@ use Rattle.mp_utxo.specs.Apply.{Unspent, apply, after, output_made}
 use Rattle.mp_utxo.specs.Leaf.{NoneMakes, LooksPast}
 use Rattle.mp_utxo.specs.Inside.Changes.{Noted, last_change, spent, is_made, is_own, Spends, Makes}
 use Rattle.mp_utxo.specs.Inside.Applied.{Places, places, those, transactions}
-use Rattle.mp_utxo.specs.Inside.Overlay.{changed, SomeSpends, IsMadeSo, MakesAt, AreKept}
+use Rattle.mp_utxo.specs.Inside.Overlay.{changed, SomeSpends, SpendsAt, IsMadeSo, MakesAt, AreKept}
 use Rattle.mp_utxo.proofs.After.{after-append, apply-unmade}
 use Rattle.mp_utxo.proofs.Places.{those-append, standing-push, standing-last}
 use Rattle.mp_utxo.proofs.Makers.{own-made, makes-at, other-unmade}
@@ -33,13 +33,20 @@ stays ps t u r None made = refl
 stays ps t u r (Some Spent) made = refl
 stays ps t u r (Some (Made place)) made =
     ap (option_and_then (λ (x : Transaction). slice_get x.outputs r.index)) (standing-push ps (Some t) place made.maker made.stands ∙ sym made.stands)
-stays ps t u r (Some (MadeThenSpent place)) made = refl
+stays ps t u r (Some (MadeThenSpent place by)) made = refl
 
 still_at : (ps : Places) (t : Transaction) (r : OutRef) (place : ℕ) → MakesAt ps place r → MakesAt (ps ++ Some t ∷ []) place r
 still_at ps t r place made = record { maker = made.maker; stands = standing-push ps (Some t) place made.maker made.stands; makes = made.makes }
 
 still_none : (ps : Places) (t : Transaction) (r : OutRef) → output_made t r ≡ None → NoneMakes (those ps) r → NoneMakes (those (ps ++ Some t ∷ [])) r
 still_none ps t r e none = subst (λ ts. NoneMakes ts r) (sym (those-append ps (Some t ∷ []))) (All-push (λ (x : Transaction). output_made x r ≡ None) (those ps) t none e)
+
+still_by : (ps : Places) (t : Transaction) (r : OutRef) (place : ℕ) → SpendsAt ps place r → SpendsAt (ps ++ Some t ∷ []) place r
+still_by ps t r place by = record { spender = by.spender; stands = standing-push ps (Some t) place by.spender by.stands; does = by.does }
+
+-- the last transaction spends it
+by_last : (ps : Places) (t : Transaction) (r : OutRef) → spends t.inputs r ≡ true → SpendsAt (ps ++ Some t ∷ []) (length ps) r
+by_last ps t r s = record { spender = t; stands = standing-last ps t; does = s }
 
 or_true : (b : Bool) → b || true ≡ true
 or_true true = refl
@@ -61,27 +68,27 @@ still : (ps : Places) (t : Transaction) (r : OutRef) (o : Option Change) → out
 still ps t r None e made = still_none ps t r e made
 still ps t r (Some Spent) e made = (still_none ps t r e made.0, spent_before ps t r made.1)
 still ps t r (Some (Made place)) e made = still_at ps t r place made
-still ps t r (Some (MadeThenSpent place)) e made = still_at ps t r place made
+still ps t r (Some (MadeThenSpent place by)) e made = (still_at ps t r place made.0, still_by ps t r by made.1)
 
-still_spent : (ps : Places) (t : Transaction) (r : OutRef) (o : Option Change) → output_made t r ≡ None → spends t.inputs r ≡ true → IsMadeSo ps r o → IsMadeSo (ps ++ Some t ∷ []) r (Some (spent o))
+still_spent : (ps : Places) (t : Transaction) (r : OutRef) (o : Option Change) → output_made t r ≡ None → spends t.inputs r ≡ true → IsMadeSo ps r o → IsMadeSo (ps ++ Some t ∷ []) r (Some (spent (length ps) o))
 still_spent ps t r None e s made = (still_none ps t r e made, spent_by_last ps t r s)
 still_spent ps t r (Some Spent) e s made = (still_none ps t r e made.0, spent_by_last ps t r s)
-still_spent ps t r (Some (Made place)) e s made = still_at ps t r place made
-still_spent ps t r (Some (MadeThenSpent place)) e s made = still_at ps t r place made
+still_spent ps t r (Some (Made place)) e s made = (still_at ps t r place made, by_last ps t r s)
+still_spent ps t r (Some (MadeThenSpent place before)) e s made = (still_at ps t r place made.0, by_last ps t r s)
 
-gone : (ps : Places) (u : Unspent) (r : OutRef) (o : Option Change) → changed ps u r (Some (spent o)) ≡ None
-gone ps u r None = refl
-gone ps u r (Some Spent) = refl
-gone ps u r (Some (Made place)) = refl
-gone ps u r (Some (MadeThenSpent place)) = refl
+gone : (ps : Places) (u : Unspent) (r : OutRef) (by : ℕ) (o : Option Change) → changed ps u r (Some (spent by o)) ≡ None
+gone ps u r by None = refl
+gone ps u r by (Some Spent) = refl
+gone ps u r by (Some (Made place)) = refl
+gone ps u r by (Some (MadeThenSpent place before)) = refl
 
 -- ---- the change of a reference
 
 -- the change of a reference after the transaction has spent and made
 abbrev both : Bool → Bool → ℕ → Option Change → Option Change
-both own spends place o = if own then Some (Made place) else (if spends then Some (spent o) else o)
+both own spends place o = if own then Some (Made place) else (if spends then Some (spent place o) else o)
 
-last-both : (t : Transaction) (place : ℕ) (old mid new : Noted) → Spends old t.inputs mid → Makes mid t place new → (r : OutRef)
+last-both : (t : Transaction) (place : ℕ) (old mid new : Noted) → Spends old place t.inputs mid → Makes mid t place new → (r : OutRef)
     → last_change new r ≡ both (is_own (id_of t) (length t.outputs) r) (spends t.inputs r) place (last_change old r)
 last-both t place old mid new spent made r = made r ∙ ap (λ o. if is_own (id_of t) (length t.outputs) r then Some (Made place) else o) (spent r)
 
@@ -94,7 +101,7 @@ tells : (ps : Places) (t : Transaction) (u v : Unspent) (r : OutRef) (own sp : B
 tells ps t u v r true sp o own s made is =
     ap (option_and_then (λ (x : Transaction). slice_get x.outputs r.index)) (standing-last ps t)
     ∙ sym (makes-at t r (own-made t r own)) ∙ or_some (output_made t r) (if spends t.inputs r then None else v r) (own-made t r own)
-tells ps t u v r false true o own s made is = gone (ps ++ Some t ∷ []) u r o ∙ sym (apply-unmade t v r (other-unmade t r own) ∙ ap (λ b. if b then None else v r) s)
+tells ps t u v r false true o own s made is = gone (ps ++ Some t ∷ []) u r (length ps) o ∙ sym (apply-unmade t v r (other-unmade t r own) ∙ ap (λ b. if b then None else v r) s)
 tells ps t u v r false false o own s made is = stays ps t u r o made ∙ is ∙ sym (apply-unmade t v r (other-unmade t r own) ∙ ap (λ b. if b then None else v r) s)
 
 made-both : (ps : Places) (t : Transaction) (r : OutRef) (own sp : Bool) (o : Option Change) → is_own (id_of t) (length t.outputs) r ≡ own → spends t.inputs r ≡ sp → IsMadeSo ps r o → IsMadeSo (ps ++ Some t ∷ []) r (both own sp (length ps) o)
@@ -103,7 +110,7 @@ made-both ps t r false true o own s made = still_spent ps t r o (other-unmade t 
 made-both ps t r false false o own s made = still ps t r o (other-unmade t r own) made
 
 -- the changes also determine what can be spent after the transaction
-keeps : (ps : Places) (t : Transaction) (u : Unspent) (old mid new : Noted) → Spends old t.inputs mid → Makes mid t (length ps) new → AreKept ps u old → AreKept (ps ++ Some t ∷ []) u new
+keeps : (ps : Places) (t : Transaction) (u : Unspent) (old mid new : Noted) → Spends old (length ps) t.inputs mid → Makes mid t (length ps) new → AreKept ps u old → AreKept (ps ++ Some t ∷ []) u new
 keeps ps t u old mid new spent made kept = record {
   tell = λ r. ap (changed (ps ++ Some t ∷ []) u r) (last-both t (length ps) old mid new spent made r)
       ∙ tells ps t u (after u (those ps)) r (is_own (id_of t) (length t.outputs) r) (spends t.inputs r) (last_change old r) refl refl (kept.made r) (kept.tell r)
@@ -118,7 +125,7 @@ unmade : (ps : Places) (r : OutRef) (o : Option Change) → is_made o ≡ false 
 unmade ps r None e made = made
 unmade ps r (Some Spent) e made = made.0
 unmade ps r (Some (Made place)) e made = absurd (false≢true (sym e))
-unmade ps r (Some (MadeThenSpent place)) e made = absurd (false≢true (sym e))
+unmade ps r (Some (MadeThenSpent place by)) e made = absurd (false≢true (sym e))
 
 or_false : (a b : Bool) → a || b ≡ false → (a ≡ false) × (b ≡ false)
 or_false true b e = absurd (false≢true (sym e))
@@ -143,10 +150,11 @@ pushed-places applied pushed more t is held =
     ap places is ∙ map-append (λ (a : Applied). option_map arc_value a.tx) applied (more ∷ []) ∙ ap (λ x. places applied ++ x ∷ []) held
 
 -- with one more transaction after them
-pub keeps-push : (applied pushed : List Applied) (more : Applied) (t : Transaction) (u : Unspent) (place : ℕ) (old mid new : Noted) → pushed ≡ applied ++ more ∷ [] → option_map arc_value more.tx ≡ Some t → place ≡ length applied → Spends old t.inputs mid → Makes mid t place new → AreKept (places applied) u old → AreKept (places pushed) u new
+pub keeps-push : (applied pushed : List Applied) (more : Applied) (t : Transaction) (u : Unspent) (place : ℕ) (old mid new : Noted) → pushed ≡ applied ++ more ∷ [] → option_map arc_value more.tx ≡ Some t → place ≡ length applied → Spends old place t.inputs mid → Makes mid t place new → AreKept (places applied) u old → AreKept (places pushed) u new
 keeps-push applied pushed more t u place old mid new is held at spent made kept =
     subst (λ ps. AreKept ps u new) (sym (pushed-places applied pushed more t is held))
-    (keeps (places applied) t u old mid new spent (subst (λ p. Makes mid t p new) (at ∙ sym (length-map applied (λ (a : Applied). option_map arc_value a.tx))) made) kept)
+    (let same : place ≡ length (places applied) = at ∙ sym (length-map applied (λ (a : Applied). option_map arc_value a.tx)) in
+    keeps (places applied) t u old mid new (subst (λ p. Spends old p t.inputs mid) same spent) (subst (λ p. Makes mid t p new) same made) kept)
 
 pub looks-push : (applied pushed : List Applied) (more : Applied) (t : Transaction) (u : Unspent) (noted : Noted) → pushed ≡ applied ++ more ∷ [] → option_map arc_value more.tx ≡ Some t
     → AreKept (places applied) u noted → list_any (λ r. is_made (last_change noted r)) t.references ≡ false → AllPairs LooksPast (transactions applied) → AllPairs LooksPast (transactions pushed)

@@ -36,20 +36,20 @@ some_within : {X : Type 0} (xs : List X) (k : ℕ) → IsSome (slice_get xs k) �
 some_within xs k h = grind (arith, gets)
 
 -- a reference to one of its outputs
-own-at : (t : Transaction) (r : OutRef) → IsSome (output_made t r) → (r.index < length t.outputs) × (own_ref t r.index ≡ r)
+pub own-at : (t : Transaction) (r : OutRef) → IsSome (output_made t r) → (r.index < length t.outputs) × (own_ref t r.index ≡ r)
 own-at t r h = (some_within t.outputs r.index (subst (λ (o : Option Output). IsSome o) (makes-at t r h) h), ap (λ (id : List ℕ). record { id = id; index = r.index }) (sym (makes-id t r h)))
 
 left_unspent : (ps : Places) (u : Unspent) (r : OutRef) (o : Option Change) → is_some (unspent_of o) ≡ true → IsMadeSo ps r o → IsSome (changed ps u r o)
 left_unspent ps u r None e made = absurd (false≢true e)
 left_unspent ps u r (Some Spent) e made = absurd (false≢true e)
 left_unspent ps u r (Some (Made place)) e made = subst (λ (o : Option Output). IsSome o) (sym (made-is ps r place made)) made.makes
-left_unspent ps u r (Some (MadeThenSpent place)) e made = absurd (false≢true e)
+left_unspent ps u r (Some (MadeThenSpent place by)) e made = absurd (false≢true e)
 
-told_by_one : (ps : Places) (u : Unspent) (r : OutRef) (o : Option Change) → is_told_by_one o (u r) ≡ true → IsMadeSo ps r o → IsOfOne u (those ps) r
+pub told_by_one : (ps : Places) (u : Unspent) (r : OutRef) (o : Option Change) → is_told_by_one o (u r) ≡ true → IsMadeSo ps r o → IsOfOne u (those ps) r
 told_by_one ps u r None e made = absurd (false≢true e)
 told_by_one ps u r (Some Spent) e made = inl made.0
 told_by_one ps u r (Some (Made place)) e made = absurd (false≢true e)
-told_by_one ps u r (Some (MadeThenSpent place)) e made = inr (is_none-none (u r) e)
+told_by_one ps u r (Some (MadeThenSpent place by)) e made = inr (is_none-none (u r) e)
 
 pub leaf : (ps : Places) (u : Unspent) (noted : Noted) (t : Transaction) → AreKept ps u noted → AllPairs LooksPast (those ps) → HasNewUnspent noted u t → list_all (λ i. is_of_one noted u i.from) t.inputs ≡ true → IsLeaf u (those ps) t
 leaf ps u noted t kept apart own ins =

@@ -8,3 +8,4 @@ pub mod Taken
 pub mod Rebased
 pub mod ById
 pub mod Items
+pub mod Ends

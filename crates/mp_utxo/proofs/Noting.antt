@@ -37,21 +37,21 @@ becomes_more next again old mid new inputs i input lt is before one = λ r.
     ∙ ap (λ b. if spends (take i inputs) r || b then next (last_change old r) else last_change old r) (same-back input.from r ∙ ap (λ (d : Input). same_ref r d.from) is)
     ∙ ap (λ b. if b then next (last_change old r) else last_change old r) (sym (list_any_more (λ (d : Input). same_ref r d.from) inputs i input lt))
 
-spent-again : (o : Option Change) → Some (spent (Some (spent o))) ≡ Some (spent o)
-spent-again None = refl
-spent-again (Some Spent) = refl
-spent-again (Some (Made place)) = refl
-spent-again (Some (MadeThenSpent place)) = refl
+spent-again : (by : ℕ) (o : Option Change) → Some (spent by (Some (spent by o))) ≡ Some (spent by o)
+spent-again by None = refl
+spent-again by (Some Spent) = refl
+spent-again by (Some (Made place)) = refl
+spent-again by (Some (MadeThenSpent place before)) = refl
 
 -- what one more input spends
-pub spends_more : (old mid new : Noted) (inputs : List Input) (i : ℕ) (input : Input) → i < length inputs → input ≡ get_or inputs i input → Spends old (take i inputs) mid → SpendsOne mid input.from new → Spends old (take (i + 1) inputs) new
-spends_more old mid new inputs i input lt is before one = becomes_more (λ o. Some (spent o)) spent-again old mid new inputs i input lt is before one
+pub spends_more : (old mid new : Noted) (by : ℕ) (inputs : List Input) (i : ℕ) (input : Input) → i < length inputs → input ≡ get_or inputs i input → Spends old by (take i inputs) mid → SpendsOne mid by input.from new → Spends old by (take (i + 1) inputs) new
+spends_more old mid new by inputs i input lt is before one = becomes_more (λ o. Some (spent by o)) (spent-again by) old mid new inputs i input lt is before one
 
 restored-again : (o : Option Change) → restored (restored o) ≡ restored o
 restored-again None = refl
 restored-again (Some Spent) = refl
 restored-again (Some (Made place)) = refl
-restored-again (Some (MadeThenSpent place)) = refl
+restored-again (Some (MadeThenSpent place spender)) = refl
 
 -- what one more input spent
 pub restores_more : (old mid new : Noted) (inputs : List Input) (i : ℕ) (input : Input) → i < length inputs → input ≡ get_or inputs i input → Restores old (take i inputs) mid → RestoresOne mid input.from new → Restores old (take (i + 1) inputs) new

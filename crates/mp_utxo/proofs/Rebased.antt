@@ -70,7 +70,7 @@ tells : (ps : Places) (u v : Unspent) (r : OutRef) (o : Option Change) → IsFed
 tells ps u v r None fed is made = passed u v (those ps) r (u r) (unmade (those ps) r made) fed refl is
 tells ps u v r (Some Spent) fed is made = sym (spent_gone v (those ps) r (unmade (those ps) r made.0) made.1)
 tells ps u v r (Some (Made place)) fed is made = is ∙ made_at ps u v place r made
-tells ps u v r (Some (MadeThenSpent place)) fed is made = is ∙ made_at ps u v place r made
+tells ps u v r (Some (MadeThenSpent place by)) fed is made = is ∙ made_at ps u v place r made.0
 
 -- the changes determine what can be spent after the transactions on the other ledger state
 pub rebased : (ps : Places) (u v : Unspent) (noted : Noted) → IsFed u (those ps) → AreKept ps u noted → AreKept ps v noted

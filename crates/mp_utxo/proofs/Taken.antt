@@ -24,7 +24,7 @@ use Rattle.mp_utxo.specs.Apply.{Unspent, apply, after, own_ref, output_made}
 use Rattle.mp_utxo.specs.Leaf.{IsLeaf, IsOfOne, IsFed, NoneMakes, LooksPast, others}
 use Rattle.mp_utxo.specs.Inside.Changes.{Noted, last_change, restored, unspent_of, is_own, Restores, Forgets}
 use Rattle.mp_utxo.specs.Inside.Applied.{Places, those, standing, made_at}
-use Rattle.mp_utxo.specs.Inside.Overlay.{changed, SomeSpends, IsMadeSo, MakesAt, AreKept}
+use Rattle.mp_utxo.specs.Inside.Overlay.{changed, SomeSpends, SpendsAt, IsMadeSo, MakesAt, AreKept}
 use Rattle.mp_utxo.proofs.Noting.{same-exact}
 use Rattle.mp_utxo.proofs.After.{Unmade, IsOr, after-join, after-at, never, was_there, only_one, untouched, fed_at, there_at, apply-spends, apply-past, none_some}
 use Rattle.mp_utxo.proofs.Places.{In, in-contains, those-append, in-those, all-at, cut, Stays, elsewhere}
@@ -174,7 +174,7 @@ told-spent : (u : Unspent) (fore : Places) (t : Transaction) (aft : Places) → 
 told-spent u fore t aft g r None none s made = told-below u fore t aft g r none s made
 told-spent u fore t aft g r (Some Spent) none s made = told-below u fore t aft g r none s made.0
 told-spent u fore t aft g r (Some (Made place)) none s made = told-made u fore t aft g r none s place made
-told-spent u fore t aft g r (Some (MadeThenSpent place)) none s made = told-made u fore t aft g r none s place made
+told-spent u fore t aft g r (Some (MadeThenSpent place by)) none s made = told-made u fore t aft g r none s place made.0
 
 -- the change of what it neither spent nor made stays the same
 tell-past : (u : Unspent) (fore : Places) (t : Transaction) (aft : Places) (r : OutRef) (o p : Option Output) → output_made t r ≡ None → spends t.inputs r ≡ false → p ≡ o → o ≡ after u (those (with fore t aft)) r → p ≡ after u (those (without fore aft)) r
@@ -193,6 +193,13 @@ spent-past fore t aft r s some =
     ∙ ap (λ b. list_any test (those fore) || (b || list_any test (those aft))) (sym s)
     ∙ sym (list_any-append test (those fore) (t ∷ those aft)) ∙ subst (λ ts. SomeSpends ts r) (those-with fore t aft) some)
 
+-- the spender stays at its place
+spender-past : (fore : Places) (t : Transaction) (aft : Places) (r : OutRef) (by : ℕ) → spends t.inputs r ≡ false → SpendsAt (with fore t aft) by r → SpendsAt (without fore aft) by r
+spender-past fore t aft r by s at = ⊎_elim
+    (λ (e : t ≡ at.spender). absurd (false≢true (sym s ∙ ap (λ (x : Transaction). spends x.inputs r) e ∙ at.does)))
+    (λ (h : Stays fore aft by at.spender). record { spender = at.spender; stands = h.stands; does = at.does })
+    (elsewhere fore aft t by at.spender at.stands)
+
 told-past : (u : Unspent) (fore : Places) (t : Transaction) (aft : Places) (r : OutRef) (o : Option Change) → output_made t r ≡ None → spends t.inputs r ≡ false → changed (with fore t aft) u r o ≡ after u (those (with fore t aft)) r → IsMadeSo (with fore t aft) r o → IsTold (without fore aft) u r o
 told-past u fore t aft r None none s is made = record { tell = tell-past u fore t aft r (u r) (u r) none s refl is; made = none-past fore t aft r made }
 told-past u fore t aft r (Some Spent) none s is made = record { tell = tell-past u fore t aft r None None none s refl is; made = (none-past fore t aft r made.0, spent-past fore t aft r s made.1) }
@@ -200,9 +207,9 @@ told-past u fore t aft r (Some (Made place)) none s is made =
     let e = another fore t aft place r made none in
     let same = made-is (without fore aft) r place e.at ∙ ap (λ (x : Transaction). output_made x r) e.same ∙ sym (made-is (with fore t aft) r place made) in
     record { tell = tell-past u fore t aft r (made_at (with fore t aft) place r.index) (made_at (without fore aft) place r.index) none s same is; made = e.at }
-told-past u fore t aft r (Some (MadeThenSpent place)) none s is made =
-    let e = another fore t aft place r made none in
-    record { tell = tell-past u fore t aft r None None none s refl is; made = e.at }
+told-past u fore t aft r (Some (MadeThenSpent place by)) none s is made =
+    let e = another fore t aft place r made.0 none in
+    record { tell = tell-past u fore t aft r None None none s refl is; made = (e.at, spender-past fore t aft r by s made.1) }
 
 told : (u : Unspent) (fore : Places) (t : Transaction) (aft : Places) → Going u fore t aft → (r : OutRef) (own sp : Bool) (o : Option Change) → is_own (id_of t) (length t.outputs) r ≡ own → spends t.inputs r ≡ sp
     → changed (with fore t aft) u r o ≡ after u (those (with fore t aft)) r → IsMadeSo (with fore t aft) r o → IsTold (without fore aft) u r (if own then None else (if sp then restored o else o))
@@ -254,7 +261,7 @@ made-somewhere : (ps : Places) (u : Unspent) (t : Transaction) (o : Option Chang
 made-somewhere ps u t None h there makes made e = none_some (output_made t (own_ref t 0)) (all-at (λ (x : Transaction). output_made x (own_ref t 0) ≡ None) (those ps) t (recursion_from_All (λ (x : Transaction). output_made x (own_ref t 0) ≡ None) (those ps) made) there) makes
 made-somewhere ps u t (Some Spent) h there makes made e = false≢true h
 made-somewhere ps u t (Some (Made place)) h there makes made e = false≢true (sym (ap is_some e))
-made-somewhere ps u t (Some (MadeThenSpent place)) h there makes made e = false≢true h
+made-somewhere ps u t (Some (MadeThenSpent place by)) h there makes made e = false≢true h
 
 -- what was found for its first output
 pub first-at : (noted : Noted) (t : Transaction) (id : List ℕ) (o : Option ℕ) → id ≡ id_of t → o ≡ unspent_of (last_change noted (record { id = id; index = 0 })) → unspent_of (last_change noted (own_ref t 0)) ≡ o
@@ -271,7 +278,7 @@ place-of : (ps : Places) (r : OutRef) (o : Option Change) (place : ℕ) → unsp
 place-of ps r None place e made = absurd (none-some place e)
 place-of ps r (Some Spent) place e made = absurd (none-some place e)
 place-of ps r (Some (Made p)) place e made = subst (λ (k : ℕ). MakesAt ps k r) (same_Some p place e) made
-place-of ps r (Some (MadeThenSpent p)) place e made = absurd (none-some place e)
+place-of ps r (Some (MadeThenSpent p by)) place e made = absurd (none-some place e)
 
 -- it is at the place that made its first output
 pub stands-there : (ps : Places) (u : Unspent) (noted : Noted) (t : Transaction) (place : ℕ) → AreKept ps u noted → IsGoing u (those ps) t → unspent_of (last_change noted (own_ref t 0)) ≡ Some place → standing ps place ≡ Some t

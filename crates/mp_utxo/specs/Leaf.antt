@@ -1,8 +1,8 @@
 -- Transactions without dependents: they can be taken out of the middle, without a check of anything else.
-use Rattle.std.specs.Prelude.{◌≡◌, ◌⊎◌, ℕ, ◌<◌, nat_eq, not, List, [], ◌∷◌, length, filter, All, AllPairs, None, IsSome}
+use Rattle.std.specs.Prelude.{◌≡◌, ◌⊎◌, ℕ, ◌<◌, nat_eq, true, not, List, [], ◌∷◌, length, filter, All, AllPairs, Contains, None, IsSome}
 use Rattle.std.specs.Cmp.Lexicographic.{pointwise}
 use Rattle.mp_tx.specs.declared.reference.OutRef.{OutRef}
-use Rattle.mp_tx.specs.Transaction.{Transaction}
+use Rattle.mp_tx.specs.Transaction.{Transaction, spends}
 use Rattle.mp_tx.specs.Spelling.{id_of}
 use Rattle.mp_utxo.specs.Apply.{Unspent, apply, after, output_made}
 use Rattle.mp_utxo.specs.Overlay.{Overlay}
@@ -32,6 +32,34 @@ pub record IsLeaf (u : Unspent) (ts : List Transaction) (t : Transaction) : Type
   -- none of its outputs was spent
   pub unspent : (r : OutRef) → IsSome (output_made t r) → IsSome (after u ts r)
   -- no transaction reads what one before it makes
+  pub apart : AllPairs LooksPast ts
+  pub inputs : All (λ i. IsOfOne u ts i.from) t.inputs
+
+-- one of the transactions, with this ticket, makes an output at the reference
+pub record IsMadeBy (items : List (ℕ × Transaction)) (r : OutRef) (ticket : ℕ) : Type 0 where
+  pub maker : Transaction
+  pub there : Contains items (ticket, maker)
+  pub makes : IsSome (output_made maker r)
+
+-- one of the transactions, with this ticket, spends the reference
+pub record IsSpentBy (items : List (ℕ × Transaction)) (r : OutRef) (ticket : ℕ) : Type 0 where
+  pub spender : Transaction
+  pub there : Contains items (ticket, spender)
+  pub does : spends spender.inputs r ≡ true
+
+-- a transaction with one of these tickets spends the reference
+pub record IsSpentAmong (items : List (ℕ × Transaction)) (gone : List ℕ) (r : OutRef) : Type 0 where
+  pub ticket : ℕ
+  pub among : Contains gone ticket
+  pub by : IsSpentBy items r ticket
+
+-- of the transactions on the ledger, only those with these tickets depend on this one
+pub record HasDependentsAmong (u : Unspent) (ts : List Transaction) (items : List (ℕ × Transaction)) (gone : List ℕ) (t : Transaction)
+    : Type 0 where
+  pub has_output : 0 < length t.outputs
+  pub new : (r : OutRef) → IsSome (output_made t r) → u r ≡ None
+  -- each of its outputs is unspent, or one of those spends it
+  pub ended : (r : OutRef) → IsSome (output_made t r) → IsSome (after u ts r) ⊎ IsSpentAmong items gone r
   pub apart : AllPairs LooksPast ts
   pub inputs : All (λ i. IsOfOne u ts i.from) t.inputs
 

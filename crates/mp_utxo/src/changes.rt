@@ -16,8 +16,8 @@ pub enum Change {
     Spent,
     /// The transaction at this place made it, and it hasn't been spent since.
     Made(usize),
-    /// The transaction at this place made it, and it has been spent since.
-    MadeThenSpent(usize),
+    /// The transaction at the first place made it, and the one at the second has spent it since.
+    MadeThenSpent(usize, usize),
 }
 
 /// The last change of each reference that was spent or made.
@@ -50,30 +50,30 @@ pub fn note_again(changes: &mut Changes, reference: &OutRef, change: Change)
     }
 }
 
-// Records that the reference is spent.
-fn spend_one(changes: &mut Changes, reference: OutRef)
+// Records that the transaction at this place spends the reference.
+fn spend_one(changes: &mut Changes, reference: OutRef, spender: usize)
     requires { 0 < spare changes.old }
-    ensures spends { SpendsOne changes.old.entries reference changes.new.entries }
+    ensures spends { SpendsOne changes.old.entries spender reference changes.new.entries }
     ensures room { spare changes.old ≤ spare changes.new + 1 }
     ensures salt { hasher_of changes.new ≡ hasher_of changes.old }
 {
     match note(changes, reference, Change::Spent) {
         None | Some(Change::Spent) => {}
-        Some(Change::Made(place) | Change::MadeThenSpent(place)) => {
-            note_again(changes, &reference, Change::MadeThenSpent(place));
+        Some(Change::Made(place) | Change::MadeThenSpent(place, _)) => {
+            note_again(changes, &reference, Change::MadeThenSpent(place, spender));
         }
     }
 }
 
-/// Records what the inputs spend.
-pub fn spend(changes: &mut Changes, inputs: &[Input])
+/// Records what the inputs of the transaction at this place spend.
+pub fn spend(changes: &mut Changes, inputs: &[Input], spender: usize)
     requires { length inputs.now ≤ spare changes.old }
-    ensures spends { Spends changes.old.entries inputs.now changes.new.entries }
+    ensures spends { Spends changes.old.entries spender inputs.now changes.new.entries }
     ensures room { spare changes.old ≤ spare changes.new + length inputs.now }
     ensures salt { hasher_of changes.new ≡ hasher_of changes.old }
 {
     for input in inputs {
-        spend_one(changes, input.from);
+        spend_one(changes, input.from, spender);
     }
 }
 
@@ -99,7 +99,7 @@ pub fn unspent_of(changes: &Changes, reference: &OutRef) -> Option<usize>
 {
     match changes.get(reference) {
         Some(Change::Made(place)) => Some(*place),
-        None | Some(Change::Spent | Change::MadeThenSpent(_)) => None,
+        None | Some(Change::Spent | Change::MadeThenSpent(_, _)) => None,
     }
 }
 
@@ -109,7 +109,7 @@ pub fn place_of(changes: &Changes, reference: &OutRef) -> Option<usize>
 {
     match changes.get(reference) {
         None | Some(Change::Spent) => None,
-        Some(Change::Made(place) | Change::MadeThenSpent(place)) => Some(*place),
+        Some(Change::Made(place) | Change::MadeThenSpent(place, _)) => Some(*place),
     }
 }
 
@@ -119,7 +119,7 @@ fn is_made(changes: &Changes, reference: &OutRef) -> bool
 {
     match changes.get(reference) {
         None | Some(Change::Spent) => false,
-        Some(Change::Made(_) | Change::MadeThenSpent(_)) => true,
+        Some(Change::Made(_) | Change::MadeThenSpent(_, _)) => true,
     }
 }
 

@@ -4,7 +4,7 @@ use crate::applied::{Applied, is_sparse, output_at, ticket_at, vacate};
 use crate::bare::{Bare, note_bare, ticket_of_bare};
 use crate::by_id::key_of;
 use crate::changes::{Change, Changes, are_any_made, make, place_of, spend, unspent_of};
-use crate::leaf::{are_of_one, has_new_unspent};
+use crate::leaf::{are_of_one, has_new_ends, has_new_unspent, spender_of};
 use crate::undo::{forget_made, restore};
 use indexmap::IndexMap;
 use mp_memory::{Memory, NoMemory};
@@ -63,7 +63,7 @@ impl Overlay {
     ghost use Rattle.std.specs.Arc.{arc_value};
     ghost use Rattle.std.specs.FinMap as finite;
     ghost use Rattle.mp_tx.specs.Spelling.{id_of};
-    ghost use Rattle.mp_utxo.specs.Leaf.{IsLeaf, IsFed, LacksOne};
+    ghost use Rattle.mp_utxo.specs.Leaf.{IsLeaf, IsFed, HasDependentsAmong, IsMadeBy, IsSpentBy, LacksOne};
     ghost use Rattle.mp_utxo.specs.Overlay.{unspent, IsOver, HasRoomFor, IsSame, Applies, IsUnder, HasNone};
 
     /// The ledger state without applied transactions. It shares the ledger's outputs.
@@ -98,7 +98,7 @@ impl Overlay {
             None => self.ledger.get(reference),
             Some(Change::Spent) => None,
             Some(Change::Made(place)) => output_at(&self.applied, *place, reference.index),
-            Some(Change::MadeThenSpent(_)) => None,
+            Some(Change::MadeThenSpent(_, _)) => None,
         }
     }
 
@@ -129,7 +129,7 @@ impl Overlay {
         let looks_inside = self.looks_inside || are_any_made(&self.changes, tx.references());
         let place = self.applied.len();
         note_bare(&mut self.bare, ticket, &tx);
-        spend(&mut self.changes, tx.inputs());
+        spend(&mut self.changes, tx.inputs(), place);
         make(&mut self.changes, &tx, place);
         self.applied.push_reserved(Applied {
             ticket,
@@ -172,6 +172,36 @@ impl Overlay {
         }
         has_new_unspent(&self.changes, &self.ledger, tx)
             && are_of_one(&self.changes, &self.ledger, tx.inputs())
+    }
+
+    /// Whether only the applied transactions with these tickets, which are strictly increasing, depend on this one, so
+    /// that it can be taken out after them. `false` may be returned although it can. It takes no memory.
+    pub fn has_dependents_among(&self, tx: &Tx, gone: &[u64]) -> bool
+        ensures { IsTrue result → HasDependentsAmong (finite.get self.now.ledger.utxo)
+            self.now.applied self.now.items gone.now tx.now }
+    {
+        if self.looks_inside || is_sparse(self.vacant, self.applied.len()) {
+            return false;
+        }
+        has_new_ends(&self.changes, &self.ledger, &self.applied, gone, tx)
+            && are_of_one(&self.changes, &self.ledger, tx.inputs())
+    }
+
+    /// The ticket of the applied transaction that made the output at the reference, if one did.
+    pub fn maker_of(&self, reference: &OutRef) -> Option<u64>
+        ensures { IfSome result (IsMadeBy self.now.items reference.now) }
+    {
+        match place_of(&self.changes, reference) {
+            Some(place) => ticket_at(&self.applied, place),
+            None => None,
+        }
+    }
+
+    /// The ticket of the applied transaction that spends the output at the reference, if an applied one made it.
+    pub fn spender_of(&self, reference: &OutRef) -> Option<u64>
+        ensures { IfSome result (IsSpentBy self.now.items reference.now) }
+    {
+        spender_of(&self.changes, &self.applied, reference)
     }
 
     /// Takes the transaction out. What it spent can be spent again, and what it made is gone. The call takes no memory

@@ -23,7 +23,9 @@ fn restore_one(changes: &mut Changes, reference: &OutRef)
     match changes.get(reference).copied() {
         None | Some(Change::Made(_)) => {}
         Some(Change::Spent) => forget(changes, reference),
-        Some(Change::MadeThenSpent(place)) => note_again(changes, reference, Change::Made(place)),
+        Some(Change::MadeThenSpent(place, _)) => {
+            note_again(changes, reference, Change::Made(place));
+        }
     }
 }
 

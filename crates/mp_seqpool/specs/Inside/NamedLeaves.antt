@@ -1,5 +1,5 @@
 -- Taking out transactions on which no others depend.
-use Rattle.std.specs.Prelude.{◌≡◌, ◌≢◌, ℕ, List, [], map, All, AllPairs, IfSome}
+use Rattle.std.specs.Prelude.{◌≡◌, ◌≢◌, ℕ, List, map, All, AllPairs, IfSome}
 use Rattle.std.specs.FinMap.{get}
 use Rattle.mp_tx.specs.Transaction.{Transaction}
 use Rattle.mp_tx.specs.Spelling.{id_of}
@@ -8,22 +8,13 @@ use Rattle.mp_utxo.specs.Leaf.{IsLeaf}
 use Rattle.mp_rules.specs.Validity.{Chain}
 use Rattle.mp_tickets.specs.Tickets.{IsRising, item_at}
 use Rattle.mp_resync.specs.Keep.{transactions, tickets, named}
-use Rattle.mp_seqpool.specs.declared.command.Reply.TheVariants.{Removed}
-use Rattle.mp_seqpool.specs.Command.{Remove}
 use Rattle.mp_seqpool.specs.Pool.{Pool}
-use Rattle.mp_seqpool.specs.Prepared.{Prepared, TakeOut, IsLeafAt, apart}
+use Rattle.mp_seqpool.specs.Prepared.{apart}
 use Rattle.mp_seqpool.specs.Inside.Chained.{all_accepted}
 
 -- the tickets of the transactions with these ids
 abbrev pub tickets_named : List (List ℕ) → Pool → List ℕ
 tickets_named ids p = tickets (named ids p.items)
-
--- the step of a remove that takes out only the transactions with these ids
-pub record TakesNamed (p : Pool) (ids : List (List ℕ)) (q : Prepared) : Type 0 where
-  pub command : q.command ≡ Remove ids
-  pub reply : q.reply ≡ Removed (tickets_named ids p) []
-  pub effect : q.effect ≡ TakeOut (tickets_named ids p)
-  pub leaves : All (IsLeafAt p) (tickets_named ids p)
 
 -- the overlay has the items' transactions, and those with these tickets have no dependents
 pub record HasLeaves (overlay : Overlay) (items : List (ℕ × Transaction)) (gone : List ℕ) : Type 0 where

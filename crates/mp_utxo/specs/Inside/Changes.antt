@@ -17,40 +17,40 @@ Noted = List (OutRef × Change)
 abbrev pub last_change : Noted → OutRef → Option Change
 last_change noted r = lookup (same_ref r) noted
 
--- the change of a reference once it is spent
-abbrev pub spent : Option Change → Change
-spent None = Spent
-spent (Some Spent) = Spent
-spent (Some (Made place)) = MadeThenSpent place
-spent (Some (MadeThenSpent place)) = MadeThenSpent place
+-- the change of a reference once the transaction at the place spends it
+abbrev pub spent : ℕ → Option Change → Change
+spent spender None = Spent
+spent spender (Some Spent) = Spent
+spent spender (Some (Made place)) = MadeThenSpent place spender
+spent spender (Some (MadeThenSpent place before)) = MadeThenSpent place spender
 
 -- the change of a reference once it isn't spent
 abbrev pub restored : Option Change → Option Change
 restored None = None
 restored (Some Spent) = None
 restored (Some (Made place)) = Some (Made place)
-restored (Some (MadeThenSpent place)) = Some (Made place)
+restored (Some (MadeThenSpent place spender)) = Some (Made place)
 
 -- whether one of the applied transactions made it
 abbrev pub is_made : Option Change → Bool
 is_made None = false
 is_made (Some Spent) = false
 is_made (Some (Made place)) = true
-is_made (Some (MadeThenSpent place)) = true
+is_made (Some (MadeThenSpent place spender)) = true
 
 -- the place of the transaction that made it, if it hasn't been spent since
 abbrev pub unspent_of : Option Change → Option ℕ
 unspent_of None = None
 unspent_of (Some Spent) = None
 unspent_of (Some (Made place)) = Some place
-unspent_of (Some (MadeThenSpent place)) = None
+unspent_of (Some (MadeThenSpent place spender)) = None
 
 -- the place of the transaction that made it
 abbrev pub place_of : Option Change → Option ℕ
 place_of None = None
 place_of (Some Spent) = None
 place_of (Some (Made place)) = Some place
-place_of (Some (MadeThenSpent place)) = Some place
+place_of (Some (MadeThenSpent place spender)) = Some place
 
 -- the references that pass the test change by the function; the others stay the same
 abbrev pub Becomes : Noted → (OutRef → Bool) → (Option Change → Option Change) → Noted → Type 0
@@ -61,12 +61,12 @@ Becomes old test next new =
 abbrev pub Notes : Noted → OutRef → Change → Noted → Type 0
 Notes old reference change new = Becomes old (same_ref reference) (λ o. Some change) new
 
-abbrev pub SpendsOne : Noted → OutRef → Noted → Type 0
-SpendsOne old reference new = Becomes old (same_ref reference) (λ o. Some (spent o)) new
+abbrev pub SpendsOne : Noted → ℕ → OutRef → Noted → Type 0
+SpendsOne old spender reference new = Becomes old (same_ref reference) (λ o. Some (spent spender o)) new
 
--- the last change of what the inputs spend is that it is spent
-abbrev pub Spends : Noted → List Input → Noted → Type 0
-Spends old inputs new = Becomes old (spends inputs) (λ o. Some (spent o)) new
+-- the last change of what the inputs spend is that the transaction at the place spends it
+abbrev pub Spends : Noted → ℕ → List Input → Noted → Type 0
+Spends old spender inputs new = Becomes old (spends inputs) (λ o. Some (spent spender o)) new
 
 abbrev pub RestoresOne : Noted → OutRef → Noted → Type 0
 RestoresOne old reference new = Becomes old (same_ref reference) restored new

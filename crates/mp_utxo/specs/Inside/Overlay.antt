@@ -1,5 +1,5 @@
 -- What an overlay stores: the last change of each reference that was spent or made.
-use Rattle.std.specs.Prelude.{◌≡◌, ◌-◌, ℕ, false, List, Option, Some, None, IsSome, IsTrue, AllPairs}
+use Rattle.std.specs.Prelude.{◌≡◌, ◌-◌, ℕ, true, false, List, Option, Some, None, IsSome, IsTrue, AllPairs}
 use Rattle.std.specs.List.{list_any}
 use Rattle.std.specs.FinMap.{get}
 use Rattle.std.specs.Vec.{vec_len, vec_capacity}
@@ -35,7 +35,7 @@ abbrev pub changed : Places → Unspent → OutRef → Option Change → Option 
 changed ps u r None = u r
 changed ps u r (Some Spent) = None
 changed ps u r (Some (Made place)) = made_at ps place r.index
-changed ps u r (Some (MadeThenSpent place)) = None
+changed ps u r (Some (MadeThenSpent place spender)) = None
 
 -- the transaction at the place makes an output at the reference
 pub record MakesAt (ps : Places) (place : ℕ) (r : OutRef) : Type 0 where
@@ -43,17 +43,23 @@ pub record MakesAt (ps : Places) (place : ℕ) (r : OutRef) : Type 0 where
   pub stands : standing ps place ≡ Some maker
   pub makes : IsSome (output_made maker r)
 
+-- the transaction at the place spends the reference
+pub record SpendsAt (ps : Places) (place : ℕ) (r : OutRef) : Type 0 where
+  pub spender : Transaction
+  pub stands : standing ps place ≡ Some spender
+  pub does : spends spender.inputs r ≡ true
+
 -- one of the transactions spends the reference
 abbrev pub SomeSpends : List Transaction → OutRef → Type 0
 SomeSpends ts r = IsTrue (list_any (λ t. spends t.inputs r) ts)
 
--- the transaction at the place made what is recorded as made, and no other did; one of them spent what is recorded as
--- spent
+-- The transaction at the place made what is recorded as made, and no other did. The one at the second place, or one of
+-- them, spent what is recorded as spent.
 abbrev pub IsMadeSo : Places → OutRef → Option Change → Type 0
 IsMadeSo ps r None = NoneMakes (those ps) r
 IsMadeSo ps r (Some Spent) = NoneMakes (those ps) r × SomeSpends (those ps) r
 IsMadeSo ps r (Some (Made place)) = MakesAt ps place r
-IsMadeSo ps r (Some (MadeThenSpent place)) = MakesAt ps place r
+IsMadeSo ps r (Some (MadeThenSpent place spender)) = MakesAt ps place r × SpendsAt ps spender r
 
 -- the changes determine what can be spent after the transactions, and who made it
 pub record AreKept (ps : Places) (u : Unspent) (noted : Noted) : Type 0 where

@@ -47,13 +47,13 @@ leave-requires-clause-applied c =
     ∙ ap (λ r. left_by r pool.items) (sym c.into_parts-reply.ensures.reply))
     fits
 
-pub take_leaves_out-requires-clause-leaves : goal.take_leaves_out-requires-clause-leaves
-take_leaves_out-requires-clause-leaves c =
+pub take_out-requires-clause-turn : goal.take_out-requires-clause-turn
+take_out-requires-clause-turn c =
     let effect = sym c.into_parts-reply.ensures.effect ∙ ap effect_of c.in-TakeOut.is in
     subst (CanChange c.args.self.now) effect c.requires.fits
 
-pub take_leaves_out-requires-clause-told : goal.take_leaves_out-requires-clause-told
-take_leaves_out-requires-clause-told c =
+pub take_out-requires-clause-told : goal.take_out-requires-clause-told
+take_out-requires-clause-told c =
     let pool : Pool = c.args.self.now.pool in
     let q : Prepared = c.args.prepared in
     let gone : List ℕ = c.in-TakeOut.gone in
@@ -114,7 +114,7 @@ returns-in-TakeOut c =
     let left : List (ℕ × Transaction) = apart c.in-TakeOut.gone pool.items in
     let leads : changed pool q.effect ≡ pool_upon pool pool.ledger left = ap (changed pool) (sym c.into_parts-reply.ensures.effect ∙ ap effect_of c.in-TakeOut.is) in
     record {
-      pool = c.take_leaves_out.ensures ∙ ap (λ r. pool_upon pool pool.ledger (left_by r pool.items)) c.into_parts-reply.ensures.reply
+      pool = c.take_out.ensures ∙ ap (λ r. pool_upon pool pool.ledger (left_by r pool.items)) c.into_parts-reply.ensures.reply
           ∙ ap (pool_upon pool pool.ledger) (sym (told_left pool q.command q.reply pool.ledger left (sym leads ∙ c.requires.tells))) ∙ sym leads;
       reply = c.into_parts-reply.ensures.reply;
     }

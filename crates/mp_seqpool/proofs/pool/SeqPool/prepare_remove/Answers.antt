@@ -9,10 +9,10 @@ use Rattle.mp_seqpool.specs.Command.{Remove}
 use Rattle.mp_seqpool.specs.Pool.{Holding}
 use Rattle.mp_seqpool.specs.declared.refusal.Refusal.TheVariants.{NoMemory}
 use Rattle.mp_seqpool.specs.Inside.Chained.{IsChained}
-use Rattle.mp_seqpool.specs.Inside.NamedLeaves.{TakesNamed}
+use Rattle.mp_seqpool.specs.Inside.Followed.{TakesFollowed}
 use Rattle.mp_seqpool.proofs.Exits.{no_value, passed_on}
 use Rattle.mp_seqpool.proofs.Left.{rising_ticketed, ready_removed, full_removed}
-use Rattle.mp_seqpool.proofs.TakingOut.{ready_taken_out}
+use Rattle.mp_seqpool.proofs.TakingFollowed.{ready_followed}
 use Rattle.mp_seqpool.proofs.pool.SeqPool.prepare_remove.Goals as goal
 
 pub returns-then-self-clause-refused : goal.returns-then-self-clause-refused
@@ -35,12 +35,12 @@ returns-clause-ready g c =
 
 pub returns-in-Some-clause-ready : goal.returns-in-Some-clause-ready
 returns-in-Some-clause-ready g c =
-    ready_taken_out (g.V.Verifier.accepts c.args.verifier.now) c.args.self.now (arc_value c.args.ids.now) c.in-Some.step
+    ready_followed (g.V.Verifier.accepts c.args.verifier.now) c.args.self.now (arc_value c.args.ids.now) c.in-Some.step
     (subst (λ (h : Holding). h.pool.changes < h.pool.limit) c.self.view_is c.if-self.false)
     (subst (λ (h : Holding). IsRising h.pool.items) c.self.view_is (rising_ticketed 0 c.self.inside.items c.self.invariant.rising))
     (subst (λ (h : Holding). AllPairs (λ a b. a ≢ b) (map id_of (transactions h.pool.items))) c.self.view_is c.self.invariant.distinct)
     (subst (λ (h : Holding). IsChained h.pool) c.self.view_is c.self.invariant.chained)
-    c.requires (subst (λ o. IfSome o (TakesNamed c.args.self.now.pool (arc_value c.args.ids.now))) c.in-Some.is c.in_ok-step.ensures)
+    c.requires (subst (λ o. IfSome o (TakesFollowed c.args.self.now.pool (arc_value c.args.ids.now))) c.in-Some.is c.in_ok-step.ensures)
 
 pub returns-in_err-step-clause-ready : goal.returns-in_err-step-clause-ready
 returns-in_err-step-clause-ready g c = no_value c.from_residual.result _ c.from_residual.ensures.0

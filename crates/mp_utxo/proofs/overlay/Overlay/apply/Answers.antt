@@ -20,7 +20,7 @@ invariant_of-self c =
     record {
       changes = keeps-push c.self.inside.applied.items _ _ (arc_value c.args.tx) (get c.self.inside.ledger.utxo) c.len-place.result c.self.inside.changes.entries c.spend.new.changes.entries c.make.new.changes.entries
           c.push_reserved.ensures.items refl at
-          (subst (λ inputs. Spends c.self.inside.changes.entries inputs c.spend.new.changes.entries) (c.inputs.ensures.inputs ∙ ap (λ t. t.inputs) c.deref-3.ensures) c.spend.ensures.spends)
+          (subst (λ inputs. Spends c.self.inside.changes.entries c.len-place.result inputs c.spend.new.changes.entries) (c.inputs.ensures.inputs ∙ ap (λ t. t.inputs) c.deref-3.ensures) c.spend.ensures.spends)
           (subst (λ t. Makes c.spend.new.changes.entries t c.len-place.result c.make.new.changes.entries) c.deref-4.ensures c.make.ensures.makes)
           c.self.invariant.changes;
       apart = λ past. elim c.if-self.branch [

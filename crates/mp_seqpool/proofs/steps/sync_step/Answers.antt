@@ -1,5 +1,5 @@
 use Rattle.mp_seqpool.proofs.Exits.{no_value}
-use Rattle.mp_seqpool.proofs.pool.sync_step.Goals as goal
+use Rattle.mp_seqpool.proofs.steps.sync_step.Goals as goal
 
 pub returns-in_err-told-clause-command : goal.returns-in_err-told-clause-command
 returns-in_err-told-clause-command c = no_value c.from_residual.result _ c.from_residual.ensures.0

@@ -1,5 +1,5 @@
 use Rattle.mp_seqpool.proofs.Exits.{no_value}
-use Rattle.mp_seqpool.proofs.pool.append_step.Goals as goal
+use Rattle.mp_seqpool.proofs.steps.append_step.Goals as goal
 
 pub returns-in_err-asked-clause-command : goal.returns-in_err-asked-clause-command
 returns-in_err-asked-clause-command c = no_value c.from_residual.result _ c.from_residual.ensures.0
