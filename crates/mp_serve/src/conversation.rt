@@ -61,8 +61,9 @@ fn open_with(
     ensures ok { IfOk result (λ r. do_command names.old
         (opened signatures.now settings.now beginning.now) (Submit (arc_value tx.now))
         ≡ (r.0, r.1.items)) }
-    ensures names { OnOk result (names.new ≡ reported_if names.old name.now (arc_value tx.now) (answer_to
-        (opened signatures.now settings.now beginning.now) (Submit (arc_value tx.now)))) }
+    ensures names { OnOk result (names.new ≡ reported_if names.old name.now (arc_value tx.now)
+        (answer_to (opened signatures.now settings.now beginning.now)
+        (Submit (arc_value tx.now)))) }
     ensures err { OnErr result (names.new ≡ names.old) }
 {
     let mut pool = ServedPool::open(memory, signatures, settings, beginning)?;
