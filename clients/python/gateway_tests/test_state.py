@@ -7,6 +7,7 @@ import os
 import signal
 import socket
 import sys
+from pathlib import Path
 from typing import Any
 
 from keltuvar_gateway.gateway import Gateway, NoStart
@@ -173,6 +174,7 @@ class Restarts(GatewayCase):
         program = await asyncio.create_subprocess_exec(
             *(sys.executable, "-m", "keltuvar_gateway", *words, *files, *sockets),
             stderr=asyncio.subprocess.DEVNULL,
+            env={**os.environ, "PYTHONPATH": str(Path(__file__).parents[1])},
         )
         async with asyncio.timeout(LONG):
             while True:
