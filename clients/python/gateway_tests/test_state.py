@@ -145,7 +145,8 @@ class Restarts(GatewayCase):
         await self.accept(pay(0))
         os.kill(pool_of(gateway), signal.SIGSTOP)
         post = asyncio.create_task(self.post(pay(1)))
-        await asyncio.sleep(0.2)
+        while not gateway._pool.waiting:
+            await asyncio.sleep(0.05)
         kill_pool(gateway)
         self.assertEqual((await post)[0], 503)
 
