@@ -7,6 +7,7 @@ import os
 import signal
 import socket
 import sys
+from pathlib import Path
 from typing import Any
 
 from keltuvar_gateway.gateway import Gateway, NoStart
@@ -144,7 +145,8 @@ class Restarts(GatewayCase):
         await self.accept(pay(0))
         os.kill(pool_of(gateway), signal.SIGSTOP)
         post = asyncio.create_task(self.post(pay(1)))
-        await asyncio.sleep(0.2)
+        while not gateway._pool.waiting:
+            await asyncio.sleep(0.05)
         kill_pool(gateway)
         self.assertEqual((await post)[0], 503)
 
@@ -173,6 +175,7 @@ class Restarts(GatewayCase):
         program = await asyncio.create_subprocess_exec(
             *(sys.executable, "-m", "keltuvar_gateway", *words, *files, *sockets),
             stderr=asyncio.subprocess.DEVNULL,
+            env={**os.environ, "PYTHONPATH": str(Path(__file__).parents[1])},
         )
         async with asyncio.timeout(LONG):
             while True:

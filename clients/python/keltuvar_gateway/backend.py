@@ -9,11 +9,16 @@ from dataclasses import dataclass
 from keltuvar import KeltuvarError, Refused, Stats, Undecodable
 
 from .holdings import Held
+from .program import Program
 from .state import State
 
 
 class Busy(Exception):
     """As many submits as allowed wait for the pool."""
+
+
+class BadStart(Exception):
+    """The pool doesn't take the settings and outputs that it is to begin with."""
 
 
 @dataclass(frozen=True, slots=True)
@@ -56,10 +61,23 @@ class Backend(ABC):
     answers: Counter[str]
     """How often each word was the receipt's of a client's submit."""
 
+    @abstractmethod
+    async def open(self) -> Program:
+        """Starts a process of the pool, and gives it all that the gateway knows.
+
+        Raises an OSError if it can't be run, `BadStart` if it doesn't take that, and `Down` if it
+        ends meanwhile.
+        """
+
     @property
     @abstractmethod
     def running(self) -> bool:
         """Whether the pool takes transactions."""
+
+    @property
+    @abstractmethod
+    def count(self) -> int:
+        """How many transactions the pool holds."""
 
     @property
     @abstractmethod

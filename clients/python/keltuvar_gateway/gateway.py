@@ -13,12 +13,13 @@ from typing import Any, cast
 
 from aiohttp import web
 
+from .backend import BadStart
 from .client_lines import ClientLines
 from .guard import Guards
 from .keeper import Keeper
 from .limits import MOST_BODY, Limits
 from .lines import LineServer
-from .one_conversation import BadStart, OneConversation
+from .one_conversation import OneConversation
 from .operator_lines import OperatorLines
 from .options import Options
 from .program import Down

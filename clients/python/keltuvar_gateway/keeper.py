@@ -7,7 +7,7 @@ import logging
 import time
 from collections import Counter
 
-from .one_conversation import BadStart, OneConversation
+from .backend import BadStart, Backend
 from .program import Down, Program
 from .state import write_state
 
@@ -23,7 +23,7 @@ _PATIENCE = 5.0
 class Keeper:
     """Starts the pool's process again when it ends, and saves what the gateway knows."""
 
-    def __init__(self, pool: OneConversation, path: str | None) -> None:
+    def __init__(self, pool: Backend, path: str | None) -> None:
         self._pool, self._path = pool, path
         self._program: Program | None = None
         self._saving = asyncio.Lock()
@@ -31,7 +31,7 @@ class Keeper:
         """How often each happened: `starts`, `saved`, `failed`."""
 
     async def start(self) -> None:
-        """Starts the first process. Raises what `OneConversation.open` raises."""
+        """Starts the first process. Raises what `Backend.open` raises."""
         self._program = await self._pool.open()
         self.counts["starts"] += 1
 

@@ -2,8 +2,9 @@
 
 from __future__ import annotations
 
+import zlib
 from collections import deque
-from collections.abc import Iterable
+from collections.abc import Iterable, Iterator
 from dataclasses import dataclass
 
 from .transactions import Reference, decode, make_reference
@@ -14,12 +15,31 @@ _MOST_KEPT = 2160
 
 @dataclass(frozen=True, slots=True)
 class _Former:
-    """What leads back to a former ledger state."""
+    """What leads back to a former ledger state. There are many, so outputs are compressed."""
 
     tick: int
     block: int
-    spent: dict[Reference, bytes]
-    made: list[Reference]
+    spent: bytes
+    """Each output that was spent since: its reference, 2 bytes of length, and its bytes."""
+    made: bytes
+    """The references of those that were made since."""
+
+
+def _pack(parts: Iterable[bytes]) -> bytes:
+    return zlib.compress(b"".join(parts), 1)
+
+
+def _unpack_outputs(packed: bytes) -> Iterator[tuple[Reference, bytes]]:
+    data, place = zlib.decompress(packed), 0
+    while place < len(data):
+        end = place + 36 + int.from_bytes(data[place + 34 : place + 36], "big")
+        yield data[place : place + 34], data[place + 36 : end]
+        place = end
+
+
+def _unpack_references(packed: bytes) -> list[Reference]:
+    data = zlib.decompress(packed)
+    return [data[place : place + 34] for place in range(0, len(data), 34)]
 
 
 class Ledger:
@@ -60,8 +80,8 @@ class Ledger:
             raise ValueError(f"the gateway knows only {len(self._former)} former ledger states")
         for _ in range(count):
             former = self._former.pop()
-            self.outputs.update(former.spent)
-            for reference in former.made:
+            self.outputs.update(_unpack_outputs(former.spent))
+            for reference in _unpack_references(former.made):
                 # A block may spend what it makes itself, and that is among the spent ones.
                 self.outputs.pop(reference, None)
             self.tick, self.block = former.tick, former.block
@@ -75,5 +95,8 @@ class Ledger:
     def _move(
         self, tick: int, block: int | None, spent: dict[Reference, bytes], made: list[Reference]
     ) -> None:
-        self._former.append(_Former(self.tick, self.block, spent, made))
+        packed = _pack(
+            b"%b%b%b" % (one, len(data).to_bytes(2, "big"), data) for one, data in spent.items()
+        )
+        self._former.append(_Former(self.tick, self.block, packed, _pack(made)))
         self.tick, self.block = tick, self.block if block is None else block

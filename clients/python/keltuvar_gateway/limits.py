@@ -8,8 +8,8 @@ from dataclasses import dataclass
 MOST_BODY = 16_384
 """The greatest number of bytes of a transaction."""
 
-# From so many addresses on, those that have made no request lately are forgotten.
-_MOST_ADDRESSES = 10_000
+# How often, in seconds, addresses that have made no request lately are forgotten.
+_CLEARED_AFTER = 10.0
 
 
 @dataclass(frozen=True, slots=True)
@@ -30,26 +30,29 @@ class Rates:
     """How many requests each address may make now."""
 
     def __init__(self, rate: float) -> None:
-        self._rate = rate
+        self._rate, self._most = rate, max(1.0, 2 * rate)
         # For each address: how many requests it may make, at what time.
         self._left: dict[str, tuple[float, float]] = {}
+        self._cleared = time.monotonic()
 
     def take(self, address: str) -> bool:
         """Counts a request, and returns whether it is allowed. Twice the rate may come at once."""
         if not self._rate:
             return True
-        now, most = time.monotonic(), 2 * self._rate
-        left, then = self._left.get(address, (most, now))
-        left = min(most, left + (now - then) * self._rate)
-        if len(self._left) >= _MOST_ADDRESSES:
+        now = time.monotonic()
+        if now - self._cleared >= _CLEARED_AFTER:
             self._forget(now)
-        self._left[address] = (max(0.0, left - 1), now)
+        left = self._left_at(now, *self._left.get(address, (self._most, now)))
+        self._left[address] = (left - 1 if left >= 1 else left, now)
         return left >= 1
+
+    def _left_at(self, now: float, left: float, then: float) -> float:
+        return min(self._most, left + (now - then) * self._rate)
 
     def _forget(self, now: float) -> None:
         """Forgets the addresses that may make as many requests as a new one."""
-        self._left = {
-            address: (left, then)
-            for address, (left, then) in self._left.items()
-            if left + (now - then) * self._rate < 2 * self._rate
+        self._cleared = now
+        kept = {
+            name: one for name, one in self._left.items() if self._left_at(now, *one) < self._most
         }
+        self._left = kept

@@ -11,7 +11,7 @@ from typing import Any, TypeVar
 
 from keltuvar import KeltuvarError, Stats, answers, error_in
 
-from .backend import Backend, Busy, Receipt, View
+from .backend import BadStart, Backend, Busy, Receipt, View
 from .holdings import Held, Holdings
 from .ledger import Ledger
 from .names import Names, is_ours
@@ -24,10 +24,6 @@ T = TypeVar("T")
 _LOG = logging.getLogger(__name__)
 # How many lines of a start are sent at once.
 _BATCH = 1000
-
-
-class BadStart(Exception):
-    """The pool doesn't take the settings and outputs that it is to begin with."""
 
 
 class OneConversation(Backend):
@@ -54,10 +50,6 @@ class OneConversation(Backend):
     # The process.
 
     async def open(self) -> Program:
-        """Starts a process, and gives it all that the gateway knows.
-
-        Raises an OSError if it can't be run, and `BadStart` if it doesn't take that.
-        """
         state = self.copy_state()
         self._is_open, self._missing, self._holdings = False, state.transactions, Holdings()
         self._ledger.forget_former()
@@ -103,7 +95,6 @@ class OneConversation(Backend):
 
     @property
     def count(self) -> int:
-        """How many transactions the pool holds."""
         return len(self._holdings)
 
     def _live(self) -> Program:
