@@ -1,6 +1,7 @@
-"""What the files of the repository say, for the programs of this folder: crates.txt, and options of scenarios."""
+"""What the files of the repository say, for the programs of this folder: crates.txt, the words of refusals, and options of scenarios."""
 
 import os
+import re
 import shutil
 import sys
 from importlib.machinery import SourceFileLoader
@@ -21,6 +22,13 @@ def read_crates():
                 name = words.split()[0]
                 lines[name], named[name] = line, libraries.split()
     return lines, {name: [it for it in libraries if it in lines] for name, libraries in named.items()}
+
+
+def read_refusal_words():
+    """Returns the words of refusals, in the order of the specs. That of an allocation failure is never answered."""
+    with open(f"{TOP}/crates/mp_answers/specs/AnswerText.antt", encoding="utf-8") as file:
+        words = re.search(r"^refusal_words =((?:\s+(?:∷ )?codes \S+)+)", file.read(), re.M)[1]
+    return re.findall(r'codes "(\S+)"', words)
 
 
 def read_flags(name):

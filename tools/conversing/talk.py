@@ -5,6 +5,8 @@ from __future__ import annotations
 from collections import Counter
 from collections.abc import Callable
 
+from repository import read_refusal_words
+
 from .bundles import Bundle
 from .pool import Item, LedgerState, Pool, Refused, size_of
 from .rules import Broken, Verifier
@@ -42,10 +44,8 @@ from . import data, scripts
 LONGEST_CLEAN = 4096
 # The longest line of the language has an output that fills a transaction: utxo ID#INDEX HEX, with an index of 20 digits.
 LONGEST_LINE = len("utxo ") + 64 + len("#") + 20 + len(" ") + 2 * (MOST_BYTES - 27)
-REFUSALS = (
-    "tickets", "already", "full", "no-inputs", "interval", "negative", "missing", "address", "datum", "taken", "no-policy", "unbalanced",
-    "signature", "validator", "policy-script", "reference", "adopt", "back",
-)  # fmt: skip
+# In the order of `stats`. A conversation never answers that its pool has made as many changes as it may.
+REFUSALS = (*(word for word in read_refusal_words() if word not in ("history", "memory")), "adopt", "back")
 
 
 def fits(answer: str, expected: str) -> bool:

@@ -4,10 +4,11 @@ from __future__ import annotations
 
 from collections import Counter
 
-REFUSALS = [
-    "tickets", "already", "full", "no-inputs", "interval", "negative", "missing", "reference", "address", "datum", "taken",
-    "no-policy", "unbalanced", "signature", "validator", "policy-script",
-]  # fmt: skip
+from repository import read_refusal_words
+
+REFUSALS = [word for word in read_refusal_words() if word not in ("history", "memory")]
+# What a block can't be refused for.
+OF_POOLS = ("tickets", "already", "full")
 FAULTS = [
     "truncated", "trailing", "version", "order", "bundle", "script", "data", "interval", "large", "spent", "references",
 ]  # fmt: skip
@@ -20,7 +21,7 @@ KINDS = [
     *(f"undecodable {name}" for name in FAULTS),
     *(f"refused {name}" for name in REFUSALS),
     "refused back",
-    *(f"refused adopt {name}" for name in REFUSALS[3:]),
+    *(f"refused adopt {name}" for name in REFUSALS if name not in OF_POOLS),
 ]
 
 

@@ -1,6 +1,7 @@
 """What the answers of a run have to be by docs/FORMATS.md, as far as the answers before them tell, for tools/fuzz."""
 
 from fuzzing.edits import list_lines
+from repository import read_refusal_words
 
 TICK_TOP = 2**64 - 1
 # The first words of the answers to each command.
@@ -19,10 +20,7 @@ ANSWERS = {
 }
 # The commands that no race takes.
 FURTHER_READS = frozenset(ANSWERS) - {b"submit", b"remove", b"sync", b"snapshot"}
-REFUSALS = (
-    b"history tickets already full no-inputs interval negative missing reference address datum taken no-policy unbalanced "
-    b"signature validator policy-script"
-).split()
+REFUSALS = frozenset(word.encode() for word in read_refusal_words()) - {b"memory"}
 
 
 class Unfit(Exception):

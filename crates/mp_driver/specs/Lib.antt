@@ -1,4 +1,4 @@
+pub mod Pool
 pub mod Scene
 pub mod Ending
 pub mod Fault
-pub mod Inside

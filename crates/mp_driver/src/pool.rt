@@ -6,14 +6,12 @@ ghost use Rattle.mp_seqpool.specs.PoolLaws.{IsLawful};
 ghost use Rattle.mp_seqpool.specs.Inside.Command.{command_of};
 ghost use Rattle.mp_signatures.specs.Scheme.{accepted_by};
 
-use mp_answers::{kept_line, query_line};
-use mp_lines::Query;
+use mp_answers::{answer_line, kept_line, query_line};
 use mp_memory::{Memory, NoMemory};
 use mp_names::Names;
 use mp_seqpool::{Answer, Command, Config, SeqPool};
-use mp_settings::{Openings, Settings, make_ledger};
+use mp_session::{Beginning, Request, Settings};
 use mp_signatures::Signatures;
-use mp_tx::Ledger;
 use std::marker::Model;
 
 /// What a line writes: nothing, or one line of text.
@@ -23,6 +21,8 @@ pub type Text = Vec<u8, Memory>;
 pub struct ScenarioPool {
     signatures: Signatures,
     pool: SeqPool,
+    // The last ticket that the peer was offered.
+    cursor: u64,
 }
 
 impl Drop for ScenarioPool {
@@ -30,6 +30,7 @@ impl Drop for ScenarioPool {
         let ScenarioPool {
             signatures: _,
             pool: _,
+            cursor: _,
         } = self;
     }
 }
@@ -37,7 +38,7 @@ impl Drop for ScenarioPool {
 impl Model for ScenarioPool {
     ghost use Rattle.std.specs.Coded.{codes};
     ghost use Rattle.std.specs.FinMap as finite;
-    ghost use Rattle.mp_driver.specs.Inside.Pool as told;
+    ghost use Rattle.mp_driver.specs.Pool as told;
 
     ghost Value = { told.ScenarioPool };
 
@@ -46,7 +47,11 @@ impl Model for ScenarioPool {
     ghost use Rattle.mp_seqpool.specs.PoolLaws.{IsLawful};
     ghost use Rattle.mp_signatures.specs.Scheme.{accepted_by};
 
-    ghost view = { λ p. record { scheme = p.signatures; pool = p.pool.pool } };
+    ghost view = { λ p. record {
+      scheme = p.signatures;
+      pool = p.pool.pool;
+      cursor = p.cursor;
+    } };
 
     ghost invariant = { λ p. IsLawful (accepted_by p.signatures) p.pool.pool };
 }
@@ -65,34 +70,20 @@ fn step(signatures: &Signatures, pool: &mut SeqPool, command: &Command) -> Resul
 }
 
 impl ScenarioPool {
-    ghost use Rattle.std.specs.Prelude.{◌≡◌, IfOk, OnOk, OnErr};
-    ghost use Rattle.mp_resync.specs.Keep.{keep};
-    ghost use Rattle.mp_seqpool.specs.SlowPool.{answer, next};
-    ghost use Rattle.mp_seqpool.specs.Inside.Command.{command_of};
-    ghost use Rattle.mp_answers.specs.QueryText.{query_text, for_text, cursor_after};
-    ghost use Rattle.mp_signatures.specs.Scheme.{accepted_by};
-    ghost use Rattle.mp_driver.specs.Scene.{Before, pool_at};
+    ghost use Rattle.std.specs.Prelude.{◌≡◌, IfOk};
+    ghost use Rattle.mp_session.specs.Inside.Request.{to_request};
+    ghost use Rattle.mp_driver.specs.Scene.{opened, respond};
 
     /// The empty pool on the opening outputs, which accepts these signatures.
     pub fn open(
         memory: Memory,
         settings: &Settings,
         signatures: &Signatures,
-        openings: Openings,
+        beginning: &Beginning,
     ) -> Result<ScenarioPool, NoMemory>
-        ensures { IfOk result (λ p. p ≡ record {
-          scheme = signatures.now;
-          pool = pool_at settings.now (Before openings);
-        }) }
+        ensures { IfOk result (λ p. p ≡ opened signatures.now settings.now beginning.now) }
     {
-        let outputs = openings.into_entries();
-        let ledger = make_ledger(
-            memory,
-            settings.salt(),
-            settings.tick(),
-            settings.block_bytes(),
-            outputs,
-        )?;
+        let ledger = beginning.open(memory, settings)?;
         let config = Config {
             limit: settings.limit(),
             last: settings.last(),
@@ -100,56 +91,34 @@ impl ScenarioPool {
         Ok(ScenarioPool {
             signatures: signatures.share()?,
             pool: SeqPool::start(memory, config, &ledger)?,
+            cursor: 0,
         })
     }
 
-    /// Executes the command, and returns the answer.
-    ///
-    /// # Errors
-    /// `NoMemory`, and then nothing has changed.
-    pub fn step(&mut self, command: &Command) -> Result<Answer, NoMemory>
-        ensures answer { IfOk result (λ a. a
-            ≡ answer (accepted_by self.old.scheme) self.old.pool (command_of command.now)) }
-        ensures next { OnOk result (self.new ≡ record self.old {
-          pool = next (accepted_by self.old.scheme) self.old.pool (command_of command.now);
-        }) }
-        ensures err { OnErr result (self.new ≡ self.old) }
-    {
-        step(&self.signatures, &mut self.pool, command)
-    }
-
-    /// The line that the query writes, and the peer's cursor after it.
+    /// Does what is asked, and returns the line that answers it.
     ///
     /// # Errors
     /// `NoMemory`.
-    pub fn answer_query(
-        &self,
+    pub fn respond(
+        &mut self,
         memory: Memory,
         names: &Names,
-        cursor: u64,
-        query: Query,
-    ) -> Result<(Text, u64), NoMemory>
-        ensures text { IfOk result (λ r. r.0.items
-            ≡ query_text names.now cursor self.now.pool query) }
-        ensures cursor { IfOk result (λ r. r.1 ≡ cursor_after cursor self.now.pool query) }
-    {
-        query_line(memory, names, cursor, &self.pool, query)
-    }
-
-    /// The line of the transactions that would stay on the ledger state.
-    ///
-    /// # Errors
-    /// `NoMemory`.
-    pub fn try_ledger(
-        &self,
-        memory: Memory,
-        names: &Names,
-        ledger: &Ledger,
+        request: &Request,
     ) -> Result<Text, NoMemory>
-        ensures { IfOk result (λ text. text.items
-            ≡ for_text names.now
-            (keep (accepted_by self.now.scheme) ledger.now self.now.pool.items)) }
+        ensures { IfOk result (λ text.
+            respond names.now self.old (to_request request.now) ≡ (self.new, text.items)) }
     {
-        kept_line(memory, names, &self.pool, ledger, &self.signatures)
+        match request {
+            Request::Change(command) => {
+                let answer = step(&self.signatures, &mut self.pool, command)?;
+                answer_line(memory, names, &answer)
+            }
+            Request::Try(ledger) => kept_line(memory, names, &self.pool, ledger, &self.signatures),
+            Request::Read(query) => {
+                let (text, cursor) = query_line(memory, names, self.cursor, &self.pool, *query)?;
+                self.cursor = cursor;
+                Ok(text)
+            }
+        }
     }
 }

@@ -3,7 +3,6 @@
 ghost use Rattle.std.specs.Prelude.{◌≡◌, ◌≤◌, length, IfSome};
 ghost use Rattle.mp_driver.specs.Scene.{empty_scene};
 ghost use Rattle.mp_driver.specs.Ending.{stop_of, AreAnswers, Ended};
-ghost use Rattle.mp_driver.specs.Inside.Scene.{scene_of};
 
 use crate::fault::Fault;
 use crate::scene::Scene;
@@ -31,9 +30,9 @@ fn answer_from<'a, W: Write>(
     text: &'a [u8],
     writer: &mut W,
 ) -> Result<(), Stop<'a>>
-    requires empty { scene_of scene.old ≡ empty_scene (scene_of scene.old).scheme }
+    requires empty { scene.old ≡ empty_scene scene.old.signatures }
     requires short { length text.now ≤ MAX_BYTES }
-    ensures { AreAnswers (scene_of scene.old).scheme text.now
+    ensures { AreAnswers scene.old.signatures text.now
         (W.contents writer.old) (W.contents writer.new) result }
 {
     let mut rest = text;

@@ -291,9 +291,10 @@ pub fn declared_by<'a>(
         (draft_of names.now empty_draft (words_of words.now))) result }
 {
     match make_declared(memory, names, words) {
-        Err(LineFault::Bad(reason)) => Err(LineFault::Bad(repeat_in(memory, names, words).unwrap_or(
-            reason,
-        ))),
+        Err(LineFault::Bad(reason)) => {
+            let repeat = repeat_in(memory, names, words)?;
+            Err(LineFault::Bad(repeat.unwrap_or(reason)))
+        }
         made => made,
     }
 }

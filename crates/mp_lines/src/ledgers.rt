@@ -12,10 +12,11 @@ ghost use Rattle.mp_lines.specs.Inside.LedgerHead.{to_head};
 use crate::forms::BLOCK;
 use mp_memory::Memory;
 use mp_names::{
-    BlockBytes, LineFault, Names, NewLedger, Outputs, Reason, any_number, first_repeat, paid_at,
-    ref_of, split_once,
+    BlockBytes, Denoted, LineFault, Names, NewLedger, Outputs, Reason, any_number, first_repeat,
+    paid_at, ref_of, split_once,
 };
 use mp_text::first_word;
+use mp_tx::OutRef;
 
 /// The start of a line, before its outputs or transactions.
 #[derive(Drop)]
@@ -61,17 +62,22 @@ fn read_outputs<'a>(
     Ok(outputs)
 }
 
+// Between two spaces there is no word.
+fn output_in(names: &Names, word: &[u8]) -> Denoted<OutRef> {
+    match (ref_of(names, word), paid_at(names, word)) {
+        (Ok(reference), Some(_)) => Denoted::Once(reference),
+        _ if word.is_empty() => Denoted::Anything,
+        _ => Denoted::Bad,
+    }
+}
+
 // The first output that an earlier word also names, unless an earlier word is bad.
-fn repeat_in<'a>(names: &Names, words: &'a [u8]) -> Option<Reason<'a>> {
-    first_repeat(
-        words,
-        b' ',
-        |word| !word.is_empty() && paid_at(names, word).is_none(),
-        |one, other| match (ref_of(names, one), ref_of(names, other)) {
-            (Ok(first), Ok(second)) => first == second,
-            _ => false,
-        },
-    )
+fn repeat_in<'a>(
+    memory: Memory,
+    names: &Names,
+    words: &'a [u8],
+) -> Result<Option<Reason<'a>>, LineFault<'a>> {
+    first_repeat(memory, words, b' ', |word| output_in(names, word))
 }
 
 fn outputs_of<'a>(memory: Memory, names: &Names, words: &'a [u8]) -> Result<Outputs, LineFault<'a>>
@@ -79,7 +85,8 @@ fn outputs_of<'a>(memory: Memory, names: &Names, words: &'a [u8]) -> Result<Outp
 {
     match read_outputs(memory, names, words) {
         Err(LineFault::Bad(reason)) => {
-            Err(LineFault::Bad(repeat_in(names, words).unwrap_or(reason)))
+            let repeat = repeat_in(memory, names, words)?;
+            Err(LineFault::Bad(repeat.unwrap_or(reason)))
         }
         read => read,
     }

@@ -3,11 +3,11 @@
 use crate::fields::{Field, field_of};
 use mp_bytes::Hash;
 use mp_memory::Memory;
-use mp_names::{Names, Reason, first_repeat};
+use mp_names::{Denoted, LineFault, Names, Reason, first_repeat};
 use mp_tx::OutRef;
 
 // The part of a field that no other field of its transaction may repeat.
-#[derive(Clone, Copy, PartialEq, Eq)]
+#[derive(Clone, Copy, PartialEq, Eq, PartialOrd, Ord)]
 enum Subject {
     Reference(OutRef),
     Policy(Hash),
@@ -18,45 +18,36 @@ enum Subject {
     Forged,
 }
 
-fn subject_of(field: &Field) -> Option<Subject> {
-    match field {
-        Field::Spends(input) => Some(Subject::Reference(input.from)),
-        Field::LooksAt(reference) => Some(Subject::Reference(*reference)),
-        Field::Pays(_) => None,
-        Field::From(_) => Some(Subject::First),
-        Field::To(_) => Some(Subject::Last),
-        Field::Forges(_) => Some(Subject::Forged),
-        Field::Carries(script) => Some(Subject::Policy(*script.hash())),
-        Field::Signs(signer) if signer.is_good => Some(Subject::Signature(signer.key)),
-        Field::Signs(signer) => Some(Subject::BadSignature(signer.key)),
+fn subject_of(field: &Field) -> Denoted<Subject> {
+    let subject = match field {
+        Field::Pays(_) => return Denoted::Anything,
+        Field::Spends(input) => Subject::Reference(input.from),
+        Field::LooksAt(reference) => Subject::Reference(*reference),
+        Field::From(_) => Subject::First,
+        Field::To(_) => Subject::Last,
+        Field::Forges(_) => Subject::Forged,
+        Field::Carries(script) => Subject::Policy(*script.hash()),
+        Field::Signs(signer) if signer.is_good => Subject::Signature(signer.key),
+        Field::Signs(signer) => Subject::BadSignature(signer.key),
+    };
+    Denoted::Once(subject)
+}
+
+// Between two spaces there is no field.
+fn subject_in(memory: Memory, names: &Names, word: &[u8]) -> Denoted<Subject> {
+    match field_of(memory, names, word) {
+        Ok(field) => subject_of(&field),
+        Err(LineFault::NoMemory) => Denoted::NoMemory,
+        Err(LineFault::Bad(_)) if word.is_empty() => Denoted::Anything,
+        Err(LineFault::Bad(_)) => Denoted::Bad,
     }
-}
-
-fn subject_in(memory: Memory, names: &Names, word: &[u8]) -> Option<Subject> {
-    let field = field_of(memory, names, word).ok()?;
-    subject_of(&field)
-}
-
-fn are_same(memory: Memory, names: &Names, one: &[u8], other: &[u8]) -> bool {
-    match (
-        subject_in(memory, names, one),
-        subject_in(memory, names, other),
-    ) {
-        (Some(first), Some(second)) => first == second,
-        _ => false,
-    }
-}
-
-fn is_bad(memory: Memory, names: &Names, word: &[u8]) -> bool {
-    !word.is_empty() && field_of(memory, names, word).is_err()
 }
 
 /// The first field that repeats one before it, although it may occur only once, unless an earlier field is bad.
-pub fn repeat_in<'a>(memory: Memory, names: &Names, words: &'a [u8]) -> Option<Reason<'a>> {
-    first_repeat(
-        words,
-        b' ',
-        |word| is_bad(memory, names, word),
-        |one, other| are_same(memory, names, one, other),
-    )
+pub fn repeat_in<'a>(
+    memory: Memory,
+    names: &Names,
+    words: &'a [u8],
+) -> Result<Option<Reason<'a>>, LineFault<'a>> {
+    first_repeat(memory, words, b' ', |word| subject_in(memory, names, word))
 }

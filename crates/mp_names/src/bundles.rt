@@ -14,7 +14,7 @@ ghost use Rattle.mp_names.specs.Fault.{Reads, Gives};
 use crate::fault::LineFault;
 use crate::names::{COIN, Names};
 use crate::reason::Reason;
-use crate::repeats::first_repeat;
+use crate::repeats::{Denoted, first_repeat};
 use crate::rising::insert_rising;
 use crate::splitting::split_once;
 use mp_bundle::{Bundle, Entry, MAX_NAME_BYTES, PolicyId, Token};
@@ -197,17 +197,20 @@ fn entries_of<'a>(
     Ok(entries)
 }
 
+fn token_in(names: &Names, entry: &[u8]) -> Denoted<Token> {
+    match entry_of(names, entry) {
+        Ok((token, _)) => Denoted::Once(token),
+        Err(_) => Denoted::Bad,
+    }
+}
+
 // The first entry whose token an earlier one has, unless a bad entry precedes it.
-fn repeat_in<'a>(names: &Names, word: &'a [u8]) -> Option<Reason<'a>> {
-    first_repeat(
-        word,
-        COMMA,
-        |entry| entry_of(names, entry).is_err(),
-        |one, other| match (entry_of(names, one), entry_of(names, other)) {
-            (Ok((first, _)), Ok((second, _))) => first == second,
-            _ => false,
-        },
-    )
+fn repeat_in<'a>(
+    memory: Memory,
+    names: &Names,
+    word: &'a [u8],
+) -> Result<Option<Reason<'a>>, LineFault<'a>> {
+    first_repeat(memory, word, COMMA, |entry| token_in(names, entry))
 }
 
 // The only fault of entries that were read is a token that occurs twice. Which token that is isn't known here.
@@ -244,7 +247,8 @@ pub fn bundle_of<'a>(memory: Memory, names: &Names, word: &'a [u8]) -> Result<Bu
 {
     match read_bundle(memory, names, word) {
         Err(LineFault::Bad(reason)) => {
-            Err(LineFault::Bad(repeat_in(names, word).unwrap_or(reason)))
+            let repeat = repeat_in(memory, names, word)?;
+            Err(LineFault::Bad(repeat.unwrap_or(reason)))
         }
         read => read,
     }

@@ -34,7 +34,7 @@ pub use payment::Payment;
 pub use payments::{datum_or_unit, lock_words, payment_of, script_or_yes};
 pub use reason::Reason;
 pub use references::{paid_at, ref_of};
-pub use repeats::first_repeat;
+pub use repeats::{Denoted, first_repeat};
 pub use rising::{Rising, insert_rising};
 pub use settings::{BlockBytes, Limit, Setting};
 pub use splitting::split_once;

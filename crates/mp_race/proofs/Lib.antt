@@ -11,3 +11,4 @@ pub mod Tellable
 pub mod TicketsRead
 pub mod Fronts
 pub mod Refusing
+mod Alone

@@ -1,6 +1,5 @@
 -- What only the crate's own clauses, views and invariants cite.
 pub mod Task
-pub mod Draft
 pub mod Work
 pub mod Gathered
 pub mod Counts

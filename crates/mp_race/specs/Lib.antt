@@ -3,6 +3,7 @@ pub mod Scenario
 pub mod Reading
 pub mod Fault
 pub mod Race
+pub mod Sequential
 pub mod Report
 pub mod History
 pub mod Refusals

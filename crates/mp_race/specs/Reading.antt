@@ -2,19 +2,20 @@
 use Rattle.std.specs.Prelude.{◌≡◌, ℕ, ◌≤◌, ◌^◌, List, length, Option, None, Some, Result, Ok, Err}
 use Rattle.mp_text.specs.Lines.{lines_of}
 use Rattle.mp_names.specs.declared.reason.Reason.{Reason}
+use Rattle.mp_session.specs.declared.session.Session.{Session}
 use Rattle.mp_race.specs.declared.fault.Fault.{Fault}
 use Rattle.mp_race.specs.declared.fault.Fault.TheVariants.{NoMemory, BadLine, ReadFault, WriteFault, Audit, MissingEntry}
 use Rattle.mp_race.specs.declared.stop.Stop.{Stop}
 use Rattle.mp_race.specs.declared.stop.Stop.TheVariants as stop
-use Rattle.mp_race.specs.Scenario.{Draft, Scenario, empty_draft, reading, scenario_of}
+use Rattle.mp_race.specs.Scenario.{Scenario, empty_session, reading, scenario_of}
 
-abbrev pub scenario_in : Result Draft ℕ → Result Scenario ℕ
-scenario_in (Ok d) = Ok (scenario_of d)
+abbrev pub scenario_in : Result (Session Scenario) ℕ → Result Scenario ℕ
+scenario_in (Ok s) = Ok (scenario_of s)
 scenario_in (Err n) = Err n
 
 -- the scenario of the lines, or the number of the first bad one, from 1
 abbrev pub scenario_from : List (List ℕ) → Result Scenario ℕ
-scenario_from lines = scenario_in (reading empty_draft 1 lines)
+scenario_from lines = scenario_in (reading empty_session 1 lines)
 
 -- the fault that is reported if a text can't be read
 abbrev pub fault_of : Stop → Fault

@@ -1,23 +1,19 @@
--- What a race reads: the pool that it opens, and the tasks that it deals.
-use Rattle.std.specs.Prelude.{ℕ, ◌+◌, ◌^◌, ◌==◌, nat_lt, List, [], ◌∷◌, ◌++◌, length, Option, None, Some, option_map, option_and_then, Result, Ok, Err, if◌then◌else◌}
-use Rattle.mp_tx.specs.declared.reference.OutRef.{OutRef}
-use Rattle.mp_tx.specs.declared.output.Output.{Output}
+-- Scenarios of races, and how their lines are read.
+use Rattle.std.specs.Prelude.{ℕ, ◌+◌, List, [], ◌∷◌, ◌++◌, Option, None, Some, option_map, option_and_then, Result, Ok, Err}
 use Rattle.mp_tx.specs.Ledger.{LedgerState}
-use Rattle.mp_seqpool.specs.Command.{Command}
-use Rattle.mp_seqpool.specs.Command as commands
-use Rattle.mp_names.specs.declared.payment.Payment.{Payment}
-use Rattle.mp_names.specs.declared.names.Binding.TheVariants.{Opening, Made}
-use Rattle.mp_names.specs.declared.settings.Setting.{Setting}
-use Rattle.mp_names.specs.Names.{Names, first_names, with_binding, with_script, with_datum}
-use Rattle.mp_names.specs.Payments.{output_of}
-use Rattle.mp_names.specs.References.{opening_ref}
 use Rattle.mp_lines.specs.declared.query.Query.{Query}
 use Rattle.mp_lines.specs.declared.query.Query.TheVariants.{Snapshot}
-use Rattle.mp_lines.specs.Lines.{Line, Blank, Sets, Script, Data, Out, Tx, Submit, Remove, Sync, For, Asks, line_of}
+use Rattle.mp_lines.specs.Lines.{Line, line_of}
 use Rattle.mp_mempool.specs.declared.config.Config.{Config}
-use Rattle.mp_settings.specs.declared.settings.Settings.{Settings}
-use Rattle.mp_settings.specs.Settings.{scenario_settings, with_setting, limit_of, last_of}
-use Rattle.mp_settings.specs.Ledgers.{opening_ledger, ledger_at}
+use Rattle.mp_session.specs.declared.settings.Settings.{Settings}
+use Rattle.mp_session.specs.Beginning.{Beginning, opening_ledger}
+use Rattle.mp_session.specs.declared.session.Session.{Session}
+use Rattle.mp_session.specs.declared.session.Stage.{Stage}
+use Rattle.mp_session.specs.declared.session.Stage.TheVariants.{Before, Open}
+use Rattle.mp_session.specs.Settings.{limit_of, last_of}
+use Rattle.mp_session.specs.Request as requests
+use Rattle.mp_session.specs.Session.{new_session}
+use Rattle.mp_session.specs.Session as sessions
 use Rattle.mp_race.specs.Task.{Task, Change, Read}
 
 pub record Scenario : Type 0 where
@@ -27,74 +23,55 @@ pub record Scenario : Type 0 where
   -- the tasks, which the workers get in turn
   pub tasks : List Task
 
--- what has been read so far
-pub record Draft : Type 0 where
-  pub names : Names
-  pub settings : Settings
-  pub outputs : List (OutRef × Output)
-  pub tasks : List Task
+-- before the first line; the salt of a scenario is public
+abbrev pub empty_session : Session Scenario
+empty_session = new_session 0
 
-abbrev pub empty_draft : Draft
-empty_draft = record { names = first_names; settings = scenario_settings; outputs = []; tasks = [] }
+-- no task yet
+abbrev pub begun : Settings → Beginning → Scenario
+begun g b = record { config = record { limit = limit_of g; last = last_of g }; ledger = opening_ledger g b; tasks = [] }
 
-abbrev pub with_names : Draft → Names → Draft
-with_names d names = record d { names = names }
+-- what the pool opens with is fixed from the first task on
+abbrev pub scenario_at : Settings → Stage Scenario → Scenario
+scenario_at g (Before b) = begun g b
+scenario_at g (Open s) = s
 
--- settings and outputs come before the first task
-abbrev pub set_at : Draft → Setting → Option Draft
-set_at d setting = if length d.tasks == 0 then option_map (λ g. record d { settings = g }) (with_setting d.settings setting) else None
+abbrev pub with_task : Scenario → Task → Scenario
+with_task s task = record s { tasks = s.tasks ++ task ∷ [] }
 
-abbrev pub with_output : Draft → List ℕ → Payment → Draft
-with_output d name p = record d {
-  names = with_binding d.names (record { name = name; binding = Opening (opening_ref (length d.outputs)) p });
-  outputs = d.outputs ++ (opening_ref (length d.outputs), output_of p) ∷ [];
-}
-
--- at most 65,536 outputs
-abbrev pub output_at : Draft → List ℕ → Payment → Option Draft
-output_at d name p = if length d.tasks == 0 then (if nat_lt (length d.outputs) (2 ^ 16) then Some (with_output d name p) else None) else None
-
-abbrev pub with_task : Draft → Task → Draft
-with_task d task = record d { tasks = d.tasks ++ task ∷ [] }
-
-abbrev pub with_change : Draft → Command → Draft
-with_change d c = with_task d (Change c)
+abbrev pub put_task : Session Scenario → Task → Session Scenario
+put_task s task = record s { stage = Open (with_task (scenario_at s.settings s.stage) task) }
 
 -- the only reads of a race are snapshots
-abbrev pub read_at : Draft → Query → Option Draft
-read_at d Snapshot = Some (with_task d Read)
-read_at d other = None
+abbrev pub read_asked : Query → Option Task
+read_asked Snapshot = Some Read
+read_asked other = None
 
-abbrev pub take : Draft → Line → Option Draft
-take d Blank = Some d
-take d (Sets setting) = set_at d setting
-take d (Script named) = Some (with_names d (with_script d.names named))
-take d (Data named) = Some (with_names d (with_datum d.names named))
-take d (Out name p) = output_at d name p
-take d (Tx name t) = Some (with_names d (with_binding d.names (record { name = name; binding = Made t })))
-take d (Submit t) = Some (with_change d (commands.Submit t))
-take d (Remove ids) = Some (with_change d (commands.Remove ids))
-take d (Sync l) = Some (with_change d (commands.Sync (ledger_at d.settings l)))
-take d (For l) = None
-take d (Asks query) = read_at d query
+abbrev pub task_asked : requests.Request → Option Task
+task_asked (requests.Change c) = Some (Change c)
+task_asked (requests.Try l) = None
+task_asked (requests.Read query) = read_asked query
 
-unfoldable pub line_step : Draft → List ℕ → Option Draft
-line_step d line = option_and_then (take d) (line_of d.names line)
+abbrev pub put_if : Session Scenario → Option requests.Request → Option (Session Scenario)
+put_if s None = Some s
+put_if s (Some request) = option_map (put_task s) (task_asked request)
+
+abbrev pub take : Session Scenario → Line → Option (Session Scenario)
+take s line = option_and_then (λ r. put_if r.0 r.1) (sessions.take s line)
+
+unfoldable pub line_step : Session Scenario → List ℕ → Option (Session Scenario)
+line_step s line = option_and_then (take s) (line_of s.names line)
 
 -- A bad line ends the reading.
-abbrev pub follow : ℕ → (Draft → Result Draft ℕ) → Option Draft → Result Draft ℕ
+abbrev pub follow : ℕ → (Session Scenario → Result (Session Scenario) ℕ) → Option (Session Scenario) → Result (Session Scenario) ℕ
 follow n others None = Err n
-follow n others (Some d) = others d
+follow n others (Some s) = others s
 
 -- what is read from the lines, or the number of the first bad one, counted from n
-abbrev pub reading : Draft → ℕ → List (List ℕ) → Result Draft ℕ
-reading d n [] = Ok d
-reading d n (line ∷ lines) = follow n (λ e. reading e (n + 1) lines) (line_step d line)
+abbrev pub reading : Session Scenario → ℕ → List (List ℕ) → Result (Session Scenario) ℕ
+reading s n [] = Ok s
+reading s n (line ∷ lines) = follow n (λ t. reading t (n + 1) lines) (line_step s line)
 
 -- the scenario of everything that was read
-abbrev pub scenario_of : Draft → Scenario
-scenario_of d = record {
-  config = record { limit = limit_of d.settings; last = last_of d.settings };
-  ledger = opening_ledger d.settings d.outputs;
-  tasks = d.tasks;
-}
+abbrev pub scenario_of : Session Scenario → Scenario
+scenario_of s = scenario_at s.settings s.stage

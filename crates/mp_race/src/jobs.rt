@@ -1,6 +1,6 @@
 //! Jobs that threads do at once.
 
-ghost use Rattle.std.specs.Prelude.{All, IfOk};
+ghost use Rattle.std.specs.Prelude.{◌≡◌, length, All, IfOk};
 ghost use Rattle.mp_race.specs.Inside.Jobs.{IsOfOne};
 
 use std::alloc::{AllocError, Allocator};
@@ -17,7 +17,7 @@ pub trait Job<T, U>: Sync {
         ensures { does self.now item result };
 }
 
-/// Does the job with each item, in a thread of its own if one can be made. Each result is of one of the items.
+/// Does the job with each item, in a thread of its own if one can be made. There is a result for each item.
 ///
 /// # Errors
 /// An allocation failed, and then some items may have been dropped.
@@ -28,7 +28,8 @@ pub fn run_all<
     R: Threads + Wait + Sync,
     J: Job<T, U>,
 >(rt: &R, job: &J, items: Vec<T, A>) -> Result<Vec<U, A>, AllocError>
-    ensures { IfOk result (λ done. All (IsOfOne (J.does job.now) items.items) done.items) }
+    ensures each { IfOk result (λ done. length done.items ≡ length items.items) }
+    ensures of { IfOk result (λ done. All (IsOfOne (J.does job.now) items.items) done.items) }
 {
     map_vec(
         rt,

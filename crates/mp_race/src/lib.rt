@@ -2,13 +2,14 @@
 #![tactic(auto)]
 
 mod auditing;
-mod draft;
 mod fault;
 mod gate;
 mod gathering;
 mod history;
 mod input;
 mod jobs;
+mod laws;
+
 mod ordering;
 mod racing;
 mod reading;
@@ -18,6 +19,7 @@ mod report_text;
 mod scenario;
 mod stop;
 mod task;
+mod task_lines;
 mod told;
 mod worker;
 
@@ -26,6 +28,7 @@ pub use fault::Fault;
 pub use gate::{Gate, NoGate};
 pub use history::History;
 pub use input::MAX_HISTORY_BYTES;
+pub use laws::one_worker_runs;
 pub use racing::{Raced, race};
 pub use report::Report;
 pub use scenario::Scenario;

@@ -4,20 +4,22 @@ ghost use Rattle.std.specs.Prelude.{◌≡◌, ◌≤◌, length, Ok, IfOk, OnOk
 ghost use Rattle.mp_text.specs.Lines.{lines_of};
 ghost use Rattle.mp_race.specs.Scenario.{reading, scenario_of};
 ghost use Rattle.mp_race.specs.Reading.{IsStopOf};
-ghost use Rattle.mp_race.specs.Inside.Draft.{draft_of};
 
-use crate::draft::Draft;
 use crate::fault::Fault;
 use crate::stop::Stop;
 use crate::task::Task;
+use crate::task_lines::read_line;
 use mp_memory::{Memory, NoMemory};
 use mp_mempool::Config;
 use mp_names::LineFault;
-use mp_settings::make_ledger;
+use mp_session::{Beginning, Session, Settings, Stage};
 use mp_text::{InputFault, MAX_BYTES, first_line, read_all};
-use mp_tx::Ledger;
+use mp_tx::{Ledger, Salt};
 use std::io::Read;
 use std::marker::Model;
+
+// The author of a scenario also runs it, so nobody has to be kept from choosing colliding references.
+const SALT: u64 = 0;
 
 /// What a race runs: the pool that it opens, and the tasks of its workers. Contracts see the configuration, the ledger state and
 /// the tasks.
@@ -58,16 +60,19 @@ impl Model for Scenario {
 }
 
 // Reads the lines of a text in order.
-fn read_lines<'a>(memory: Memory, draft: &mut Draft, text: &'a [u8]) -> Result<(), Stop<'a>>
+fn read_lines<'a>(
+    memory: Memory,
+    session: &mut Session<Scenario>,
+    text: &'a [u8],
+) -> Result<(), Stop<'a>>
     requires { length text.now ≤ MAX_BYTES }
-    ensures ok { OnOk result
-        (reading (draft_of draft.old) 1 (lines_of text.now) ≡ Ok (draft_of draft.new)) }
-    ensures stop { IfErr result (IsStopOf (reading (draft_of draft.old) 1 (lines_of text.now))) }
+    ensures ok { OnOk result (reading session.old 1 (lines_of text.now) ≡ Ok session.new) }
+    ensures stop { IfErr result (IsStopOf (reading session.old 1 (lines_of text.now))) }
 {
     let mut rest = text;
     let mut number = 1u64;
     while let Some((line, after)) = first_line(rest) {
-        match draft.read_line(memory, line) {
+        match read_line(memory, session, line) {
             Ok(()) => {}
             Err(LineFault::NoMemory) => return Err(Stop::NoMemory),
             Err(LineFault::Bad(reason)) => return Err(Stop::BadLine(number, reason)),
@@ -79,36 +84,48 @@ fn read_lines<'a>(memory: Memory, draft: &mut Draft, text: &'a [u8]) -> Result<(
 }
 
 // The scenario of what was read.
-fn finish(memory: Memory, draft: Draft) -> Result<Scenario, NoMemory>
-    ensures { IfOk result (λ s. s ≡ scenario_of (draft_of draft)) }
+fn finish(memory: Memory, session: Session<Scenario>) -> Result<Scenario, NoMemory>
+    ensures { IfOk result (λ s. s ≡ scenario_of session) }
 {
-    let Draft {
-        settings,
-        outputs,
-        tasks,
-        ..
-    } = draft;
-    let outputs = outputs.into_entries();
-    Ok(Scenario {
-        config: Config {
-            limit: settings.limit(),
-            last: settings.last(),
-        },
-        ledger: make_ledger(
-            memory,
-            settings.salt(),
-            settings.tick(),
-            settings.block_bytes(),
-            outputs,
-        )?,
-        tasks,
-    })
+    let (settings, stage) = session.into_stage();
+    match stage {
+        Stage::Open(scenario) => Ok(scenario),
+        Stage::Before(beginning) => Scenario::begin(memory, &settings, &beginning),
+    }
 }
 
 impl Scenario {
-    ghost use Rattle.std.specs.Prelude.{◌≡◌, ◌≤◌, length, Ok, IfOk, IfErr, IfSome};
+    ghost use Rattle.std.specs.Prelude.{◌≡◌, ◌≤◌, length, Ok, IfOk, IfErr, IfSome, OnOk};
     ghost use Rattle.mp_text.specs.Lines.{lines_of};
+    ghost use Rattle.mp_race.specs.Scenario.{begun, with_task};
+    ghost use Rattle.mp_race.specs.Inside.Task.{task_of};
     ghost use Rattle.mp_race.specs.Reading.{scenario_from, IsStopOf, AreRead};
+
+    /// The scenario without tasks whose pool opens with this.
+    pub(crate) fn begin(
+        memory: Memory,
+        settings: &Settings,
+        beginning: &Beginning,
+    ) -> Result<Scenario, NoMemory>
+        ensures { IfOk result (λ s. s ≡ begun settings.now beginning.now) }
+    {
+        Ok(Scenario {
+            config: Config {
+                limit: settings.limit(),
+                last: settings.last(),
+            },
+            ledger: beginning.open(memory, settings)?,
+            tasks: Vec::new(memory),
+        })
+    }
+
+    /// Adds the task.
+    pub(crate) fn push(&mut self, task: Task) -> Result<(), NoMemory>
+        ensures { OnOk result (self.new ≡ with_task self.old (task_of task)) }
+    {
+        self.tasks.push(task)?;
+        Ok(())
+    }
 
     /// The scenario with this text.
     ///
@@ -120,9 +137,9 @@ impl Scenario {
         ensures ok { IfOk result (λ s. scenario_from (lines_of text.now) ≡ Ok s) }
         ensures stop { IfErr result (IsStopOf (scenario_from (lines_of text.now))) }
     {
-        let mut draft = Draft::new(memory)?;
-        read_lines(memory, &mut draft, text)?;
-        Ok(finish(memory, draft)?)
+        let mut session = Session::new(memory, Salt::new(SALT))?;
+        read_lines(memory, &mut session, text)?;
+        Ok(finish(memory, session)?)
     }
 
     /// Reads all of the input, and returns the scenario with this text.

@@ -58,6 +58,7 @@ const READS: Talk = Talk {
             0000000000000000000000000000640000000000000000ffffffffffffffff000000000000",
         b"bytes x 00",
         b"bytes y",
+        b"tx z in=g0 in=g0 out=100",
         b"submit a",
         b"after 0",
         b"lookup 1",
@@ -76,7 +77,7 @@ const READS: Talk = Talk {
         ca4bb09327a1dfb39c28bdd59de53a687ade010500010000000000000000000000000000000000000000000000000000\
         0000000000000000000000000000640000000000000000ffffffffffffffff000000000000\
         \ntx 181 f8f11283a19134b80b18f90f8ab47ef21a315808b705b442408dadb4fffe20b1\n\
-        undecodable version\nbad\naccepted 1\nafter 1:a\nlookup a\nlookup none\nhas yes\ntake 0 0\n\
+        undecodable version\nbad\nbad\naccepted 1\nafter 1:a\nlookup a\nlookup none\nhas yes\ntake 0 0\n\
         block 1 181 1:a\noffer 1:a\noffer\nfor\nfor 1:a\n",
 };
 
@@ -157,7 +158,7 @@ fn say(
         answer => answer,
     };
     match answer {
-        Ok(text) => told.extend_from_slice(&text).ok(),
+        Ok(answer) => told.extend_from_slice(answer.text()).ok(),
         Err(LineFault::Bad(_)) => told.extend_from_slice(b"bad\n").ok(),
         Err(LineFault::NoMemory) => None,
     }

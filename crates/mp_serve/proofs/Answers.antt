@@ -1,26 +1,24 @@
 -- Answers to lines that aren't stored, and what is written of an answer.
-use Rattle.std.proofs.Common.{◌≡◌, ℕ, ◌<◌, List, [], ◌∷◌, ◌++◌, length, take, true, cond, refl, sym, ap, subst, ◌∙◌, lt-ltb, inl, inr, arith}
-use Rattle.std.specs.Prelude.{Option, None, Some, IfSome, Result, Ok, Err, OnOk, OnErr, option_and_then}
-use Rattle.std.specs.declared.vec.Vec.{Vec}
+use Rattle.std.proofs.Common.{◌≡◌, ℕ, ◌<◌, ◌⊎◌, List, length, cond, refl, sym, ap, subst, ◌∙◌, lt-ltb, inl, inr, arith}
+use Rattle.std.specs.Prelude.{Option, None, Some, Result, Ok, Err, OnOk, OnErr, option_and_then}
 use Rattle.std.specs.Io.KnownBytes.{Appends, Keeps}
 use Rattle.std.proofs.lemmas.List.{take_all}
 use Rattle.mp_text.specs.Output.{AppendsFront}
 use Rattle.mp_serve.specs.declared.conversation.Conversation.{Conversation}
 use Rattle.mp_serve.specs.Ask.{longest, ask_within, ask_of}
-use Rattle.mp_serve.specs.Texts.{bad_text}
+use Rattle.mp_serve.specs.Texts.{no_memory_text}
 use Rattle.mp_serve.specs.Talk.{Step, take as taken_by, line_step}
-use Rattle.mp_serve.specs.Served.{IsTold, IsAnswer, AppendsUpTo}
-use Rattle.mp_serve.specs.Inside.Answer.{text_in}
+use Rattle.mp_serve.specs.Served.{IsBadLine, IsTold, IsAnswer, AppendsUpTo}
 
 -- a line of more than `longest` bytes is bad
 pub too_long : (s : Conversation) (line : List ℕ) → longest < length line → line_step s line ≡ None
 unfolding line_step ask_of
-too_long s line lt = ap (λ b. option_and_then (taken_by s) (cond b None (ask_within s.names line))) (lt-ltb longest (length line) lt)
+too_long s line lt = ap (λ b. option_and_then (taken_by s) (cond b None (ask_within s.session.names line))) (lt-ltb longest (length line) lt)
 
-pub answered_long : {A : Type 0} (n : ℕ) (s : Conversation) (line : List ℕ) (r : Option (Vec ℕ A)) → longest < length line
-    → IfSome r (λ text. (why : List ℕ) × (text.items ≡ bad_text n ++ why ++ 10 ∷ [])) → IsAnswer n s line (text_in r) s
-answered_long n s line None lt told = inr (refl, refl)
-answered_long n s line (Some text) lt told = inl (subst (λ (step : Step). IsTold n s step text.items s) (sym (too_long s line lt)) (told, refl))
+pub answered_long : (n : ℕ) (s : Conversation) (line text : List ℕ) → longest < length line
+    → IsBadLine n text ⊎ (text ≡ no_memory_text) → IsAnswer n s line text s
+answered_long n s line text lt (inl bad) = inl (subst (λ (step : Step). IsTold n s step text s) (sym (too_long s line lt)) (bad, refl))
+answered_long n s line text lt (inr none) = inr (none, refl)
 
 pub on_ok : {X E : Type 0} (r : Result X E) (P : Type 0) → P → OnOk r P
 on_ok (Ok x) P p = p

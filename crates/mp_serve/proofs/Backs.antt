@@ -1,6 +1,6 @@
 -- What a pool answers to a request to go back.
 use Rattle.std.proofs.Common.{◌≡◌, ℕ, ◌-◌, ◌<◌, ◌≤◌, List, length, take, drop, sym, ap, ◌∙◌}
-use Rattle.std.specs.Prelude.{Option, None, Some, Result, Ok, Err, OnOk, IfOk}
+use Rattle.std.specs.Prelude.{None, Some, Result, Ok, Err, OnOk, IfOk}
 use Rattle.std.specs.declared.vec.Vec.{Vec}
 use Rattle.mp_tx.specs.Ledger.{LedgerState}
 use Rattle.mp_seqpool.specs.Command.{Sync}
@@ -12,7 +12,7 @@ use Rattle.mp_serve.specs.declared.former.Former.{Former}
 use Rattle.mp_serve.specs.Refused.{one_more}
 use Rattle.mp_signatures.specs.Scheme.{accepted_by}
 use Rattle.mp_serve.specs.ServedPool.{ServedPool, state_back}
-use Rattle.mp_serve.specs.Request.{Response, Return, counted_anew, refused_with, one_back_more, go_back, respond}
+use Rattle.mp_serve.specs.Request.{Response, Return, counted_anew, go_back, respond}
 use Rattle.mp_serve.specs.Texts.{back_refused_text}
 use Rattle.mp_serve.specs.Inside.Former.{states_of, earliest}
 use Rattle.mp_serve.proofs.Formers.{length-states, state-kept, state-lost}
@@ -23,12 +23,12 @@ module _ (names : Names) (p : ServedPool) (fs : List Former) (count : ℕ) (form
 
   -- too few ledger states are kept
   pub refused_back : (kept backs : ℕ) (text : List ℕ) → length fs < count → kept ≡ length fs → backs ≡ one_more p.refused.backs → text ≡ back_refused_text kept
-      → (cursor : ℕ) → respond names cursor p (Return count) ≡ record { served = record p { refused = record p.refused { backs = backs } }; cursor = cursor; text = text }
-  refused_back kept backs text lt is counted told cursor =
+      → respond names p (Return count) ≡ (record p { refused = record p.refused { backs = backs } }, text)
+  refused_back kept backs text lt is counted told =
       let lost : state_back p.former p.pool.ledger count ≡ None =
       ap (λ (states : List LedgerState). state_back states p.pool.ledger count) former ∙ state-lost fs p.pool.ledger count lt in
-      let made : ℕ → List ℕ → Response = λ n t. record { served = record p { refused = record p.refused { backs = n } }; cursor = cursor; text = t } in
-      ap (go_back names cursor p count) lost
+      let made : ℕ → List ℕ → Response = λ n t. (record p { refused = record p.refused { backs = n } }, t) in
+      ap (go_back names p count) lost
       ∙ ap (λ n. made n (back_refused_text (length p.former))) (sym counted)
       ∙ ap (made backs) (ap back_refused_text (many ∙ sym is) ∙ sym told)
 
@@ -37,18 +37,18 @@ module _ (names : Names) (p : ServedPool) (fs : List Former) (count : ℕ) (form
       → pool ≡ counted_anew (next (accepted_by p.signatures) p.pool (Sync (earliest (drop left fs) p.pool.ledger)))
       → states ≡ take left p.former
       → text ≡ answer_text names (answer (accepted_by p.signatures) p.pool (Sync (earliest (drop left fs) p.pool.ledger)))
-      → (cursor : ℕ) → respond names cursor p (Return count) ≡ record { served = record p { pool = pool; former = states }; cursor = cursor; text = text }
-  went_back left pool states text le is done stay told cursor =
+      → respond names p (Return count) ≡ (record p { pool = pool; former = states }, text)
+  went_back left pool states text le is done stay told =
       let state : LedgerState = earliest (drop left fs) p.pool.ledger in
       let kept : state_back p.former p.pool.ledger count ≡ Some state =
       ap (λ (ls : List LedgerState). state_back ls p.pool.ledger count) former ∙ state-kept fs p.pool.ledger count le
       ∙ ap (λ n. Some (earliest (drop n fs) p.pool.ledger)) (sym is) in
-      let made : Pool → List LedgerState → List ℕ → Response = λ q ls t. record { served = record p { pool = q; former = ls }; cursor = cursor; text = t } in
+      let made : Pool → List LedgerState → List ℕ → Response = λ q ls t. (record p { pool = q; former = ls }, t) in
       let first : List LedgerState = take (length p.former - count) p.former in
       let same : first ≡ states = ap (λ n. take n p.former) (ap (λ n. n - count) many ∙ sym is) ∙ sym stay in
       let obeyed : Pool = counted_anew (next (accepted_by p.signatures) p.pool (Sync state)) in
       let answered : List ℕ = answer_text names (answer (accepted_by p.signatures) p.pool (Sync state)) in
-      ap (go_back names cursor p count) kept
+      ap (go_back names p count) kept
       ∙ ap (λ ls. made obeyed ls answered) same
       ∙ ap (λ q. made q states answered) (sym done)
       ∙ ap (made pool states) (sym told)
@@ -58,6 +58,6 @@ module _ (names : Names) (p : ServedPool) (fs : List Former) (count : ℕ) (form
       → OnOk r (pool ≡ counted_anew (next (accepted_by p.signatures) p.pool (Sync (earliest (drop left fs) p.pool.ledger))))
       → OnOk r (states ≡ take left p.former)
       → IfOk r (λ text. text.items ≡ answer_text names (answer (accepted_by p.signatures) p.pool (Sync (earliest (drop left fs) p.pool.ledger))))
-      → IfOk r (λ text. (cursor : ℕ) → respond names cursor p (Return count) ≡ record { served = record p { pool = pool; former = states }; cursor = cursor; text = text.items })
+      → IfOk r (λ text. respond names p (Return count) ≡ (record p { pool = pool; former = states }, text.items))
   went_back-ok (Ok text) left pool states le is done stay told = went_back left pool states text.items le is done stay told
   went_back-ok (Err e) left pool states le is done stay told = tt

@@ -5,3 +5,5 @@ pub mod Lines
 pub mod Answers
 pub mod Progress
 pub mod Backs
+mod ScenarioLines
+mod PlainRuns

@@ -15,6 +15,7 @@ use Rattle.mp_seqpool.specs.SlowPool.{reply_synced, answer, done, next}
 use Rattle.mp_seqpool.proofs.Histories.{lawful-next, lawful-renewed, next-refused}
 use Rattle.mp_serve.specs.Request.{counted_anew}
 use Rattle.mp_serve.specs.Inside.Pool.{IsReady}
+use Rattle.mp_serve.specs.Inside.KeepsLedger.{KeepsLedger}
 
 under : (changes limit : ℕ) → changes < limit → nat_le limit changes ≡ false
 under changes limit lt = grind (arith, nat_tests)
@@ -91,8 +92,13 @@ module _ (accepts : Accepts) where
   pub ledger-submitted : (p : Pool) (t : Transaction) → (counted_anew (next accepts p (Submit t))).ledger ≡ p.ledger
   ledger-submitted p t = ledger-anew (next accepts p (Submit t)) ∙ ledger-submit p t
 
-  pub ledger-removed : (p : Pool) (ids : List (List ℕ)) → (counted_anew (next accepts p (Remove ids))).ledger ≡ p.ledger
+  ledger-removed : (p : Pool) (ids : List (List ℕ)) → (counted_anew (next accepts p (Remove ids))).ledger ≡ p.ledger
   ledger-removed p ids = ledger-anew (next accepts p (Remove ids)) ∙ ledger-remove p ids
+
+  pub ledger-kept : (p : Pool) (c : Command) → KeepsLedger c → (counted_anew (next accepts p c)).ledger ≡ p.ledger
+  ledger-kept p (Submit t) k = ledger-submitted p t
+  ledger-kept p (Remove ids) k = ledger-removed p ids
+  ledger-kept p (Sync l) k = absurd k
 
   -- an allowed sync leads to its ledger state
   ledger-sync : (p : Pool) (l : LedgerState) → p.changes < p.limit → (next accepts p (Sync l)).ledger ≡ l

@@ -7,3 +7,4 @@ pub mod ServedPool
 pub mod Extended
 pub mod Former
 pub mod Answer
+pub mod KeepsLedger

@@ -7,4 +7,5 @@ pub mod Request
 pub mod Talk
 pub mod Device
 pub mod Served
+pub mod PlainRun
 pub mod Inside

@@ -1,7 +1,9 @@
 -- Requests to the pool, and its responses.
-use Rattle.std.specs.Prelude.{ℕ, ◌-◌, List, [], ◌∷◌, ◌++◌, length, take, Option, None, Some, Result, Ok, Err, if◌then◌else◌}
+use Rattle.std.specs.Prelude.{ℕ, ◌-◌, nat_eq, List, [], ◌∷◌, ◌++◌, length, take, Option, None, Some, Result, Ok, Err, if◌then◌else◌}
+use Rattle.std.specs.Cmp.Lexicographic.{pointwise}
 use Rattle.std.specs.Result.{result_err}
 use Rattle.mp_tx.specs.Transaction.{Transaction}
+use Rattle.mp_tx.specs.Spelling.{id_of}
 use Rattle.mp_tx.specs.Ledger.{LedgerState}
 use Rattle.mp_rules.specs.declared.invalid.Invalid.{Invalid}
 use Rattle.mp_block.specs.Block.{apply_block}
@@ -14,10 +16,11 @@ use Rattle.mp_seqpool.specs.Command as commands
 use Rattle.mp_seqpool.specs.Config.{renewed}
 use Rattle.mp_seqpool.specs.Pool.{Pool}
 use Rattle.mp_seqpool.specs.SlowPool.{is_at_limit, answer, next}
-use Rattle.mp_names.specs.Names.{Names, with_reported}
+use Rattle.mp_names.specs.Names.{Names, name_of, with_reported}
 use Rattle.mp_lines.specs.declared.query.Query.{Query}
 use Rattle.mp_answers.specs.AnswerText.{answer_text}
 use Rattle.mp_answers.specs.QueryText.{query_text, for_text, cursor_after}
+use Rattle.mp_session.specs.Request as sessions
 use Rattle.mp_serve.specs.ServedPool.{ServedPool, latest, state_back}
 use Rattle.mp_serve.specs.declared.refused.Counts.{Counts}
 use Rattle.mp_serve.specs.Refused.{one_more, counted_if}
@@ -30,30 +33,20 @@ pub record Block : Type 0 where
   pub txs : List Transaction
 
 pub data Request : Type 0 where
-  -- submit the transaction
-  Submit : Transaction → Request
-  -- remove the transactions with these ids
-  Remove : List (List ℕ) → Request
-  -- adopt the ledger state
-  Adopt : LedgerState → Request
+  -- what a line of a scenario asks
+  Plain : sessions.Request → Request
   -- adopt the ledger state after the block
   Extend : Block → Request
   -- adopt the ledger state this many steps ago
   Return : ℕ → Request
-  -- answer the query
-  Read : Query → Request
-  -- which transactions would stay on the ledger state
-  Try : LedgerState → Request
   -- what the submit of the transaction would answer
   Check : Transaction → Request
   -- the pool's numbers
   Count : Request
 
-pub record Response : Type 0 where
-  pub served : ServedPool
-  -- the last ticket that the peer was offered
-  pub cursor : ℕ
-  pub text : List ℕ
+-- the pool afterwards, and the line that answers
+abbrev pub Response : Type 0
+Response = ServedPool × List ℕ
 
 -- a pool at its limit of changes counts them from 0 again
 abbrev pub counted_anew : Pool → Pool
@@ -67,10 +60,14 @@ obeyed p c = counted_anew (next (accepted_by p.signatures) p.pool c)
 abbrev pub answer_to : ServedPool → Command → Result Reply Refusal
 answer_to p c = answer (accepted_by p.signatures) p.pool c
 
--- an accepted transaction is reported under the name from then on
-abbrev pub reported_if : Names → List ℕ → Result Reply Refusal → Names
-reported_if names name (Ok reply) = with_reported names name
-reported_if names name (Err refusal) = names
+-- the transaction is reported under the name from then on
+abbrev pub reported_as : Names → List ℕ → Transaction → Names
+reported_as names name t = if pointwise nat_eq name (name_of (id_of t) names) then names else with_reported names name
+
+-- the same if it is accepted
+abbrev pub reported_if : Names → List ℕ → Transaction → Result Reply Refusal → Names
+reported_if names name t (Ok reply) = reported_as names name t
+reported_if names name t (Err refusal) = names
 
 abbrev pub answered : Names → ServedPool → Command → List ℕ
 answered names p c = answer_text names (answer_to p c)
@@ -79,13 +76,17 @@ answered names p c = answer_text names (answer_to p c)
 abbrev pub after_command : ServedPool → Command → ServedPool
 after_command p c = record p { pool = obeyed p c; refused = counted_if p.refused (result_err (answer_to p c)) }
 
--- the pool doesn't change
-abbrev pub unchanged : ℕ → ServedPool → List ℕ → Response
-unchanged cursor p text = record { served = p; cursor = cursor; text = text }
+-- a command that keeps the ledger state
+abbrev pub do_command : Names → ServedPool → Command → Response
+do_command names p c = (after_command p c, answered names p c)
 
--- the pool doesn't change, except for these counts of refusals
-abbrev pub refused_with : Counts → ℕ → ServedPool → List ℕ → Response
-refused_with counts cursor p text = record { served = record p { refused = counts }; cursor = cursor; text = text }
+-- the pool is synced with the ledger state; the former ones are given
+abbrev pub adopt : Names → ServedPool → LedgerState → List LedgerState → Response
+adopt names p l former = (record p { pool = obeyed p (commands.Sync l); former = former }, answered names p (commands.Sync l))
+
+-- a new ledger state
+abbrev pub go_on : Names → ServedPool → LedgerState → Response
+go_on names p l = adopt names p l (latest (p.former ++ p.pool.ledger ∷ []))
 
 abbrev pub one_adopt_more : Counts → Counts
 one_adopt_more c = record c { adopts = one_more c.adopts }
@@ -93,43 +94,34 @@ one_adopt_more c = record c { adopts = one_more c.adopts }
 abbrev pub one_back_more : Counts → Counts
 one_back_more c = record c { backs = one_more c.backs }
 
--- the pool is synced with the ledger state; the former ones are given
-abbrev pub adopt : Names → ℕ → ServedPool → LedgerState → List LedgerState → Response
-adopt names cursor p l former = record {
-  served = record p { pool = obeyed p (commands.Sync l); former = former };
-  cursor = cursor;
-  text = answered names p (commands.Sync l);
-}
-
--- a new ledger state
-abbrev pub go_on : Names → ℕ → ServedPool → LedgerState → Response
-go_on names cursor p l = adopt names cursor p l (latest (p.former ++ p.pool.ledger ∷ []))
-
 -- the ledger state after the block; or one of its transactions isn't valid after those before it, which is counted
-abbrev pub extend : Names → ℕ → ServedPool → List Transaction → Result LedgerState (ℕ × Invalid) → Response
-extend names cursor p txs (Ok l) = go_on names cursor p l
-extend names cursor p txs (Err refused) = refused_with (one_adopt_more p.refused) cursor p (block_refused_text names txs refused.0 refused.1)
+abbrev pub extend : Names → ServedPool → List Transaction → Result LedgerState (ℕ × Invalid) → Response
+extend names p txs (Ok l) = go_on names p l
+extend names p txs (Err refused) = (record p { refused = one_adopt_more p.refused }, block_refused_text names txs refused.0 refused.1)
 
 -- a former ledger state, with those before it; or it isn't kept, which is counted
-abbrev pub go_back : Names → ℕ → ServedPool → ℕ → Option LedgerState → Response
-go_back names cursor p count None = refused_with (one_back_more p.refused) cursor p (back_refused_text (length p.former))
-go_back names cursor p count (Some l) = adopt names cursor p l (take (length p.former - count) p.former)
+abbrev pub go_back : Names → ServedPool → ℕ → Option LedgerState → Response
+go_back names p count None = (record p { refused = one_back_more p.refused }, back_refused_text (length p.former))
+go_back names p count (Some l) = adopt names p l (take (length p.former - count) p.former)
 
-abbrev pub do_command : Names → ℕ → ServedPool → Command → Response
-do_command names cursor p c = record { served = after_command p c; cursor = cursor; text = answered names p c }
+abbrev pub change : Names → ServedPool → Command → Response
+change names p (commands.Submit t) = do_command names p (commands.Submit t)
+change names p (commands.Remove ids) = do_command names p (commands.Remove ids)
+change names p (commands.Sync l) = go_on names p l
 
-abbrev pub respond : Names → ℕ → ServedPool → Request → Response
-respond names cursor p (Submit t) = do_command names cursor p (commands.Submit t)
-respond names cursor p (Remove ids) = do_command names cursor p (commands.Remove ids)
-respond names cursor p (Adopt l) = go_on names cursor p l
-respond names cursor p (Extend block) =
-    extend names cursor p block.txs (apply_block (accepted_by p.signatures) p.pool.ledger block.tick block.block_bytes block.txs)
-respond names cursor p (Return count) = go_back names cursor p count (state_back p.former p.pool.ledger count)
-respond names cursor p (Read query) = record {
-  served = p;
-  cursor = cursor_after cursor p.pool query;
-  text = query_text names cursor p.pool query;
-}
-respond names cursor p (Try l) = unchanged cursor p (for_text names (keep (accepted_by p.signatures) l p.pool.items))
-respond names cursor p (Check t) = unchanged cursor p (answered names p (commands.Submit t))
-respond names cursor p Count = unchanged cursor p (stats_text p.pool p.refused)
+-- only an offer moves the cursor
+abbrev pub read : Names → ServedPool → Query → Response
+read names p query = (record p { cursor = cursor_after p.cursor p.pool query }, query_text names p.cursor p.pool query)
+
+abbrev pub respond_plainly : Names → ServedPool → sessions.Request → Response
+respond_plainly names p (sessions.Change c) = change names p c
+respond_plainly names p (sessions.Try l) = (p, for_text names (keep (accepted_by p.signatures) l p.pool.items))
+respond_plainly names p (sessions.Read query) = read names p query
+
+abbrev pub respond : Names → ServedPool → Request → Response
+respond names p (Plain request) = respond_plainly names p request
+respond names p (Extend block) =
+    extend names p block.txs (apply_block (accepted_by p.signatures) p.pool.ledger block.tick block.block_bytes block.txs)
+respond names p (Return count) = go_back names p count (state_back p.former p.pool.ledger count)
+respond names p (Check t) = (p, answered names p (commands.Submit t))
+respond names p Count = (p, stats_text p.pool p.refused)

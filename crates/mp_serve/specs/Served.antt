@@ -8,9 +8,13 @@ use Rattle.mp_serve.specs.Talk.{Step, line_step}
 use Rattle.mp_serve.specs.declared.fault.Fault.{Fault}
 use Rattle.mp_serve.specs.declared.fault.Fault.TheVariants.{NoMemory, ReadFault, WriteFault, ManyLines}
 
--- as the line asks; the answer to a bad line has its number and why, and nothing has changed
+-- the answer to the bad line with this number says why it is bad
+abbrev pub IsBadLine : ℕ → List ℕ → Type 0
+IsBadLine n text = (why : List ℕ) × (text ≡ bad_text n ++ why ++ 10 ∷ [])
+
+-- as the line asks; nothing has changed after a bad line
 abbrev pub IsTold : ℕ → Conversation → Step → List ℕ → Conversation → Type 0
-IsTold n t None text u = ((why : List ℕ) × (text ≡ bad_text n ++ why ++ 10 ∷ [])) × (u ≡ t)
+IsTold n t None text u = IsBadLine n text × (u ≡ t)
 IsTold n t (Some r) text u = (text ≡ r.1) × (u ≡ r.0)
 
 -- Any answer may be an allocation failure. Then nothing has changed.

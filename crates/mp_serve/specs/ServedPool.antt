@@ -13,6 +13,8 @@ pub record ServedPool : Type 0 where
   pub former : List LedgerState
   -- how often each kind of refusal was answered
   pub refused : Counts
+  -- the last ticket that the peer was offered
+  pub cursor : ℕ
 
 -- the last 2,160 items
 abbrev pub latest : {X : Type 0} → List X → List X

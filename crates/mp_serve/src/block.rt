@@ -1,12 +1,12 @@
 //! Blocks whose ledger states a pool adopts.
 
 ghost use Rattle.std.specs.Prelude.{◌≡◌, map, unwrap_or};
-ghost use Rattle.mp_settings.specs.Settings.{block_bytes_of};
+ghost use Rattle.mp_session.specs.Settings.{block_bytes_of};
 ghost use Rattle.mp_serve.specs.Inside.Ask.{to_block};
 
 use mp_memory::Memory;
 use mp_names::BlockBytes;
-use mp_settings::{Settings, block_bytes_at};
+use mp_session::{Settings, block_bytes_at};
 use mp_tx::Tx;
 use std::marker::Model;
 use std::sync::Arc;
@@ -56,7 +56,7 @@ impl Block {
     ghost use Rattle.std.specs.Prelude.{◌≡◌, map, unwrap_or};
     ghost use Rattle.std.specs.Arc.{arc_value};
     ghost use Rattle.mp_tx.specs.Ledger.{HasBlockBytes};
-    ghost use Rattle.mp_settings.specs.Settings.{block_bytes_of};
+    ghost use Rattle.mp_session.specs.Settings.{block_bytes_of};
     ghost use Rattle.mp_serve.specs.Inside.Ask.{to_block};
 
     /// The block that a line gives. Without block bytes in the line, the setting applies.

@@ -4,12 +4,13 @@ ghost use Rattle.std.specs.Prelude.{◌≡◌, ◌++◌, [], ◌∷◌, if◌the
 ghost use Rattle.mp_names.specs.Names.{binding_named};
 ghost use Rattle.mp_serve.specs.Talk.{is_held, is_reported, may_go, names_to_go};
 
-use crate::conversation::Stage;
+use crate::pool::ServedPool;
 use mp_memory::{Memory, NoMemory};
 use mp_names::{Binding, Name, Names};
+use mp_session::Stage;
 use mp_tx::TxId;
 
-fn is_held(stage: &Stage, id: &TxId) -> bool
+fn is_held(stage: &Stage<ServedPool>, id: &TxId) -> bool
     ensures { result ≡ is_held stage.now id.now }
 {
     match stage {
@@ -19,13 +20,13 @@ fn is_held(stage: &Stage, id: &TxId) -> bool
 }
 
 // Whether the pool holds the transaction with this id, which is reported under this name.
-fn is_reported(names: &Names, stage: &Stage, name: &[u8], id: &TxId) -> bool
+fn is_reported(names: &Names, stage: &Stage<ServedPool>, name: &[u8], id: &TxId) -> bool
     ensures { result ≡ is_reported names.now stage.now name.now id.now }
 {
     is_held(stage, id) && name == names.name_of(id)
 }
 
-fn may_go(names: &Names, stage: &Stage, name: &Name) -> bool
+fn may_go(names: &Names, stage: &Stage<ServedPool>, name: &Name) -> bool
     ensures { result
         ≡ may_go names.now stage.now name.now (binding_named name.now names.now) }
 {
@@ -41,7 +42,7 @@ fn may_go(names: &Names, stage: &Stage, name: &Name) -> bool
 fn put_if_it_goes(
     goes: &mut Vec<Name, Memory>,
     names: &Names,
-    stage: &Stage,
+    stage: &Stage<ServedPool>,
     name: Name,
 ) -> Result<(), NoMemory>
     ensures { OnOk result (goes.new.items ≡ goes.old.items
@@ -58,7 +59,7 @@ fn put_if_it_goes(
 pub fn names_to_go(
     memory: Memory,
     names: &Names,
-    stage: &Stage,
+    stage: &Stage<ServedPool>,
     listed: Vec<Name, Memory>,
 ) -> Result<Vec<Name, Memory>, NoMemory>
     ensures { IfOk result

@@ -2,9 +2,9 @@
 #![tactic(auto)]
 
 mod adopting;
+mod answer;
 mod answering;
 mod ask;
-mod beginning;
 mod block;
 mod conversation;
 mod device;
@@ -12,6 +12,7 @@ mod extending;
 mod fault;
 mod forgetting;
 mod former;
+mod laws;
 mod obeying;
 mod output;
 mod pool;
@@ -20,8 +21,10 @@ mod request;
 mod serving;
 mod texts;
 
+pub use answer::Answer;
 pub use ask::MAX_LINE_BYTES;
 pub use conversation::Conversation;
 pub use device::{Device, Streams, Turn};
 pub use fault::Fault;
+pub use laws::answers_as_a_run;
 pub use serving::serve;

@@ -3,20 +3,21 @@
 ghost use Rattle.std.specs.Prelude.{◌≡◌, ◌≤◌, ◌^◌, Some, Err, IfOk, IfErr, OnOk, OnErr};
 ghost use Rattle.std.specs.Result.{result_err};
 ghost use Rattle.std.specs.Arc.{arc_value};
-ghost use Rattle.mp_seqpool.specs.Command.{Submit, Remove};
+ghost use Rattle.mp_seqpool.specs.Command.{Submit};
 ghost use Rattle.mp_seqpool.specs.Inside.Command.{command_of};
 ghost use Rattle.mp_seqpool.specs.Prepared.{Prepares};
 ghost use Rattle.mp_seqpool.specs.SlowPool.{answer, next, AreSigned, IsRefused};
 ghost use Rattle.mp_answers.specs.AnswerText.{answer_text};
 ghost use Rattle.mp_signatures.specs.Scheme.{accepted_by};
-ghost use Rattle.mp_serve.specs.Request.{counted_anew, reported_if};
+ghost use Rattle.mp_serve.specs.Request.{counted_anew, reported_as, reported_if};
 ghost use Rattle.mp_serve.specs.Inside.Pool.{IsReady};
+ghost use Rattle.mp_serve.specs.Inside.KeepsLedger.{KeepsLedger};
 
 use crate::texts::Text;
 use mp_answers::{answer_line, reply_line};
 use mp_memory::{Memory, NoMemory};
 use mp_names::{Name, Names};
-use mp_seqpool::{Command, Ids, Prepared, Refusal, SeqPool};
+use mp_seqpool::{Command, Prepared, Refusal, SeqPool};
 use mp_signatures::Signatures;
 use mp_tx::Tx;
 use std::sync::Arc;
@@ -111,8 +112,21 @@ pub fn obey(
         ≡ result_err (answer (accepted_by signatures.now) pool.old.pool (command_of command.now))) }
     ensures err { OnErr result (pool.new.pool ≡ pool.old.pool) }
     ensures ready { IsReady (accepted_by signatures.now) pool.new.pool }
+    ensures ledger { KeepsLedger (command_of command.now)
+        → pool.new.pool.ledger ≡ pool.old.pool.ledger }
 {
     carry_out(memory, names, signatures, pool, command)
+}
+
+// From now on the transaction is reported under the name.
+fn report_under(names: &mut Names, name: &Name, tx: &Tx) -> Result<(), NoMemory>
+    ensures ok { OnOk result (names.new ≡ reported_as names.old name.now tx.now) }
+    ensures err { OnErr result (names.new ≡ names.old) }
+{
+    if name.as_bytes() == names.name_of(tx.id()) {
+        return Ok(());
+    }
+    names.report(name.as_bytes())
 }
 
 // Submits the transaction. The line is allocated and the name noted first, so that nothing has to be undone.
@@ -128,7 +142,7 @@ fn take_in(
     ensures pool { OnOk result (pool.new.pool
         ≡ counted_anew (next (accepted_by signatures.now) pool.old.pool
         (Submit (arc_value tx.now)))) }
-    ensures names { OnOk result (names.new ≡ reported_if names.old name.now
+    ensures names { OnOk result (names.new ≡ reported_if names.old name.now (arc_value tx.now)
         (answer (accepted_by signatures.now) pool.old.pool (Submit (arc_value tx.now)))) }
     ensures text { IfOk result (λ r. r.0.items ≡ answer_text names.old
         (answer (accepted_by signatures.now) pool.old.pool (Submit (arc_value tx.now)))) }
@@ -141,7 +155,7 @@ fn take_in(
     match pool.prepare_submit(tx, None, signatures) {
         Ok(prepared) => {
             let text = reply_line(memory, prepared.reply())?;
-            names.report(name.as_bytes())?;
+            report_under(names, name, tx)?;
             let _ = pool.finish(prepared);
             count_anew(pool);
             Ok((text, None))
@@ -167,7 +181,7 @@ pub fn submit(
     ensures pool { OnOk result (pool.new.pool
         ≡ counted_anew (next (accepted_by signatures.now) pool.old.pool
         (Submit (arc_value tx.now)))) }
-    ensures names { OnOk result (names.new ≡ reported_if names.old name.now
+    ensures names { OnOk result (names.new ≡ reported_if names.old name.now (arc_value tx.now)
         (answer (accepted_by signatures.now) pool.old.pool (Submit (arc_value tx.now)))) }
     ensures text { IfOk result (λ r. r.0.items ≡ answer_text names.old
         (answer (accepted_by signatures.now) pool.old.pool (Submit (arc_value tx.now)))) }
@@ -180,32 +194,6 @@ pub fn submit(
     ensures ledger { pool.new.pool.ledger ≡ pool.old.pool.ledger }
 {
     take_in(memory, names, name, signatures, pool, tx)
-}
-
-/// Removes the transactions with these ids. Returns the line of the answer, and the refusal if it is refused. After an `Err`
-/// nothing has changed.
-pub fn remove(
-    memory: Memory,
-    names: &Names,
-    signatures: &Signatures,
-    pool: &mut SeqPool,
-    ids: &Arc<Ids, Memory>,
-) -> Result<Answered, NoMemory>
-    requires { IsReady (accepted_by signatures.now) pool.old.pool }
-    ensures pool { OnOk result (pool.new.pool
-        ≡ counted_anew (next (accepted_by signatures.now) pool.old.pool
-        (Remove (arc_value ids.now)))) }
-    ensures text { IfOk result (λ r. r.0.items ≡ answer_text names.now
-        (answer (accepted_by signatures.now) pool.old.pool (Remove (arc_value ids.now)))) }
-    ensures refusal { IfOk result (λ r. r.1
-        ≡ result_err (answer (accepted_by signatures.now) pool.old.pool
-        (Remove (arc_value ids.now)))) }
-    ensures err { OnErr result (pool.new.pool ≡ pool.old.pool) }
-    ensures ready { IsReady (accepted_by signatures.now) pool.new.pool }
-    ensures ledger { pool.new.pool.ledger ≡ pool.old.pool.ledger }
-{
-    let command = Command::Remove(Arc::try_clone(ids)?);
-    obey(memory, names, signatures, pool, &command)
 }
 
 /// What the submit would answer.

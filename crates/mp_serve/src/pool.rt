@@ -1,20 +1,21 @@
 //! The pool of a conversation.
 
 use crate::adopting::{go_back, go_on};
-use crate::beginning::{Beginning, at_tick};
 use crate::block::Block;
 use crate::extending::{Extended, extend};
 use crate::former::{Former, Formers};
-use crate::obeying::{check, remove, submit};
+use crate::obeying::{check, obey, submit};
 use crate::refused::{Counts, count_if_refused, count_one, none_counted};
 use crate::request::Request;
 use crate::texts::{Text, back_refused_line, stats_line};
 use mp_answers::{kept_line, query_line};
 use mp_block::AppliedBlock;
+use mp_lines::Query;
 use mp_memory::{Memory, NoMemory};
 use mp_names::{Name, Names};
-use mp_seqpool::{Config, Ids, SeqPool};
-use mp_settings::Settings;
+use mp_seqpool::{Command, Config, SeqPool};
+use mp_session as session;
+use mp_session::{Beginning, Settings};
 use mp_signatures::Signatures;
 use mp_tx::{Ledger, Tx, TxId};
 use std::marker::Model;
@@ -27,6 +28,8 @@ pub struct ServedPool {
     signatures: Signatures,
     former: Formers,
     refused: Counts,
+    // The last ticket that the peer was offered.
+    cursor: u64,
 }
 
 impl Drop for ServedPool {
@@ -36,6 +39,7 @@ impl Drop for ServedPool {
             signatures: _,
             former: _,
             refused: _,
+            cursor: _,
         } = self;
     }
 }
@@ -57,35 +61,37 @@ impl Model for ServedPool {
 }
 
 impl ServedPool {
-    ghost use Rattle.std.specs.Prelude.{◌≡◌, ℕ, IfOk, OnOk, OnErr, is_some};
+    ghost use Rattle.std.specs.Prelude.{◌≡◌, IfOk, OnOk, OnErr, is_some};
     ghost use Rattle.mp_seqpool.specs.SlowPool.{ticket_of};
     ghost use Rattle.mp_serve.specs.Talk.{opened};
     ghost use Rattle.std.specs.Arc.{arc_value};
-    ghost use Rattle.mp_seqpool.specs.Command.{Submit, Remove};
-    ghost use Rattle.mp_serve.specs.Request.{Adopt, Extend, Return, after_command, answer_to, answered, reported_if, respond};
+    ghost use Rattle.mp_seqpool.specs.Command.{Submit};
+    ghost use Rattle.mp_seqpool.specs.Inside.Command.{command_of};
+    ghost use Rattle.mp_session.specs.Inside.Request as sessions;
+    ghost use Rattle.mp_serve.specs.Request.{Extend, Return, Check, answer_to, reported_if, do_command, go_on, change, read, respond_plainly, respond};
+    ghost use Rattle.mp_serve.specs.Inside.KeepsLedger.{KeepsLedger};
     ghost use Rattle.mp_serve.specs.Inside.Request.{to_request};
 
-    /// The empty pool on the opening outputs. `beginning` doesn't change.
+    /// The empty pool on the opening outputs, which accepts these signatures. `beginning` doesn't change.
     pub fn open(
         memory: Memory,
+        signatures: &Signatures,
         settings: &Settings,
         beginning: &Beginning,
     ) -> Result<ServedPool, NoMemory>
-        ensures { IfOk result (λ p. p ≡ opened settings.now beginning.now) }
+        ensures { IfOk result (λ p. p ≡ opened signatures.now settings.now beginning.now) }
     {
-        let signatures = &beginning.signatures;
-        let signatures = signatures.share()?;
-        let ledger = &beginning.ledger;
-        let ledger = at_tick(memory, ledger, settings.tick(), settings.block_bytes())?;
+        let ledger = beginning.open(memory, settings)?;
         let config = Config {
             limit: settings.limit(),
             last: settings.last(),
         };
         Ok(ServedPool {
             pool: SeqPool::start(memory, config, &ledger)?,
-            signatures,
+            signatures: signatures.share()?,
             former: Vec::new(memory),
             refused: none_counted(),
+            cursor: 0,
         })
     }
 
@@ -107,12 +113,11 @@ impl ServedPool {
         name: &Name,
         tx: &Arc<Tx, Memory>,
     ) -> Result<Text, NoMemory>
-        ensures served { OnOk result
-            (self.new ≡ after_command self.old (Submit (arc_value tx.now))) }
+        ensures ok { IfOk result (λ text.
+            do_command names.old self.old (Submit (arc_value tx.now)) ≡ (self.new, text.items)) }
         ensures names { OnOk result (names.new
-            ≡ reported_if names.old name.now (answer_to self.old (Submit (arc_value tx.now)))) }
-        ensures text { IfOk result (λ text.
-            text.items ≡ answered names.old self.old (Submit (arc_value tx.now))) }
+            ≡ reported_if names.old name.now (arc_value tx.now)
+            (answer_to self.old (Submit (arc_value tx.now)))) }
         ensures err { OnErr result (self.new ≡ self.old) }
         ensures kept { OnErr result (names.new ≡ names.old) }
     {
@@ -122,29 +127,27 @@ impl ServedPool {
         Ok(text)
     }
 
-    // Removes the transactions with these ids. A refusal is counted.
-    fn remove(
+    // Does what is asked of the ledger state that the pool has. A refusal is counted.
+    fn execute(
         &mut self,
         memory: Memory,
         names: &Names,
-        ids: &Arc<Ids, Memory>,
+        command: &Command,
     ) -> Result<Text, NoMemory>
-        ensures served { OnOk result
-            (self.new ≡ after_command self.old (Remove (arc_value ids.now))) }
-        ensures text { IfOk result (λ text.
-            text.items ≡ answered names.now self.old (Remove (arc_value ids.now))) }
+        requires { KeepsLedger (command_of command.now) }
+        ensures ok { IfOk result (λ text. do_command names.now self.old (command_of command.now)
+            ≡ (self.new, text.items)) }
         ensures err { OnErr result (self.new ≡ self.old) }
     {
-        let (text, refusal) = remove(memory, names, &self.signatures, &mut self.pool, ids)?;
+        let (text, refusal) = obey(memory, names, &self.signatures, &mut self.pool, command)?;
         count_if_refused(&mut self.refused, &refusal);
         Ok(text)
     }
 
     // Adopts a new ledger state. The previous one is stored whole.
     fn adopt(&mut self, memory: Memory, names: &Names, ledger: &Ledger) -> Result<Text, NoMemory>
-        ensures ok { IfOk result (λ text. (cursor : ℕ)
-            → respond names.now cursor self.old (Adopt ledger.now)
-            ≡ record { served = self.new; cursor = cursor; text = text.items }) }
+        ensures ok { IfOk result (λ text.
+            go_on names.now self.old ledger.now ≡ (self.new, text.items)) }
         ensures err { OnErr result (self.new ≡ self.old) }
     {
         let former = Former::Whole(self.pool.ledger().share()?);
@@ -166,9 +169,8 @@ impl ServedPool {
         names: &Names,
         block: &Block,
     ) -> Result<Text, NoMemory>
-        ensures ok { IfOk result (λ text. (cursor : ℕ)
-            → respond names.now cursor self.old (Extend block.now)
-            ≡ record { served = self.new; cursor = cursor; text = text.items }) }
+        ensures ok { IfOk result (λ text.
+            respond names.now self.old (Extend block.now) ≡ (self.new, text.items)) }
         ensures err { OnErr result (self.new ≡ self.old) }
     {
         match extend(memory, names, &self.signatures, self.pool.ledger(), block)? {
@@ -193,9 +195,8 @@ impl ServedPool {
 
     // Adopts the ledger state this many steps ago, or answers how many are kept.
     fn return_by(&mut self, memory: Memory, names: &Names, count: u64) -> Result<Text, NoMemory>
-        ensures ok { IfOk result (λ text. (cursor : ℕ)
-            → respond names.now cursor self.old (Return count)
-            ≡ record { served = self.new; cursor = cursor; text = text.items }) }
+        ensures ok { IfOk result (λ text.
+            respond names.now self.old (Return count) ≡ (self.new, text.items)) }
         ensures err { OnErr result (self.new ≡ self.old) }
     {
         let count = count as usize;
@@ -215,7 +216,66 @@ impl ServedPool {
         )
     }
 
-    /// Does what is asked. Returns the line of the answer, and the peer's cursor after it.
+    // Makes the change.
+    fn change(&mut self, memory: Memory, names: &Names, command: &Command) -> Result<Text, NoMemory>
+        ensures ok { IfOk result (λ text. change names.now self.old (command_of command.now)
+            ≡ (self.new, text.items)) }
+        ensures err { OnErr result (self.new ≡ self.old) }
+    {
+        match command {
+            Command::Submit(_) => self.execute(memory, names, command),
+            Command::Remove(_) => self.execute(memory, names, command),
+            Command::Sync(ledger) => self.adopt(memory, names, ledger),
+        }
+    }
+
+    // Answers the query. An offer moves the cursor.
+    fn read(&mut self, memory: Memory, names: &Names, query: Query) -> Result<Text, NoMemory>
+        ensures ok { IfOk result (λ text.
+            read names.now self.old query ≡ (self.new, text.items)) }
+        ensures err { OnErr result (self.new ≡ self.old) }
+    {
+        let (text, cursor) = query_line(memory, names, self.cursor, &self.pool, query)?;
+        self.cursor = cursor;
+        Ok(text)
+    }
+
+    // Does what a line of a scenario asks.
+    fn respond_plainly(
+        &mut self,
+        memory: Memory,
+        names: &Names,
+        request: &session::Request,
+    ) -> Result<Text, NoMemory>
+        ensures ok { IfOk result (λ text.
+            respond_plainly names.now self.old (sessions.to_request request.now)
+            ≡ (self.new, text.items)) }
+        ensures err { OnErr result (self.new ≡ self.old) }
+    {
+        match request {
+            session::Request::Change(command) => self.change(memory, names, command),
+            session::Request::Try(ledger) => {
+                kept_line(memory, names, &self.pool, ledger, &self.signatures)
+            }
+            session::Request::Read(query) => self.read(memory, names, *query),
+        }
+    }
+
+    // What the submit of the transaction would answer.
+    fn check(
+        &mut self,
+        memory: Memory,
+        names: &Names,
+        tx: &Arc<Tx, Memory>,
+    ) -> Result<Text, NoMemory>
+        ensures ok { IfOk result (λ text.
+            respond names.now self.old (Check (arc_value tx.now)) ≡ (self.new, text.items)) }
+        ensures err { OnErr result (self.new ≡ self.old) }
+    {
+        check(memory, names, &self.signatures, &mut self.pool, tx)
+    }
+
+    /// Does what is asked, and returns the line of the answer.
     ///
     /// # Errors
     /// `NoMemory`. Then nothing has changed.
@@ -223,26 +283,18 @@ impl ServedPool {
         &mut self,
         memory: Memory,
         names: &Names,
-        cursor: u64,
         request: &Request,
-    ) -> Result<(Text, u64), NoMemory>
-        ensures ok { IfOk result (λ r.
-            respond names.now cursor self.old (to_request request.now)
-            ≡ record { served = self.new; cursor = r.1; text = r.0.items }) }
+    ) -> Result<Text, NoMemory>
+        ensures ok { IfOk result (λ text.
+            respond names.now self.old (to_request request.now) ≡ (self.new, text.items)) }
         ensures err { OnErr result (self.new ≡ self.old) }
     {
-        let text = match request {
-            Request::Remove(ids) => self.remove(memory, names, ids)?,
-            Request::Adopt(ledger) => self.adopt(memory, names, ledger)?,
-            Request::Extend(block) => self.adopt_block(memory, names, block)?,
-            Request::Return(count) => self.return_by(memory, names, *count)?,
-            Request::Read(query) => {
-                return query_line(memory, names, cursor, &self.pool, *query);
-            }
-            Request::Try(ledger) => kept_line(memory, names, &self.pool, ledger, &self.signatures)?,
-            Request::Check(tx) => check(memory, names, &self.signatures, &mut self.pool, tx)?,
-            Request::Count => stats_line(memory, &self.pool, &self.refused)?,
-        };
-        Ok((text, cursor))
+        match request {
+            Request::Plain(request) => self.respond_plainly(memory, names, request),
+            Request::Extend(block) => self.adopt_block(memory, names, block),
+            Request::Return(count) => self.return_by(memory, names, *count),
+            Request::Check(tx) => self.check(memory, names, tx),
+            Request::Count => stats_line(memory, &self.pool, &self.refused),
+        }
     }
 }

@@ -4,7 +4,7 @@ ghost use Rattle.std.specs.Prelude.{◌≡◌, ◌++◌, ◌∷◌, [], ℕ, Lis
 ghost use Rattle.hex.specs.Hex.{encode_lower};
 ghost use Rattle.std.specs.Prelude.{map, option_copied, option_map, slice_get};
 ghost use Rattle.std.specs.Arc.{arc_value};
-ghost use Rattle.mp_serve.specs.Texts.{ok_text, bad_text, fault_name, tx_words, bytes_text, show_text, pool_numbers, stats_text, name_if_any, block_refused_text, back_refused_text, forgotten_text};
+ghost use Rattle.mp_serve.specs.Texts.{bad_text, fault_name, tx_words, bytes_text, show_text, pool_numbers, stats_text, name_if_any, block_refused_text, back_refused_text, forgotten_text};
 
 use crate::refused::{Counts, put_counts};
 use mp_answers::{put_number, put_refusal, put_word};
@@ -17,18 +17,14 @@ use std::sync::Arc;
 /// One line of text.
 pub type Text = Vec<u8, Memory>;
 
+/// The answer if there is nothing to report.
+pub const OK: &[u8] = b"ok\n";
+
 /// The answer if an allocation fails.
 pub const NO_MEMORY: &[u8] = b"fault: no memory\n";
 
 // The line about bytes that were read fits into this many bytes.
 const TX_ROOM: usize = 80;
-
-/// The answer if there is nothing to report.
-pub fn ok_line(memory: Memory) -> Result<Text, NoMemory>
-    ensures { IfOk result (λ text. text.items ≡ ok_text) }
-{
-    Ok(Vec::from_slice(memory, b"ok\n")?)
-}
 
 /// The answer to the bad line with this number.
 pub fn bad_line(memory: Memory, number: u64, reason: Reason<'_>) -> Result<Text, NoMemory>

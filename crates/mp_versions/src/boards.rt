@@ -1,5 +1,6 @@
 //! Where versions are published for all threads, and freed once nobody keeps them.
-ghost use Rattle.std.specs.Prelude.{◌≡◌, ◌+◌, ◌<◌, length, OnOk, IfOk};
+ghost use Rattle.std.specs.Prelude.{◌≡◌, ◌+◌, ◌<◌, length, OnOk, IfOk, IfSome};
+ghost use Rattle.std.specs.Arc.{arc_value};
 
 use crate::board::Board;
 use crate::publisher::Publisher;
@@ -124,14 +125,18 @@ impl<N: PoolName> Boards<N> {
 
     /// Returns the newest board if it is newer than the one with this number. If there is none, it is one load. It allocates
     /// nothing and waits for nobody.
-    pub(crate) fn newer(&self, number: u64) -> Option<Arc<Board<N>, Memory>> {
+    pub(crate) fn newer(&self, number: u64) -> Option<Arc<Board<N>, Memory>>
+        ensures { IfSome result (λ board. number < (arc_value board).number) }
+    {
         for _ in 0..TRIES {
             let newest = self.newest.load(Ordering::SeqCst);
             if newest / PLACES <= number {
                 return None;
             }
             if let Some(board) = self.place(newest).try_read() {
-                return Arc::try_clone(&board).ok();
+                if board.number > number {
+                    return Arc::try_clone(&board).ok();
+                }
             }
         }
         None

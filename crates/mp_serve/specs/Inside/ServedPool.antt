@@ -7,7 +7,13 @@ use Rattle.mp_serve.specs.Inside.Pool.{IsReady}
 use Rattle.mp_serve.specs.Inside.Former.{states_of, CanAllGoBack}
 
 abbrev pub served_of : Inside → ServedPool
-served_of p = record { pool = p.pool.pool; signatures = p.signatures; former = states_of p.former.items p.pool.pool.ledger; refused = p.refused }
+served_of p = record {
+  pool = p.pool.pool;
+  signatures = p.signatures;
+  former = states_of p.former.items p.pool.pool.ledger;
+  refused = p.refused;
+  cursor = p.cursor;
+}
 
 -- it may make a change, and can return to each of its former ledger states, at most 2,160
 pub record IsServed (p : Inside) : Type 0 where

@@ -1,13 +1,12 @@
 use Rattle.std.proofs.Common.{◌+◌, ◌≤◌, ◌^◌, length}
 use Rattle.mp_text.specs.Lines.{lines_of}
-use Rattle.mp_driver.specs.Inside.Scene.{scene_of}
 use Rattle.mp_driver.proofs.Progress.{Progress}
 use Rattle.mp_driver.proofs.running.answer_from.Given as goal
 
 -- the lines before the rest are executed, and each had at least one byte
 abbrev pub invariant-loop-line : goal.invariant-loop-line
 invariant-loop-line g l =
-    Progress (scene_of l.fn.scene).scheme (g.W.Write.contents l.fn.writer) (g.W.Write.contents l.writer) (lines_of l.text) (lines_of l.rest) (scene_of l.scene) l.number
+    Progress l.fn.scene.signatures (g.W.Write.contents l.fn.writer) (g.W.Write.contents l.writer) (lines_of l.text) (lines_of l.rest) l.scene l.number
     × (l.number + length l.rest ≤ 2 ^ 24 + 1)
 
 abbrev pub decreases-loop-line : goal.decreases-loop-line

@@ -1,4 +1,4 @@
-use Rattle.std.proofs.Common.{sym, subst, ap, ◌∙◌, ◌≡◌, List, ◌++◌, ◌∷◌, [], rules}
+use Rattle.std.proofs.Common.{sym, subst, ap, ◌∙◌, ◌∷◌, []}
 use Rattle.mp_serve.specs.Inside.Former.{earliest, CanAllGoBack}
 use Rattle.mp_serve.proofs.Formers.{can-last, earliest-append}
 use Rattle.mp_serve.proofs.former.earliest.Goals as goal

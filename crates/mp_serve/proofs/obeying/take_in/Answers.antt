@@ -18,7 +18,7 @@ returns-in_default c =
     let is = told (accepted_by c.args.signatures.now) p command c.in-Err.refusal c.in-Err.ensures.refused c.in_default.not-NoMemory in
     record {
       pool = on_ok c.refused.result _ (c.in-Err.ensures.same ∙ refused_same (accepted_by c.args.signatures.now) p command c.in-Err.refusal c.requires.change is);
-      names = on_ok c.refused.result _ (ap (reported_if c.args.names.now c.args.name.now) (sym is));
+      names = on_ok c.refused.result _ (ap (reported_if c.args.names.now c.args.name.now (arc_value c.args.tx.now)) (sym is));
       text = subst (λ a. IfOk c.refused.result (λ r. r.0.items ≡ answer_text c.args.names.now a)) (sym is) c.refused.ensures.text;
       refusal = subst (λ a. IfOk c.refused.result (λ r. r.1 ≡ result_err a)) (sym is) c.refused.ensures.refusal;
       err = on_err c.refused.result _ c.in-Err.ensures.same;

@@ -1,13 +1,11 @@
-use Rattle.std.proofs.Common.{◌≡◌, ℕ, List, sym, subst, ap, ◌∙◌, rules, arith}
+use Rattle.std.proofs.Common.{◌≡◌, ℕ, List, sym, subst, rules}
 use Rattle.std.specs.Prelude.{Option, IfSome, Ok, Err}
 use Rattle.std.specs.Io.BufRead.{DropsThrough}
 use Rattle.std.specs.Io.KnownBytes.{Appends}
-use Rattle.mp_text.specs.declared.line_input.LineRead.{LineRead}
 use Rattle.mp_text.specs.declared.line_input.LineRead.TheVariants.{End}
 use Rattle.mp_text.specs.LineInput.{IsLine}
-use Rattle.mp_serve.specs.declared.conversation.Conversation.{Conversation}
 use Rattle.mp_serve.specs.declared.fault.Fault.TheVariants.{ReadFault}
-use Rattle.mp_serve.specs.Inside.Answer.{text_in}
+use Rattle.mp_serve.specs.Inside.Answer.{text_of}
 use Rattle.mp_serve.specs.Served.{AppendsUpTo, Ended}
 use Rattle.mp_serve.proofs.Progress.{no_line, ends, fails, ends_counting, stands-more, stands-cut}
 use Rattle.mp_serve.proofs.serving.answer_all.Goals as goal
@@ -25,7 +23,7 @@ returns-clause-answers g c =
 pub returns-in-Err-tell : goal.returns-in-Err-tell
 returns-in-Err-tell g c =
     let left : Option (List ℕ) = g.D.Device.input c.loop-number.device in
-    let answer : List ℕ = text_in c.answer-answer.result in
+    let answer : List ℕ = text_of c.answer-answer.result in
     let other : c.in-Ok.found ≡ End → ⊥ = λ e. search rules in
     record {
       answers = stands-cut c.args.conversation.now (g.D.Device.output c.args.device.now) (g.D.Device.output c.loop-number.device) c.loop-number.conversation c.loop-number.number
@@ -38,7 +36,7 @@ returns-in-Err-tell g c =
 pub loop-number-preserved : goal.loop-number-preserved
 loop-number-preserved g c =
     let left : Option (List ℕ) = g.D.Device.input c.loop-number.device in
-    let answer : List ℕ = text_in c.answer-answer.result in
+    let answer : List ℕ = text_of c.answer-answer.result in
     let other : c.in-Ok.found ≡ End → ⊥ = λ e. search rules in (
       stands-more c.args.conversation.now (g.D.Device.output c.args.device.now) (g.D.Device.output c.loop-number.device) c.loop-number.conversation c.loop-number.number left
           (g.D.Device.input c.tell.new.device) (g.D.Device.output c.tell.new.device) c.answer-answer.new.conversation _ c.in-Ok.found c.deref.result.now answer other

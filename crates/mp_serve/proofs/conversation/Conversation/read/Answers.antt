@@ -15,7 +15,7 @@ pub returns-in-Ok-clause-ok : goal.returns-in-Ok-clause-ok
 returns-in-Ok-clause-ok c =
     let before : Conversation = c.args.self.now in
     let t : Transaction = c.in-Ok.tx in
-    let bound : DeclaredTx → Names = λ d. with_binding before.names (record { name = c.args.name; binding = Made d }) in
+    let bound : DeclaredTx → Names = λ d. with_binding before.session.names (record { name = c.args.name; binding = Made d }) in
     let declared : c.of-declared.result ≡ record { tx = t; payments = [] } =
     c.of-declared.ensures ∙ ap (λ (x : Transaction). record { tx = x; payments = c.new-in-Ok.result.items }) c.in_ok-new-in-Ok.ensures.ok
     ∙ ap (λ (p : List Payment). record { tx = t; payments = p }) c.new-in-Ok.ensures.items in

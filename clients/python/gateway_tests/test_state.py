@@ -1,0 +1,193 @@
+"""What is saved, and what a restart brings back."""
+
+from __future__ import annotations
+
+import asyncio
+import os
+import signal
+import socket
+import sys
+from typing import Any
+
+from keltuvar_gateway.gateway import Gateway, NoStart
+from keltuvar_gateway.state import BadFile, State, read_state, write_state
+
+from . import LONG, OPENING, OUTPUTS, PROGRAM, GatewayCase, id_of, pay, pool_of, spend
+
+# The second time that it starts it ends at once, and the third time it has no memory.
+FAILING = """#!/bin/sh
+echo start >> {folder}/starts
+case $(wc -l < {folder}/starts) in
+  2) exit 3 ;;
+  3) while read line; do echo 'fault: no memory'; done ;;
+esac
+exec {program} "$@"
+"""
+
+
+class Files(GatewayCase):
+    async def test_what_is_written_is_read(self) -> None:
+        state = State(7, 8, 9, 10, {bytes(34): b"x", bytes([1]) * 34: b"y"}, [b"a", b"b"])
+        write_state(self.state, state)
+        self.assertEqual(read_state(self.state, whole=True), state)
+        self.assertEqual(os.stat(self.state).st_mode & 0o777, 0o600)
+        self.assertEqual(os.listdir(self.folder).count("state.new"), 0)
+
+    async def test_a_part_of_a_file(self) -> None:
+        write_state(self.state, State(transactions=[b"a", b"b"]))
+        with open(self.state, encoding="ascii") as file:
+            lines = file.readlines()
+        for end in range(len(lines)):
+            with open(self.state, "w", encoding="ascii") as file:
+                file.writelines(lines[:end])
+            with self.assertRaises(BadFile):
+                read_state(self.state, whole=True)
+
+    async def test_bad_files(self) -> None:
+        for text in (
+            "end\nend\n",
+            "block x\n",
+            "utxo 00#0 00\n",
+            "give zz\n",
+            "out g0 100\n",
+            "\xff\n",
+        ):
+            with open(self.ledger, "w", encoding="latin-1") as file:
+                file.write(text)
+            with self.assertRaises(BadFile):
+                read_state(self.ledger, whole=False)
+            with self.assertRaises(NoStart):
+                await self.start()
+
+    async def test_a_ledger_that_the_pool_refuses(self) -> None:
+        with open(self.ledger, "w", encoding="ascii") as file:
+            file.write("block 0\n")
+        with self.assertRaisesRegex(NoStart, "'block 0'"):
+            await self.start()
+
+    async def test_a_disk_that_is_full(self) -> None:
+        write_state(self.state, State(transactions=[b"a"]))
+        before = read_state(self.state, whole=True)
+        os.symlink("/dev/full", f"{self.state}.new")
+        with self.assertRaises(OSError):
+            write_state(self.state, State(transactions=[b"b"]))
+        self.assertEqual(read_state(self.state, whole=True), before)
+
+    async def test_no_program(self) -> None:
+        with self.assertRaisesRegex(NoStart, "No such file"):
+            await self.start(program=f"{self.folder}/nothing")
+        with self.assertRaisesRegex(NoStart, "ended"):
+            await self.start(program="/bin/true")
+
+
+class Restarts(GatewayCase):
+    async def test_a_second_gateway_goes_on(self) -> None:
+        gateway = await self.start()
+        first = pay(0, 60, 40)
+        await self.accept(first, spend(first, 1, 40), pay(1))
+        await self.operate("adopt 8 z3", "adopt 9 z1")
+        self.assertTrue(await gateway.end())
+        os.unlink(self.ledger)
+        await self.start()
+        self.assertEqual(await self.held(), [id_of(spend(first, 1, 40))])
+        pool = await self.get("/mempool")
+        self.assertEqual((pool["tick"], pool["lastTicket"], pool["answers"]), (9, 14, {}))
+        self.assertEqual((await self.post(pay(1)))[1]["refused"], "missing")
+        await self.accept(spend(first, 0, 60))
+
+    async def test_the_pool_is_killed(self) -> None:
+        gateway = await self.start()
+        first = pay(0, 60, 40)
+        await self.accept(first, spend(first, 1, 40), pay(1))
+        await self.operate("adopt 8 z3", f"bytes a {pay(2).hex()}", "submit a")
+        before = await self.held()
+        self.assertEqual(len(before), 3)
+        kill_pool(gateway)
+        await self.comes_back(gateway)
+        self.assertEqual(await self.held(), before)
+        self.assertEqual((await self.get("/mempool"))["tick"], 8)
+        await self.accept(pay(4))
+
+    async def comes_back(self, gateway: Gateway) -> None:
+        """Waits until the pool's second process takes transactions."""
+        async with asyncio.timeout(LONG):
+            while gateway._keeper.counts["starts"] < 2:
+                await asyncio.sleep(0.05)
+        await self.until("/health", 200)
+
+    async def test_no_answer_is_lost_while_the_pool_is_killed(self) -> None:
+        gateway = await self.start("--rate", "0")
+        posts = [asyncio.create_task(self.post(pay(place))) for place in range(OUTPUTS)]
+        await posts[OUTPUTS // 2]
+        kill_pool(gateway)
+        got = await asyncio.gather(*posts)
+        self.assertLessEqual({status for status, _ in got}, {202, 503})
+        accepted = {answer for status, answer in got if status == 202}
+        await self.comes_back(gateway)
+        self.assertLessEqual(accepted, set(await self.held()))
+
+    async def test_starts_that_fail(self) -> None:
+        program = f"{self.folder}/program"
+        with open(program, "w", encoding="ascii") as file:
+            file.write(FAILING.format(folder=self.folder, program=PROGRAM))
+        os.chmod(program, 0o755)
+        gateway = await self.start(program=program)
+        await self.accept(pay(0))
+        kill_pool(gateway)
+        await self.comes_back(gateway)
+        self.assertEqual(await self.held(), [id_of(pay(0))])
+        with open(f"{self.folder}/starts", encoding="ascii") as file:
+            self.assertEqual(len(file.readlines()), 4)
+
+    async def test_it_is_down_meanwhile(self) -> None:
+        gateway = await self.start()
+        await self.accept(pay(0))
+        os.kill(pool_of(gateway), signal.SIGSTOP)
+        post = asyncio.create_task(self.post(pay(1)))
+        await asyncio.sleep(0.2)
+        kill_pool(gateway)
+        self.assertEqual((await post)[0], 503)
+
+    async def test_the_gateway_is_killed(self) -> None:
+        first, port = pay(0), free_port()
+        for number in range(2):
+            program = await self.start_process(port)
+            await self.until("/health", 200)
+            if number == 0:
+                await self.accept(first)
+                self.assertEqual(await self.operate("save"), ["saved 1"])
+                await self.accept(pay(1))
+                program.kill()
+                await program.wait()
+        self.assertEqual(await self.held(), [id_of(first)])
+        program.terminate()
+        self.assertEqual(await asyncio.wait_for(program.wait(), LONG), 0)
+        self.assertEqual(len(read_state(self.state, whole=True).outputs), OUTPUTS)
+
+    async def start_process(self, port: str) -> Any:
+        """Starts a gateway as a process of its own."""
+        self.url = f"http://127.0.0.1:{port}"
+        words = ["--program", PROGRAM, "--http", f"127.0.0.1:{port}", "--signatures", "checked"]
+        files = ["--ledger", self.ledger, "--state", self.state]
+        sockets = ["--operator-socket", self.operator_socket]
+        program = await asyncio.create_subprocess_exec(
+            *(sys.executable, "-m", "keltuvar_gateway", *words, *files, *sockets),
+            stderr=asyncio.subprocess.DEVNULL,
+        )
+        async with asyncio.timeout(LONG):
+            while True:
+                try:
+                    await self.http.get(f"{self.url}/health")
+                    return program
+                except OSError:
+                    await asyncio.sleep(0.1)
+
+
+def free_port() -> str:
+    """Returns a port that no program uses now."""
+    with socket.create_server(("127.0.0.1", 0)) as server:
+        return str(server.getsockname()[1])
+
+
+def kill_pool(gateway: Gateway) -> None:
+    os.kill(pool_of(gateway), signal.SIGKILL)

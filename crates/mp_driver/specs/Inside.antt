@@ -1,3 +1,0 @@
--- What only the crate's own clauses, views and invariants cite.
-pub mod Pool
-pub mod Scene

@@ -1,0 +1,8 @@
+use Rattle.std.proofs.Common.{[]}
+use Rattle.mp_driver.specs.Scene.{empty_scene}
+use Rattle.mp_serve.specs.Refused.{none_counted}
+use Rattle.mp_serve.proofs.PlainRuns.{plain_run}
+use Rattle.mp_serve.proofs.laws.answers_as_a_run.Goals as goal
+
+pub returns : goal.returns
+returns c scheme lines texts plain = plain_run (empty_scene scheme) [] none_counted lines texts plain

@@ -1,0 +1,2 @@
+mod Repeats
+mod Pending

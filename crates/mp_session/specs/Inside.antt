@@ -1,0 +1,3 @@
+-- What only the crate's own clauses, views and invariants cite.
+pub mod Request
+pub mod Beginning

@@ -1,2 +1,0 @@
--- What only the crate's own clauses, views and invariants cite.
-pub mod Openings
