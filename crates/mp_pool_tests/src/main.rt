@@ -2,6 +2,7 @@
 //! answers that were computed by hand. It prints each case that fails, and the number of cases that hold in each part.
 #![tactic(auto)]
 
+mod dependents;
 mod history;
 mod rounds;
 mod seqpool;
@@ -16,6 +17,7 @@ use std::thread::Threads;
 fn check_all<R: Print + Threads + Wait + Sync>(rt: &R, samples: &Samples) -> io::Result<()> {
     println!(rt; "seqpool {}", seqpool::held(rt, samples)?)?;
     println!(rt; "rounds {}", rounds::held(rt, samples)?)?;
+    println!(rt; "dependents {}", dependents::held(rt, samples.memory)?)?;
     println!(rt; "history {}", history::held(rt, samples)?)?;
     println!(rt; "versions {}", versions::held(rt, samples)?)?;
     Ok(())

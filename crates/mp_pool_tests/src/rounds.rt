@@ -1,5 +1,6 @@
 //! The cost of removes, round after round. A remove of a transaction without dependents builds no overlay, and the
 //! number of vacant places stays bounded.
+use mp_memory::Memory;
 use mp_pool_samples::samples::{ALL, REMOVE_FIRST, Samples};
 use mp_pool_samples::{ACCEPTS_ALL, CONFIG};
 use mp_seqpool::{Command, SeqPool};
@@ -11,18 +12,18 @@ const ROUNDS: u64 = 200;
 // A remove of one transaction makes fewer allocations.
 const MOST_GROWTHS: u64 = 200;
 
-// Whether the command is answered while allocation `nth` is refused, if there are that many.
-fn answers(pool: &mut SeqPool, command: &Command) -> bool {
+/// Whether the command is answered.
+pub fn answers(pool: &mut SeqPool, command: &Command) -> bool {
     matches!(pool.step(command, &ACCEPTS_ALL), Ok(Ok(_)))
 }
 
-// The number of allocations of the command. Each fails in turn before, and then the command is answered.
-fn growths(samples: &Samples, pool: &mut SeqPool, command: &Command) -> Option<u64> {
+/// The number of allocations of the command. Each fails in turn before, and then the command is answered.
+pub fn growths(memory: Memory, pool: &mut SeqPool, command: &Command) -> Option<u64> {
     for nth in 1..MOST_GROWTHS {
-        samples.memory.refuse(nth);
+        memory.refuse(nth);
         let is_answered = answers(pool, command);
-        let waits = samples.memory.waits();
-        samples.memory.refuse(0);
+        let waits = memory.waits();
+        memory.refuse(0);
         if is_answered {
             return if waits { Some(nth - 1) } else { None };
         }
@@ -35,7 +36,7 @@ fn round(samples: &Samples, pool: &mut SeqPool) -> Option<u64> {
     if !answers(pool, samples.command(0)?) {
         return None;
     }
-    growths(samples, pool, samples.command(REMOVE_FIRST)?)
+    growths(samples.memory, pool, samples.command(REMOVE_FIRST)?)
 }
 
 // Whether a remove makes more allocations than the first one, and so builds an overlay from scratch.
