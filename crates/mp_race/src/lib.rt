@@ -9,7 +9,6 @@ mod history;
 mod input;
 mod jobs;
 mod laws;
-
 mod ordering;
 mod racing;
 mod reading;

@@ -15,11 +15,7 @@ use mp_names::{LineFault, Reason};
 use mp_session::{Request, Session, Settings, Stage};
 
 // What the pool opens with is fixed from the first task on.
-fn begin(
-    memory: Memory,
-    settings: &Settings,
-    stage: &mut Stage<Scenario>,
-) -> Result<(), NoMemory>
+fn begin(memory: Memory, settings: &Settings, stage: &mut Stage<Scenario>) -> Result<(), NoMemory>
     ensures { OnOk result (stage.new ≡ Open (scenario_at settings.now stage.old)) }
 {
     if let Stage::Before(beginning) = stage {
@@ -29,11 +25,7 @@ fn begin(
     Ok(())
 }
 
-fn put_task(
-    memory: Memory,
-    session: &mut Session<Scenario>,
-    task: Task,
-) -> Result<(), NoMemory>
+fn put_task(memory: Memory, session: &mut Session<Scenario>, task: Task) -> Result<(), NoMemory>
     ensures { OnOk result (session.new ≡ put_task session.old (task_of task)) }
 {
     begin(memory, &session.settings, &mut session.stage)?;

@@ -199,9 +199,9 @@ asks_if s f r (Some request) text t e room =
       former = alike.former;
       counts = alike.counts;
       same = ap Some (
-      alike.same ∙ ap (λ (x : List ℕ). (conversation_with (runs.ask s request).0 alike.former alike.counts, x)) (sym (told_all s.session.names p request))
-      ∙ ap (λ (x : Scene × List ℕ). (conversation_with x.0 alike.former alike.counts, or_ok x.1)) e
-      );
+          alike.same ∙ ap (λ (x : List ℕ). (conversation_with (runs.ask s request).0 alike.former alike.counts, x)) (sym (told_all s.session.names p request))
+          ∙ ap (λ (x : Scene × List ℕ). (conversation_with x.0 alike.former alike.counts, or_ok x.1)) e
+          );
     }
 
 -- what the conversation does after a line was taken
