@@ -1,6 +1,6 @@
 -- A race of one worker has the history of a pool of one thread.
-use Rattle.std.proofs.Common.{◌≡◌, ℕ, ◌+◌, ◌<◌, true, cond, List, [], ◌∷◌, ◌++◌, refl, sym, ap, subst, ◌∙◌, arith, append-nil, append_assoc}
-use Rattle.std.specs.Prelude.{◌==◌, ◌%◌, Result, Ok, Err}
+use Rattle.std.proofs.Common.{◌≡◌, ℕ, ◌+◌, true, cond, List, [], ◌∷◌, ◌++◌, refl, sym, ap, subst, ◌∙◌, arith, append-nil, append_assoc}
+use Rattle.std.specs.Prelude.{◌==◌, ◌%◌, Ok, Err}
 use mathlib.Core.Logic.{inl, inr}
 use Rattle.std.proofs.lemmas.List.{append_cancel_left}
 use Rattle.mp_rules.specs.Verifier.{Accepts}
@@ -14,7 +14,7 @@ use Rattle.mp_history.specs.Log.{Log, IsRight, IsLegal, pool_of}
 use Rattle.mp_history.proofs.Law.{eqb-refl}
 use Rattle.mp_history.proofs.Logs.{pool_of-append}
 use Rattle.mp_race.specs.Task.{Task, Change, Read}
-use Rattle.mp_race.specs.Race.{own, dealt_from, IsEntry, IsRefused, Plays, IsRace}
+use Rattle.mp_race.specs.Race.{own, dealt_from, IsRefused, Plays, IsRace}
 use Rattle.mp_race.specs.Sequential.{entry_of, entries_from}
 
 -- every task is dealt to the only worker

@@ -1,5 +1,5 @@
 -- A conversation answers the lines of a scenario as a run does.
-use Rattle.std.proofs.Common.{◌≡◌, ℕ, ◌+◌, Bool, true, false, cond, List, [], ◌∷◌, ◌++◌, refl, sym, ap, subst, ◌∙◌}
+use Rattle.std.proofs.Common.{◌≡◌, ℕ, Bool, true, false, cond, List, [], ◌∷◌, ◌++◌, refl, sym, ap, subst, ◌∙◌}
 use Rattle.std.specs.Prelude.{nat_eq, codes, Option, None, Some, option_map, option_and_then, Result, Ok, Err, map}
 use Rattle.std.specs.Result.{result_err}
 use Rattle.std.specs.Cmp.Lexicographic.{pointwise, bytes_decides}
@@ -37,8 +37,8 @@ use Rattle.mp_serve.specs.declared.conversation.Conversation.{Conversation}
 use Rattle.mp_serve.specs.declared.refused.Counts.{Counts}
 use Rattle.mp_serve.specs.Refused.{none_counted, counted_if}
 use Rattle.mp_serve.specs.ServedPool.{ServedPool, latest}
-use Rattle.mp_serve.specs.Request.{Plain, answer_to, reported_as, reported_if, respond_plainly, respond}
-use Rattle.mp_serve.specs.Ask.{Does, Submits, ask_of}
+use Rattle.mp_serve.specs.Request.{Plain, answer_to, reported_if, respond_plainly, respond}
+use Rattle.mp_serve.specs.Ask.{Does, ask_of}
 use Rattle.mp_serve.specs.Talk as talk
 use Rattle.mp_serve.specs.PlainRun.{or_ok, HasRoom, UsesReportedName, IsPlainLine, IsPlainRun, Answers}
 use Rattle.mp_serve.proofs.Pools.{not_anew}

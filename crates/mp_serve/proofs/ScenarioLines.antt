@@ -1,15 +1,14 @@
 -- What a conversation takes a scenario's line for.
 use Rattle.std.proofs.Common.{◌≡◌, ℕ, Bool, true, false, cond, List, [], ◌∷◌, length, refl, sym, ap, subst, ◌∙◌, arith}
-use Rattle.std.specs.Prelude.{◌&&◌, nat_eq, nat_le, nat_lt, codes, Option, None, Some, option_map, option_and_then, unwrap_or}
+use Rattle.std.specs.Prelude.{◌&&◌, nat_eq, nat_le, nat_lt, codes, Option, None, Some, option_map, unwrap_or}
 use Rattle.std.specs.Cmp.Lexicographic.{pointwise, bytes_decides}
 use Rattle.std.proofs.lemmas.Bool.Decides.{nat_tests}
 use Rattle.mp_text.specs.Lines.{is_clean}
 use Rattle.mp_text.specs.Words.{words_of}
 use Rattle.mp_names.specs.DeclaredTx.{DeclaredTx}
 use Rattle.mp_names.specs.Names.{Names, tx_named}
-use Rattle.mp_lines.specs.Words.{one_word}
 use Rattle.mp_lines.specs.Lines.{Line, Submit, submit_line, words_line, line_of}
-use Rattle.mp_serve.specs.Ask.{Ask, Does, Submits, submit_by, longest, ask_within, words_ask, long_ask, ask_of}
+use Rattle.mp_serve.specs.Ask.{Does, Submits, longest, ask_within, words_ask, long_ask, ask_of}
 
 -- ---- options
 

@@ -1,5 +1,5 @@
 -- Runs of a scenario to which a conversation answers alike.
-use Rattle.std.specs.Prelude.{◌≡◌, ◌<◌, ℕ, List, [], ◌∷◌, codes, Option, Some}
+use Rattle.std.specs.Prelude.{◌≡◌, ◌<◌, ℕ, List, [], ◌∷◌, codes, Some}
 use Rattle.mp_text.specs.Words.{words_of}
 use Rattle.mp_tx.specs.Spelling.{id_of}
 use Rattle.mp_names.specs.DeclaredTx.{DeclaredTx}
