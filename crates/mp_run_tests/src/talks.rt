@@ -45,7 +45,7 @@ const CHANGES: Talk = Talk {
 };
 
 // The bytes of a transaction are read again under another name, with nothing to distinguish it from the first. On a ledger state
-// with only `a.0`, `a` isn't valid.
+// with only `a.0`, `a` isn't valid. `d` spends an output twice, so its line is bad.
 const READS: Talk = Talk {
     name: "reads in a conversation at refused growths",
     lines: &[
@@ -58,6 +58,7 @@ const READS: Talk = Talk {
             0000000000000000000000000000640000000000000000ffffffffffffffff000000000000",
         b"bytes x 00",
         b"bytes y",
+        b"tx d in=g0 out=1 in=g0",
         b"submit a",
         b"after 0",
         b"lookup 1",
@@ -76,7 +77,7 @@ const READS: Talk = Talk {
         ca4bb09327a1dfb39c28bdd59de53a687ade010500010000000000000000000000000000000000000000000000000000\
         0000000000000000000000000000640000000000000000ffffffffffffffff000000000000\
         \ntx 181 f8f11283a19134b80b18f90f8ab47ef21a315808b705b442408dadb4fffe20b1\n\
-        undecodable version\nbad\naccepted 1\nafter 1:a\nlookup a\nlookup none\nhas yes\ntake 0 0\n\
+        undecodable version\nbad\nbad\naccepted 1\nafter 1:a\nlookup a\nlookup none\nhas yes\ntake 0 0\n\
         block 1 181 1:a\noffer 1:a\noffer\nfor\nfor 1:a\n",
 };
 
