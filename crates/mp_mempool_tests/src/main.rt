@@ -10,15 +10,23 @@ mod trials;
 
 use mp_memory::Memory;
 use mp_pool_samples::samples::{Samples, all_samples};
+use peers::costs::alike_offers;
 use std::io;
+use std::rt::Clock;
 use std::sync::Wait;
 use std::thread::Threads;
 
-fn check_all<R: Print + Threads + Wait + Sync>(rt: &R, samples: &Samples) -> io::Result<()> {
+fn check_all<R: Print + Clock + Threads + Wait + Sync>(
+    rt: &R,
+    samples: &Samples,
+) -> io::Result<()> {
     println!(rt; "mempool {}", mempool::held(rt, samples)?)?;
     println!(rt; "peers {}", peers::held(rt, samples)?)?;
     println!(rt; "seqpool {}", seqpool::held(rt, samples)?)?;
-    Ok(())
+    match alike_offers(rt, samples.memory) {
+        Some(count) => println!(rt; "costs of offers {count}"),
+        None => println!(rt; "no offers"),
+    }
 }
 
 fn samples_of(memory: Option<Memory>) -> Option<Samples> {

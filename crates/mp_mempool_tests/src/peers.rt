@@ -6,6 +6,7 @@ ghost use Rattle.mp_history.specs.PoolName.{head_of};
 ghost use Rattle.mp_pool_samples.specs.Names.{any};
 
 mod asks;
+pub mod costs;
 mod growths;
 mod rows;
 mod seen;

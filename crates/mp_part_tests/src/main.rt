@@ -8,6 +8,7 @@ mod drops;
 mod handle;
 mod ledger;
 mod lines;
+mod name_costs;
 mod names;
 mod output;
 mod picture;
@@ -66,7 +67,7 @@ fn try_transactions(rt: &impl Print, memory: Memory) -> io::Result<()> {
     tell(rt, "signatures", &rules::countings(memory))
 }
 
-fn try_text(rt: &impl Print, alloc: Global, memory: Memory) -> io::Result<()> {
+fn try_text(rt: &(impl Print + Clock), alloc: Global, memory: Memory) -> io::Result<()> {
     tell(rt, "inputs", &text::inputs(memory))?;
     tell(rt, "lengths of inputs", &text::lengths(memory))?;
     tell(rt, "limits of inputs", &text::limits(memory))?;
@@ -77,6 +78,7 @@ fn try_text(rt: &impl Print, alloc: Global, memory: Memory) -> io::Result<()> {
     tell(rt, "names", &names::stories(memory))?;
     tell(rt, "growths of names", &names::growths(memory))?;
     tell(rt, "many names", &names::many(memory))?;
+    tell(rt, "costs of names", &name_costs::steps(rt, memory))?;
     tell(rt, "pictures", &picture::growths(memory))
 }
 

@@ -39,6 +39,15 @@ fn made(memory: Memory, index: u16) -> Result<Arc<Tx, Memory>, NoMemory> {
     }
 }
 
+/// A payment of one coin.
+pub fn payment(memory: Memory) -> Result<Payment, NoMemory> {
+    Ok(Payment {
+        value: coin(memory, 1)?,
+        script: script(memory)?,
+        datum: unit(memory)?,
+    })
+}
+
 // The first byte of a name, or 0 if it is empty.
 fn letter(name: &[u8]) -> u64 {
     match name.first() {
@@ -65,11 +74,7 @@ impl Story {
     }
 
     fn declare_output(&mut self, name: &[u8]) -> Result<(), NoMemory> {
-        let payment = Payment {
-            value: coin(self.memory, 1)?,
-            script: script(self.memory)?,
-            datum: unit(self.memory)?,
-        };
+        let payment = payment(self.memory)?;
         let name = Name::of(self.memory, name)?;
         self.names
             .declare(name, Binding::Opening(opening(0), payment))
@@ -268,8 +273,8 @@ pub fn growths(memory: Memory) -> [Row; 4] {
     ]
 }
 
-// A name of a letter and five more.
-fn name_of(number: u32) -> [u8; 6] {
+/// A name of a letter and five more.
+pub fn name_of(number: u32) -> [u8; 6] {
     let mut name = [b'n'; 6];
     let mut left = number;
     for byte in name.iter_mut().skip(1) {

@@ -1,0 +1,6 @@
+use Rattle.mp_pool_samples.specs.Names.{any}
+use Rattle.mp_mempool_tests.proofs.peers.costs.alike_offers.Given as goal
+
+-- the name that was just made, for one caller
+abbrev pub ghosts-of_name : goal.ghosts-of_name
+ghosts-of_name g a = record { book = a.name.book; root = a.name.key; callers = 1; accepts = any }
