@@ -10,10 +10,6 @@ use mp_memory::{Memory, NoMemory};
 use mp_names::LineFault;
 use mp_session::{Request, Session, Settings, Stage};
 use mp_signatures::Signatures;
-use mp_tx::Salt;
-
-// The author of a scenario also runs it, so nobody has to be kept from choosing colliding references.
-const SALT: u64 = 0;
 
 /// The state of a scenario.
 #[derive(Drop)]
@@ -51,7 +47,7 @@ impl Scene {
     {
         Ok(Scene {
             signatures: signatures.share()?,
-            session: Session::new(memory, Salt::new(SALT))?,
+            session: Session::of_scenario(memory)?,
         })
     }
 

@@ -14,12 +14,9 @@ use mp_mempool::Config;
 use mp_names::LineFault;
 use mp_session::{Beginning, Session, Settings, Stage};
 use mp_text::{InputFault, MAX_BYTES, first_line, read_all};
-use mp_tx::{Ledger, Salt};
+use mp_tx::Ledger;
 use std::io::Read;
 use std::marker::Model;
-
-// The author of a scenario also runs it, so nobody has to be kept from choosing colliding references.
-const SALT: u64 = 0;
 
 /// What a race runs: the pool that it opens, and the tasks of its workers. Contracts see the configuration, the ledger state and
 /// the tasks.
@@ -137,7 +134,7 @@ impl Scenario {
         ensures ok { IfOk result (λ s. scenario_from (lines_of text.now) ≡ Ok s) }
         ensures stop { IfErr result (IsStopOf (scenario_from (lines_of text.now))) }
     {
-        let mut session = Session::new(memory, Salt::new(SALT))?;
+        let mut session = Session::of_scenario(memory)?;
         read_lines(memory, &mut session, text)?;
         Ok(finish(memory, session)?)
     }

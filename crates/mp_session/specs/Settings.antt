@@ -8,10 +8,6 @@ use Rattle.mp_session.specs.declared.settings.Settings.{Settings}
 abbrev pub no_settings : ℕ → Settings
 no_settings salt = record { block_bytes = None; limit = None; last = None; tick = None; salt = salt }
 
--- the salt of a scenario is public
-abbrev pub scenario_settings : Settings
-scenario_settings = no_settings 0
-
 -- each at most once
 abbrev pub with_setting : Settings → Setting → Option Settings
 with_setting s (BlockBytes n) = option_map (λ x. record s { block_bytes = x }) (set_once s.block_bytes n)

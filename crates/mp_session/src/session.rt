@@ -15,6 +15,9 @@ use mp_seqpool::{Command, Ids};
 use mp_tx::{OutRef, Output, Salt, TxId};
 use std::sync::Arc;
 
+// The author of a scenario also runs it, so nobody has to be kept from choosing colliding references.
+const SALT: u64 = 0;
+
 /// Whether the pool is open.
 #[derive(Drop)]
 pub enum Stage<P> {
@@ -55,6 +58,13 @@ impl<P: Drop> Session<P> {
             settings: Settings::new(salt),
             stage: Stage::Before(Beginning::new(memory, salt)?),
         })
+    }
+
+    /// A session before its first line, with the salt of scenarios, which is public.
+    pub fn of_scenario(memory: Memory) -> Result<Session<P>, NoMemory>
+        ensures { IfOk result (λ s. s ≡ new_session 0) }
+    {
+        Session::new(memory, Salt::new(SALT))
     }
 
     /// Its settings and its stage.

@@ -8,9 +8,6 @@ const BLOCK_BYTES: u64 = 500_000;
 
 const CHANGES: u64 = 1_000_000;
 
-// The author of a scenario also runs it, so nobody has to be kept from choosing colliding references.
-const SALT: u64 = 0;
-
 /// What was set before the first command, with defaults for the rest.
 #[derive(Drop)]
 pub struct Settings {
@@ -29,7 +26,7 @@ impl Settings {
     ghost use Rattle.mp_tx.specs.Ledger.{HasBlockBytes};
     ghost use Rattle.mp_names.specs.Fault.{IsBad};
     ghost use Rattle.mp_names.specs.Settings.{IsLimit};
-    ghost use Rattle.mp_session.specs.Settings.{no_settings, scenario_settings, with_setting};
+    ghost use Rattle.mp_session.specs.Settings.{no_settings, with_setting};
     ghost use Rattle.mp_session.specs.Settings.{block_bytes_of, limit_of, last_of, tick_of, salt_of};
 
     /// No setting is set.
@@ -43,13 +40,6 @@ impl Settings {
             tick: None,
             salt,
         }
-    }
-
-    /// No setting is set, and the salt is that of scenarios, which is public.
-    pub fn of_scenario() -> Settings
-        ensures { result ≡ scenario_settings }
-    {
-        Settings::new(Salt::new(SALT))
     }
 
     /// Sets a value that isn't set yet. If it returns `Err`, nothing has changed.
