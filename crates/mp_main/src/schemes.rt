@@ -6,7 +6,7 @@ ghost use Rattle.mp_main.specs.Scheme as told;
 
 use crate::ending::end_fault;
 use mp_command_line::SchemeName;
-use mp_driver::Fault;
+use mp_session::Fault;
 use mp_memory::{Memory, NoMemory};
 use mp_signatures::{Scheme, Signatures};
 use std::process::ExitCode;

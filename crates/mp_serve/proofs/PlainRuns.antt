@@ -30,9 +30,9 @@ use Rattle.mp_session.specs.declared.session.Stage.TheVariants.{Before, Open}
 use Rattle.mp_session.specs.Settings.{with_setting}
 use Rattle.mp_session.specs.Request.{Request, Change, Try, Read}
 use Rattle.mp_session.specs.Session as sessions
-use Rattle.mp_driver.specs.Pool.{ScenarioPool}
-use Rattle.mp_driver.specs.declared.scene.Scene.{Scene}
-use Rattle.mp_driver.specs.Scene as runs
+use Rattle.mp_session.specs.Pool.{ScenarioPool}
+use Rattle.mp_session.specs.declared.scene.Scene.{Scene}
+use Rattle.mp_session.specs.Scene as runs
 use Rattle.mp_serve.specs.declared.conversation.Conversation.{Conversation}
 use Rattle.mp_serve.specs.declared.refused.Counts.{Counts}
 use Rattle.mp_serve.specs.Refused.{none_counted, counted_if}

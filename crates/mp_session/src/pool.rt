@@ -6,11 +6,13 @@ ghost use Rattle.mp_seqpool.specs.PoolLaws.{IsLawful};
 ghost use Rattle.mp_seqpool.specs.Inside.Command.{command_of};
 ghost use Rattle.mp_signatures.specs.Scheme.{accepted_by};
 
+use crate::beginning::Beginning;
+use crate::request::Request;
+use crate::settings::Settings;
 use mp_answers::{answer_line, kept_line, query_line};
 use mp_memory::{Memory, NoMemory};
 use mp_names::Names;
 use mp_seqpool::{Answer, Command, Config, SeqPool};
-use mp_session::{Beginning, Request, Settings};
 use mp_signatures::Signatures;
 use std::marker::Model;
 
@@ -38,7 +40,7 @@ impl Drop for ScenarioPool {
 impl Model for ScenarioPool {
     ghost use Rattle.std.specs.Coded.{codes};
     ghost use Rattle.std.specs.FinMap as finite;
-    ghost use Rattle.mp_driver.specs.Pool as told;
+    ghost use Rattle.mp_session.specs.Pool as told;
 
     ghost Value = { told.ScenarioPool };
 
@@ -72,7 +74,7 @@ fn step(signatures: &Signatures, pool: &mut SeqPool, command: &Command) -> Resul
 impl ScenarioPool {
     ghost use Rattle.std.specs.Prelude.{◌≡◌, IfOk};
     ghost use Rattle.mp_session.specs.Inside.Request.{to_request};
-    ghost use Rattle.mp_driver.specs.Scene.{opened, respond};
+    ghost use Rattle.mp_session.specs.Scene.{opened, respond};
 
     /// The empty pool on the opening outputs, which accepts these signatures.
     pub fn open(

@@ -16,8 +16,8 @@ use Rattle.mp_session.specs.Session.{new_session}
 use Rattle.mp_session.specs.Session as sessions
 use Rattle.mp_answers.specs.AnswerText.{answer_text}
 use Rattle.mp_answers.specs.QueryText.{query_text, for_text, cursor_after}
-use Rattle.mp_driver.specs.Pool.{ScenarioPool}
-use Rattle.mp_driver.specs.declared.scene.Scene.{Scene}
+use Rattle.mp_session.specs.Pool.{ScenarioPool}
+use Rattle.mp_session.specs.declared.scene.Scene.{Scene}
 
 -- the salt of a scenario is public
 abbrev pub empty_scene : Scheme → Scene

@@ -6,12 +6,12 @@ use Rattle.mp_text.specs.Output.{AppendsFront}
 use Rattle.mp_names.specs.declared.fault.LineFault.{LineFault}
 use Rattle.mp_names.specs.declared.fault.LineFault.TheVariants as line
 use Rattle.mp_names.specs.declared.reason.Reason.{Reason}
-use Rattle.mp_driver.specs.declared.fault.Fault.{Fault}
-use Rattle.mp_driver.specs.declared.fault.Fault.TheVariants.{NoMemory, BadLine, ReadFault, WriteFault}
-use Rattle.mp_driver.specs.declared.stop.Stop.{Stop}
-use Rattle.mp_driver.specs.declared.stop.Stop.TheVariants as stop
+use Rattle.mp_session.specs.declared.fault.Fault.{Fault}
+use Rattle.mp_session.specs.declared.fault.Fault.TheVariants.{NoMemory, BadLine, ReadFault, WriteFault}
+use Rattle.mp_session.specs.declared.stop.Stop.{Stop}
+use Rattle.mp_session.specs.declared.stop.Stop.TheVariants as stop
 use Rattle.mp_signatures.specs.declared.scheme.Scheme.{Scheme}
-use Rattle.mp_driver.specs.Scene.{empty_scene, outcome}
+use Rattle.mp_session.specs.Scene.{empty_scene, outcome}
 
 -- the text of the lines before the first bad one, and the number of that one, from 1, where the pool accepts the scheme's signatures
 abbrev pub outcome_of : Scheme → List (List ℕ) → List ℕ × Option ℕ

@@ -1,7 +1,7 @@
 //! Why a run fails.
 
 ghost use Rattle.std.specs.Prelude.{◌≡◌};
-ghost use Rattle.mp_driver.specs.Fault as run_fault;
+ghost use Rattle.mp_session.specs.Fault as run_fault;
 
 use std::fmt;
 

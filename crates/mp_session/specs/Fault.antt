@@ -1,7 +1,7 @@
 -- The numbers of faults.
 use Rattle.std.specs.Prelude.{ℕ}
-use Rattle.mp_driver.specs.declared.fault.Fault.{Fault}
-use Rattle.mp_driver.specs.declared.fault.Fault.TheVariants.{NoMemory, BadLine, ReadFault, WriteFault}
+use Rattle.mp_session.specs.declared.fault.Fault.{Fault}
+use Rattle.mp_session.specs.declared.fault.Fault.TheVariants.{NoMemory, BadLine, ReadFault, WriteFault}
 
 abbrev pub number : Fault → ℕ
 number NoMemory = 1

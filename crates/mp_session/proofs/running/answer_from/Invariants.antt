@@ -1,7 +1,7 @@
 use Rattle.std.proofs.Common.{◌+◌, ◌≤◌, ◌^◌, length}
 use Rattle.mp_text.specs.Lines.{lines_of}
-use Rattle.mp_driver.proofs.Progress.{Progress}
-use Rattle.mp_driver.proofs.running.answer_from.Given as goal
+use Rattle.mp_session.proofs.Progress.{Progress}
+use Rattle.mp_session.proofs.running.answer_from.Given as goal
 
 -- the lines before the rest are executed, and each had at least one byte
 abbrev pub invariant-loop-line : goal.invariant-loop-line

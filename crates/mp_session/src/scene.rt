@@ -1,14 +1,16 @@
 //! The state of a scenario, line by line.
 
 ghost use Rattle.std.specs.Prelude.{◌≡◌, OnOk};
-ghost use Rattle.mp_driver.specs.Scene.{pool_at};
+ghost use Rattle.mp_session.specs.Scene.{pool_at};
 ghost use Rattle.mp_session.specs.declared.session.Stage.TheVariants.{Open};
 
 use crate::pool::{ScenarioPool, Text};
+use crate::request::Request;
+use crate::session::{Session, Stage};
+use crate::settings::Settings;
 use mp_lines::Line;
 use mp_memory::{Memory, NoMemory};
 use mp_names::LineFault;
-use mp_session::{Request, Session, Settings, Stage};
 use mp_signatures::Signatures;
 
 /// The state of a scenario.
@@ -39,7 +41,7 @@ impl Scene {
     ghost use Rattle.std.specs.Prelude.{◌≡◌, Some, None, IfOk};
     ghost use Rattle.mp_names.specs.Fault.{IsBad};
     ghost use Rattle.mp_session.specs.Inside.Request.{to_request};
-    ghost use Rattle.mp_driver.specs.Scene.{empty_scene, ask, line_step};
+    ghost use Rattle.mp_session.specs.Scene.{empty_scene, ask, line_step};
 
     /// The scene before the first line.
     pub fn new(memory: Memory, signatures: &Signatures) -> Result<Scene, NoMemory>

@@ -1,8 +1,8 @@
 //! A scenario's text, from a reader to a writer.
 
 ghost use Rattle.std.specs.Prelude.{◌≡◌, ◌≤◌, length, IfSome};
-ghost use Rattle.mp_driver.specs.Scene.{empty_scene};
-ghost use Rattle.mp_driver.specs.Ending.{stop_of, AreAnswers, Ended};
+ghost use Rattle.mp_session.specs.Scene.{empty_scene};
+ghost use Rattle.mp_session.specs.Ending.{stop_of, AreAnswers, Ended};
 
 use crate::fault::Fault;
 use crate::scene::Scene;

@@ -4,9 +4,9 @@ use Rattle.std.specs.Io.KnownBytes.{Appends}
 use Rattle.mp_text.specs.Lines.{lines_of}
 use Rattle.mp_text.specs.Output.{AppendsFront}
 use Rattle.mp_signatures.specs.declared.scheme.Scheme.{Scheme}
-use Rattle.mp_driver.specs.Ending.{AreAnswers}
-use Rattle.mp_driver.proofs.Progress.{Progress, begins, goes_on, is_cut, value_of, halts}
-use Rattle.mp_driver.proofs.running.answer_from.Goals as goal
+use Rattle.mp_session.specs.Ending.{AreAnswers}
+use Rattle.mp_session.proofs.Progress.{Progress, begins, goes_on, is_cut, value_of, halts}
+use Rattle.mp_session.proofs.running.answer_from.Goals as goal
 
 pub loop-line-init : goal.loop-line-init
 loop-line-init g c =

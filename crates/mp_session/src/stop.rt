@@ -1,7 +1,7 @@
 //! Why the answers to a text end early.
 
 ghost use Rattle.std.specs.Prelude.{◌≡◌};
-ghost use Rattle.mp_driver.specs.Ending.{bad_line_of, fault_of};
+ghost use Rattle.mp_session.specs.Ending.{bad_line_of, fault_of};
 
 use crate::fault::Fault;
 use mp_names::Reason;

@@ -11,9 +11,9 @@ use Rattle.mp_names.specs.declared.fault.LineFault.{LineFault}
 use Rattle.mp_names.specs.declared.fault.LineFault.TheVariants.{NoMemory, Bad}
 use Rattle.mp_names.specs.Fault.{IsBad}
 use Rattle.mp_signatures.specs.declared.scheme.Scheme.{Scheme}
-use Rattle.mp_driver.specs.declared.scene.Scene.{Scene}
-use Rattle.mp_driver.specs.Scene.{empty_scene, line_step, follow, outcome}
-use Rattle.mp_driver.specs.Ending.{outcome_of, fault_of, stop_of, AreDone, Answers, Ended}
+use Rattle.mp_session.specs.declared.scene.Scene.{Scene}
+use Rattle.mp_session.specs.Scene.{empty_scene, line_step, follow, outcome}
+use Rattle.mp_session.specs.Ending.{outcome_of, fault_of, stop_of, AreDone, Answers, Ended}
 
 -- the value of a result that is Ok
 abbrev pub value_of : {X E : Type 0} → Result X E → Type 0
