@@ -3,10 +3,10 @@ use crate::mempool::count_owners;
 use mp_history::PoolName;
 use mp_items::Item;
 use mp_peer::{PeerReader, forge};
-use mp_pool_samples::samples::Samples;
-use mp_pool_samples::told::with_digit;
 use mp_seqpool::Command;
 use mp_testing::Seen;
+use mp_testing::commands::Samples;
+use mp_testing::told::with_digit;
 use mp_tx::TxId;
 use mp_versions::Snapshot;
 

@@ -3,9 +3,9 @@ mod guarded;
 mod ledgers;
 mod submits;
 
-use crate::samples::guarded::push_guarded;
-use crate::samples::ledgers::push_ledgers;
-use crate::samples::submits::{push_merged, push_submits};
+use crate::commands::guarded::push_guarded;
+use crate::commands::ledgers::push_ledgers;
+use crate::commands::submits::{push_merged, push_submits};
 use mp_memory::Memory;
 use mp_seqpool::{Command, Ids};
 use mp_tx::{Ledger, Tx, TxId, TxParts};

@@ -1,10 +1,10 @@
 //! A transaction whose validator reads the bundle of the output that it locks, and the ledger states from which it
 //! spends.
-use crate::samples::ledgers::push_sync;
-use crate::samples::{Commands, push_remove, push_tx};
+use crate::commands::ledgers::push_sync;
+use crate::commands::{Commands, push_remove, push_tx};
+use crate::samples::{opening, output, parts};
 use mp_memory::{Memory, NoMemory};
 use mp_script::Script;
-use mp_testing::{opening, output, parts};
 use mp_tx::{Ledger, LedgerFault, OutRef, Output, Salt, TxParts};
 
 // Accepts if the output that it locks has at least 100 coin: 100, the policy and the name of coin, OwnQuantity, AtMost.

@@ -1,7 +1,7 @@
 //! Observed answers, as plain data.
+use crate::trial::Seen;
 use mp_history::AuditFault;
 use mp_seqpool::{Answer, Invalid, Refusal, Reply};
-use mp_testing::Seen;
 
 /// An observed answer. Tickets are the digits of a number: 1 and 2 are 12, and 0 is none.
 #[derive(Clone, Copy)]

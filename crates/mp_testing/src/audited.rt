@@ -1,9 +1,9 @@
 //! The results of audits.
 ghost use Rattle.std.specs.Prelude.{◌≤◌, ◌^◌};
 ghost use Rattle.mp_seqpool.specs.PoolLaws.{IsLawful};
-ghost use Rattle.mp_pool_samples.specs.Names.{any};
+ghost use Rattle.mp_testing.specs.Names.{any};
 
-use crate::samples::Samples;
+use crate::commands::Samples;
 use crate::told::{Told, read_fault};
 use crate::verifier::ACCEPTS_ALL;
 use mp_history::{AuditFault, Entry, audit, audit_successor};

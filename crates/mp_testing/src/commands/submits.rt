@@ -1,7 +1,7 @@
 //! Submits of transactions.
-use crate::samples::{Commands, EVEN, RIVAL, SPENDING, THREE, push_tx, submitted};
+use crate::commands::{Commands, EVEN, RIVAL, SPENDING, THREE, push_tx, submitted};
+use crate::samples::{opening, output_of, parts};
 use mp_memory::{Memory, NoMemory};
-use mp_testing::{opening, output_of, parts};
 use mp_tx::{OutRef, Signature, TxParts};
 
 // Appends a submit of a transaction that spends the output and pays these quantities.

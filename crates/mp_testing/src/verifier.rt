@@ -12,7 +12,7 @@ pub struct AcceptsAll {
 pub const ACCEPTS_ALL: AcceptsAll = AcceptsAll { mark: 7 };
 
 impl Verifier for AcceptsAll {
-    ghost use Rattle.mp_pool_samples.specs.Names.{any};
+    ghost use Rattle.mp_testing.specs.Names.{any};
 
     ghost accepts = { λ _. any };
 

@@ -6,7 +6,7 @@ use Rattle.std.proofs.lemmas.List.Elements.{All-nil, All-cons}
 use Rattle.mp_tx.specs.declared.signature.Signature.{Signature}
 use Rattle.mp_tx.specs.Transaction.{Transaction}
 use Rattle.mp_rules.specs.declared.invalid.Invalid.TheVariants as rule
-use Rattle.mp_pool_samples.specs.Names.{any}
+use Rattle.mp_testing.specs.Names.{any}
 use Rattle.mp_rules.specs.FirstFault.{bad_signature}
 use Rattle.mp_rules.specs.Checked.{IsSigned}
 use Rattle.mp_seqpool.specs.Pool.{Pool}

@@ -1,9 +1,9 @@
 //! Ledger states.
-use crate::samples::guarded::guarded_ledger;
-use crate::samples::{Commands, SPENDING, submitted};
+use crate::commands::guarded::guarded_ledger;
+use crate::commands::{Commands, SPENDING, submitted};
+use crate::samples::{ledger, output, output_of};
 use mp_memory::{Memory, NoMemory};
 use mp_seqpool::Command;
-use mp_testing::{ledger, output, output_of};
 use mp_tx::{Ledger, LedgerFault, OutRef, Output, Salt};
 
 type Entries = Vec<(OutRef, Output), Memory>;
