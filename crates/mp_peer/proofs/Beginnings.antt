@@ -18,7 +18,7 @@ use Rattle.mp_seqpool.proofs.Histories.{lawful-after}
 use Rattle.mp_history.specs.Log.{Log, IsLegalLog, commands, state_after}
 use Rattle.mp_history.proofs.Prefixes.{prefix_trans}
 use Rattle.mp_seqpool.specs.Reading.{within, offer}
-use Rattle.mp_items.proofs.Withins.{longest_within}
+use Rattle.mp_versions.proofs.Withins.{longest_within}
 use Rattle.mp_peer.specs.Offers.{IsLongestOffer}
 use Rattle.mp_peer.specs.Blocks.{IsValidBlock}
 

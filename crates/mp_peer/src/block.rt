@@ -7,9 +7,8 @@ ghost use Rattle.mp_seqpool.specs.Reading.{within};
 
 use crate::first_items::share_first;
 use mp_history::PoolName;
-use mp_items::{Item, Items};
 use mp_memory::{Memory, NoMemory};
-use mp_versions::Snapshot;
+use mp_versions::{Item, Items, Snapshot};
 
 /// The first transactions of a pool, for a block. They are the pool's own, and shared.
 #[derive(Drop)]

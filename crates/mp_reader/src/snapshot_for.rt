@@ -3,12 +3,10 @@ ghost use Rattle.std.specs.Prelude.{◌≡◌, IfOk};
 ghost use Rattle.mp_resync.specs.Keep.{keep, bytes_of};
 ghost use Rattle.mp_seqpool.specs.SlowPool.{AreSigned};
 
-use mp_items::Items;
 use mp_memory::{Memory, NoMemory};
 use mp_rules::Verifier;
-use mp_trial::keep_valid;
 use mp_tx::Ledger;
-use mp_versions::Version;
+use mp_versions::{Items, Version, keep_valid};
 
 /// Those of a pool's transactions that would stay valid on another ledger state: each that is valid on it after those kept before
 /// it. The pool doesn't change. The transactions are the pool's own, and shared.
