@@ -2,7 +2,7 @@
 use Rattle.std.proofs.Common.{◌≡◌, ℕ, [], Result, Ok, Err, IfOk, refl, sym, ap, ap₂, subst, ◌∙◌, append-nil}
 use Rattle.mp_tx.specs.Ledger.{LedgerState}
 use Rattle.mp_rules.specs.Verifier.{Accepts}
-use Rattle.mp_resync.specs.Keep.{keep, bytes_of}
+use Rattle.mp_seqpool.specs.Keep.{keep, bytes_of}
 use Rattle.mp_history.specs.Log.{Log, Begins, IsLegalLog, state_after}
 use Rattle.mp_versions.specs.Version.{Version}
 use Rattle.mp_versions.proofs.Histories.{number_of}

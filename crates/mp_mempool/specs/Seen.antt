@@ -2,7 +2,7 @@
 use Rattle.std.specs.Prelude.{◌≡◌, ℕ, List, ◌++◌, length}
 use Rattle.mp_tx.specs.Ledger.{LedgerState}
 use Rattle.mp_rules.specs.Verifier.{Accepts}
-use Rattle.mp_resync.specs.Keep.{keep, bytes_of}
+use Rattle.mp_seqpool.specs.Keep.{keep, bytes_of}
 use Rattle.mp_history.specs.Entry.{Entry}
 use Rattle.mp_history.specs.Log.{Log, IsLegalLog, state_after}
 use Rattle.mp_mempool.specs.declared.read.snapshot_for.SnapshotFor.{SnapshotFor}

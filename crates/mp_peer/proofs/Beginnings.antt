@@ -11,7 +11,7 @@ use Rattle.mp_utxo.specs.Apply.{Unspent, apply}
 use Rattle.mp_rules.specs.Verifier.{Accepts}
 use Rattle.mp_rules.specs.Validity.{Chain}
 use Rattle.mp_tickets.specs.Tickets.{after}
-use Rattle.mp_resync.specs.Keep.{transactions, bytes_of}
+use Rattle.mp_seqpool.specs.Keep.{transactions, bytes_of}
 use Rattle.mp_seqpool.specs.Pool.{Pool}
 use Rattle.mp_seqpool.specs.PoolLaws.{IsLawful}
 use Rattle.mp_seqpool.proofs.Histories.{lawful-after}

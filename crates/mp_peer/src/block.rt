@@ -1,6 +1,6 @@
 //! Blocks of a pool's transactions.
 ghost use Rattle.std.specs.Prelude.{◌≡◌, ◌≢◌, ◌<◌, ◌^◌, [], length, IfOk, OnErr};
-ghost use Rattle.mp_resync.specs.Keep.{bytes_of};
+ghost use Rattle.mp_seqpool.specs.Keep.{bytes_of};
 ghost use Rattle.mp_history.specs.Log.{state_after};
 ghost use Rattle.mp_seqpool.specs.Item.{items_of};
 ghost use Rattle.mp_seqpool.specs.Reading.{within};

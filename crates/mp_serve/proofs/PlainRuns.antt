@@ -7,7 +7,7 @@ use Rattle.mp_text.specs.Words.{words_of}
 use Rattle.mp_tx.specs.Transaction.{Transaction}
 use Rattle.mp_tx.specs.Spelling.{id_of}
 use Rattle.mp_tx.specs.Ledger.{LedgerState}
-use Rattle.mp_resync.specs.Keep.{keep}
+use Rattle.mp_seqpool.specs.Keep.{keep}
 use Rattle.mp_seqpool.specs.declared.refusal.Refusal.{Refusal}
 use Rattle.mp_seqpool.specs.declared.command.Reply.{Reply}
 use Rattle.mp_seqpool.specs.Command.{Command}

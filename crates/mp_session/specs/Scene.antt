@@ -1,6 +1,6 @@
 -- The state of a scenario, and the effect of a line on it.
 use Rattle.std.specs.Prelude.{ℕ, ◌+◌, List, [], ◌∷◌, ◌++◌, Option, None, Some, option_map, option_and_then}
-use Rattle.mp_resync.specs.Keep.{keep}
+use Rattle.mp_seqpool.specs.Keep.{keep}
 use Rattle.mp_seqpool.specs.SlowPool.{empty_pool, answer, next}
 use Rattle.mp_names.specs.Names.{Names}
 use Rattle.mp_lines.specs.Lines.{Line, line_of}

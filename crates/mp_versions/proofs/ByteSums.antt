@@ -5,7 +5,7 @@ use Rattle.std.proofs.lemmas.List.{map-append}
 use Rattle.std.proofs.lemmas.Grind.{common_steps}
 use Rattle.mp_tx.specs.Transaction.{Transaction}
 use Rattle.mp_tx.specs.Spelling.{size_of}
-use Rattle.mp_resync.specs.Keep.{transactions}
+use Rattle.mp_seqpool.specs.Keep.{transactions}
 
 sum_end : (ts : List Transaction) (t : Transaction) → sum_by size_of (ts ++ t ∷ []) ≡ sum_by size_of ts + size_of t
 sum_end ts t = Prim.grind (arith, common_steps)

@@ -8,7 +8,7 @@ use Rattle.mp_tx.specs.Transaction.{Transaction}
 use Rattle.mp_tx.specs.Spelling.{size_of}
 use Rattle.mp_tickets.specs.Tickets.{IsRising}
 use Rattle.mp_tickets.proofs.Rising.{rising_push}
-use Rattle.mp_resync.specs.Keep.{tickets, bytes_of}
+use Rattle.mp_seqpool.specs.Keep.{tickets, bytes_of}
 use Rattle.mp_versions.proofs.ByteSums.{sum-last}
 use Rattle.mp_versions.specs.declared.version.Version.TheInside.{Inside}
 use Rattle.mp_versions.specs.Layout.{items_in, IsLaid}

@@ -7,7 +7,7 @@ use Rattle.mp_tx.specs.Transaction.{Transaction}
 use Rattle.mp_tx.specs.Spelling.{size_of}
 use Rattle.mp_tickets.specs.Tickets.{IsRisingFrom, IsRising, has_ticket, item_at, after, among}
 use Rattle.mp_tickets.proofs.Rising.{not_after, item_at-none}
-use Rattle.mp_resync.specs.Keep.{bytes_of}
+use Rattle.mp_seqpool.specs.Keep.{bytes_of}
 use Rattle.mp_versions.specs.Pages.{size_in}
 use mathlib.Core.Logic.{◌⊎◌}
 use Rattle.mp_versions.proofs.Ascents.{Ascends}

@@ -15,8 +15,8 @@ use Rattle.mp_tx.specs.Ledger.{LedgerState}
 use Rattle.mp_utxo.specs.Apply.{Unspent, apply, after}
 use Rattle.mp_rules.specs.Verifier.{Accepts}
 use Rattle.mp_rules.specs.Checked.{IsSigned}
-use Rattle.mp_resync.specs.Keep.{transactions, is_valid, keep_upon, keep, bytes_of}
-use Rattle.mp_resync.proofs.Keeping.{kept_last}
+use Rattle.mp_seqpool.specs.Keep.{transactions, is_valid, keep_upon, keep, bytes_of}
+use Rattle.mp_seqpool.proofs.KeptLast.{kept_last}
 use Rattle.mp_versions.proofs.ByteSums.{sum-last}
 use Rattle.mp_seqpool.specs.declared.item.Item.{Item}
 use Rattle.mp_seqpool.specs.Item.{shown}

@@ -7,7 +7,7 @@ use Rattle.mp_seqpool.specs.Reading.{within}
 use Rattle.mp_versions.specs.Reading.{IsLongestWithin}
 use Rattle.std.proofs.lemmas.Bool.{leb-true, le-leb}
 use Rattle.std.proofs.lemmas.List.Sums.{sum_by-cons}
-use Rattle.mp_resync.specs.Keep.{transactions, bytes_of}
+use Rattle.mp_seqpool.specs.Keep.{transactions, bytes_of}
 use mathlib.Core.List.{IsPrefix}
 
 pub more_bytes : (i : ℕ × Transaction) (is : List (ℕ × Transaction)) → bytes_of (i ∷ is) ≡ size_of i.1 + bytes_of is

@@ -2,7 +2,7 @@
 use Rattle.std.specs.Prelude.{ℕ, ◌≤◌, List, length}
 use mathlib.Core.List.{IsPrefix}
 use Rattle.mp_tx.specs.Transaction.{Transaction}
-use Rattle.mp_resync.specs.Keep.{bytes_of}
+use Rattle.mp_seqpool.specs.Keep.{bytes_of}
 
 -- the longest prefix whose sizes add up to at most this many bytes
 pub record IsLongestWithin (bytes : ℕ) (items run : List (ℕ × Transaction)) : Type 0 where

@@ -2,7 +2,7 @@
 ghost use Rattle.std.specs.Prelude.{◌≡◌, ◌+◌, ◌≤◌, ◌^◌, All, IfOk, OnOk};
 ghost use Rattle.mp_tx.specs.Spelling.{size_of};
 ghost use Rattle.mp_rules.specs.Checked.{IsSigned};
-ghost use Rattle.mp_resync.specs.Keep.{keep, bytes_of, transactions};
+ghost use Rattle.mp_seqpool.specs.Keep.{keep, bytes_of, transactions};
 ghost use Rattle.mp_seqpool.specs.Item.{item_of};
 ghost use Rattle.mp_versions.specs.Inside.KeptItems.{HasTried, IsBegun, Keeps, Tries};
 

@@ -3,7 +3,7 @@ ghost use Rattle.std.specs.Prelude.{◌≡◌, ◌==◌, ◌<◌, ◌≤◌, ◌
 ghost use Rattle.std.specs.List.Sorted.{IsStrictlyIncreasing};
 ghost use Rattle.std.specs.Arc.{arc_value};
 ghost use Rattle.mp_tickets.specs.Tickets.{IsRising, after, item_at};
-ghost use Rattle.mp_resync.specs.Keep.{tickets, bytes_of};
+ghost use Rattle.mp_seqpool.specs.Keep.{tickets, bytes_of};
 ghost use Rattle.mp_seqpool.specs.Config.{renewed};
 ghost use Rattle.mp_seqpool.specs.SlowPool.{HasPlace, bytes_held, pool_with, pool_upon, ticket_of};
 ghost use Rattle.mp_seqpool.specs.Prepared.{IsPrepared, apart, left_by, leads_to};

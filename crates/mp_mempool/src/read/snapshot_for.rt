@@ -1,6 +1,6 @@
 //! What of a pool would stay valid on another ledger state.
 ghost use Rattle.std.specs.Prelude.{◌≡◌, IfOk};
-ghost use Rattle.mp_resync.specs.Keep.{keep, bytes_of};
+ghost use Rattle.mp_seqpool.specs.Keep.{keep, bytes_of};
 ghost use Rattle.mp_seqpool.specs.SlowPool.{AreSigned};
 
 use mp_memory::{Memory, NoMemory};

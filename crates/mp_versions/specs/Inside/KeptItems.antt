@@ -5,7 +5,7 @@ use Rattle.mp_tx.specs.Spelling.{size_of}
 use Rattle.mp_tx.specs.Ledger.{LedgerState}
 use Rattle.mp_utxo.specs.Overlay.{unspent}
 use Rattle.mp_rules.specs.Verifier.{Accepts}
-use Rattle.mp_resync.specs.Keep.{transactions, is_valid, keep, bytes_of}
+use Rattle.mp_seqpool.specs.Keep.{transactions, is_valid, keep, bytes_of}
 use Rattle.mp_seqpool.specs.Item.{items_of}
 use Rattle.mp_versions.specs.declared.kept_items.Kept.{Kept}
 

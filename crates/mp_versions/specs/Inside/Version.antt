@@ -2,7 +2,7 @@
 use Rattle.std.specs.Prelude.{◌≡◌, ℕ, ◌≤◌, ◌^◌, List, length, All}
 use Rattle.mp_tx.specs.Transaction.{Transaction}
 use Rattle.mp_tickets.specs.Tickets.{IsRising}
-use Rattle.mp_resync.specs.Keep.{tickets, bytes_of}
+use Rattle.mp_seqpool.specs.Keep.{tickets, bytes_of}
 use Rattle.mp_seqpool.specs.Pool.{Pool}
 use Rattle.mp_versions.specs.declared.version.Version.TheInside.{Inside}
 use Rattle.mp_versions.specs.declared.version.Rest.{Rest}

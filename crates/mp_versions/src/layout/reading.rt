@@ -5,7 +5,7 @@ ghost use Rattle.std.specs.Option.{ForSome};
 ghost use Rattle.std.specs.List.Sorted.{IsStrictlyIncreasing};
 ghost use Rattle.mp_tickets.specs.Tickets.{IsRising, after, item_at, among};
 ghost use Rattle.mp_seqpool.specs.Item.{items_of, shown};
-ghost use Rattle.mp_resync.specs.Keep.{bytes_of};
+ghost use Rattle.mp_seqpool.specs.Keep.{bytes_of};
 ghost use Rattle.mp_versions.specs.Layout.{items_in, chunks_in, filled_chunks, IsLaid};
 ghost use Rattle.mp_versions.specs.Pages.{flattened, chunks_of, joined, IsFilled, AreFilled, size_in};
 

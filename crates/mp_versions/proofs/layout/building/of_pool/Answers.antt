@@ -1,9 +1,9 @@
 use Rattle.std.proofs.Common.{◌≡◌, ap, map, sym, subst, ◌∙◌, ◌++◌, [], ◌∷◌}
 use Rattle.std.proofs.lemmas.Map.Iter.{iter_end}
 use Rattle.mp_tickets.specs.Tickets.{IsRising, shown}
-use Rattle.mp_resync.specs.ValidatedTx as resync
-use Rattle.mp_resync.specs.ValidatedTx.{ticketed}
-use Rattle.mp_resync.proofs.Turns.{ticketed-last}
+use Rattle.mp_seqpool.specs.ValidatedTx as resync
+use Rattle.mp_seqpool.specs.ValidatedTx.{ticketed}
+use Rattle.mp_seqpool.proofs.Turns.{ticketed-last}
 use Rattle.mp_versions.specs.Inside.Built.{IsBuilt}
 use Rattle.mp_versions.specs.Layout.{items_in}
 use Rattle.mp_versions.proofs.Building.{none_built, in_other_words}

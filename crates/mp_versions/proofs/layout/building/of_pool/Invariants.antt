@@ -1,6 +1,6 @@
 use Rattle.std.proofs.Common.{map}
 use Rattle.mp_tickets.specs.Tickets.{shown}
-use Rattle.mp_resync.specs.ValidatedTx.{ticketed}
+use Rattle.mp_seqpool.specs.ValidatedTx.{ticketed}
 use Rattle.mp_versions.specs.Inside.Built.{IsBuilt}
 use Rattle.mp_versions.proofs.layout.building.of_pool.Given as goal
 

@@ -1,7 +1,7 @@
 use Rattle.std.proofs.Common.{◌≡◌, ◌+◌, drop, get_or, ap, ◌∙◌, arith}
 use Rattle.std.proofs.lemmas.List.{drop_all, drop_more}
 use Rattle.mp_tickets.specs.Tickets.{among}
-use Rattle.mp_resync.specs.Keep.{bytes_of}
+use Rattle.mp_seqpool.specs.Keep.{bytes_of}
 use Rattle.mp_versions.specs.Layout.{items_in}
 use Rattle.mp_versions.proofs.Ascents.{ascends, ascends-drop}
 use Rattle.mp_versions.proofs.Finding.{ticket_step, no_more, among_none}

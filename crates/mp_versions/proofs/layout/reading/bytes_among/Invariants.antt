@@ -1,6 +1,6 @@
 use Rattle.std.proofs.Common.{◌≡◌, ◌+◌, drop}
 use Rattle.mp_tickets.specs.Tickets.{among}
-use Rattle.mp_resync.specs.Keep.{bytes_of}
+use Rattle.mp_seqpool.specs.Keep.{bytes_of}
 use Rattle.mp_versions.specs.Layout.{items_in}
 use Rattle.mp_versions.proofs.layout.reading.bytes_among.Given as goal
 
