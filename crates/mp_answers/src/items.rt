@@ -2,7 +2,7 @@
 
 ghost use Rattle.std.specs.Prelude.{◌≡◌, ◌++◌, option_map, OnOk};
 ghost use Rattle.std.specs.Arc.{arc_value};
-ghost use Rattle.mp_resync.specs.Keep.{bytes_of};
+ghost use Rattle.mp_seqpool.specs.Keep.{bytes_of};
 ghost use Rattle.mp_seqpool.specs.Item.{items_of};
 ghost use Rattle.hex.specs.Hex.{encode_lower};
 ghost use Rattle.mp_answers.specs.AnswerText.{name_or_id, tx_name_text, item_text, items_text};
