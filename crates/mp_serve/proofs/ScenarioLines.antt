@@ -81,6 +81,7 @@ does_line names line word words l is e other =
     ∙ skipped _ _ _ (differs names (codes "forget") word words l refl good)
     ∙ skipped _ _ _ (differs names (codes "ids") word words l refl good)
     ∙ skipped _ _ _ (differs names (codes "names") word words l refl good)
+    ∙ skipped _ _ _ (differs names (codes "reset") word words l refl good)
     ∙ ap (option_map Does) e
 
 pub blank_line : (names : Names) (line : List ℕ) (l : Line) → words_of line ≡ [] → line_of names line ≡ Some l → ask_of names line ≡ Some (Does l)

@@ -45,6 +45,8 @@ pub data Ask : Type 0 where
   Forgets : List (List ℕ) → Ask
   -- report transactions by their ids from then on, or by their names
   ReportsById : Bool → Ask
+  -- forget all names, and begin again with line 1
+  Resets : Ask
 
 -- bytes NAME HEX
 abbrev pub bytes_by : Names → List ℕ × List ℕ → Option Ask
@@ -104,12 +106,13 @@ abbrev pub forget_ask : List (List ℕ) → Option Ask
 forget_ask [] = None
 forget_ask (word ∷ words) = option_map Forgets (put_names [] (word ∷ words))
 
--- forget, ids, names; otherwise a line of scenarios
+-- forget, ids, names, reset; otherwise a line of scenarios
 abbrev pub names_ask : Names → List ℕ → List ℕ → List (List ℕ) → Option Ask
 names_ask names line word words =
     if pointwise nat_eq word (codes "forget") then forget_ask words
     else if pointwise nat_eq word (codes "ids") then option_map (λ u. ReportsById true) (no_word words)
     else if pointwise nat_eq word (codes "names") then option_map (λ u. ReportsById false) (no_word words)
+    else if pointwise nat_eq word (codes "reset") then option_map (λ u. Resets) (no_word words)
     else option_map Does (line_of names line)
 
 -- utxo, adopt, back; otherwise the lines above

@@ -11,7 +11,7 @@ use Rattle.mp_seqpool.specs.Command as commands
 use Rattle.mp_seqpool.specs.SlowPool.{empty_pool, ticket_of}
 use Rattle.mp_names.specs.declared.names.Binding.{Binding}
 use Rattle.mp_names.specs.declared.names.Binding.TheVariants.{Opening, Made}
-use Rattle.mp_names.specs.Names.{Names, binding_named, with_binding, without_bindings, name_of, reporting_by_id}
+use Rattle.mp_names.specs.Names.{Names, first_names, binding_named, with_binding, without_bindings, name_of, reporting_by_id}
 use Rattle.mp_lines.specs.Lines.{Line}
 use Rattle.mp_session.specs.declared.settings.Settings.{Settings}
 use Rattle.mp_session.specs.Beginning.{Beginning, opening_ledger}
@@ -24,7 +24,7 @@ use Rattle.mp_session.specs.Session as sessions
 use Rattle.mp_session.specs.Request as requests
 use Rattle.mp_signatures.specs.declared.scheme.Scheme.{Scheme}
 use Rattle.mp_serve.specs.declared.conversation.Conversation.{Conversation}
-use Rattle.mp_serve.specs.Ask.{Ask, NewBlock, Does, Reads, Submits, SubmitsBytes, Shows, Checks, Counts, Holds, Extends, Returns, Forgets, ReportsById, ask_of}
+use Rattle.mp_serve.specs.Ask.{Ask, NewBlock, Does, Reads, Submits, SubmitsBytes, Shows, Checks, Counts, Holds, Extends, Returns, Forgets, ReportsById, Resets, ask_of}
 use Rattle.mp_serve.specs.Refused.{none_counted}
 use Rattle.mp_serve.specs.ServedPool.{ServedPool}
 use Rattle.mp_serve.specs.TxWord.{TxWord, tx_meant, put_meant}
@@ -123,6 +123,11 @@ give c (Err fault) = (c, bytes_text (Err fault))
 abbrev pub report_by_id : Conversation → Bool → Conversation × List ℕ
 report_by_id c by_id = (with_names c (reporting_by_id c.session.names by_id), ok_text)
 
+-- all names are forgotten, and the peer is offered all again; allowed from the first request on
+abbrev pub reset_at : Conversation → Stage ServedPool → Step
+reset_at c (Before b) = None
+reset_at c (Open p) = Some (with_session c (record c.session { names = first_names; stage = Open (record p { cursor = 0 }) }), ok_text)
+
 -- ---- words for transactions
 
 abbrev pub show : Conversation → TxWord → Step
@@ -166,6 +171,7 @@ take c (Extends block) = extend c block
 take c (Returns count) = Some (ask c (Return count))
 take c (Forgets names) = Some (forget c names)
 take c (ReportsById by_id) = Some (report_by_id c by_id)
+take c Resets = reset_at c c.session.stage
 
 -- the state and the answer after a line, unless it is bad
 unfoldable pub line_step : Conversation → List ℕ → Step

@@ -48,6 +48,8 @@ pub enum Ask {
     Forgets(Vec<Name, Memory>),
     /// Report transactions by their ids from now on, or by their names.
     ReportsById(bool),
+    /// Forget all names, and begin again with line 1.
+    Resets,
 }
 
 const BYTES: Form = Form {
@@ -108,6 +110,11 @@ const IDS: Form = Form {
 const NAMES: Form = Form {
     word: b"names",
     text: b"names",
+};
+
+const RESET: Form = Form {
+    word: b"reset",
+    text: b"reset",
 };
 
 fn bytes_by<'a>(
@@ -323,6 +330,9 @@ fn names_ask<'a>(
     } else if word == NAMES.word {
         no_word(NAMES.text, words)?;
         Ok(Ask::ReportsById(false))
+    } else if word == RESET.word {
+        no_word(RESET.text, words)?;
+        Ok(Ask::Resets)
     } else {
         scenario_ask(memory, names, line)
     }
@@ -434,7 +444,9 @@ fn ask_within<'a>(memory: Memory, names: &Names, line: &'a [u8]) -> Result<Ask, 
 }
 
 impl Ask {
+    ghost use Rattle.std.specs.Prelude.{◌≡◌, Some};
     ghost use Rattle.mp_names.specs.Fault.{Gives};
+    ghost use Rattle.mp_serve.specs.Served.{is_reset};
     ghost use Rattle.mp_serve.specs.Ask.{ask_of};
     ghost use Rattle.mp_serve.specs.Inside.Ask.{to_ask};
 
@@ -450,5 +462,14 @@ impl Ask {
             return Err(LineFault::Bad(Reason::LongLine));
         }
         ask_within(memory, names, line)
+    }
+    /// Whether the conversation begins again with line 1.
+    pub fn is_reset(&self) -> bool
+        ensures { result ≡ is_reset (Some (to_ask self.now)) }
+    {
+        match self {
+            Ask::Resets => true,
+            _ => false,
+        }
     }
 }

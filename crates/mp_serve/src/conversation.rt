@@ -17,7 +17,7 @@ use crate::texts::{Text, forgotten_line, read_line, show_line, undecodable_line}
 use crate::tx_word::{TxWord, tx_meant, txs_meant};
 use mp_lines::Line;
 use mp_memory::{Memory, NoMemory};
-use mp_names::{Binding, DeclaredTx, LineFault, Name, Names};
+use mp_names::{Binding, DeclaredTx, LineFault, Name, Names, Reason};
 use mp_session::{Beginning, Session, Settings, Stage};
 use mp_signatures::Signatures;
 use mp_tx::{OutRef, Output, Salt, Tx, TxFault};
@@ -78,7 +78,7 @@ impl Conversation {
     ghost use Rattle.mp_names.specs.Fault as lines;
     ghost use Rattle.mp_lines.specs.Inside.Line.{to_line};
     ghost use Rattle.mp_tx.specs.Reading.{transaction_of};
-    ghost use Rattle.mp_serve.specs.Talk.{new_conversation, ask, submit, hold, does, read, give, show, check, extend, report_by_id, forget, take, line_step};
+    ghost use Rattle.mp_serve.specs.Talk.{new_conversation, ask, submit, hold, does, read, give, show, check, extend, report_by_id, reset_at, forget, take, line_step};
     ghost use Rattle.mp_serve.specs.Inside.Ask.{to_ask, to_block, to_tx_word};
     ghost use Rattle.mp_serve.specs.Inside.Request.{to_request};
     ghost use Rattle.mp_serve.specs.Inside.Answer.{text_of};
@@ -261,6 +261,28 @@ impl Conversation {
         Answer::Done
     }
 
+    // Forgets all names. The peer is offered all again. Allowed from the first request on.
+    fn reset<'a>(&mut self, memory: Memory) -> Result<Answer, LineFault<'a>>
+        ensures ok { IfOk result (λ answer.
+            reset_at self.old self.old.session.stage ≡ Some (self.new, text_of answer)) }
+        ensures bad { lines.IsBad result → reset_at self.old self.old.session.stage ≡ None }
+        ensures err { OnErr result (self.new ≡ self.old) }
+    {
+        let Session {
+            names,
+            settings,
+            stage,
+        } = &mut self.session;
+        match stage {
+            Stage::Before(_) => Err(LineFault::Bad(Reason::NotOpen)),
+            Stage::Open(pool) => {
+                *names = Names::new(memory, settings.salt())?;
+                pool.offer_again();
+                Ok(Answer::Done)
+            }
+        }
+    }
+
     // Forgets the names, except those under which the pool reports what it holds.
     fn forget(&mut self, memory: Memory, listed: Vec<Name, Memory>) -> Result<Text, NoMemory>
         ensures ok { IfOk result (λ text.
@@ -289,6 +311,7 @@ impl Conversation {
             Ask::Does(line) => return self.does(memory, line),
             Ask::Holds(reference, output) => return self.hold(memory, reference, output),
             Ask::ReportsById(by_id) => return Ok(self.report_by_id(by_id)),
+            Ask::Resets => return self.reset(memory),
             Ask::Reads(name, bytes) => self.read(memory, name, &bytes)?,
             Ask::Submits(name, tx) => self.submit(memory, &name, &tx)?,
             Ask::SubmitsBytes(bytes) => self.give(memory, &bytes)?,

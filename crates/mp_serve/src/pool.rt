@@ -103,6 +103,13 @@ impl ServedPool {
         self.pool.ticket_of(id).is_some()
     }
 
+    /// The peer is offered all transactions again.
+    pub fn offer_again(&mut self)
+        ensures { self.new ≡ record self.old { cursor = 0 } }
+    {
+        self.cursor = 0;
+    }
+
     /// The transaction with this id, if the pool holds it.
     pub fn share_held(&self, id: &TxId) -> Result<Option<Arc<Tx, Memory>>, NoMemory>
         ensures { IfOk result (λ t. option_map arc_value t

@@ -8,7 +8,7 @@ use Rattle.mp_serve.specs.declared.block.NewBlock as blocks
 use Rattle.mp_serve.specs.declared.tx_word.TxWord as words
 use Rattle.mp_serve.specs.declared.tx_word.TxWord.TheVariants as tx_words
 use Rattle.mp_serve.specs.TxWord.{TxWord, Named, Pooled}
-use Rattle.mp_serve.specs.Ask.{Ask, NewBlock, Does, Reads, Submits, SubmitsBytes, Shows, Checks, Counts, Holds, Extends, Returns, Forgets, ReportsById}
+use Rattle.mp_serve.specs.Ask.{Ask, NewBlock, Does, Reads, Submits, SubmitsBytes, Shows, Checks, Counts, Holds, Extends, Returns, Forgets, ReportsById, Resets}
 
 abbrev pub to_tx_word : words.TxWord → TxWord
 to_tx_word (tx_words.Named tx) = Named (arc_value tx)
@@ -30,3 +30,4 @@ to_ask (asks.Extends block) = Extends (to_block block)
 to_ask (asks.Returns count) = Returns count
 to_ask (asks.Forgets names) = Forgets names.items
 to_ask (asks.ReportsById by_id) = ReportsById by_id
+to_ask asks.Resets = Resets
