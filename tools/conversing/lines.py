@@ -494,6 +494,9 @@ class RandomTalk:
         if self.chance(0.3):
             self.say(self.rng.choice([line, f"has #{id}", f"show #{id}", f"check #{id}", f"remove #{id}", "snapshot", f"forge {MOST}"]))
 
+    def say_reset(self) -> None:
+        self.say("reset")
+
     def say_mode(self) -> None:
         self.say(self.rng.choice(["ids", "names"]))
 
@@ -693,7 +696,7 @@ class RandomTalk:
                 lambda: self.bytes_line(self.new_plan()),
                 lambda: f"{self.rng.choice(['submit', 'check', 'show', 'has'])} {self.any_word()}",
                 self.give_line,
-                lambda: self.rng.choice(["ids", "names"]),
+                lambda: self.rng.choice(["ids", "names", "reset"]),
                 self.remove_line,
                 lambda: self.ledger_line(self.rng.choice(["sync", "for"])),
                 self.adopt_line,
@@ -723,6 +726,7 @@ class RandomTalk:
         (say_bytes, 5),
         (say_give, 5),
         (say_mode, 0.5),
+        (say_reset, 0.15),
         (say_submit, 4),
         (say_check, 1),
         (say_show, 0.5),

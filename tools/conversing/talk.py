@@ -289,6 +289,12 @@ class Talk:
         self.tells_ids = False
         return "ok"
 
+    def _reset(self) -> str:
+        if self.pool is None:
+            raise Bad
+        self.names, self.tells_ids, self.pool.offered, self.lines = Names(), False, 0, 0
+        return "ok"
+
     def _show(self, word: str) -> str:
         tx = self._meant(word)
         return f"tx {tx.size} {tx.id.hex()} {tx.octets.hex()}"
@@ -429,6 +435,7 @@ class Talk:
         "give": (_give, 1, 1),
         "ids": (_ids, 0, 0),
         "names": (_names, 0, 0),
+        "reset": (_reset, 0, 0),
         "show": (_show, 1, 1),
         "forget": (_forget, 1, None),
         "check": (_check, 1, 1),

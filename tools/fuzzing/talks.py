@@ -70,7 +70,7 @@ TALK_FORMS = {
     "utxo": "ok",
     "bytes": f"tx {NUMBER} {HEX}{{64}}|{UNDECODABLE}",
     "give": f"{SUBMITTED} {HEX}{{64}}|{UNDECODABLE}",
-    **dict.fromkeys(["ids", "names"], "ok"),
+    **dict.fromkeys(["ids", "names", "reset"], "ok"),
     "show": f"tx {NUMBER} {HEX}{{64}} (?:{HEX}{{2}})+",
     "check": SUBMITTED,
     "adopt": f"kept{TWO_LISTS}|refused adopt {TX} {RULE}",

@@ -304,6 +304,10 @@ class Pool:
         """Makes the pool report transactions by their names again."""
         return self._ask(["names"], answers.read_ok, timeout)
 
+    def reset(self, *, timeout: float | None = None) -> None:
+        """Forgets all names, ends `ids`, and counts lines from 1. The pool holds what it held."""
+        return self._ask(["reset"], answers.read_ok, timeout)
+
     # Changes.
 
     def check(self, transaction: str, *, timeout: float | None = None) -> int:

@@ -82,6 +82,7 @@ CALLS: list[tuple[Callable[[Pool], object], str, str, object]] = [
     (lambda pool: pool.give(b"\x01\x00"), "give 0100", f"accepted 7 {ID}", Given(7, ID)),
     (lambda pool: pool.ids(), "ids", "ok", None),
     (lambda pool: pool.names(), "names", "ok", None),
+    (lambda pool: pool.reset(), "reset", "ok", None),
     (lambda pool: pool.has(f"#{ID}"), f"has #{ID}", "has yes", True),
     (lambda pool: pool.check(f"#{ID}"), f"check #{ID}", "accepted 1", 1),
     (

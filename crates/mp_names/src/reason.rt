@@ -41,6 +41,8 @@ pub enum Reason<'a> {
     LateSetting,
     SetBefore(&'a [u8]),
     LateOutput,
+    /// Nothing was asked of the pool.
+    NotOpen,
     ManyOutputs,
     NotInRace,
 }
@@ -94,6 +96,7 @@ impl<'a> Reason<'a> {
             Reason::LateSetting => ("a setting stands above the first command", NOTHING, ""),
             Reason::SetBefore(word) => ("'", word, "' was set before"),
             Reason::LateOutput => ("an output stands above the first command", NOTHING, ""),
+            Reason::NotOpen => ("it stands behind the first command", NOTHING, ""),
             Reason::ManyOutputs => ("there are at most 65536 outputs", NOTHING, ""),
             Reason::NotInRace => (RACE, NOTHING, ""),
             Reason::Byte(_) => ("it has the byte ", NOTHING, ""),

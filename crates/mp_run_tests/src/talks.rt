@@ -163,6 +163,8 @@ const GIVEN: Talk = Talk {
         b"remove #f8f11283a19134b80b18f90f8ab47ef21a315808b705b442408dadb4fffe20b1",
         b"has #f8f11283a19134b80b18f90f8ab47ef21a315808b705b442408dadb4fffe20b1",
         b"stats",
+        b"reset",
+        b"snapshot",
     ],
     answers: b"ok\nundecodable version\nbad\naccepted 1 f8f11283a19134b80b18f90f8ab47ef21a315808b705b442408dadb4fffe20b1\n\
         refused already 1 f8f11283a19134b80b18f90f8ab47ef21a315808b705b442408dadb4fffe20b1\n\
@@ -175,7 +177,7 @@ const GIVEN: Talk = Talk {
         0000000000000000000000000000640000000000000000ffffffffffffffff000000000000\
         \nrefused already 1\nkept dropped 1\n\
         refused missing 0 f8f11283a19134b80b18f90f8ab47ef21a315808b705b442408dadb4fffe20b1\n\
-        kept dropped\nremoved dropped\nhas no\nstats 0 0 1000000 1 4 already 1 missing 1\n",
+        kept dropped\nremoved dropped\nhas no\nstats 0 0 1000000 1 4 already 1 missing 1\nok\nsnapshot 0 0 1\n",
 };
 
 const TALKS: [Talk; 5] = [CHANGES, READS, BLOCKS, REPORTS, GIVEN];
