@@ -96,7 +96,7 @@ impl<'a> Reason<'a> {
             Reason::LateSetting => ("a setting stands above the first command", NOTHING, ""),
             Reason::SetBefore(word) => ("'", word, "' was set before"),
             Reason::LateOutput => ("an output stands above the first command", NOTHING, ""),
-            Reason::NotOpen => ("it stands behind the first command", NOTHING, ""),
+            Reason::NotOpen => ("no command comes before it", NOTHING, ""),
             Reason::ManyOutputs => ("there are at most 65536 outputs", NOTHING, ""),
             Reason::NotInRace => (RACE, NOTHING, ""),
             Reason::Byte(_) => ("it has the byte ", NOTHING, ""),
