@@ -12,71 +12,68 @@ use Rattle.mp_text.specs.declared.line_input.LineRead.{LineRead}
 use Rattle.mp_text.specs.declared.line_input.LineRead.TheVariants.{Whole, TooLong, Lost, End}
 use Rattle.mp_text.specs.LineInput.{IsLine, first_line}
 use Rattle.mp_serve.proofs.Lines.{first_through}
-use Rattle.mp_serve.specs.Served.{IsAnswer, AreAnswers, number_after, WereAnswered, AppendsUpTo, WasCut, Ended}
+use Rattle.mp_serve.specs.Talk.{counted}
+use Rattle.mp_serve.specs.Served.{IsAnswer, AreAnswers, WereAnswered, AppendsUpTo, WasCut, Ended}
 
-pub answers-more : (n : ℕ) (s : Conversation) (lines : List (List ℕ)) (text : List ℕ) (t : Conversation) (m : ℕ) (line answer : List ℕ) (u : Conversation)
-    → AreAnswers n s lines text t m → IsAnswer m t line answer u → AreAnswers n s (lines ++ line ∷ []) (text ++ answer) u (number_after m t line answer)
-answers-more n s [] text t m line answer u (none, same, number) is = (
+pub answers-more : (s : Conversation) (lines : List (List ℕ)) (text : List ℕ) (t : Conversation) (line answer : List ℕ) (u : Conversation)
+    → AreAnswers s lines text t → IsAnswer t.line t line answer u → AreAnswers s (lines ++ line ∷ []) (text ++ answer) (counted u)
+answers-more s [] text t line answer u (none, same) is = (
   answer,
   [],
   u,
   ap (λ l. l ++ answer) none ∙ sym (append-nil answer),
-  subst (λ v. IsAnswer n v line answer u) same (subst (λ k. IsAnswer k t line answer u) number is),
-  (refl, refl, ap (λ k. number_after k t line answer) number ∙ ap (λ v. number_after n v line answer) same),
+  subst (λ (v : Conversation). IsAnswer v.line v line answer u) same is,
+  (refl, refl),
 )
-answers-more n s (l ∷ ls) text t m line answer u (first, rest, v, whole, told, more) is = (
+answers-more s (l ∷ ls) text t line answer u (first, rest, v, whole, told, more) is = (
   first,
   rest ++ answer,
   v,
   ap (λ x. x ++ answer) whole ∙ append_assoc first rest answer,
   told,
-  answers-more (number_after n s l first) v ls rest t m line answer u more is,
+  answers-more (counted v) ls rest t line answer u more is,
 )
 
 -- The lines so far were answered, and the writer got exactly the answers.
--- m is the number of the next line, and n counts the lines from 1.
-pub record Progress (g : Conversation) (old now : Option (List ℕ)) (all rest : List (List ℕ)) (s : Conversation) (m n : ℕ) : Type 0 where
+pub record Progress (g : Conversation) (old now : Option (List ℕ)) (all rest : List (List ℕ)) (s : Conversation) (n : ℕ) : Type 0 where
   pub lines : List (List ℕ)
   pub text : List ℕ
   pub whole : all ≡ lines ++ rest
-  pub told : AreAnswers 1 g lines text s m
+  pub told : AreAnswers g lines text s
   pub wrote : Appends old now text
   pub count : n ≡ length lines + 1
 
-pub begins : (g : Conversation) (o : Option (List ℕ)) (all : List (List ℕ)) (s : Conversation) (m n : ℕ) → s ≡ g → m ≡ 1 → n ≡ 1 → Progress g o o all all s m n
-begins g o all s m n e first one = record { lines = []; text = []; whole = refl; told = (refl, e, first); wrote = Appends-nothing o; count = one }
+pub begins : (g : Conversation) (o : Option (List ℕ)) (all : List (List ℕ)) (s : Conversation) (n : ℕ) → s ≡ g → n ≡ 1 → Progress g o o all all s n
+begins g o all s n e one = record { lines = []; text = []; whole = refl; told = (refl, e); wrote = Appends-nothing o; count = one }
 
-module _ (g : Conversation) (old now : Option (List ℕ)) (all rest : List (List ℕ)) (s : Conversation) (m n : ℕ) where
+module _ (g : Conversation) (old now : Option (List ℕ)) (all rest : List (List ℕ)) (s : Conversation) (n : ℕ) where
   -- one more line
-  pub goes_on : (new : Option (List ℕ)) (u : Conversation) (line answer : List ℕ) → Progress g old now all (line ∷ rest) s m n → IsAnswer m s line answer u → Appends now new answer
-      → Progress g old new all rest u (number_after m s line answer) (n + 1)
+  pub goes_on : (new : Option (List ℕ)) (u : Conversation) (line answer : List ℕ) → Progress g old now all (line ∷ rest) s n → IsAnswer s.line s line answer u → Appends now new answer → Progress g old new all rest (counted u) (n + 1)
   goes_on new u line answer p is w = record {
     lines = p.lines ++ line ∷ [];
     text = p.text ++ answer;
     whole = p.whole ∙ sym (append_assoc p.lines (line ∷ []) rest);
-    told = answers-more 1 g p.lines p.text s m line answer u p.told is;
+    told = answers-more g p.lines p.text s line answer u p.told is;
     wrote = Appends-more old now new p.text answer p.wrote w;
     count = let c = p.count in let l = length-append p.lines (line ∷ []) in omega (arith, c, l);
   }
 
   -- these lines were answered
-  pub stopped : (p : Progress g old now all rest s m n) → WereAnswered g old now (take (length p.lines) all)
+  pub stopped : (p : Progress g old now all rest s n) → WereAnswered g old now (take (length p.lines) all)
   stopped p =
       let front : take (length p.lines) all ≡ p.lines = ap (take (length p.lines)) p.whole ∙ take-append_seam p.lines rest in
-      (p.text, s, m, subst (λ l. AreAnswers 1 g l p.text s m) (sym front) p.told, p.wrote)
+      (p.text, s, subst (λ l. AreAnswers g l p.text s) (sym front) p.told, p.wrote)
 
   -- a prefix of an answer was written, perhaps all of it
-  pub is_cut : (new : Option (List ℕ)) (u : Conversation) (line answer : List ℕ) → Progress g old now all (line ∷ rest) s m n → IsAnswer m s line answer u → AppendsUpTo now new answer → WasCut g old new all
+  pub is_cut : (new : Option (List ℕ)) (u : Conversation) (line answer : List ℕ) → Progress g old now all (line ∷ rest) s n → IsAnswer s.line s line answer u → AppendsUpTo now new answer → WasCut g old new all
   is_cut new u line answer p is (taken, w) =
       let done : List (List ℕ) = p.lines ++ line ∷ [] in
       let front : take (length done) all ≡ done = ap (take (length done)) (p.whole ∙ sym (append_assoc p.lines (line ∷ []) rest)) ∙ take-append_seam done rest in
-      let next : ℕ = number_after m s line answer in
-      let told : AreAnswers 1 g done (p.text ++ answer) u next = answers-more 1 g p.lines p.text s m line answer u p.told is in (
+      let told : AreAnswers g done (p.text ++ answer) (counted u) = answers-more g p.lines p.text s line answer u p.told is in (
         length done,
         p.text ++ answer,
-        u,
-        next,
-        subst (λ l. AreAnswers 1 g l (p.text ++ answer) u next) (sym front) told,
+        counted u,
+        subst (λ l. AreAnswers g l (p.text ++ answer) (counted u)) (sym front) told,
         (length p.text + taken, subst (Appends old new) (sym (take-append-add p.text answer taken)) (Appends-more old now new p.text (take taken answer) p.wrote w)),
       )
 
@@ -94,60 +91,58 @@ no_line None limit found kept is line = tt
 no_line (Some bytes) limit found kept is line = subst (λ f. IsLine limit bytes f kept) is line
 
 -- The lines that were read from known bytes were answered, and those of the bytes that are left weren't read.
-abbrev pub Stands : Conversation → Option (List ℕ) → Option (List ℕ) → Option (List ℕ) → Option (List ℕ) → Conversation → ℕ → ℕ → Type 0
-Stands g all left old now s m n =
-    IfSome all (λ bytes. (rest : List ℕ) × (left ≡ Some rest) × Progress g old now (lines_of bytes) (lines_of rest) s m n)
+abbrev pub Stands : Conversation → Option (List ℕ) → Option (List ℕ) → Option (List ℕ) → Option (List ℕ) → Conversation → ℕ → Type 0
+Stands g all left old now s n =
+    IfSome all (λ bytes. (rest : List ℕ) × (left ≡ Some rest) × Progress g old now (lines_of bytes) (lines_of rest) s n)
 
-pub stands-first : (g : Conversation) (all old : Option (List ℕ)) (s : Conversation) (m n : ℕ) → s ≡ g → m ≡ 1 → n ≡ 1 → Stands g all all old old s m n
-stands-first g None old s m n e first one = tt
-stands-first g (Some bytes) old s m n e first one = (bytes, refl, begins g old (lines_of bytes) s m n e first one)
+pub stands-first : (g : Conversation) (all old : Option (List ℕ)) (s : Conversation) (n : ℕ) → s ≡ g → n ≡ 1 → Stands g all all old old s n
+stands-first g None old s n e one = tt
+stands-first g (Some bytes) old s n e one = (bytes, refl, begins g old (lines_of bytes) s n e one)
 
-module _ (g : Conversation) (old now : Option (List ℕ)) (s : Conversation) (m n : ℕ) where
+module _ (g : Conversation) (old now : Option (List ℕ)) (s : Conversation) (n : ℕ) where
   -- at the end of the input
-  pub ends : (all left : Option (List ℕ)) → Stands g all left old now s m n → IsAtEnd left → IfSome all (λ bytes. Ended g bytes old now (Ok tt))
+  pub ends : (all left : Option (List ℕ)) → Stands g all left old now s n → IsAtEnd left → IfSome all (λ bytes. Ended g bytes old now (Ok tt))
   ends None left i end = tt
   ends (Some bytes) left (rest, is, p) end =
       let none : rest ≡ [] = subst IsAtEnd is end in
       let done : lines_of bytes ≡ p.lines = p.whole ∙ ap (λ l. p.lines ++ lines_of l) none ∙ append-nil p.lines in
-      (p.text, s, m, subst (λ l. AreAnswers 1 g l p.text s m) (sym done) p.told, p.wrote)
+      (p.text, s, subst (λ l. AreAnswers g l p.text s) (sym done) p.told, p.wrote)
 
   -- if a read fails
-  pub fails : (all left : Option (List ℕ)) → Stands g all left old now s m n → IfSome all (λ bytes. Ended g bytes old now (Err ReadFault))
+  pub fails : (all left : Option (List ℕ)) → Stands g all left old now s n → IfSome all (λ bytes. Ended g bytes old now (Err ReadFault))
   fails None left i = tt
-  fails (Some bytes) left (rest, is, p) = (length p.lines, stopped g old now (lines_of bytes) (lines_of rest) s m n p)
+  fails (Some bytes) left (rest, is, p) = (length p.lines, stopped g old now (lines_of bytes) (lines_of rest) s n p)
 
   -- if no more lines can be counted
-  pub ends_counting : (all left : Option (List ℕ)) → Stands g all left old now s m n → n ≡ 2 ^ 64 - 1 → IfSome all (λ bytes. Ended g bytes old now (Err ManyLines))
+  pub ends_counting : (all left : Option (List ℕ)) → Stands g all left old now s n → n ≡ 2 ^ 64 - 1 → IfSome all (λ bytes. Ended g bytes old now (Err ManyLines))
   ends_counting None left i last = tt
   ends_counting (Some bytes) left (rest, is, p) last =
       let c = p.count in
-      (length p.lines, omega (arith, c, last), stopped g old now (lines_of bytes) (lines_of rest) s m n p)
+      (length p.lines, omega (arith, c, last), stopped g old now (lines_of bytes) (lines_of rest) s n p)
 
   module _ (left after new : Option (List ℕ)) (u : Conversation) (limit : ℕ) (found : LineRead) (kept answer : List ℕ) (other : found ≡ End → ⊥)
       (dropped : DropsThrough left after 10) (line : IfSome left (λ bytes. IsLine limit bytes found kept))
-      (answered : (bytes : List ℕ) → IsLine limit bytes found kept → IsAnswer m s (first_line bytes) answer u) where
-    first_read : (all : List (List ℕ)) (rest : List ℕ) → (rest ≡ [] → ⊥) → Progress g old now all (lines_of rest) s m n
-        → Progress g old now all (first_line rest ∷ lines_of (drop_through 10 rest)) s m n
+      (answered : (bytes : List ℕ) → IsLine limit bytes found kept → IsAnswer s.line s (first_line bytes) answer u) where
+    first_read : (all : List (List ℕ)) (rest : List ℕ) → (rest ≡ [] → ⊥) → Progress g old now all (lines_of rest) s n
+        → Progress g old now all (first_line rest ∷ lines_of (drop_through 10 rest)) s n
     first_read all [] some p = absurd (some refl)
-    first_read all (x ∷ xs) some p = subst (λ l. Progress g old now all l s m n) (first_through x xs) p
+    first_read all (x ∷ xs) some p = subst (λ l. Progress g old now all l s n) (first_through x xs) p
 
     -- one more line is read and answered
-    pub stands-more : (next : ℕ) → ((bytes : List ℕ) → IsLine limit bytes found kept → next ≡ number_after m s (first_line bytes) answer)
-        → (all : Option (List ℕ)) → Stands g all left old now s m n → Appends now new answer → Stands g all after old new u next (n + 1)
-    stands-more next numbered None i w = tt
-    stands-more next numbered (Some bytes) (rest, is, p) w =
+    pub stands-more : (all : Option (List ℕ)) → Stands g all left old now s n → Appends now new answer → Stands g all after old new (counted u) (n + 1)
+    stands-more None i w = tt
+    stands-more (Some bytes) (rest, is, p) w =
         let is_line : IsLine limit rest found kept = subst (λ o. IfSome o (λ bytes. IsLine limit bytes found kept)) is line in (
           drop_through 10 rest,
           subst (λ o. DropsThrough o after 10) is dropped,
-          subst (λ k. Progress g old new (lines_of bytes) (lines_of (drop_through 10 rest)) u k (n + 1)) (sym (numbered rest is_line))
-          (goes_on g old now (lines_of bytes) (lines_of (drop_through 10 rest)) s m n new u (first_line rest) answer
-              (first_read (lines_of bytes) rest (some_line limit rest found kept other is_line) p) (answered rest is_line) w),
+          goes_on g old now (lines_of bytes) (lines_of (drop_through 10 rest)) s n new u (first_line rest) answer
+              (first_read (lines_of bytes) rest (some_line limit rest found kept other is_line) p) (answered rest is_line) w,
         )
 
     -- if a write fails
-    pub stands-cut : (all : Option (List ℕ)) → Stands g all left old now s m n → AppendsUpTo now new answer → IfSome all (λ bytes. Ended g bytes old new (Err WriteFault))
+    pub stands-cut : (all : Option (List ℕ)) → Stands g all left old now s n → AppendsUpTo now new answer → IfSome all (λ bytes. Ended g bytes old new (Err WriteFault))
     stands-cut None i w = tt
     stands-cut (Some bytes) (rest, is, p) w =
         let is_line : IsLine limit rest found kept = subst (λ o. IfSome o (λ bytes. IsLine limit bytes found kept)) is line in
-        is_cut g old now (lines_of bytes) (lines_of (drop_through 10 rest)) s m n new u (first_line rest) answer
+        is_cut g old now (lines_of bytes) (lines_of (drop_through 10 rest)) s n new u (first_line rest) answer
         (first_read (lines_of bytes) rest (some_line limit rest found kept other is_line) p) (answered rest is_line) w

@@ -25,7 +25,7 @@ use Rattle.mp_session.specs.Request as requests
 use Rattle.mp_signatures.specs.declared.scheme.Scheme.{Scheme}
 use Rattle.mp_serve.specs.declared.conversation.Conversation.{Conversation}
 use Rattle.mp_serve.specs.Ask.{Ask, NewBlock, Does, Reads, Submits, SubmitsBytes, Shows, Checks, Counts, Holds, Extends, Returns, Forgets, ReportsById, Resets, ask_of}
-use Rattle.mp_serve.specs.Refused.{none_counted}
+use Rattle.mp_serve.specs.Refused.{none_counted, one_more}
 use Rattle.mp_serve.specs.ServedPool.{ServedPool}
 use Rattle.mp_serve.specs.TxWord.{TxWord, tx_meant, put_meant}
 use Rattle.mp_serve.specs.Request.{Block, Request, Response, Plain, Extend, Return, Check, Give, Count, do_command, respond, answer_to, reported_if}
@@ -33,7 +33,11 @@ use Rattle.mp_serve.specs.Texts.{ok_text, bytes_text, show_text, forgotten_text}
 
 -- before the first line
 abbrev pub new_conversation : Scheme → ℕ → Conversation
-new_conversation signatures salt = record { signatures = signatures; session = new_session salt }
+new_conversation signatures salt = record { signatures = signatures; session = new_session salt; line = 1 }
+
+-- after one more line, whose number is at most 2^64 - 1
+abbrev pub counted : Conversation → Conversation
+counted c = record c { line = one_more c.line }
 
 -- the state after a line, and the answer
 abbrev pub Step : Type 0
@@ -123,10 +127,10 @@ give c (Err fault) = (c, bytes_text (Err fault))
 abbrev pub report_by_id : Conversation → Bool → Conversation × List ℕ
 report_by_id c by_id = (with_names c (reporting_by_id c.session.names by_id), ok_text)
 
--- all names are forgotten, and the peer is offered all again; allowed from the first request on
+-- all names are forgotten, the peer is offered all again, and the next line has number 1; allowed from the first request on
 abbrev pub reset_at : Conversation → Stage ServedPool → Step
 reset_at c (Before b) = None
-reset_at c (Open p) = Some (with_session c (record c.session { names = first_names; stage = Open (record p { cursor = 0 }) }), ok_text)
+reset_at c (Open p) = Some (record c { session = record c.session { names = first_names; stage = Open (record p { cursor = 0 }) }; line = 0 }, ok_text)
 
 -- ---- words for transactions
 

@@ -444,9 +444,7 @@ fn ask_within<'a>(memory: Memory, names: &Names, line: &'a [u8]) -> Result<Ask, 
 }
 
 impl Ask {
-    ghost use Rattle.std.specs.Prelude.{◌≡◌, Some};
     ghost use Rattle.mp_names.specs.Fault.{Gives};
-    ghost use Rattle.mp_serve.specs.Served.{is_reset};
     ghost use Rattle.mp_serve.specs.Ask.{ask_of};
     ghost use Rattle.mp_serve.specs.Inside.Ask.{to_ask};
 
@@ -462,14 +460,4 @@ impl Ask {
             return Err(LineFault::Bad(Reason::LongLine));
         }
         ask_within(memory, names, line)
-    }
-    /// Whether the conversation begins again with line 1.
-    pub fn is_reset(&self) -> bool
-        ensures { result ≡ is_reset (Some (to_ask self.now)) }
-    {
-        match self {
-            Ask::Resets => true,
-            _ => false,
-        }
-    }
-}
+    }}

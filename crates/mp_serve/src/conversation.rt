@@ -29,6 +29,8 @@ pub struct Conversation {
     /// Which signatures the pool accepts.
     pub signatures: Signatures,
     pub session: Session<ServedPool>,
+    /// The number of the next line, from 1, or from the last reset.
+    pub line: u64,
 }
 
 // Opens the pool and lets it respond.
@@ -78,7 +80,7 @@ impl Conversation {
     ghost use Rattle.mp_names.specs.Fault as lines;
     ghost use Rattle.mp_lines.specs.Inside.Line.{to_line};
     ghost use Rattle.mp_tx.specs.Reading.{transaction_of};
-    ghost use Rattle.mp_serve.specs.Talk.{new_conversation, ask, submit, hold, does, read, give, show, check, extend, report_by_id, reset_at, forget, take, line_step};
+    ghost use Rattle.mp_serve.specs.Talk.{new_conversation, ask, submit, hold, does, read, give, show, check, extend, report_by_id, reset_at, counted, forget, take, line_step};
     ghost use Rattle.mp_serve.specs.Inside.Ask.{to_ask, to_block, to_tx_word};
     ghost use Rattle.mp_serve.specs.Inside.Request.{to_request};
     ghost use Rattle.mp_serve.specs.Inside.Answer.{text_of};
@@ -91,6 +93,7 @@ impl Conversation {
         Ok(Conversation {
             signatures,
             session,
+            line: 1,
         })
     }
 
@@ -261,7 +264,14 @@ impl Conversation {
         Answer::Done
     }
 
-    // Forgets all names. The peer is offered all again. Allowed from the first request on.
+    /// Counts the line that was answered. Its number stays at 2^64 - 1.
+    pub fn count_line(&mut self)
+        ensures { self.new ≡ counted self.old }
+    {
+        self.line = self.line.saturating_add(1);
+    }
+
+    // Forgets all names. The peer is offered all again, and the next line has number 1. Allowed from the first request on.
     fn reset<'a>(&mut self, memory: Memory) -> Result<Answer, LineFault<'a>>
         ensures ok { IfOk result (λ answer.
             reset_at self.old self.old.session.stage ≡ Some (self.new, text_of answer)) }
@@ -278,6 +288,7 @@ impl Conversation {
             Stage::Open(pool) => {
                 *names = Names::new(memory, settings.salt())?;
                 pool.offer_again();
+                self.line = 0;
                 Ok(Answer::Done)
             }
         }
