@@ -165,11 +165,7 @@ fn submit_ask<'a>(memory: Memory, names: &Names, words: &'a [u8]) -> Result<Ask,
 }
 
 // The only word of a line of this form, which is for a transaction.
-fn one_tx<'a>(
-    names: &Names,
-    form: &'static [u8],
-    words: &'a [u8],
-) -> Result<TxWord, LineFault<'a>>
+fn one_tx<'a>(names: &Names, form: &'static [u8], words: &'a [u8]) -> Result<TxWord, LineFault<'a>>
     ensures { Gives to_tx_word (one_tx names.now (words_of words.now)) result }
 {
     let word = one_word(form, words)?;
@@ -460,4 +456,5 @@ impl Ask {
             return Err(LineFault::Bad(Reason::LongLine));
         }
         ask_within(memory, names, line)
-    }}
+    }
+}

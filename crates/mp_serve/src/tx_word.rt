@@ -35,10 +35,7 @@ pub fn tx_word_of<'a>(names: &Names, word: &'a [u8]) -> Result<TxWord, LineFault
 }
 
 // The transaction with this id that the pool holds.
-fn tx_held(
-    stage: &Stage<ServedPool>,
-    id: &TxId,
-) -> Result<Option<Arc<Tx, Memory>>, NoMemory>
+fn tx_held(stage: &Stage<ServedPool>, id: &TxId) -> Result<Option<Arc<Tx, Memory>>, NoMemory>
     ensures { IfOk result (λ t. option_map arc_value t ≡ tx_held stage.now id.now) }
 {
     match stage {

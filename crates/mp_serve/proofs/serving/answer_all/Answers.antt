@@ -40,8 +40,8 @@ loop-_count-preserved g c =
     let answer : List ℕ = text_of c.answer-answer.result in
     let other : c.in-Ok.found ≡ End → ⊥ = λ e. search rules in (
       subst (λ (v : Conversation). Stands c.args.conversation.now (g.D.Device.input c.args.device.now) (g.D.Device.input c.tell.new.device) (g.D.Device.output c.args.device.now) (g.D.Device.output c.tell.new.device) v (c.loop-_count._count + 1))
-      (sym c.count_line.ensures)
-      (stands-more c.args.conversation.now (g.D.Device.output c.args.device.now) (g.D.Device.output c.loop-_count.device) c.loop-_count.conversation c.loop-_count._count left
+          (sym c.count_line.ensures)
+          (stands-more c.args.conversation.now (g.D.Device.output c.args.device.now) (g.D.Device.output c.loop-_count.device) c.loop-_count.conversation c.loop-_count._count left
           (g.D.Device.input c.tell.new.device) (g.D.Device.output c.tell.new.device) c.answer-answer.new.conversation _ c.in-Ok.found c.deref.result.now answer other
           (subst (λ o. DropsThrough left o 10) (sym c.in-Ok-tell.ensures.input) c.in-Ok.ensures.rest)
           (subst (λ k. IfSome left (λ bytes. IsLine _ bytes c.in-Ok.found k)) (sym c.deref.ensures.value) c.in-Ok.ensures.line) c.answer-answer.ensures (g.D.Device.input c.args.device.now) c.loop-_count.invariant.0
