@@ -81,6 +81,7 @@ impl Conversation {
     ghost use Rattle.mp_lines.specs.Inside.Line.{to_line};
     ghost use Rattle.mp_tx.specs.Reading.{transaction_of};
     ghost use Rattle.mp_serve.specs.Talk.{new_conversation, ask, submit, hold, does, read, give, show, check, extend, report_by_id, reset_at, counted, forget, take, line_step};
+    ghost use Rattle.mp_serve.specs.Request.{Give};
     ghost use Rattle.mp_serve.specs.Inside.Ask.{to_ask, to_block, to_tx_word};
     ghost use Rattle.mp_serve.specs.Inside.Request.{to_request};
     ghost use Rattle.mp_serve.specs.Inside.Answer.{text_of};
@@ -206,6 +207,15 @@ impl Conversation {
         }
     }
 
+    // Submits the transaction, which has no name.
+    fn give_tx(&mut self, memory: Memory, tx: Tx) -> Result<Text, NoMemory>
+        ensures ok { IfOk result (λ text. ask self.old (Give tx) ≡ (self.new, text.items)) }
+        ensures err { OnErr result (self.new ≡ self.old) }
+    {
+        let tx = Arc::new(memory, tx)?;
+        self.ask(memory, &Request::Give(tx))
+    }
+
     // Submits the transaction with these bytes, which has no name.
     fn give(&mut self, memory: Memory, bytes: &[u8]) -> Result<Text, NoMemory>
         ensures ok { IfOk result (λ text. give self.old (transaction_of bytes.now)
@@ -213,7 +223,7 @@ impl Conversation {
         ensures err { OnErr result (self.new ≡ self.old) }
     {
         match Tx::decode(memory, bytes) {
-            Ok(tx) => self.ask(memory, &Request::Give(Arc::new(memory, tx)?)),
+            Ok(tx) => self.give_tx(memory, tx),
             Err(TxFault::NoMemory) => Err(NoMemory),
             Err(fault) => undecodable_line(memory, fault),
         }
