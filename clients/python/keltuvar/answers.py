@@ -3,8 +3,8 @@
 from __future__ import annotations
 
 from .errors import BadLine, KeltuvarError, OutOfMemory, Refused, Undecodable
-from .values import Block, Declared, Item, LedgerChange, Removed, Shown, Snapshot, Stats
-from .words import read_number
+from .values import Block, Declared, Given, Item, LedgerChange, Removed, Shown, Snapshot, Stats
+from .words import read_id, read_number
 
 
 def error_in(answer: str) -> KeltuvarError | None:
@@ -75,6 +75,11 @@ def read_shown(answer: str) -> Shown:
 
 def read_ticket(answer: str) -> int:
     return read_number(_read_word(answer, "accepted"))
+
+
+def read_given(answer: str) -> Given:
+    ticket, transaction_id = _read_words(answer, "accepted")
+    return Given(read_number(ticket), read_id(transaction_id))
 
 
 def read_removed(answer: str) -> Removed:

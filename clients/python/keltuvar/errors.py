@@ -2,7 +2,7 @@
 
 from __future__ import annotations
 
-from .words import read_number
+from .words import is_id, read_number
 
 
 class KeltuvarError(Exception):
@@ -38,7 +38,9 @@ class Refused(KeltuvarError):
     word: str
     """What was refused and why, like `missing` or `full`; `adopt` if a block isn't valid."""
     details: tuple[str, ...]
-    """The words after it in the answer."""
+    """The words after it in the answer, without the id."""
+    id: str | None = None
+    """If the line was `give`: the transaction's id."""
     ticket: int | None = None
     """At `already`: the ticket under which the pool holds the transaction."""
     need: int | None = None
@@ -62,13 +64,16 @@ class Refused(KeltuvarError):
     kept: int | None = None
     """At `back`: how many former ledger states are kept."""
     transaction: str | None = None
-    """At `adopt`: the name of the block's first transaction that isn't valid."""
+    """At `adopt`: the name or the id of the block's first transaction that isn't valid."""
     cause: Refused | None = None
     """At `adopt`: why that transaction isn't valid."""
 
     def __init__(self, word: str, *details: str) -> None:
         """Reads the words after `refused`. Raises a ValueError if a known word has other words."""
         super().__init__(word, *details)
+        if details and is_id(details[-1]):
+            *words, self.id = details
+            details = tuple(words)
         self.word, self.details = word, details
         if word == "adopt":
             self.transaction, cause, *words = details

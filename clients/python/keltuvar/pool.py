@@ -19,6 +19,7 @@ from .values import (
     Block,
     Bundle,
     Declared,
+    Given,
     Input,
     Item,
     LedgerChange,
@@ -282,8 +283,9 @@ class Pool:
         return self._ask(line, answers.read_declared, timeout)
 
     def show(self, transaction: str, *, timeout: float | None = None) -> Shown:
-        """Returns a transaction's bytes."""
-        return self._ask(["show", words.format_name(transaction)], answers.read_shown, timeout)
+        """Returns the bytes of a transaction, by its name, or by `#ID` if the pool holds it."""
+        line = ["show", words.format_transaction(transaction)]
+        return self._ask(line, answers.read_shown, timeout)
 
     def forget(self, *names: str, timeout: float | None = None) -> int:
         """Forgets names of outputs and transactions, and returns how many it forgot.
@@ -291,21 +293,40 @@ class Pool:
         A name stays where the pool needs it for a transaction that it holds. One that isn't
         declared counts nothing.
         """
-        return self._ask(["forget", *words.format_some(names)], answers.read_forgotten, timeout)
+        line = ["forget", *words.format_some(words.format_names(names))]
+        return self._ask(line, answers.read_forgotten, timeout)
+
+    def ids(self, *, timeout: float | None = None) -> None:
+        """Makes the pool report transactions by their ids from now on."""
+        return self._ask(["ids"], answers.read_ok, timeout)
+
+    def names(self, *, timeout: float | None = None) -> None:
+        """Makes the pool report transactions by their names again."""
+        return self._ask(["names"], answers.read_ok, timeout)
+
+    def reset(self, *, timeout: float | None = None) -> None:
+        """Forgets all names, ends `ids`, and counts lines from 1. The pool holds what it held."""
+        return self._ask(["reset"], answers.read_ok, timeout)
 
     # Changes.
 
     def check(self, transaction: str, *, timeout: float | None = None) -> int:
         """Returns the ticket that `submit` would give, or raises its refusal. Nothing changes."""
-        return self._ask(["check", words.format_name(transaction)], answers.read_ticket, timeout)
+        line = ["check", words.format_transaction(transaction)]
+        return self._ask(line, answers.read_ticket, timeout)
 
     def submit(self, transaction: str, *, timeout: float | None = None) -> int:
         """Submits a transaction, and returns its ticket."""
         return self._ask(["submit", words.format_name(transaction)], answers.read_ticket, timeout)
 
+    def give(self, data: bytes, *, timeout: float | None = None) -> Given:
+        """Submits a transaction by its bytes, without a name. A `Refused` has its id."""
+        return self._ask(["give", words.format_bytes(data)], answers.read_given, timeout)
+
     def remove(self, *transactions: str, timeout: float | None = None) -> Removed:
         """Takes out transactions and their dependents. Those not in the pool have no effect."""
-        return self._ask(["remove", *words.format_some(transactions)], answers.read_removed, timeout)
+        line = ["remove", *words.format_some(words.format_transactions(transactions))]
+        return self._ask(line, answers.read_removed, timeout)
 
     def sync(
         self,
@@ -334,7 +355,7 @@ class Pool:
 
         block: as of `sync`. Where a transaction isn't valid the refusal's word is `adopt`.
         """
-        line = ["adopt", *_format_moment(tick, block), *words.format_names(transactions)]
+        line = ["adopt", *_format_moment(tick, block), *words.format_transactions(transactions)]
         return self._ask(line, answers.read_ledger_change, timeout)
 
     def back(self, count: int, *, timeout: float | None = None) -> LedgerChange:
@@ -352,12 +373,12 @@ class Pool:
         return self._ask(["after", words.format_number(ticket)], answers.read_after, timeout)
 
     def lookup(self, ticket: int, *, timeout: float | None = None) -> str | None:
-        """Returns the name of the transaction with this ticket, or None."""
+        """Returns the name or the id of the transaction with this ticket, or None."""
         return self._ask(["lookup", words.format_number(ticket)], answers.read_lookup, timeout)
 
     def has(self, transaction: str, *, timeout: float | None = None) -> bool:
         """Returns whether the pool holds a transaction with this one's id."""
-        return self._ask(["has", words.format_name(transaction)], answers.read_has, timeout)
+        return self._ask(["has", words.format_transaction(transaction)], answers.read_has, timeout)
 
     def take(self, size: int, *, timeout: float | None = None) -> Block:
         """Returns the oldest transactions, as long as they fit into `size` bytes in all."""

@@ -48,6 +48,16 @@ class Declared:
 
 
 @dataclass(frozen=True, slots=True)
+class Given:
+    """A transaction that was accepted by its bytes."""
+
+    ticket: int
+    """Its ticket."""
+    id: str
+    """Its id: 64 hexadecimal digits, which don't depend on its signatures."""
+
+
+@dataclass(frozen=True, slots=True)
 class Shown:
     """A declared transaction with its bytes."""
 
@@ -66,7 +76,7 @@ class Item:
     ticket: int
     """Its place in the pool's order; a later transaction has a greater ticket."""
     name: str
-    """The name under which the pool reports it."""
+    """The name under which the pool reports it; its id if it has none, or after `ids`."""
 
 
 @dataclass(frozen=True, slots=True)

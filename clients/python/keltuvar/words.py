@@ -19,6 +19,8 @@ _NAME = re.compile("[a-z][a-z0-9]{0,15}")
 _REFERENCE = re.compile(r"[a-z][a-z0-9]{0,15}(\.[0-9]{1,20})?")
 _TOKEN = re.compile(r"[a-z][a-z0-9]{0,15}(\.[a-z0-9]{1,32})?")
 _ID = re.compile("[0-9a-fA-F]{64}")
+_TRANSACTION = re.compile("[a-z][a-z0-9]{0,15}|#[0-9a-f]{64}")
+_READ_ID = re.compile("[0-9a-f]{64}")
 _LINE = re.compile("[ -~]*")
 _DIGITS = re.compile("[0-9]+")
 
@@ -51,14 +53,23 @@ def format_transaction_name(name: object) -> str:
     return format_name(name)
 
 
+def format_transaction(word: object) -> str:
+    """Returns a transaction's name, or `#` and the 64 lower-case digits of its id."""
+    return _format_match(_TRANSACTION, word, "name, nor '#' and an id of 64 lower-case digits")
+
+
+def format_transactions(transactions: object) -> list[str]:
+    """Returns several names or ids."""
+    return [format_transaction(word) for word in check_list(transactions)]
+
+
 def format_names(names: object) -> list[str]:
     """Returns several names."""
     return [format_name(name) for name in check_list(names)]
 
 
-def format_some(names: object) -> list[str]:
-    """Returns at least one name."""
-    some = format_names(names)
+def format_some(some: list[str]) -> list[str]:
+    """Returns these words, at least one."""
     if not some:
         raise ValueError("there is no name")
     return some
@@ -146,6 +157,18 @@ def format_input(spent: object) -> str:
         return format_reference(spent)
     parts = (spent.script, spent.datum, spent.redeemer)
     return _format_chain(format_reference(spent.reference), ":", parts)
+
+
+def is_id(word: str) -> bool:
+    """Returns whether a word of an answer is an id."""
+    return _READ_ID.fullmatch(word) is not None
+
+
+def read_id(word: str) -> str:
+    """Reads an id of an answer."""
+    if not is_id(word):
+        raise ValueError(f"{word!r} is no id")
+    return word
 
 
 def read_number(word: str) -> int:

@@ -118,6 +118,15 @@ class Refusals(unittest.TestCase):
             with self.subTest(words=words):
                 self.check(error_in(f"refused {words}"), words, fields, text)
 
+    def test_of_bytes(self) -> None:
+        transaction_id = "0a" * 32
+        for words, fields, text in REFUSALS:
+            error = error_in(f"refused {words} {transaction_id}")
+            with self.subTest(words=words):
+                self.check(error, words, fields, text)
+                assert isinstance(error, Refused)
+                self.assertEqual(error.id, transaction_id)
+
     def test_each_of_a_block(self) -> None:
         for words, fields, text in REFUSALS:
             with self.subTest(words=words):
@@ -246,6 +255,8 @@ class Talks(unittest.TestCase):
                 elif words[0] == "tx":
                     read = answers.read_declared if len(words) == 3 else answers.read_shown
                     self.assertIn(f"size={words[1]},", repr(read(line)))
+                elif words[0] == "accepted" and len(words) == 3:
+                    self.assertEqual(answers.read_given(line).id, words[2])
                 else:
                     READERS[words[0]](line)
 

@@ -105,7 +105,7 @@ abbrev pub session_with : Session ScenarioPool → List LedgerState → Counts �
 session_with s f r = record { names = s.names; settings = s.settings; stage = stage_with s.stage f r }
 
 abbrev pub conversation_with : Scene → List LedgerState → Counts → Conversation
-conversation_with s f r = record { signatures = s.signatures; session = session_with s.session f r }
+conversation_with s f r = record { signatures = s.signatures; session = session_with s.session f r; line = 1 }
 
 abbrev pub former_in : Stage ScenarioPool → List LedgerState → List LedgerState
 former_in (Before b) f = []
