@@ -10,6 +10,7 @@ docs/SERVE.md has the conversation, and docs/FORMATS.md the lines and their answ
 
 from .answers import error_in
 from .channel import Stream
+from .clients import Clients
 from .errors import (
     BadLine,
     Broken,
@@ -22,6 +23,7 @@ from .errors import (
 )
 from .pool import Pool
 from .values import (
+    Accepted,
     Block,
     Bundle,
     Declared,
@@ -38,10 +40,12 @@ from .values import (
 __version__ = "0.1.0"
 
 __all__ = [
+    "Accepted",
     "BadLine",
     "Block",
     "Broken",
     "Bundle",
+    "Clients",
     "Closed",
     "Declared",
     "Input",

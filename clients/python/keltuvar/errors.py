@@ -2,7 +2,7 @@
 
 from __future__ import annotations
 
-from .words import read_number
+from .words import is_id, read_number
 
 
 class KeltuvarError(Exception):
@@ -65,16 +65,23 @@ class Refused(KeltuvarError):
     """At `adopt`: the name of the block's first transaction that isn't valid."""
     cause: Refused | None = None
     """At `adopt`: why that transaction isn't valid."""
+    id: str | None = None
+    """The transaction's id, if it was submitted by `give`."""
 
     def __init__(self, word: str, *details: str) -> None:
         """Reads the words after `refused`. Raises a ValueError if a known word has other words."""
+        fields = _REFUSALS[word][0] if word in _REFUSALS else ()
+        # The two fields of `unbalanced` are one word.
+        count = 1 if word == "unbalanced" else len(fields)
+        if word in _REFUSALS and len(details) > count and is_id(details[-1]):
+            self.id, details = details[-1], details[:-1]
         super().__init__(word, *details)
         self.word, self.details = word, details
         if word == "adopt":
             self.transaction, cause, *words = details
             self.cause = Refused(cause, *words)
         elif word in _REFUSALS:
-            self._read(_REFUSALS[word][0])
+            self._read(fields)
 
     def _read(self, fields: tuple[str, ...]) -> None:
         """Reads the details into these fields."""

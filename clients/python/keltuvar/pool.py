@@ -9,13 +9,14 @@ import threading
 import time
 from collections.abc import Callable, Iterable, Sequence
 from types import TracebackType
-from typing import Literal, TypeVar
+from typing import Literal, Self, TypeAlias, TypeVar
 
 from . import answers, words
 from .channel import Cancelled, Channel, Ended, OutOfTime, Stream, Unasked
 from .errors import Broken, Closed, KeltuvarError, Timeout
 from .process import Process
 from .values import (
+    Accepted,
     Block,
     Bundle,
     Declared,
@@ -30,14 +31,16 @@ from .values import (
 )
 
 T = TypeVar("T")
+Program: TypeAlias = str | os.PathLike[str]
+Signatures: TypeAlias = Literal["trial", "checked", "ed25519", "scenarios"]
 
 
-class _NoTurn(Exception):
+class NoTurn(Exception):
     """Other threads took all the time that a call has."""
 
 
 # How many seconds a program that has closed a stream has to end, so that its status is its own.
-_LAST_WORDS = 1.0
+LAST_WORDS = 1.0
 # How many characters of a line an error shows.
 _MOST_TOLD = 60
 _MOST_BLOCK, _MOST_LIMIT = 2**39, 2**32
@@ -45,6 +48,8 @@ _MOST_BLOCK, _MOST_LIMIT = 2**39, 2**32
 
 class Pool:
     """A pool that a program holds.
+
+    A transaction is its name, or `#` and the id of one that the pool holds.
 
     Each call sends one line to `keltuvar serve` and reads its answer. Any number of threads may
     call. A call raises `Refused`, `Undecodable`, `BadLine` or `OutOfMemory` if the answer says so.
@@ -59,9 +64,9 @@ class Pool:
 
     def __init__(
         self,
-        program: str | os.PathLike[str],
+        program: Program,
         *,
-        signatures: Literal["trial", "checked", "ed25519", "scenarios"] = "trial",
+        signatures: Signatures = "trial",
         salt: int | None = None,
         timeout: float | None = None,
     ) -> None:
@@ -73,15 +78,8 @@ class Pool:
         salt: a number for the program's `--salt`; without one the program chooses.
         timeout: the limit of each call that has none of its own; None is no limit.
         """
-        if signatures not in ("trial", "checked", "ed25519", "scenarios"):
-            raise ValueError(f"{signatures!r:.80} is none of 'trial', 'checked' and 'ed25519'")
-        command = [os.fspath(program), "serve"]
-        if signatures in ("checked", "ed25519"):
-            command += ["--signatures", signatures]
-        if salt is not None:
-            command += ["--salt", words.format_number(salt)]
-        limit = _check_seconds(math.inf if timeout is None else timeout)
-        process = Process(command)
+        limit = read_limit(timeout)
+        process = Process(make_command(program, signatures, salt))
         self._set_up(process.channel, process, limit)
 
     @classmethod
@@ -94,9 +92,13 @@ class Pool:
 
         Both become non-blocking, and are closed with the pool.
         """
-        limit = _check_seconds(math.inf if timeout is None else timeout)
+        return cls._over(Channel(answers, lines), None, read_limit(timeout))
+
+    @classmethod
+    def _over(cls, channel: Channel, process: Process | None, limit: float) -> Self:
+        """Returns a pool over a channel, and perhaps the process that it ends with itself."""
         pool = cls.__new__(cls)
-        pool._set_up(Channel(answers, lines), None, limit)
+        pool._set_up(channel, process, limit)
         return pool
 
     def _set_up(self, channel: Channel, process: Process | None, limit: float) -> None:
@@ -142,7 +144,7 @@ class Pool:
         until = time.monotonic() + seconds
         self._closed = True
         try:
-            with contextlib.suppress(_NoTurn):
+            with contextlib.suppress(NoTurn):
                 self._in_turn(seconds, lambda: self._finish(until))
         finally:
             self._stop()
@@ -160,8 +162,8 @@ class Pool:
             if self._process:
                 self._process.kill()
         finally:
-            with contextlib.suppress(_NoTurn):
-                self._in_turn(_LAST_WORDS, self._channel.close)
+            with contextlib.suppress(NoTurn):
+                self._in_turn(LAST_WORDS, self._channel.close)
 
     # Lines as they are.
 
@@ -283,7 +285,8 @@ class Pool:
 
     def show(self, transaction: str, *, timeout: float | None = None) -> Shown:
         """Returns a transaction's bytes."""
-        return self._ask(["show", words.format_name(transaction)], answers.read_shown, timeout)
+        line = ["show", words.format_transaction(transaction)]
+        return self._ask(line, answers.read_shown, timeout)
 
     def forget(self, *names: str, timeout: float | None = None) -> int:
         """Forgets names of outputs and transactions, and returns how many it forgot.
@@ -293,19 +296,33 @@ class Pool:
         """
         return self._ask(["forget", *words.format_some(names)], answers.read_forgotten, timeout)
 
+    def ids(self, *, timeout: float | None = None) -> None:
+        """Has transactions reported by their ids from now on."""
+        return self._ask(["ids"], answers.read_ok, timeout)
+
+    def names(self, *, timeout: float | None = None) -> None:
+        """Has transactions reported by their names again."""
+        return self._ask(["names"], answers.read_ok, timeout)
+
     # Changes.
+
+    def give(self, data: bytes, *, timeout: float | None = None) -> Accepted:
+        """Submits a transaction by its bytes, without a name."""
+        return self._ask(["give", words.format_bytes(data)], answers.read_accepted, timeout)
 
     def check(self, transaction: str, *, timeout: float | None = None) -> int:
         """Returns the ticket that `submit` would give, or raises its refusal. Nothing changes."""
-        return self._ask(["check", words.format_name(transaction)], answers.read_ticket, timeout)
+        line = ["check", words.format_transaction(transaction)]
+        return self._ask(line, answers.read_ticket, timeout)
 
     def submit(self, transaction: str, *, timeout: float | None = None) -> int:
-        """Submits a transaction, and returns its ticket."""
+        """Submits a declared transaction, and returns its ticket."""
         return self._ask(["submit", words.format_name(transaction)], answers.read_ticket, timeout)
 
     def remove(self, *transactions: str, timeout: float | None = None) -> Removed:
         """Takes out transactions and their dependents. Those not in the pool have no effect."""
-        return self._ask(["remove", *words.format_some(transactions)], answers.read_removed, timeout)
+        line = ["remove", *words.format_some_transactions(transactions)]
+        return self._ask(line, answers.read_removed, timeout)
 
     def sync(
         self,
@@ -334,7 +351,7 @@ class Pool:
 
         block: as of `sync`. Where a transaction isn't valid the refusal's word is `adopt`.
         """
-        line = ["adopt", *_format_moment(tick, block), *words.format_names(transactions)]
+        line = ["adopt", *_format_moment(tick, block), *words.format_transactions(transactions)]
         return self._ask(line, answers.read_ledger_change, timeout)
 
     def back(self, count: int, *, timeout: float | None = None) -> LedgerChange:
@@ -352,12 +369,12 @@ class Pool:
         return self._ask(["after", words.format_number(ticket)], answers.read_after, timeout)
 
     def lookup(self, ticket: int, *, timeout: float | None = None) -> str | None:
-        """Returns the name of the transaction with this ticket, or None."""
+        """Returns the name, or the id, of the transaction with this ticket, or None."""
         return self._ask(["lookup", words.format_number(ticket)], answers.read_lookup, timeout)
 
     def has(self, transaction: str, *, timeout: float | None = None) -> bool:
         """Returns whether the pool holds a transaction with this one's id."""
-        return self._ask(["has", words.format_name(transaction)], answers.read_has, timeout)
+        return self._ask(["has", words.format_transaction(transaction)], answers.read_has, timeout)
 
     def take(self, size: int, *, timeout: float | None = None) -> Block:
         """Returns the oldest transactions, as long as they fit into `size` bytes in all."""
@@ -418,16 +435,16 @@ class Pool:
             raise Closed("the pool is that of another process")
         try:
             return self._in_turn(seconds, lambda: self._exchange_in_turn(lines, read, until))
-        except _NoTurn:
+        except NoTurn:
             raise Timeout(told, seconds, sent=False) from None
         except OutOfTime:
             raise Timeout(told, seconds, sent=True) from None
 
     def _in_turn(self, seconds: float, action: Callable[[], T]) -> T:
-        """Holds the lock during the action. Raises `_NoTurn` after this many seconds without it."""
+        """Holds the lock during the action. Raises `NoTurn` after this many seconds without it."""
         try:
             if not self._turn.acquire(timeout=min(seconds, threading.TIMEOUT_MAX)):
-                raise _NoTurn
+                raise NoTurn
             return action()
         finally:
             # After an interrupt just after `acquire` only the lock knows who holds it.
@@ -443,7 +460,7 @@ class Pool:
         if self._closed or self._fault is not None:
             raise self._end()
         if time.monotonic() >= until:
-            raise _NoTurn
+            raise NoTurn
         told = _shorten(lines[0])
         self._fault = f"the call of '{told}' was interrupted, so the program was ended"
         try:
@@ -455,7 +472,7 @@ class Pool:
             self._fault = f"the call of '{told}' had no answer in time, so the program was ended"
             raise
         except Ended:
-            self._finish(time.monotonic() + _LAST_WORDS)
+            self._hear_end()
             status = "" if self.status is None else f" with status {self.status}"
             self._fault = f"the program ended{status} before it answered '{told}'"
             raise self._end() from None
@@ -471,15 +488,39 @@ class Pool:
             if self._fault is not None:
                 self._end()
 
+    def _hear_end(self) -> None:
+        """Gives a program that has closed a stream the time to end by itself."""
+        self._finish(time.monotonic() + LAST_WORDS)
+
+    def _error_text(self) -> str:
+        """Returns the end of the program's standard error so far."""
+        return self._channel.error_text()
+
     def _end(self) -> KeltuvarError:
         """Ends the program, under the lock. Returns why no further call can be made."""
         if self._process:
             self._process.kill()
-        error_text = self._channel.error_text()
+        error_text = self._error_text()
         self._channel.close()
         if self._closed:
             return Closed("the pool is closed")
         return Broken(self._fault or "", self.status, error_text)
+
+
+def make_command(program: Program, signatures: Signatures, salt: int | None) -> list[str]:
+    """Returns the command line that begins a conversation."""
+    if signatures not in ("trial", "checked", "ed25519", "scenarios"):
+        raise ValueError(f"{signatures!r:.80} is none of 'trial', 'checked' and 'ed25519'")
+    command = [os.fspath(program), "serve"]
+    if signatures in ("checked", "ed25519"):
+        command += ["--signatures", signatures]
+    if salt is not None:
+        command += ["--salt", words.format_number(salt)]
+    return command
+
+
+def read_limit(timeout: float | None) -> float:
+    return _check_seconds(math.inf if timeout is None else timeout)
 
 
 def _check_seconds(timeout: float) -> float:

@@ -38,6 +38,16 @@ class Input:
 
 
 @dataclass(frozen=True, slots=True)
+class Accepted:
+    """A transaction that the pool has accepted without a name."""
+
+    ticket: int
+    """Its place in the pool's order; a later transaction has a greater ticket."""
+    id: str
+    """Its id: 64 hexadecimal digits, which don't depend on its signatures."""
+
+
+@dataclass(frozen=True, slots=True)
 class Declared:
     """A transaction that was declared from its bytes."""
 
@@ -66,7 +76,7 @@ class Item:
     ticket: int
     """Its place in the pool's order; a later transaction has a greater ticket."""
     name: str
-    """The name under which the pool reports it."""
+    """The name under which the pool reports it, or its id: after `Pool.ids`, or without a name."""
 
 
 @dataclass(frozen=True, slots=True)

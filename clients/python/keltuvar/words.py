@@ -58,10 +58,30 @@ def format_names(names: object) -> list[str]:
 
 def format_some(names: object) -> list[str]:
     """Returns at least one name."""
-    some = format_names(names)
+    return _check_some(format_names(names))
+
+
+def _check_some(some: list[str]) -> list[str]:
     if not some:
         raise ValueError("there is no name")
     return some
+
+
+def format_transaction(transaction: object) -> str:
+    """Returns a transaction's name, or `#` and the id of one that the pool holds."""
+    if isinstance(transaction, str) and transaction.startswith("#"):
+        return "#" + _format_id(transaction[1:]).lower()
+    return format_name(transaction)
+
+
+def format_transactions(transactions: object) -> list[str]:
+    """Returns several transactions."""
+    return [format_transaction(transaction) for transaction in check_list(transactions)]
+
+
+def format_some_transactions(transactions: object) -> list[str]:
+    """Returns at least one transaction."""
+    return _check_some(format_transactions(transactions))
 
 
 def format_reference(reference: object) -> str:
@@ -102,8 +122,11 @@ def format_bytes(data: object) -> str:
 
 def format_output_id(transaction_id: object, index: object) -> str:
     """Returns the reference `ID#INDEX` of an output."""
-    digits = _format_match(_ID, transaction_id, "id: 64 hexadecimal digits")
-    return f"{digits}#{format_number(index, 65535)}"
+    return f"{_format_id(transaction_id)}#{format_number(index, 65535)}"
+
+
+def _format_id(transaction_id: object) -> str:
+    return _format_match(_ID, transaction_id, "id: 64 hexadecimal digits")
 
 
 def _format_entry(token: object, quantity: object) -> str:
@@ -146,6 +169,11 @@ def format_input(spent: object) -> str:
         return format_reference(spent)
     parts = (spent.script, spent.datum, spent.redeemer)
     return _format_chain(format_reference(spent.reference), ":", parts)
+
+
+def is_id(word: str) -> bool:
+    """Returns whether a word of an answer has the form of an id."""
+    return _ID.fullmatch(word) is not None
 
 
 def read_number(word: str) -> int:

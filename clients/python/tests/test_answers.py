@@ -105,6 +105,9 @@ FIELDS = (
 )
 
 
+ID = "f8f11283a19134b80b18f90f8ab47ef21a315808b705b442408dadb4fffe20b1"
+
+
 class Refusals(unittest.TestCase):
     def check(self, refused: Any, words: str, fields: dict[str, Any], text: str) -> None:
         self.assertIsInstance(refused, Refused)
@@ -127,12 +130,22 @@ class Refusals(unittest.TestCase):
                 self.check(refused.cause, words, fields, text)
                 self.assertEqual(str(refused), f"adopt: transaction 'a' isn't valid: {text}")
 
+    def test_each_of_a_transaction_without_a_name(self) -> None:
+        for words, fields, text in REFUSALS[:-1]:
+            with self.subTest(words=words):
+                refused = error_in(f"refused {words} {ID}")
+                self.check(refused, words, fields, text)
+                assert isinstance(refused, Refused)
+                self.assertEqual((refused.id, copy.copy(refused).id), (ID, ID))
+
     def test_others_are_no_refusals(self) -> None:
         for words in (
             "already",
             "already x",
             "already -1",
             "already 1 2",
+            f"already {ID}",
+            f"already 1 {ID} {ID}",
             "full 1",
             "full 1 2 3",
             "missing \u0661",

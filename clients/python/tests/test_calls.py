@@ -12,6 +12,7 @@ from typing import Any, get_type_hints
 
 import keltuvar
 from keltuvar import (
+    Accepted,
     BadLine,
     Block,
     Broken,
@@ -79,6 +80,11 @@ CALLS: list[tuple[Callable[[Pool], object], str, str, object]] = [
         Declared(181, ID),
     ),
     (lambda pool: pool.show("a"), "show a", f"tx 2 {ID} 01Ff", Shown(2, ID, b"\x01\xff")),
+    (lambda pool: pool.show(f"#{ID}"), f"show #{ID}", f"tx 1 {ID} 00", Shown(1, ID, b"\0")),
+    (lambda pool: pool.ids(), "ids", "ok", None),
+    (lambda pool: pool.names(), "names", "ok", None),
+    (lambda pool: pool.give(b"\x0a\xff"), "give 0aff", f"accepted 7 {ID}", Accepted(7, ID)),
+    (lambda pool: pool.check(f"#{ID.upper()}"), f"check #{ID}", "accepted 7", 7),
     (lambda pool: pool.check("a"), "check a", "accepted 7", 7),
     (lambda pool: pool.submit("a"), "submit a", "accepted 18446744073709551615", 2**64 - 1),
     (
@@ -88,6 +94,12 @@ CALLS: list[tuple[Callable[[Pool], object], str, str, object]] = [
         Removed((1, 2), (3,)),
     ),
     (lambda pool: pool.remove("a"), "remove a", "removed dropped", Removed((), ())),
+    (
+        lambda pool: pool.remove("a", f"#{ID}"),
+        f"remove a #{ID}",
+        "removed 1 dropped",
+        Removed((1,), ()),
+    ),
     (
         lambda pool: pool.sync(5, ["g0", "a.1"]),
         "sync 5 g0 a.1",
@@ -107,6 +119,12 @@ CALLS: list[tuple[Callable[[Pool], object], str, str, object]] = [
         LedgerChange((), (1,)),
     ),
     (lambda pool: pool.adopt(6, ()), "adopt 6", "kept 4 dropped", LedgerChange((4,), ())),
+    (
+        lambda pool: pool.adopt(6, [f"#{ID}", "b"]),
+        f"adopt 6 #{ID} b",
+        "kept dropped",
+        LedgerChange((), ()),
+    ),
     (lambda pool: pool.back(0), "back 0", "kept dropped", LedgerChange((), ())),
     (lambda pool: pool.forge(300), "forge 300", "block 0 0", Block(0, 0, ())),
     (
@@ -124,6 +142,8 @@ CALLS: list[tuple[Callable[[Pool], object], str, str, object]] = [
     (lambda pool: pool.lookup(2), "lookup 2", "lookup none", None),
     (lambda pool: pool.has("a"), "has a", "has yes", True),
     (lambda pool: pool.has("b"), "has b", "has no", False),
+    (lambda pool: pool.has(f"#{ID}"), f"has #{ID}", "has yes", True),
+    (lambda pool: pool.after(6), "after 6", f"after 7:{ID}", (Item(7, ID),)),
     (
         lambda pool: pool.snapshot(),
         "snapshot",
@@ -149,6 +169,7 @@ CALLS: list[tuple[Callable[[Pool], object], str, str, object]] = [
 WRONG: list[tuple[Callable[[Pool], object], list[str]]] = [
     (lambda pool: pool.out("g0", 5), ["", "OK", "ok ", "ok ok", "accepted 1", "bad", "bad 5"]),
     (lambda pool: pool.submit("a"), ["ok", "accepted", "accepted x", "accepted 1 2", "refused"]),
+    (lambda pool: pool.give(b"a"), ["accepted 1", "accepted 1 a", f"accepted {ID}", "ok"]),
     (lambda pool: pool.remove("a"), ["removed", "removed 1", "removed x dropped", "kept dropped"]),
     (lambda pool: pool.back(1), ["kept", "kept 1", "removed dropped", "kept dropped -1"]),
     (lambda pool: pool.after(0), ["after a", "after 1:a:b", "after x:a", "for 1:a", "after "]),
