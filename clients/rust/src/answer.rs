@@ -7,6 +7,7 @@ pub type Result<T> = std::result::Result<T, Error>;
 
 /// The words of an answer that aren't read yet. A colon is a word too.
 type Words<'a> = Peekable<Split<'a, char>>;
+pub(crate) struct Rest(String); // all that are left
 
 pub(crate) trait Read: Sized {
     fn read(words: &mut Words) -> Option<Self>;
@@ -96,9 +97,6 @@ impl<T: Read> Read for Vec<T> {
     }
 }
 
-/// All words, whatever they are.
-pub(crate) struct Rest(String);
-
 // A size is a number of bytes. An id is 64 hexadecimal digits, and doesn't depend on the signatures.
 values! {
     Accepted { ticket: u64, id: String } "A transaction that the pool has accepted."
@@ -147,7 +145,6 @@ explained! {
         Broken { reason: String, status: Option<ExitStatus>, last_line: String } "{reason}"
     }
 }
-
 impl std::error::Error for Error {}
 
 /// Reads an answer: the error that it reports, or a value after this word. None means neither.
@@ -155,7 +152,10 @@ pub(crate) fn read<T: Read>(answer: &str, first: Option<&str>) -> Option<Result<
     let spaced = answer.replace(':', " : ");
     let mut words = spaced.split(' ').peekable();
     let result = match words.next()? {
-        "refused" => Err(Error::Refused { why: Read::read(&mut words)?, id: words.next().map(String::from) }),
+        "refused" => {
+            let why = Read::read(&mut words)?;
+            Err(Error::Refused { why, id: words.next_if(|word| word.len() == 64).map(String::from) })
+        }
         "undecodable" => Err(Error::Undecodable { fault: Read::read(&mut words)? }),
         "bad" => {
             let (number, reason) = answer.strip_prefix("bad ")?.split_once(": ")?;

@@ -164,7 +164,18 @@ fn many_lines() {
 
 #[test]
 fn what_is_no_answer_ends_the_program() {
-    let wrong = ["", "ok", "accepted", "accepted x", "accepted 1 2", "refused", "refused full 1", "bad", "bad x: y"];
+    let wrong = [
+        "",
+        "ok",
+        "accepted",
+        "accepted x",
+        "accepted 1 2",
+        "refused",
+        "refused full 1",
+        "refused missing 0 1",
+        "bad",
+        "bad x: y",
+    ];
     for answer in wrong.into_iter().chain(["fault: read", "undecodable", "has yes", "accepted -1", "accepted +1"]) {
         let mut pool = fake_pool();
         pool.ask(&format!("next {answer}")).expect("ok");
