@@ -101,6 +101,18 @@ class RandomTalk:
             return "nobody"
         return self.rng.choice(names[-4:] if self.chance(0.5) else names)
 
+    def any_word(self) -> str:
+        """Gives a word for a transaction, now and then its id, or one that is nearly an id."""
+        if self.chance(0.75):
+            return self.any_tx()
+        held = [item.tx.id for item in self.talk.pool.items] if self.talk.pool else []
+        ids = [self.names.tx(name).id for name in self.tx_names()]
+        id = self.rng.choice([*held * 4, *held[:1], *ids, self.rng.randbytes(32)])
+        return self.odd_id(id.hex()) if self.chance(0.05) else "#" + id.hex()
+
+    def odd_id(self, digits: str) -> str:
+        return self.rng.choice(["#" + digits.upper(), digits, f"#{digits[1:]}", f"#{digits}0", f"#{digits}#0", "#g" + digits[1:]])
+
     def new_name(self, letter: str) -> str:
         odd = self.rng.random()
         if odd < 0.12 and self.forgotten:
@@ -453,18 +465,45 @@ class RandomTalk:
         self.say(f"{self.rng.choice(['show', 'submit', 'check'])} {name}")
 
     def say_submit(self) -> None:
-        self.say(f"submit {self.any_tx()}")
+        self.say(f"submit {self.any_tx() if self.chance(0.95) else self.any_word()}")
 
     def say_check(self) -> None:
-        self.say(f"check {self.any_tx()}")
+        self.say(f"check {self.any_word()}")
 
     def say_show(self) -> None:
-        self.say(f"show {self.any_tx()}")
+        self.say(f"show {self.any_word()}")
+
+    def give_line(self) -> str:
+        """Gives the bytes of a new transaction, of one that was declared, or ones that are spoilt."""
+        names, kind = self.tx_names(), self.rng.random()
+        if kind < 0.6:
+            line = self.bytes_line(self.new_plan(tries=(0, 6)))
+        elif names and kind < 0.8:
+            tx = self.names.tx(self.rng.choice(names))
+            line = self.line_of_bytes(tx.octets if self.chance(0.5) else spell(self.signed_otherwise(tx.parts)))
+        else:
+            line = self.line_of_bytes(spoilt_bytes(self.rng, self.new_plan().signed()) or b"\x00")
+        return f"give {' '.join(line.split()[2:])}"
+
+    def say_give(self) -> None:
+        line = self.give_line()
+        answer = self.say(line)
+        if not answer.startswith(("accepted", "refused")):
+            return
+        id = answer.split()[-1]
+        if self.chance(0.3):
+            self.say(self.rng.choice([line, f"has #{id}", f"show #{id}", f"check #{id}", f"remove #{id}", "snapshot", f"forge {MOST}"]))
+
+    def say_reset(self) -> None:
+        self.say("reset")
+
+    def say_mode(self) -> None:
+        self.say(self.rng.choice(["ids", "names"]))
 
     def remove_line(self) -> str:
         held = self.held_names()
         count = self.rng.choice([1, 1, 2, 3])
-        words = [self.rng.choice(held) if held and self.chance(0.7) else self.any_tx() for _ in range(count)]
+        words = [self.rng.choice(held) if held and self.chance(0.7) else self.any_word() for _ in range(count)]
         return f"remove {' '.join(words)}"
 
     def say_remove(self) -> None:
@@ -544,15 +583,16 @@ class RandomTalk:
         tick = self.other_tick()
         txs = self.held_block() if self.chance(0.6) else self.found_block(int(tick))
         if self.chance(0.3):
-            txs.insert(self.rng.randint(0, len(txs)), self.any_tx())
+            txs.insert(self.rng.randint(0, len(txs)), self.any_word())
         return " ".join(["adopt", tick, *self.block_bytes(), *txs])
 
     def held_block(self) -> list[str]:
-        """Gives names of the pool's oldest transactions."""
+        """Gives names or ids of the pool's oldest transactions."""
         items = self.talk.pool.items if self.talk.pool else []
         held = self.held_names()
-        count = self.rng.choice([1, 1, 2, 3, len(items)])
-        chosen = [self.rng.choice([name for name in held if self.names.tx(name).id == tx.id]) for _, tx in items[:count]]
+        count = self.rng.choice([1, 1, 2, 3, min(len(items), 40)])
+        words = [[*(name for name in held if self.names.tx(name).id == tx.id), f"#{tx.id.hex()}"] for _, tx in items[:count]]
+        chosen = [self.rng.choice(of_one) for of_one in words]
         if len(chosen) > 1 and self.chance(0.1):
             self.rng.shuffle(chosen)
         return chosen
@@ -613,7 +653,7 @@ class RandomTalk:
         words = {
             "after": lambda: [self.near_ticket()],
             "lookup": lambda: [self.near_ticket()],
-            "has": lambda: [self.any_tx()],
+            "has": lambda: [self.any_word()],
             "take": lambda: [self.near_bytes()],
             "forge": lambda: [self.near_bytes()],
             "offer": lambda: [self.number(self.rng.choice([0, 1, 1, 2, 9, MOST])), self.near_bytes()],
@@ -654,7 +694,9 @@ class RandomTalk:
                 lambda: self.tx_line(self.new_plan()),
                 lambda: self.tx_line(self.new_plan()),
                 lambda: self.bytes_line(self.new_plan()),
-                lambda: f"{self.rng.choice(['submit', 'check', 'show', 'has'])} {self.any_tx()}",
+                lambda: f"{self.rng.choice(['submit', 'check', 'show', 'has'])} {self.any_word()}",
+                self.give_line,
+                lambda: self.rng.choice(["ids", "names", "reset"]),
                 self.remove_line,
                 lambda: self.ledger_line(self.rng.choice(["sync", "for"])),
                 self.adopt_line,
@@ -682,6 +724,9 @@ class RandomTalk:
         (say_again, 1),
         (say_twins, 0.7),
         (say_bytes, 5),
+        (say_give, 5),
+        (say_mode, 0.5),
+        (say_reset, 0.15),
         (say_submit, 4),
         (say_check, 1),
         (say_show, 0.5),

@@ -22,6 +22,7 @@ def long_line(rng: Random, name: str, txs: list[str]) -> bytes:
             f"forget {tx}",
             "stats",
             f"bytes {name} 0100",
+            "give " + rng.choice(["0100", "00" * rng.choice([MOST_BYTES, MOST_BYTES + 1, MOST_BYTES + 14])]),
             f"bytes {name} " + "00" * rng.choice([MOST_BYTES, MOST_BYTES + 1, MOST_BYTES + 7, MOST_BYTES + 13, MOST_BYTES + 14]),
             f"utxo {'cd' * 32}#1 {'0a' * 64}0000",
             f"utxo {'cd' * 32}#{'0' * rng.choice([0, 18, 19, 20])}2 {'0a' * 64}0000",

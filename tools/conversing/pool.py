@@ -62,16 +62,16 @@ class Pool:
     def free(self) -> int:
         return max(0, 2 * self.ledger.block_bytes - size_of(self.items))
 
-    def ticket_of(self, tx: Tx) -> int | None:
-        return next((item.ticket for item in self.items if item.tx.id == tx.id), None)
+    def held(self, id: bytes) -> Item | None:
+        return next((item for item in self.items if item.tx.id == id), None)
 
     def check(self, tx: Tx) -> int:
         """Gives the ticket that a submit of the transaction would be given."""
         if self.last == LAST_TICKET:
             raise Refused(("tickets",))
-        ticket = self.ticket_of(tx)
-        if ticket is not None:
-            raise Refused(("already", ticket))
+        held = self.held(tx.id)
+        if held:
+            raise Refused(("already", held.ticket))
         if tx.size > self.free():
             raise Refused(("full", tx.size, self.free()))
         broken = first_broken(tx, self.ledger.tick, self.unspent(), self.verifier)

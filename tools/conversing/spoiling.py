@@ -17,7 +17,7 @@ NUMBERS = [
     "18446744073709551616", "00000000000000000001", "000000000000000000001", "0000000000000000001", "1e3", "0x1",
 ]  # fmt: skip
 FIRST_WORDS = [
-    "block", "limit", "last", "tick", "out", "utxo", "script", "data", "tx", "bytes", "show", "check", "submit", "remove",
+    "block", "limit", "last", "tick", "out", "utxo", "script", "data", "tx", "bytes", "give", "ids", "names", "reset", "show", "check", "submit", "remove",
     "sync",
     "adopt", "back", "forget", "snapshot", "stats", "after", "lookup", "has", "take", "forge", "offer", "for", "Submit",
     "submits", "end", "help", "exit",

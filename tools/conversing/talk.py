@@ -36,6 +36,7 @@ from .words import (
     Names,
     Opening,
     Payment,
+    id_in,
     number,
     octets,
 )
@@ -140,11 +141,12 @@ class Talk:
         "tick": (0, MOST, 0),
     }
 
-    LONGER = ("bytes", "utxo")  # The first words of lines that may have more than 4,096 bytes.
+    LONGER = ("bytes", "give", "utxo")  # The first words of lines that may have more than 4,096 bytes.
 
     def __init__(self, verifier: Verifier) -> None:
         self.verifier = verifier
         self.names = Names()
+        self.tells_ids = False
         self.settings: dict[str, int] = {}
         self.opening: dict[Ref, Output] = {}
         self.outs = 0
@@ -258,8 +260,43 @@ class Talk:
         self.names.others[word] = Declared(tx, [])
         return f"tx {tx.size} {tx.id.hex()}"
 
+    def _give(self, digits: str) -> str:
+        try:
+            tx = decode(octets(digits))
+        except Fault as fault:
+            return f"undecodable {fault.name}"
+        try:
+            answer = f"accepted {self._opened().submit(tx)}"
+        except Refused as refused:
+            answer = "refused " + self._tell_refusal(refused.broken)
+        return f"{answer} {tx.id.hex()}"
+
+    def _meant(self, word: str) -> Tx:
+        """Gives the transaction that has the name, or that the pool holds under the id."""
+        id = id_in(word)
+        if id is None:
+            return self.names.tx(word)
+        held = self.pool.held(id) if self.pool else None
+        if held is None:
+            raise Bad
+        return held.tx
+
+    def _ids(self) -> str:
+        self.tells_ids = True
+        return "ok"
+
+    def _names(self) -> str:
+        self.tells_ids = False
+        return "ok"
+
+    def _reset(self) -> str:
+        if self.pool is None:
+            raise Bad
+        self.names, self.tells_ids, self.pool.offered, self.lines = Names(), False, 0, 0
+        return "ok"
+
     def _show(self, word: str) -> str:
-        tx = self.names.tx(word)
+        tx = self._meant(word)
         return f"tx {tx.size} {tx.id.hex()} {tx.octets.hex()}"
 
     def _forget(self, *words: str) -> str:
@@ -273,11 +310,11 @@ class Talk:
     def _is_reported(self, word: str) -> bool:
         """Says whether the pool holds what the name stands for, and tells it by this name."""
         found = self.names.others[word]
-        held = self.pool and isinstance(found, Declared) and self.pool.ticket_of(found.tx)
+        held = self.pool and isinstance(found, Declared) and self.pool.held(found.tx.id)
         return bool(held) and self.names.name_of_tx(found.tx.id) == word
 
     def _check(self, word: str) -> str:
-        tx = self.names.tx(word)
+        tx = self._meant(word)
         return f"accepted {self._opened().check(tx)}"
 
     def _submit(self, word: str) -> str:
@@ -287,17 +324,17 @@ class Talk:
         return f"accepted {ticket}"
 
     def _remove(self, *words: str) -> str:
-        ids = {self.names.tx(word).id for word in words}
+        ids = {self.names.id_of(word) for word in words}
         return tell_two("removed", *self._opened().remove(ids))
 
     def _adopt(self, word: str, *words: str) -> str:
         tick, block_bytes, words = self._state_words(word, words)
-        txs = [self.names.tx(word) for word in words]
+        txs = [self._meant(word) for word in words]
         try:
             return tell_two("kept", *self._opened().adopt(tick, block_bytes, txs))
         except Refused as refused:
             _, place, *broken = refused.broken
-            return f"refused adopt {self.names.name_of_tx(txs[place].id)} {self._tell_refusal(tuple(broken))}"
+            return f"refused adopt {self._tell_tx(txs[place].id)} {self._tell_refusal(tuple(broken))}"
 
     def _back(self, word: str) -> str:
         count = number(word)
@@ -343,11 +380,11 @@ class Talk:
     def _lookup(self, word: str) -> str:
         ticket = number(word)
         item = self._opened().lookup(ticket)
-        return "lookup " + (self.names.name_of_tx(item.tx.id) if item else "none")
+        return "lookup " + (self._tell_tx(item.tx.id) if item else "none")
 
     def _has(self, word: str) -> str:
-        tx = self.names.tx(word)
-        return "has yes" if self._opened().ticket_of(tx) else "has no"
+        id = self.names.id_of(word)
+        return "has yes" if self._opened().held(id) else "has no"
 
     def _take(self, word: str) -> str:
         return self._tell_block("take", number(word))
@@ -364,7 +401,10 @@ class Talk:
         return f"{first} {len(block.items)} {block.size}" + self._tell_items(block.items)
 
     def _tell_items(self, items: list[Item]) -> str:
-        return "".join(f" {item.ticket}:{self.names.name_of_tx(item.tx.id)}" for item in items)
+        return "".join(f" {item.ticket}:{self._tell_tx(item.tx.id)}" for item in items)
+
+    def _tell_tx(self, id: bytes) -> str:
+        return id.hex() if self.tells_ids else self.names.name_of_tx(id)
 
     def _tell_refusal(self, broken: Broken) -> str:
         word, *behind = broken
@@ -392,6 +432,10 @@ class Talk:
         "utxo": (_utxo, 2, 2),
         "tx": (_tx, 2, None),
         "bytes": (_bytes, 2, 2),
+        "give": (_give, 1, 1),
+        "ids": (_ids, 0, 0),
+        "names": (_names, 0, 0),
+        "reset": (_reset, 0, 0),
         "show": (_show, 1, 1),
         "forget": (_forget, 1, None),
         "check": (_check, 1, 1),

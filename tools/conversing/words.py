@@ -70,6 +70,11 @@ def octets(word: str) -> bytes:
     return bytes.fromhex(word)
 
 
+def id_in(word: str) -> bytes | None:
+    """Gives the id in a word that is one."""
+    return bytes.fromhex(word[1:]) if re.fullmatch("#[0-9a-f]{64}", word) else None
+
+
 class Names:
     """What has been declared."""
 
@@ -105,6 +110,11 @@ class Names:
         if word not in names:
             raise Bad
         return names[word]
+
+    def id_of(self, word: str) -> bytes:
+        """Gives the id that a word means: its own, or that of the transaction with this name."""
+        id = id_in(word)
+        return self.tx(word).id if id is None else id
 
     def reference(self, word: str) -> tuple[Ref, Payment | None]:
         """Gives what a word refers to, and as what that was declared, if it was."""
@@ -154,10 +164,10 @@ class Names:
         return COIN_POLICY if word == "coin" else self.script(word).hash
 
     def name_of_tx(self, id: bytes) -> str:
-        """Gives the name by which the pool accepted the transaction, or else the first that was declared for the id."""
+        """Gives the name by which the pool accepted the transaction, or else the first that was declared for the id, or else the id."""
         if id in self.reported:
             return self.reported[id]
-        return next(name for name, one in self.others.items() if isinstance(one, Declared) and one.tx.id == id)
+        return next((name for name, one in self.others.items() if isinstance(one, Declared) and one.tx.id == id), id.hex())
 
     def accept(self, word: str) -> None:
         """Notes the name by which the pool accepted a transaction."""

@@ -41,14 +41,16 @@ FIRST_NUMBER = 1_000_000
 NUMBER = "(?:0|[1-9][0-9]*)"
 NAME = "[a-z][a-z0-9]{0,15}"
 HEX = "[0-9a-f]"
+TX = f"(?:{NAME}|{HEX}{{64}})"
 POLICY = f"(?:{NAME}|#{HEX}{{64}})"
-TICKETS, ITEMS = f"(?: {NUMBER})*", f"(?: {NUMBER}:{NAME})*"
+TICKETS, ITEMS = f"(?: {NUMBER})*", f"(?: {NUMBER}:{TX})*"
 TWO_LISTS = f"{TICKETS} dropped{TICKETS}"
 RULE = (
     f"(?:no-inputs|interval|(?:negative|missing|reference|address|datum|taken|signature|validator|policy-script) {NUMBER}"
     f"|no-policy {POLICY}|unbalanced {POLICY}(?:\\.(?:[a-z0-9]+|#{HEX}+))?)"
 )
-SUBMITTED = f"accepted {NUMBER}|refused (?:tickets|already {NUMBER}|full {NUMBER} {NUMBER}|{RULE})"
+SUBMITTED = f"(?:accepted {NUMBER}|refused (?:tickets|already {NUMBER}|full {NUMBER} {NUMBER}|{RULE}))"
+UNDECODABLE = f"undecodable (?:{'|'.join(FAULTS)})"
 # The answers to a line by its first word, unless it is bad: lines of scenarios, and those that only a conversation takes.
 FORMS = {
     **dict.fromkeys(["block", "limit", "last", "tick", "script", "data", "out", "tx"], "ok"),
@@ -57,7 +59,7 @@ FORMS = {
     "sync": f"kept{TWO_LISTS}",
     "snapshot": f"snapshot {NUMBER} {NUMBER} {NUMBER}{ITEMS}",
     "after": f"after{ITEMS}",
-    "lookup": f"lookup {NAME}",
+    "lookup": f"lookup {TX}",
     "has": "has (?:yes|no)",
     "take": f"take {NUMBER} {NUMBER}{ITEMS}",
     "forge": f"block {NUMBER} {NUMBER}{ITEMS}",
@@ -66,10 +68,12 @@ FORMS = {
 }
 TALK_FORMS = {
     "utxo": "ok",
-    "bytes": f"tx {NUMBER} {HEX}{{64}}|undecodable (?:{'|'.join(FAULTS)})",
+    "bytes": f"tx {NUMBER} {HEX}{{64}}|{UNDECODABLE}",
+    "give": f"{SUBMITTED} {HEX}{{64}}|{UNDECODABLE}",
+    **dict.fromkeys(["ids", "names", "reset"], "ok"),
     "show": f"tx {NUMBER} {HEX}{{64}} (?:{HEX}{{2}})+",
     "check": SUBMITTED,
-    "adopt": f"kept{TWO_LISTS}|refused adopt {NAME} {RULE}",
+    "adopt": f"kept{TWO_LISTS}|refused adopt {TX} {RULE}",
     "back": f"kept{TWO_LISTS}|refused back {NUMBER}",
     "forget": f"forgotten {NUMBER}",
     "stats": f"stats(?: {NUMBER}){{5}}(?: (?:{'|'.join(REFUSALS)}) [1-9][0-9]*)*",

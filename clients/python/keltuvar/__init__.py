@@ -23,10 +23,10 @@ from .errors import (
 )
 from .pool import Pool
 from .values import (
-    Accepted,
     Block,
     Bundle,
     Declared,
+    Given,
     Input,
     Item,
     LedgerChange,
@@ -40,7 +40,6 @@ from .values import (
 __version__ = "0.1.0"
 
 __all__ = [
-    "Accepted",
     "BadLine",
     "Block",
     "Broken",
@@ -48,6 +47,7 @@ __all__ = [
     "Clients",
     "Closed",
     "Declared",
+    "Given",
     "Input",
     "Item",
     "KeltuvarError",

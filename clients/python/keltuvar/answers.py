@@ -3,18 +3,8 @@
 from __future__ import annotations
 
 from .errors import BadLine, KeltuvarError, OutOfMemory, Refused, Undecodable
-from .values import (
-    Accepted,
-    Block,
-    Declared,
-    Item,
-    LedgerChange,
-    Removed,
-    Shown,
-    Snapshot,
-    Stats,
-)
-from .words import is_id, read_number
+from .values import Block, Declared, Given, Item, LedgerChange, Removed, Shown, Snapshot, Stats
+from .words import read_id, read_number
 
 
 def error_in(answer: str) -> KeltuvarError | None:
@@ -87,11 +77,9 @@ def read_ticket(answer: str) -> int:
     return read_number(_read_word(answer, "accepted"))
 
 
-def read_accepted(answer: str) -> Accepted:
+def read_given(answer: str) -> Given:
     ticket, transaction_id = _read_words(answer, "accepted")
-    if not is_id(transaction_id):
-        raise ValueError("it has no id")
-    return Accepted(read_number(ticket), transaction_id)
+    return Given(read_number(ticket), read_id(transaction_id))
 
 
 def read_removed(answer: str) -> Removed:

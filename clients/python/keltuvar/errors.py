@@ -38,7 +38,9 @@ class Refused(KeltuvarError):
     word: str
     """What was refused and why, like `missing` or `full`; `adopt` if a block isn't valid."""
     details: tuple[str, ...]
-    """The words after it in the answer."""
+    """The words after it in the answer, without the id."""
+    id: str | None = None
+    """If the line was `give`: the transaction's id."""
     ticket: int | None = None
     """At `already`: the ticket under which the pool holds the transaction."""
     need: int | None = None
@@ -62,26 +64,22 @@ class Refused(KeltuvarError):
     kept: int | None = None
     """At `back`: how many former ledger states are kept."""
     transaction: str | None = None
-    """At `adopt`: the name of the block's first transaction that isn't valid."""
+    """At `adopt`: the name or the id of the block's first transaction that isn't valid."""
     cause: Refused | None = None
     """At `adopt`: why that transaction isn't valid."""
-    id: str | None = None
-    """The transaction's id, if it was submitted by `give`."""
 
     def __init__(self, word: str, *details: str) -> None:
         """Reads the words after `refused`. Raises a ValueError if a known word has other words."""
-        fields = _REFUSALS[word][0] if word in _REFUSALS else ()
-        # The two fields of `unbalanced` are one word.
-        count = 1 if word == "unbalanced" else len(fields)
-        if word in _REFUSALS and len(details) > count and is_id(details[-1]):
-            self.id, details = details[-1], details[:-1]
         super().__init__(word, *details)
+        if details and is_id(details[-1]):
+            *words, self.id = details
+            details = tuple(words)
         self.word, self.details = word, details
         if word == "adopt":
             self.transaction, cause, *words = details
             self.cause = Refused(cause, *words)
         elif word in _REFUSALS:
-            self._read(fields)
+            self._read(_REFUSALS[word][0])
 
     def _read(self, fields: tuple[str, ...]) -> None:
         """Reads the details into these fields."""

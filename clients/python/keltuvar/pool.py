@@ -16,10 +16,10 @@ from .channel import Cancelled, Channel, Ended, OutOfTime, Stream, Unasked
 from .errors import Broken, Closed, KeltuvarError, Timeout
 from .process import Process
 from .values import (
-    Accepted,
     Block,
     Bundle,
     Declared,
+    Given,
     Input,
     Item,
     LedgerChange,
@@ -284,7 +284,7 @@ class Pool:
         return self._ask(line, answers.read_declared, timeout)
 
     def show(self, transaction: str, *, timeout: float | None = None) -> Shown:
-        """Returns a transaction's bytes."""
+        """Returns the bytes of a transaction, by its name, or by `#ID` if the pool holds it."""
         line = ["show", words.format_transaction(transaction)]
         return self._ask(line, answers.read_shown, timeout)
 
@@ -294,21 +294,22 @@ class Pool:
         A name stays where the pool needs it for a transaction that it holds. One that isn't
         declared counts nothing.
         """
-        return self._ask(["forget", *words.format_some(names)], answers.read_forgotten, timeout)
+        line = ["forget", *words.format_some(words.format_names(names))]
+        return self._ask(line, answers.read_forgotten, timeout)
 
     def ids(self, *, timeout: float | None = None) -> None:
-        """Has transactions reported by their ids from now on."""
+        """Makes the pool report transactions by their ids from now on."""
         return self._ask(["ids"], answers.read_ok, timeout)
 
     def names(self, *, timeout: float | None = None) -> None:
-        """Has transactions reported by their names again."""
+        """Makes the pool report transactions by their names again."""
         return self._ask(["names"], answers.read_ok, timeout)
 
-    # Changes.
+    def reset(self, *, timeout: float | None = None) -> None:
+        """Forgets all names, ends `ids`, and counts lines from 1. The pool holds what it held."""
+        return self._ask(["reset"], answers.read_ok, timeout)
 
-    def give(self, data: bytes, *, timeout: float | None = None) -> Accepted:
-        """Submits a transaction by its bytes, without a name."""
-        return self._ask(["give", words.format_bytes(data)], answers.read_accepted, timeout)
+    # Changes.
 
     def check(self, transaction: str, *, timeout: float | None = None) -> int:
         """Returns the ticket that `submit` would give, or raises its refusal. Nothing changes."""
@@ -319,9 +320,13 @@ class Pool:
         """Submits a declared transaction, and returns its ticket."""
         return self._ask(["submit", words.format_name(transaction)], answers.read_ticket, timeout)
 
+    def give(self, data: bytes, *, timeout: float | None = None) -> Given:
+        """Submits a transaction by its bytes, without a name. A `Refused` has its id."""
+        return self._ask(["give", words.format_bytes(data)], answers.read_given, timeout)
+
     def remove(self, *transactions: str, timeout: float | None = None) -> Removed:
         """Takes out transactions and their dependents. Those not in the pool have no effect."""
-        line = ["remove", *words.format_some_transactions(transactions)]
+        line = ["remove", *words.format_some(words.format_transactions(transactions))]
         return self._ask(line, answers.read_removed, timeout)
 
     def sync(
@@ -369,7 +374,7 @@ class Pool:
         return self._ask(["after", words.format_number(ticket)], answers.read_after, timeout)
 
     def lookup(self, ticket: int, *, timeout: float | None = None) -> str | None:
-        """Returns the name, or the id, of the transaction with this ticket, or None."""
+        """Returns the name or the id of the transaction with this ticket, or None."""
         return self._ask(["lookup", words.format_number(ticket)], answers.read_lookup, timeout)
 
     def has(self, transaction: str, *, timeout: float | None = None) -> bool:

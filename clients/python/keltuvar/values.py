@@ -38,21 +38,21 @@ class Input:
 
 
 @dataclass(frozen=True, slots=True)
-class Accepted:
-    """A transaction that the pool has accepted without a name."""
-
-    ticket: int
-    """Its place in the pool's order; a later transaction has a greater ticket."""
-    id: str
-    """Its id: 64 hexadecimal digits, which don't depend on its signatures."""
-
-
-@dataclass(frozen=True, slots=True)
 class Declared:
     """A transaction that was declared from its bytes."""
 
     size: int
     """The number of its bytes."""
+    id: str
+    """Its id: 64 hexadecimal digits, which don't depend on its signatures."""
+
+
+@dataclass(frozen=True, slots=True)
+class Given:
+    """A transaction that was accepted by its bytes."""
+
+    ticket: int
+    """Its ticket."""
     id: str
     """Its id: 64 hexadecimal digits, which don't depend on its signatures."""
 
@@ -76,7 +76,7 @@ class Item:
     ticket: int
     """Its place in the pool's order; a later transaction has a greater ticket."""
     name: str
-    """The name under which the pool reports it, or its id: after `Pool.ids`, or without a name."""
+    """The name under which the pool reports it; its id if it has none, or after `ids`."""
 
 
 @dataclass(frozen=True, slots=True)

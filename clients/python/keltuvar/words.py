@@ -19,6 +19,8 @@ _NAME = re.compile("[a-z][a-z0-9]{0,15}")
 _REFERENCE = re.compile(r"[a-z][a-z0-9]{0,15}(\.[0-9]{1,20})?")
 _TOKEN = re.compile(r"[a-z][a-z0-9]{0,15}(\.[a-z0-9]{1,32})?")
 _ID = re.compile("[0-9a-fA-F]{64}")
+_TRANSACTION = re.compile("[a-z][a-z0-9]{0,15}|#[0-9a-f]{64}")
+_READ_ID = re.compile("[0-9a-f]{64}")
 _LINE = re.compile("[ -~]*")
 _DIGITS = re.compile("[0-9]+")
 
@@ -51,37 +53,26 @@ def format_transaction_name(name: object) -> str:
     return format_name(name)
 
 
+def format_transaction(word: object) -> str:
+    """Returns a transaction's name, or `#` and the 64 lower-case digits of its id."""
+    return _format_match(_TRANSACTION, word, "name, nor '#' and an id of 64 lower-case digits")
+
+
+def format_transactions(transactions: object) -> list[str]:
+    """Returns several names or ids."""
+    return [format_transaction(word) for word in check_list(transactions)]
+
+
 def format_names(names: object) -> list[str]:
     """Returns several names."""
     return [format_name(name) for name in check_list(names)]
 
 
-def format_some(names: object) -> list[str]:
-    """Returns at least one name."""
-    return _check_some(format_names(names))
-
-
-def _check_some(some: list[str]) -> list[str]:
+def format_some(some: list[str]) -> list[str]:
+    """Returns these words, at least one."""
     if not some:
         raise ValueError("there is no name")
     return some
-
-
-def format_transaction(transaction: object) -> str:
-    """Returns a transaction's name, or `#` and the id of one that the pool holds."""
-    if isinstance(transaction, str) and transaction.startswith("#"):
-        return "#" + _format_id(transaction[1:]).lower()
-    return format_name(transaction)
-
-
-def format_transactions(transactions: object) -> list[str]:
-    """Returns several transactions."""
-    return [format_transaction(transaction) for transaction in check_list(transactions)]
-
-
-def format_some_transactions(transactions: object) -> list[str]:
-    """Returns at least one transaction."""
-    return _check_some(format_transactions(transactions))
 
 
 def format_reference(reference: object) -> str:
@@ -122,11 +113,8 @@ def format_bytes(data: object) -> str:
 
 def format_output_id(transaction_id: object, index: object) -> str:
     """Returns the reference `ID#INDEX` of an output."""
-    return f"{_format_id(transaction_id)}#{format_number(index, 65535)}"
-
-
-def _format_id(transaction_id: object) -> str:
-    return _format_match(_ID, transaction_id, "id: 64 hexadecimal digits")
+    digits = _format_match(_ID, transaction_id, "id: 64 hexadecimal digits")
+    return f"{digits}#{format_number(index, 65535)}"
 
 
 def _format_entry(token: object, quantity: object) -> str:
@@ -172,8 +160,15 @@ def format_input(spent: object) -> str:
 
 
 def is_id(word: str) -> bool:
-    """Returns whether a word of an answer has the form of an id."""
-    return _ID.fullmatch(word) is not None
+    """Returns whether a word of an answer is an id."""
+    return _READ_ID.fullmatch(word) is not None
+
+
+def read_id(word: str) -> str:
+    """Reads an id of an answer."""
+    if not is_id(word):
+        raise ValueError(f"{word!r} is no id")
+    return word
 
 
 def read_number(word: str) -> int:

@@ -122,9 +122,9 @@ class OneConversation(Backend):
         error = error_in(answer)
         if error is not None:
             return Receipt(error.id if isinstance(error, Refused) else None, None, error)
-        accepted = answers.read_accepted(answer)
-        self._add(Held(accepted.id, accepted.ticket, data))
-        return Receipt(accepted.id, accepted.ticket, None)
+        given = answers.read_given(answer)
+        self._add(Held(given.id, given.ticket, data))
+        return Receipt(given.id, given.ticket, None)
 
     # Reads.
 

@@ -121,6 +121,15 @@ class Refusals(unittest.TestCase):
             with self.subTest(words=words):
                 self.check(error_in(f"refused {words}"), words, fields, text)
 
+    def test_of_bytes(self) -> None:
+        transaction_id = "0a" * 32
+        for words, fields, text in REFUSALS:
+            error = error_in(f"refused {words} {transaction_id}")
+            with self.subTest(words=words):
+                self.check(error, words, fields, text)
+                assert isinstance(error, Refused)
+                self.assertEqual(error.id, transaction_id)
+
     def test_each_of_a_block(self) -> None:
         for words, fields, text in REFUSALS:
             with self.subTest(words=words):
@@ -129,14 +138,6 @@ class Refusals(unittest.TestCase):
                 self.assertEqual((refused.word, refused.transaction), ("adopt", "a"))
                 self.check(refused.cause, words, fields, text)
                 self.assertEqual(str(refused), f"adopt: transaction 'a' isn't valid: {text}")
-
-    def test_each_of_a_transaction_without_a_name(self) -> None:
-        for words, fields, text in REFUSALS[:-1]:
-            with self.subTest(words=words):
-                refused = error_in(f"refused {words} {ID}")
-                self.check(refused, words, fields, text)
-                assert isinstance(refused, Refused)
-                self.assertEqual((refused.id, copy.copy(refused).id), (ID, ID))
 
     def test_others_are_no_refusals(self) -> None:
         for words in (
@@ -259,6 +260,8 @@ class Talks(unittest.TestCase):
                 elif words[0] == "tx":
                     read = answers.read_declared if len(words) == 3 else answers.read_shown
                     self.assertIn(f"size={words[1]},", repr(read(line)))
+                elif words[0] == "accepted" and len(words) == 3:
+                    self.assertEqual(answers.read_given(line).id, words[2])
                 else:
                     READERS[words[0]](line)
 

@@ -12,11 +12,11 @@ from typing import Any, get_type_hints
 
 import keltuvar
 from keltuvar import (
-    Accepted,
     BadLine,
     Block,
     Broken,
     Declared,
+    Given,
     Input,
     Item,
     LedgerChange,
@@ -79,12 +79,26 @@ CALLS: list[tuple[Callable[[Pool], object], str, str, object]] = [
         f"tx 181 {ID}",
         Declared(181, ID),
     ),
-    (lambda pool: pool.show("a"), "show a", f"tx 2 {ID} 01Ff", Shown(2, ID, b"\x01\xff")),
-    (lambda pool: pool.show(f"#{ID}"), f"show #{ID}", f"tx 1 {ID} 00", Shown(1, ID, b"\0")),
+    (lambda pool: pool.give(b"\x01\x00"), "give 0100", f"accepted 7 {ID}", Given(7, ID)),
     (lambda pool: pool.ids(), "ids", "ok", None),
     (lambda pool: pool.names(), "names", "ok", None),
-    (lambda pool: pool.give(b"\x0a\xff"), "give 0aff", f"accepted 7 {ID}", Accepted(7, ID)),
-    (lambda pool: pool.check(f"#{ID.upper()}"), f"check #{ID}", "accepted 7", 7),
+    (lambda pool: pool.reset(), "reset", "ok", None),
+    (lambda pool: pool.has(f"#{ID}"), f"has #{ID}", "has yes", True),
+    (lambda pool: pool.check(f"#{ID}"), f"check #{ID}", "accepted 1", 1),
+    (
+        lambda pool: pool.remove("a", f"#{ID}"),
+        f"remove a #{ID}",
+        "removed 1 2 dropped",
+        Removed((1, 2), ()),
+    ),
+    (
+        lambda pool: pool.adopt(5, [f"#{ID}", "a"]),
+        f"adopt 5 #{ID} a",
+        "kept dropped 1",
+        LedgerChange((), (1,)),
+    ),
+    (lambda pool: pool.show("a"), "show a", f"tx 2 {ID} 01Ff", Shown(2, ID, b"\x01\xff")),
+    (lambda pool: pool.show(f"#{ID}"), f"show #{ID}", f"tx 1 {ID} 00", Shown(1, ID, b"\0")),
     (lambda pool: pool.check("a"), "check a", "accepted 7", 7),
     (lambda pool: pool.submit("a"), "submit a", "accepted 18446744073709551615", 2**64 - 1),
     (
@@ -94,12 +108,6 @@ CALLS: list[tuple[Callable[[Pool], object], str, str, object]] = [
         Removed((1, 2), (3,)),
     ),
     (lambda pool: pool.remove("a"), "remove a", "removed dropped", Removed((), ())),
-    (
-        lambda pool: pool.remove("a", f"#{ID}"),
-        f"remove a #{ID}",
-        "removed 1 dropped",
-        Removed((1,), ()),
-    ),
     (
         lambda pool: pool.sync(5, ["g0", "a.1"]),
         "sync 5 g0 a.1",
@@ -119,12 +127,6 @@ CALLS: list[tuple[Callable[[Pool], object], str, str, object]] = [
         LedgerChange((), (1,)),
     ),
     (lambda pool: pool.adopt(6, ()), "adopt 6", "kept 4 dropped", LedgerChange((4,), ())),
-    (
-        lambda pool: pool.adopt(6, [f"#{ID}", "b"]),
-        f"adopt 6 #{ID} b",
-        "kept dropped",
-        LedgerChange((), ()),
-    ),
     (lambda pool: pool.back(0), "back 0", "kept dropped", LedgerChange((), ())),
     (lambda pool: pool.forge(300), "forge 300", "block 0 0", Block(0, 0, ())),
     (
@@ -142,7 +144,6 @@ CALLS: list[tuple[Callable[[Pool], object], str, str, object]] = [
     (lambda pool: pool.lookup(2), "lookup 2", "lookup none", None),
     (lambda pool: pool.has("a"), "has a", "has yes", True),
     (lambda pool: pool.has("b"), "has b", "has no", False),
-    (lambda pool: pool.has(f"#{ID}"), f"has #{ID}", "has yes", True),
     (lambda pool: pool.after(6), "after 6", f"after 7:{ID}", (Item(7, ID),)),
     (
         lambda pool: pool.snapshot(),

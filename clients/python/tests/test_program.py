@@ -11,11 +11,11 @@ from concurrent.futures import ThreadPoolExecutor
 from typing import Any
 
 from keltuvar import (
-    Accepted,
     BadLine,
     Block,
     Broken,
     Declared,
+    Given,
     Input,
     Item,
     LedgerChange,
@@ -127,7 +127,7 @@ class Program(unittest.TestCase):
             pool.give(b"\x03")
         with self.assertRaises(BadLine):
             pool.show(f"#{PLAIN_ID}")
-        self.assertEqual(pool.give(PLAIN), Accepted(1, PLAIN_ID))
+        self.assertEqual(pool.give(PLAIN), Given(1, PLAIN_ID))
         refused = refusal(lambda: pool.give(PLAIN))
         self.assertEqual((refused.word, refused.ticket, refused.id), ("already", 1, PLAIN_ID))
         self.assertEqual(pool.show(f"#{PLAIN_ID}").data, PLAIN)

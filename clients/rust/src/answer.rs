@@ -99,7 +99,7 @@ impl<T: Read> Read for Vec<T> {
 
 // A size is a number of bytes. An id is 64 hexadecimal digits, and doesn't depend on the signatures.
 values! {
-    Accepted { ticket: u64, id: String } "A transaction that the pool has accepted."
+    Given { ticket: u64, id: String } "A transaction that the pool has accepted."
     Declared { size: u64, id: String } "A transaction that was declared from its bytes."
     Shown { size: u64, id: String, bytes: Vec<u8> } "A transaction with all its bytes."
     Item { ticket: u64, ":" name: String } "A transaction that the pool holds. After `Pool::ids` its name is its id."

@@ -1,7 +1,6 @@
 //! A client of `keltuvar serve`: a transaction pool as a child process.
 //!
 //! `docs/SERVE.md` has the conversation, and `docs/FORMATS.md` the lines and their answers.
-//! `examples/wallet.rs` is a wallet that uses a pool.
 #![forbid(unsafe_code)]
 
 mod answer;

@@ -56,12 +56,13 @@ fn declarations() {
     check(to, "forget a b", "forgotten 2", |pool| pool.forget(&["a", "b"]), Ok(2));
     check(to, "ids", "ok", |pool| pool.ids(), Ok(()));
     check(to, "names", "ok", |pool| pool.names(), Ok(()));
+    check(to, "reset", "ok", |pool| pool.reset(), Ok(()));
 }
 
 #[test]
 fn changes() {
     let to = &mut fake_pool();
-    let accepted = Ok(Accepted { ticket: 7, id: id() });
+    let accepted = Ok(Given { ticket: 7, id: id() });
     check(to, "give 0aff", &format!("accepted 7 {ID}"), |pool| pool.give(b"\x0a\xff"), accepted);
     check(to, "submit a", "accepted 18446744073709551615", |pool| pool.submit("a"), Ok(u64::MAX));
     check(to, &format!("check #{ID}"), "accepted 7", |pool| pool.check(&format!("#{ID}")), Ok(7));

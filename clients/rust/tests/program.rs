@@ -97,7 +97,7 @@ fn transactions_without_names() -> Result<()> {
     pool.utxo((&zeros, 0), &decode(PLAIN[1]))?;
     assert_eq!(pool.give(b"\x03"), Err(Error::Undecodable { fault: "version".into() }));
     assert!(matches!(pool.show(&id), Err(Error::BadLine { number: 3, .. })));
-    assert_eq!(pool.give(&plain())?, Accepted { ticket: 1, id: PLAIN_ID.into() });
+    assert_eq!(pool.give(&plain())?, Given { ticket: 1, id: PLAIN_ID.into() });
     let already = Error::Refused { why: Refusal::Already { ticket: 1 }, id: Some(PLAIN_ID.into()) };
     assert_eq!(pool.give(&plain()), Err(already));
     assert_eq!((pool.has(&id)?, pool.has(&format!("#{zeros}"))?), (true, false));

@@ -127,9 +127,22 @@ told_text names (Err refusal) = codes "refused " ++ refusal_text names refusal
 unfoldable pub answer_text : Names → Result Reply Refusal → List ℕ
 answer_text names answer = told_text names answer ++ 10 ∷ []
 
+-- the answer to a transaction's bytes: its id comes after the words
+unfoldable pub given_text : Names → Result Reply Refusal → List ℕ → List ℕ
+given_text names answer id = (told_text names answer ++ 32 ∷ encode_lower id) ++ 10 ∷ []
+
+-- an id that has no name is reported by its digits
+abbrev pub name_or_id : List ℕ → List ℕ → List ℕ
+name_or_id [] id = encode_lower id
+name_or_id (first ∷ others) id = first ∷ others
+
+-- the name or the digits under which an id is reported
+abbrev pub tx_name_text : Names → List ℕ → List ℕ
+tx_name_text names id = if names.by_id then encode_lower id else name_or_id (name_of id names) id
+
 -- the ticket, a colon and the name
 abbrev pub item_text : Names → ℕ × Transaction → List ℕ
-item_text names item = number_text item.0 ++ 58 ∷ name_of (id_of item.1) names
+item_text names item = number_text item.0 ++ 58 ∷ tx_name_text names (id_of item.1)
 
 -- the items, oldest first
 abbrev pub items_text : Names → List (ℕ × Transaction) → List ℕ

@@ -3,14 +3,14 @@ use Rattle.std.specs.Prelude.{ℕ, Bool, true, false, List, [], ◌∷◌, ◌++
 use Rattle.mp_tx.specs.Transaction.{Transaction}
 use Rattle.mp_tx.specs.Spelling.{id_of}
 use Rattle.mp_tickets.specs.Tickets.{after, item_at}
-use Rattle.mp_resync.specs.Keep.{bytes_of}
+use Rattle.mp_seqpool.specs.Keep.{bytes_of}
 use Rattle.mp_seqpool.specs.Pool.{Pool}
 use Rattle.mp_seqpool.specs.SlowPool.{ticket_of}
 use Rattle.mp_seqpool.specs.Reading.{within, offer, moved}
-use Rattle.mp_names.specs.Names.{Names, name_of}
+use Rattle.mp_names.specs.Names.{Names}
 use Rattle.mp_lines.specs.declared.query.Query.{Query}
 use Rattle.mp_lines.specs.declared.query.Query.TheVariants.{Snapshot, After, Lookup, Has, Take, Forge, Offer}
-use Rattle.mp_answers.specs.AnswerText.{number_text, items_text, numbers_text}
+use Rattle.mp_answers.specs.AnswerText.{number_text, tx_name_text, items_text, numbers_text}
 
 -- the number of items, their bytes, and the items
 abbrev pub sized_text : Names → List (ℕ × Transaction) → List ℕ
@@ -18,7 +18,7 @@ sized_text names items = number_text (length items) ++ number_text (bytes_of ite
 
 abbrev pub found_text : Names → Option Transaction → List ℕ
 found_text names None = codes "lookup none"
-found_text names (Some t) = codes "lookup " ++ name_of (id_of t) names
+found_text names (Some t) = codes "lookup " ++ tx_name_text names (id_of t)
 
 abbrev pub has_text : Bool → List ℕ
 has_text true = codes "has yes"

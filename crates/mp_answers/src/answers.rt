@@ -1,19 +1,25 @@
 //! The lines that commands write.
 
-ghost use Rattle.std.specs.Prelude.{◌≡◌, ◌++◌, Ok, IfOk, OnOk, codes};
+ghost use Rattle.std.specs.Prelude.{◌≡◌, ◌++◌, ◌∷◌, Ok, Err, IfOk, OnOk, codes};
 ghost use Rattle.mp_names.specs.Names as told;
-ghost use Rattle.mp_answers.specs.AnswerText.{number_text, tickets_text, reply_text, refusal_text, told_text, answer_text};
+ghost use Rattle.hex.specs.Hex.{encode_lower};
+ghost use Rattle.mp_answers.specs.AnswerText.{number_text, tickets_text, reply_text, refusal_text, told_text, answer_text, given_text};
 
+use crate::items::put_id;
 use crate::refusals::put_refusal;
 use crate::words::{put_number, put_word};
 use mp_memory::{Memory, NoMemory};
 use mp_names::Names;
 use mp_seqpool::{Answer, Refusal, Reply};
+use mp_tx::TxId;
 
 type Text = Vec<u8, Memory>;
 
 // The capacity for the line of an accepted submit, in bytes.
 const ACCEPTED_ROOM: usize = 32;
+
+// The same for a line with an id.
+const GIVEN_ROOM: usize = 96;
 
 // Appends each ticket after a space.
 fn put_tickets(text: &mut Text, tickets: &[u64]) -> Result<(), NoMemory>
@@ -120,6 +126,44 @@ pub fn answer_line(memory: Memory, names: &Names, answer: &Answer) -> Result<Tex
 {
     let mut text = Vec::new(memory);
     put_answer(memory, &mut text, names, answer)?;
+    text.push(b'\n')?;
+    Ok(text)
+}
+
+// Appends the id after a space.
+fn put_id_behind(text: &mut Text, id: &TxId) -> Result<(), NoMemory>
+    ensures { OnOk result (text.new.items ≡ text.old.items ++ 32 ∷ encode_lower id.now) }
+{
+    text.push(b' ')?;
+    put_id(text, id)
+}
+
+/// The line of a pool's reply to the bytes of the transaction with this id.
+#[tactic(auto, unfolding(crate::specs::AnswerText::given_text))]
+pub fn given_reply_line(memory: Memory, reply: &Reply, id: &TxId) -> Result<Text, NoMemory>
+    ensures { IfOk result (λ text. (names : told.Names)
+        → text.items ≡ given_text names (Ok reply.now) id.now) }
+{
+    let mut text = Vec::with_capacity(memory, GIVEN_ROOM)?;
+    put_reply(&mut text, reply)?;
+    put_id_behind(&mut text, id)?;
+    text.push(b'\n')?;
+    Ok(text)
+}
+
+/// The line of a pool's refusal of the bytes of the transaction with this id.
+#[tactic(auto, unfolding(crate::specs::AnswerText::given_text))]
+pub fn given_refused_line(
+    memory: Memory,
+    names: &Names,
+    refusal: &Refusal,
+    id: &TxId,
+) -> Result<Text, NoMemory>
+    ensures { IfOk result (λ text. text.items ≡ given_text names.now (Err refusal.now) id.now) }
+{
+    let mut text = Vec::new(memory);
+    put_refused(memory, &mut text, names, refusal)?;
+    put_id_behind(&mut text, id)?;
     text.push(b'\n')?;
     Ok(text)
 }

@@ -2,19 +2,53 @@
 
 ghost use Rattle.std.specs.Prelude.{◌≡◌, ◌++◌, option_map, OnOk};
 ghost use Rattle.std.specs.Arc.{arc_value};
-ghost use Rattle.mp_resync.specs.Keep.{bytes_of};
+ghost use Rattle.mp_seqpool.specs.Keep.{bytes_of};
 ghost use Rattle.mp_seqpool.specs.Item.{items_of};
-ghost use Rattle.mp_answers.specs.AnswerText.{item_text, items_text};
+ghost use Rattle.hex.specs.Hex.{encode_lower};
+ghost use Rattle.mp_answers.specs.AnswerText.{name_or_id, tx_name_text, item_text, items_text};
 ghost use Rattle.mp_answers.specs.QueryText.{sized_text, found_text, has_text};
 
 use crate::words::{put_number, put_word};
 use mp_memory::{Memory, NoMemory};
 use mp_names::Names;
 use mp_seqpool::Item;
-use mp_tx::Tx;
+use mp_tx::{Tx, TxId};
 use std::sync::Arc;
 
 type Text = Vec<u8, Memory>;
+
+/// Appends each byte of an id as two digits. It allocates only their space in the text.
+pub fn put_id(text: &mut Text, id: &TxId) -> Result<(), NoMemory>
+    ensures { OnOk result (text.new.items ≡ text.old.items ++ encode_lower id.now) }
+{
+    let mut digits = [0; 64];
+    match hex::encode_to_slice(id.as_slice(), &mut digits) {
+        Ok(()) => put_word(text, &digits),
+        Err(_) => unreachable!(),
+    }
+}
+
+// Appends the name, or the digits of the id if the name is empty.
+fn put_name_or_id(text: &mut Text, name: &[u8], id: &TxId) -> Result<(), NoMemory>
+    ensures { OnOk result (text.new.items ≡ text.old.items ++ name_or_id name.now id.now) }
+{
+    if name.is_empty() {
+        put_id(text, id)
+    } else {
+        put_word(text, name)
+    }
+}
+
+/// Appends the name or the digits under which the id is reported.
+pub fn put_tx_name(text: &mut Text, names: &Names, id: &TxId) -> Result<(), NoMemory>
+    ensures { OnOk result (text.new.items ≡ text.old.items ++ tx_name_text names.now id.now) }
+{
+    if names.reports_by_id() {
+        put_id(text, id)
+    } else {
+        put_name_or_id(text, names.name_of(id), id)
+    }
+}
 
 /// Appends an item: its ticket and the name of its transaction.
 pub fn put_item(text: &mut Text, names: &Names, ticket: u64, tx: &Tx) -> Result<(), NoMemory>
@@ -23,8 +57,7 @@ pub fn put_item(text: &mut Text, names: &Names, ticket: u64, tx: &Tx) -> Result<
 {
     put_number(text, ticket)?;
     text.push(b':')?;
-    text.extend_from_slice(names.name_of(tx.id()))?;
-    Ok(())
+    put_tx_name(text, names, tx.id())
 }
 
 /// Appends each item: its ticket and the name of its transaction.
@@ -51,7 +84,7 @@ pub fn put_found(
         None => put_word(text, b"lookup none"),
         Some(tx) => {
             put_word(text, b"lookup ")?;
-            put_word(text, names.name_of(tx.id()))
+            put_tx_name(text, names, tx.id())
         }
     }
 }

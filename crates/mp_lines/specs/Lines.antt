@@ -9,7 +9,6 @@ use Rattle.mp_text.specs.Lines.{is_clean}
 use Rattle.mp_script.specs.ScriptReading.{script_of}
 use Rattle.mp_script.specs.DataReading.{datum_of}
 use Rattle.mp_tx.specs.Transaction.{Transaction}
-use Rattle.mp_tx.specs.Spelling.{id_of}
 use Rattle.mp_names.specs.declared.payment.Payment.{Payment}
 use Rattle.mp_names.specs.declared.names.NamedScript.{NamedScript}
 use Rattle.mp_names.specs.declared.names.NamedDatum.{NamedDatum}
@@ -19,6 +18,7 @@ use Rattle.mp_names.specs.declared.new_ledger.NewLedger.{NewLedger}
 use Rattle.mp_names.specs.Settings.{block_bytes_of, limit_of}
 use Rattle.mp_names.specs.DeclaredTx.{DeclaredTx}
 use Rattle.mp_names.specs.Names.{Names, tx_named, is_new_binding, is_new_script, is_new_datum}
+use Rattle.mp_names.specs.Ids.{id_meant}
 use Rattle.mp_names.specs.Payments.{payment_of}
 use Rattle.mp_lines.specs.declared.query.Query.{Query}
 use Rattle.mp_lines.specs.Words.{one_word, two_words}
@@ -112,12 +112,12 @@ tx_line names (name ∷ item ∷ items) =
 abbrev pub submit_line : Names → List (List ℕ) → Option Line
 submit_line names words = option_map (λ t. Submit t.tx) (option_and_then (λ w. tx_named w names) (one_word words))
 
--- the ids of the named transactions, after these
+-- the ids that the words mean, after these
 abbrev pub put_ids : Names → List (List ℕ) → List (List ℕ) → Option (List (List ℕ))
 put_ids names ids [] = Some ids
-put_ids names ids (word ∷ words) = option_and_then (λ t. put_ids names (ids ++ id_of t.tx ∷ []) words) (tx_named word names)
+put_ids names ids (word ∷ words) = option_and_then (λ id. put_ids names (ids ++ id ∷ []) words) (id_meant names word)
 
--- remove TX .., with at least one transaction
+-- remove TX .., with at least one word
 abbrev pub remove_line : Names → List (List ℕ) → Option Line
 remove_line names [] = None
 remove_line names (word ∷ words) = option_map Remove (put_ids names [] (word ∷ words))

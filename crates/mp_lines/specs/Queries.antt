@@ -2,8 +2,8 @@
 use Rattle.std.specs.Prelude.{ℕ, nat_eq, List, codes, Option, None, option_map, option_and_then, if◌then◌else◌}
 use Rattle.std.specs.Cmp.Lexicographic.{pointwise}
 use Rattle.mp_text.specs.Numbers.{number_of}
-use Rattle.mp_tx.specs.Spelling.{id_of}
-use Rattle.mp_names.specs.Names.{Names, tx_named}
+use Rattle.mp_names.specs.Names.{Names}
+use Rattle.mp_names.specs.Ids.{id_meant}
 use Rattle.mp_lines.specs.declared.query.Query.{Query}
 use Rattle.mp_lines.specs.declared.query.Query.TheVariants.{Snapshot, After, Lookup, Has, Take, Forge, Offer}
 use Rattle.mp_lines.specs.Words.{no_word, one_word, two_words}
@@ -18,7 +18,7 @@ snapshot_query words = option_map (λ u. Snapshot) (no_word words)
 
 -- has TX
 abbrev pub has_query : Names → List (List ℕ) → Option Query
-has_query names words = option_map (λ t. Has (id_of t.tx)) (option_and_then (λ w. tx_named w names) (one_word words))
+has_query names words = option_map Has (option_and_then (id_meant names) (one_word words))
 
 abbrev pub offer_by : List ℕ × List ℕ → Option Query
 offer_by words = option_and_then (λ count. option_map (Offer count) (number_of words.1)) (number_of words.0)

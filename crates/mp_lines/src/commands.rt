@@ -12,7 +12,7 @@ use crate::line::Line;
 use crate::query::read_query;
 use crate::words::one_word;
 use mp_memory::Memory;
-use mp_names::{LineFault, Names, Reason};
+use mp_names::{LineFault, Names, Reason, id_meant};
 use mp_text::first_word;
 use mp_tx::TxId;
 use std::sync::Arc;
@@ -26,7 +26,7 @@ pub fn submit_line<'a>(names: &Names, words: &'a [u8]) -> Result<Line, LineFault
     Ok(Line::Submit(Arc::try_clone(declared.tx())?))
 }
 
-// Appends the ids of the named transactions.
+// Appends the ids that the words mean.
 fn put_ids<'a>(
     ids: &mut Vec<TxId, Memory>,
     names: &Names,
@@ -38,8 +38,7 @@ fn put_ids<'a>(
 {
     let mut rest = words;
     while let Some((word, others)) = first_word(rest) {
-        let declared = names.tx(word)?;
-        ids.push(*declared.tx().id())?;
+        ids.push(id_meant(names, word)?)?;
         rest = others;
     }
     Ok(())

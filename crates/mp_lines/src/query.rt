@@ -8,7 +8,7 @@ ghost use Rattle.mp_lines.specs.Queries.{one_number, snapshot_query, has_query, 
 
 use crate::forms::Form;
 use crate::words::{no_word, one_word, two_words};
-use mp_names::{Names, Reason, any_number};
+use mp_names::{Names, Reason, any_number, id_meant};
 use mp_tx::TxId;
 
 /// The meaning of a line that only reads the pool. The contracts of runs define the answers.
@@ -102,8 +102,7 @@ fn has_query<'a>(names: &Names, words: &'a [u8]) -> Result<Query, Reason<'a>>
     ensures { result_ok result ≡ has_query names.now (words_of words.now) }
 {
     let word = one_word(HAS.text, words)?;
-    let declared = names.tx(word)?;
-    Ok(Query::Has(*declared.tx().id()))
+    Ok(Query::Has(id_meant(names, word)?))
 }
 
 // take BYTES

@@ -3,6 +3,7 @@ pub mod Rising
 pub mod DeclaredTx
 pub mod Reported
 pub mod Names
+pub mod Ids
 pub mod Bundles
 pub mod Payments
 pub mod References

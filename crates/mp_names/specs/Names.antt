@@ -23,6 +23,8 @@ pub record Names : Type 0 where
   pub reported : Reported
   pub scripts : List NamedScript
   pub datums : List NamedDatum
+  -- whether answers report transactions by their ids
+  pub by_id : Bool
 
 -- what the word denotes, if it is declared
 abbrev pub binding_named : List ℕ → Names → Option Binding
@@ -60,6 +62,7 @@ first_names = record {
   reported = finite.empty;
   scripts = record { name = codes "yes"; script = 1 ∷ [] } ∷ record { name = codes "no"; script = 0 ∷ [] } ∷ [];
   datums = record { name = codes "unit"; datum = 3 ∷ 0 ∷ 0 ∷ [] } ∷ [];
+  by_id = false;
 }
 
 abbrev pub with_binding : Names → NamedBinding → Names
@@ -70,6 +73,10 @@ with_script names named = record names { scripts = names.scripts ++ named ∷ []
 
 abbrev pub with_datum : Names → NamedDatum → Names
 with_datum names named = record names { datums = names.datums ++ named ∷ [] }
+
+-- from then on answers report transactions by their ids, or not
+abbrev pub reporting_by_id : Names → Bool → Names
+reporting_by_id names by_id = record names { by_id = by_id }
 
 -- whether the name is one of these
 abbrev pub is_among : List (List ℕ) → List ℕ → Bool

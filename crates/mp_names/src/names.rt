@@ -119,6 +119,7 @@ pub struct Names {
     reported: ReportedNames,
     scripts: ScriptTable,
     datums: DatumTable,
+    by_id: bool,
     memory: Memory,
 }
 
@@ -129,6 +130,7 @@ impl Drop for Names {
             reported: _,
             scripts: _,
             datums: _,
+            by_id: _,
             memory: _,
         } = self;
     }
@@ -205,7 +207,7 @@ pub fn refused_name(word: &[u8]) -> Reason<'_> {
 impl Names {
     ghost use Rattle.std.specs.Prelude.{◌≡◌, ◌+◌, [], ◌∷◌, ◌++◌, length, IfOk, OnOk, OnErr, option_copied, option_map, unwrap_or};
     ghost use Rattle.std.specs.Result.{result_ok};
-    ghost use Rattle.mp_names.specs.Names.{first_names, binding_named, script_named, datum_named, tx_named, is_new_binding, is_new_script, is_new_datum, first_name_of, name_of, policy_name, with_binding, with_script, with_datum, with_reported, without_bindings};
+    ghost use Rattle.mp_names.specs.Names.{first_names, binding_named, script_named, datum_named, tx_named, is_new_binding, is_new_script, is_new_datum, first_name_of, name_of, policy_name, with_binding, with_script, with_datum, with_reported, reporting_by_id, without_bindings};
     ghost use Rattle.mp_tx.specs.Spelling.{id_of};
 
     /// The names that are declared from the start. The layout of the tables depends on the salt, and no answer does.
@@ -220,6 +222,7 @@ impl Names {
             reported: ReportedNames::new(memory, salt),
             scripts,
             datums,
+            by_id: false,
             memory,
         })
     }
@@ -281,6 +284,20 @@ impl Names {
         let name = Name::of(self.memory, word)?;
         self.reported.set(id, name)?;
         Ok(())
+    }
+
+    /// From now on answers report transactions by their ids, or not.
+    pub fn report_by_id(&mut self, by_id: bool)
+        ensures { self.new ≡ reporting_by_id self.old by_id }
+    {
+        self.by_id = by_id;
+    }
+
+    /// Whether answers report transactions by their ids.
+    pub fn reports_by_id(&self) -> bool
+        ensures { result ≡ self.now.by_id }
+    {
+        self.by_id
     }
 
     /// Declares the script. After an `Err` the names are as they were.

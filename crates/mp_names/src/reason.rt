@@ -1,6 +1,7 @@
 //! What is wrong with a line.
 
 use mp_script::{DataFault, ScriptFault};
+use mp_tx::TxId;
 use std::{fmt, str};
 
 /// What is wrong with a line. The program prints its text after the line's number.
@@ -14,6 +15,8 @@ pub enum Reason<'a> {
     NoName(&'a [u8]),
     Taken(&'a [u8]),
     NoTransaction(&'a [u8]),
+    /// The pool holds no transaction with this id.
+    NotHeld(TxId),
     NoOutput(&'a [u8]),
     NoScript(&'a [u8]),
     NoData(&'a [u8]),
@@ -38,6 +41,8 @@ pub enum Reason<'a> {
     LateSetting,
     SetBefore(&'a [u8]),
     LateOutput,
+    /// Nothing was asked of the pool.
+    NotOpen,
     ManyOutputs,
     NotInRace,
 }
@@ -74,6 +79,7 @@ impl<'a> Reason<'a> {
             Reason::NoName(word) => ("'", word, NAME),
             Reason::Taken(word) => ("the name '", word, "' is taken"),
             Reason::NoTransaction(word) => ("no transaction '", word, "'"),
+            Reason::NotHeld(_) => ("no transaction #", NOTHING, ""),
             Reason::NoOutput(word) => ("no output '", word, "'"),
             Reason::NoScript(word) => ("no script '", word, "'"),
             Reason::NoData(word) => ("no data '", word, "'"),
@@ -90,6 +96,7 @@ impl<'a> Reason<'a> {
             Reason::LateSetting => ("a setting stands above the first command", NOTHING, ""),
             Reason::SetBefore(word) => ("'", word, "' was set before"),
             Reason::LateOutput => ("an output stands above the first command", NOTHING, ""),
+            Reason::NotOpen => ("no command comes before it", NOTHING, ""),
             Reason::ManyOutputs => ("there are at most 65536 outputs", NOTHING, ""),
             Reason::NotInRace => (RACE, NOTHING, ""),
             Reason::Byte(_) => ("it has the byte ", NOTHING, ""),
@@ -103,6 +110,7 @@ impl<'a> Reason<'a> {
             Reason::Number { least, most, .. } => put_range(f, least, most),
             Reason::ScriptBytes(_, fault) => write!(f, "{fault}"),
             Reason::DataBytes(_, fault) => write!(f, "{fault}"),
+            Reason::NotHeld(id) => put_not_held(f, &id),
             Reason::Repeats { earlier, .. } => put_told(f, ("", earlier, "'")),
             _ => Ok(()),
         }
@@ -119,6 +127,12 @@ fn put_told<W: fmt::Write>(f: &mut fmt::Formatter<W>, told: Told<'_>) -> fmt::Re
     f.write_str(before)?;
     f.write_str(text_of(word))?;
     f.write_str(after)
+}
+
+fn put_not_held<W: fmt::Write>(f: &mut fmt::Formatter<W>, id: &TxId) -> fmt::Result {
+    let mut digits = [0; 64];
+    let _ = hex::encode_to_slice(id.as_slice(), &mut digits);
+    put_told(f, ("", &digits, " in the pool"))
 }
 
 fn put_range<W: fmt::Write>(f: &mut fmt::Formatter<W>, least: u64, most: u64) -> fmt::Result {

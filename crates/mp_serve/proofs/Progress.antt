@@ -12,25 +12,26 @@ use Rattle.mp_text.specs.declared.line_input.LineRead.{LineRead}
 use Rattle.mp_text.specs.declared.line_input.LineRead.TheVariants.{Whole, TooLong, Lost, End}
 use Rattle.mp_text.specs.LineInput.{IsLine, first_line}
 use Rattle.mp_serve.proofs.Lines.{first_through}
+use Rattle.mp_serve.specs.Talk.{counted}
 use Rattle.mp_serve.specs.Served.{IsAnswer, AreAnswers, WereAnswered, AppendsUpTo, WasCut, Ended}
 
-pub answers-more : (n : ℕ) (s : Conversation) (lines : List (List ℕ)) (text : List ℕ) (t : Conversation) (line answer : List ℕ) (u : Conversation)
-    → AreAnswers n s lines text t → IsAnswer (n + length lines) t line answer u → AreAnswers n s (lines ++ line ∷ []) (text ++ answer) u
-answers-more n s [] text t line answer u (none, same) is = (
+pub answers-more : (s : Conversation) (lines : List (List ℕ)) (text : List ℕ) (t : Conversation) (line answer : List ℕ) (u : Conversation)
+    → AreAnswers s lines text t → IsAnswer t.line t line answer u → AreAnswers s (lines ++ line ∷ []) (text ++ answer) (counted u)
+answers-more s [] text t line answer u (none, same) is = (
   answer,
   [],
   u,
   ap (λ l. l ++ answer) none ∙ sym (append-nil answer),
-  subst (λ v. IsAnswer n v line answer u) same (subst (λ m. IsAnswer m t line answer u) (let e : n + 0 ≡ n = omega arith in e) is),
+  subst (λ (v : Conversation). IsAnswer v.line v line answer u) same is,
   (refl, refl),
 )
-answers-more n s (l ∷ ls) text t line answer u (first, rest, v, whole, told, more) is = (
+answers-more s (l ∷ ls) text t line answer u (first, rest, v, whole, told, more) is = (
   first,
   rest ++ answer,
   v,
   ap (λ x. x ++ answer) whole ∙ append_assoc first rest answer,
   told,
-  answers-more (n + 1) v ls rest t line answer u more (subst (λ m. IsAnswer m t line answer u) (let e : n + suc (length ls) ≡ (n + 1) + length ls = omega arith in e) is),
+  answers-more (counted v) ls rest t line answer u more is,
 )
 
 -- The lines so far were answered, and the writer got exactly the answers.
@@ -38,7 +39,7 @@ pub record Progress (g : Conversation) (old now : Option (List ℕ)) (all rest :
   pub lines : List (List ℕ)
   pub text : List ℕ
   pub whole : all ≡ lines ++ rest
-  pub told : AreAnswers 1 g lines text s
+  pub told : AreAnswers g lines text s
   pub wrote : Appends old now text
   pub count : n ≡ length lines + 1
 
@@ -47,12 +48,12 @@ begins g o all s n e one = record { lines = []; text = []; whole = refl; told = 
 
 module _ (g : Conversation) (old now : Option (List ℕ)) (all rest : List (List ℕ)) (s : Conversation) (n : ℕ) where
   -- one more line
-  pub goes_on : (new : Option (List ℕ)) (u : Conversation) (line answer : List ℕ) → Progress g old now all (line ∷ rest) s n → IsAnswer n s line answer u → Appends now new answer → Progress g old new all rest u (n + 1)
+  pub goes_on : (new : Option (List ℕ)) (u : Conversation) (line answer : List ℕ) → Progress g old now all (line ∷ rest) s n → IsAnswer s.line s line answer u → Appends now new answer → Progress g old new all rest (counted u) (n + 1)
   goes_on new u line answer p is w = record {
     lines = p.lines ++ line ∷ [];
     text = p.text ++ answer;
     whole = p.whole ∙ sym (append_assoc p.lines (line ∷ []) rest);
-    told = answers-more 1 g p.lines p.text s line answer u p.told (subst (λ m. IsAnswer m s line answer u) (let c = p.count in let e : n ≡ 1 + length p.lines = omega (arith, c) in e) is);
+    told = answers-more g p.lines p.text s line answer u p.told is;
     wrote = Appends-more old now new p.text answer p.wrote w;
     count = let c = p.count in let l = length-append p.lines (line ∷ []) in omega (arith, c, l);
   }
@@ -61,19 +62,18 @@ module _ (g : Conversation) (old now : Option (List ℕ)) (all rest : List (List
   pub stopped : (p : Progress g old now all rest s n) → WereAnswered g old now (take (length p.lines) all)
   stopped p =
       let front : take (length p.lines) all ≡ p.lines = ap (take (length p.lines)) p.whole ∙ take-append_seam p.lines rest in
-      (p.text, s, subst (λ l. AreAnswers 1 g l p.text s) (sym front) p.told, p.wrote)
+      (p.text, s, subst (λ l. AreAnswers g l p.text s) (sym front) p.told, p.wrote)
 
   -- a prefix of an answer was written, perhaps all of it
-  pub is_cut : (new : Option (List ℕ)) (u : Conversation) (line answer : List ℕ) → Progress g old now all (line ∷ rest) s n → IsAnswer n s line answer u → AppendsUpTo now new answer → WasCut g old new all
+  pub is_cut : (new : Option (List ℕ)) (u : Conversation) (line answer : List ℕ) → Progress g old now all (line ∷ rest) s n → IsAnswer s.line s line answer u → AppendsUpTo now new answer → WasCut g old new all
   is_cut new u line answer p is (taken, w) =
       let done : List (List ℕ) = p.lines ++ line ∷ [] in
       let front : take (length done) all ≡ done = ap (take (length done)) (p.whole ∙ sym (append_assoc p.lines (line ∷ []) rest)) ∙ take-append_seam done rest in
-      let told : AreAnswers 1 g done (p.text ++ answer) u =
-      answers-more 1 g p.lines p.text s line answer u p.told (subst (λ m. IsAnswer m s line answer u) (let c = p.count in let e : n ≡ 1 + length p.lines = omega (arith, c) in e) is) in (
+      let told : AreAnswers g done (p.text ++ answer) (counted u) = answers-more g p.lines p.text s line answer u p.told is in (
         length done,
         p.text ++ answer,
-        u,
-        subst (λ l. AreAnswers 1 g l (p.text ++ answer) u) (sym front) told,
+        counted u,
+        subst (λ l. AreAnswers g l (p.text ++ answer) (counted u)) (sym front) told,
         (length p.text + taken, subst (Appends old new) (sym (take-append-add p.text answer taken)) (Appends-more old now new p.text (take taken answer) p.wrote w)),
       )
 
@@ -106,7 +106,7 @@ module _ (g : Conversation) (old now : Option (List ℕ)) (s : Conversation) (n 
   ends (Some bytes) left (rest, is, p) end =
       let none : rest ≡ [] = subst IsAtEnd is end in
       let done : lines_of bytes ≡ p.lines = p.whole ∙ ap (λ l. p.lines ++ lines_of l) none ∙ append-nil p.lines in
-      (p.text, s, subst (λ l. AreAnswers 1 g l p.text s) (sym done) p.told, p.wrote)
+      (p.text, s, subst (λ l. AreAnswers g l p.text s) (sym done) p.told, p.wrote)
 
   -- if a read fails
   pub fails : (all left : Option (List ℕ)) → Stands g all left old now s n → IfSome all (λ bytes. Ended g bytes old now (Err ReadFault))
@@ -122,14 +122,14 @@ module _ (g : Conversation) (old now : Option (List ℕ)) (s : Conversation) (n 
 
   module _ (left after new : Option (List ℕ)) (u : Conversation) (limit : ℕ) (found : LineRead) (kept answer : List ℕ) (other : found ≡ End → ⊥)
       (dropped : DropsThrough left after 10) (line : IfSome left (λ bytes. IsLine limit bytes found kept))
-      (answered : (bytes : List ℕ) → IsLine limit bytes found kept → IsAnswer n s (first_line bytes) answer u) where
+      (answered : (bytes : List ℕ) → IsLine limit bytes found kept → IsAnswer s.line s (first_line bytes) answer u) where
     first_read : (all : List (List ℕ)) (rest : List ℕ) → (rest ≡ [] → ⊥) → Progress g old now all (lines_of rest) s n
         → Progress g old now all (first_line rest ∷ lines_of (drop_through 10 rest)) s n
     first_read all [] some p = absurd (some refl)
     first_read all (x ∷ xs) some p = subst (λ l. Progress g old now all l s n) (first_through x xs) p
 
     -- one more line is read and answered
-    pub stands-more : (all : Option (List ℕ)) → Stands g all left old now s n → Appends now new answer → Stands g all after old new u (n + 1)
+    pub stands-more : (all : Option (List ℕ)) → Stands g all left old now s n → Appends now new answer → Stands g all after old new (counted u) (n + 1)
     stands-more None i w = tt
     stands-more (Some bytes) (rest, is, p) w =
         let is_line : IsLine limit rest found kept = subst (λ o. IfSome o (λ bytes. IsLine limit bytes found kept)) is line in (

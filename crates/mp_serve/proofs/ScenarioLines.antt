@@ -70,6 +70,7 @@ does_line names line word words l is e other =
     let good : words_line names (word ∷ words) ≡ Some l = ap (words_line names) (sym is) ∙ clean.1 in
     asked names line clean.0 ∙ ap (words_ask names line) is
     ∙ skipped _ _ _ (differs names (codes "bytes") word words l refl good)
+    ∙ skipped _ _ _ (differs names (codes "give") word words l refl good)
     ∙ skipped _ _ _ other
     ∙ skipped _ _ _ (differs names (codes "show") word words l refl good)
     ∙ skipped _ _ _ (differs names (codes "check") word words l refl good)
@@ -78,6 +79,9 @@ does_line names line word words l is e other =
     ∙ skipped _ _ _ (differs names (codes "adopt") word words l refl good)
     ∙ skipped _ _ _ (differs names (codes "back") word words l refl good)
     ∙ skipped _ _ _ (differs names (codes "forget") word words l refl good)
+    ∙ skipped _ _ _ (differs names (codes "ids") word words l refl good)
+    ∙ skipped _ _ _ (differs names (codes "names") word words l refl good)
+    ∙ skipped _ _ _ (differs names (codes "reset") word words l refl good)
     ∙ ap (option_map Does) e
 
 pub blank_line : (names : Names) (line : List ℕ) (l : Line) → words_of line ≡ [] → line_of names line ≡ Some l → ask_of names line ≡ Some (Does l)

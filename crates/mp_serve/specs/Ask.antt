@@ -1,5 +1,5 @@
 -- What a line of a conversation asks for, given what was declared before it.
-use Rattle.std.specs.Prelude.{ℕ, ◌+◌, ◌-◌, ◌*◌, nat_eq, nat_lt, List, [], ◌∷◌, ◌++◌, length, codes, Option, None, Some, option_map, option_and_then, if◌then◌else◌}
+use Rattle.std.specs.Prelude.{ℕ, ◌+◌, ◌-◌, ◌*◌, Bool, true, false, nat_eq, nat_lt, List, [], ◌∷◌, ◌++◌, length, codes, Option, None, Some, option_map, option_and_then, if◌then◌else◌}
 use Rattle.std.specs.Cmp.Lexicographic.{pointwise}
 use Rattle.mp_text.specs.Lines.{is_clean}
 use Rattle.mp_text.specs.Numbers.{number_of}
@@ -12,12 +12,13 @@ use Rattle.mp_lines.specs.Words.{no_word, one_word, two_words}
 use Rattle.mp_lines.specs.Ledgers.{LedgerHead, head_of}
 use Rattle.mp_lines.specs.Lines.{Line, bytes_of, line_of}
 use Rattle.mp_serve.specs.Output.{output_in, ref_in}
+use Rattle.mp_serve.specs.TxWord.{TxWord, tx_word_of}
 
--- a block's transactions, with the tick, and the block bytes if the line gives them
+-- words for a block's transactions, with the tick, and the block bytes if the line gives them
 pub record NewBlock : Type 0 where
   pub tick : ℕ
   pub block_bytes : Option ℕ
-  pub txs : List Transaction
+  pub txs : List TxWord
 
 pub data Ask : Type 0 where
   -- what a line of a scenario asks for
@@ -26,10 +27,12 @@ pub data Ask : Type 0 where
   Reads : List ℕ → List ℕ → Ask
   -- submit the transaction, and report it under the name from then on
   Submits : List ℕ → Transaction → Ask
+  -- submit the transaction that has these bytes; it has no name
+  SubmitsBytes : List ℕ → Ask
   -- the bytes of the transaction
-  Shows : Transaction → Ask
+  Shows : TxWord → Ask
   -- what its submit would answer
-  Checks : Transaction → Ask
+  Checks : TxWord → Ask
   -- the pool's numbers
   Counts : Ask
   -- add the output to the opening ones
@@ -40,6 +43,10 @@ pub data Ask : Type 0 where
   Returns : ℕ → Ask
   -- forget these names
   Forgets : List (List ℕ) → Ask
+  -- report transactions by their ids from then on, or by their names
+  ReportsById : Bool → Ask
+  -- forget all names, and begin again with line 1
+  Resets : Ask
 
 -- bytes NAME HEX
 abbrev pub bytes_by : Names → List ℕ × List ℕ → Option Ask
@@ -48,6 +55,10 @@ bytes_by names words = if is_new_binding words.0 names then option_map (Reads wo
 abbrev pub bytes_ask : Names → List (List ℕ) → Option Ask
 bytes_ask names words = option_and_then (bytes_by names) (two_words words)
 
+-- give HEX
+abbrev pub give_ask : List (List ℕ) → Option Ask
+give_ask words = option_map SubmitsBytes (option_and_then bytes_of (one_word words))
+
 abbrev pub submit_by : Names → List ℕ → Option Ask
 submit_by names word = option_map (λ t. Submits word t.tx) (tx_named word names)
 
@@ -55,9 +66,9 @@ submit_by names word = option_map (λ t. Submits word t.tx) (tx_named word names
 abbrev pub submit_ask : Names → List (List ℕ) → Option Ask
 submit_ask names words = option_and_then (submit_by names) (one_word words)
 
--- the transaction that is the line's one word
-abbrev pub one_tx : Names → List (List ℕ) → Option Transaction
-one_tx names words = option_map (λ t. t.tx) (option_and_then (λ w. tx_named w names) (one_word words))
+-- the line's one word, which is for a transaction
+abbrev pub one_tx : Names → List (List ℕ) → Option TxWord
+one_tx names words = option_and_then (tx_word_of names) (one_word words)
 
 -- utxo ID#INDEX HEX
 abbrev pub utxo_by : List ℕ × List ℕ → Option Ask
@@ -66,12 +77,12 @@ utxo_by words = option_and_then (λ r. option_map (Holds r) (option_and_then out
 abbrev pub utxo_ask : List (List ℕ) → Option Ask
 utxo_ask words = option_and_then utxo_by (two_words words)
 
--- these transactions, and then those that are named
-abbrev pub put_txs : Names → List Transaction → List (List ℕ) → Option (List Transaction)
+-- these words for transactions, and then the others
+abbrev pub put_txs : Names → List TxWord → List (List ℕ) → Option (List TxWord)
 put_txs names txs [] = Some txs
-put_txs names txs (word ∷ words) = option_and_then (λ t. put_txs names (txs ++ t.tx ∷ []) words) (tx_named word names)
+put_txs names txs (word ∷ words) = option_and_then (λ t. put_txs names (txs ++ t ∷ []) words) (tx_word_of names word)
 
-abbrev pub block_with : LedgerHead → List Transaction → Ask
+abbrev pub block_with : LedgerHead → List TxWord → Ask
 block_with head txs = Extends (record { tick = head.tick; block_bytes = head.block_bytes; txs = txs })
 
 abbrev pub block_behind : Names → LedgerHead → Option Ask
@@ -95,19 +106,28 @@ abbrev pub forget_ask : List (List ℕ) → Option Ask
 forget_ask [] = None
 forget_ask (word ∷ words) = option_map Forgets (put_names [] (word ∷ words))
 
--- utxo, adopt, back, forget; otherwise a line of scenarios
+-- forget, ids, names, reset; otherwise a line of scenarios
+abbrev pub names_ask : Names → List ℕ → List ℕ → List (List ℕ) → Option Ask
+names_ask names line word words =
+    if pointwise nat_eq word (codes "forget") then forget_ask words
+    else if pointwise nat_eq word (codes "ids") then option_map (λ u. ReportsById true) (no_word words)
+    else if pointwise nat_eq word (codes "names") then option_map (λ u. ReportsById false) (no_word words)
+    else if pointwise nat_eq word (codes "reset") then option_map (λ u. Resets) (no_word words)
+    else option_map Does (line_of names line)
+
+-- utxo, adopt, back; otherwise the lines above
 abbrev pub ledger_ask : Names → List ℕ → List ℕ → List (List ℕ) → Option Ask
 ledger_ask names line word words =
     if pointwise nat_eq word (codes "utxo") then utxo_ask words
     else if pointwise nat_eq word (codes "adopt") then adopt_ask names words
     else if pointwise nat_eq word (codes "back") then back_ask words
-    else if pointwise nat_eq word (codes "forget") then forget_ask words
-    else option_map Does (line_of names line)
+    else names_ask names line word words
 
--- by the first word: bytes, submit, show TX, check TX, stats; otherwise the lines above
+-- by the first word: bytes, give, submit, show TX, check TX, stats; otherwise the lines above
 abbrev pub clean_ask : Names → List ℕ → List ℕ → List (List ℕ) → Option Ask
 clean_ask names line word words =
     if pointwise nat_eq word (codes "bytes") then bytes_ask names words
+    else if pointwise nat_eq word (codes "give") then give_ask words
     else if pointwise nat_eq word (codes "submit") then submit_ask names words
     else if pointwise nat_eq word (codes "show") then option_map Shows (one_tx names words)
     else if pointwise nat_eq word (codes "check") then option_map Checks (one_tx names words)
@@ -122,6 +142,7 @@ words_ask names line (word ∷ words) = clean_ask names line word words
 abbrev pub hex_ask : Names → List ℕ → List (List ℕ) → Option Ask
 hex_ask names word words =
     if pointwise nat_eq word (codes "bytes") then bytes_ask names words
+    else if pointwise nat_eq word (codes "give") then give_ask words
     else if pointwise nat_eq word (codes "utxo") then utxo_ask words
     else None
 

@@ -3,6 +3,7 @@ pub mod Ask
 pub mod Texts
 pub mod Refused
 pub mod ServedPool
+pub mod TxWord
 pub mod Request
 pub mod Talk
 pub mod Device

@@ -6,8 +6,8 @@ use Rattle.mp_tx.specs.Transaction.{Transaction}
 use Rattle.mp_tx.specs.Spelling.{id_of}
 use Rattle.mp_tx.specs.Ledger.{LedgerState}
 use Rattle.mp_rules.specs.declared.invalid.Invalid.{Invalid}
-use Rattle.mp_block.specs.Block.{apply_block}
-use Rattle.mp_resync.specs.Keep.{keep}
+use Rattle.mp_rules.specs.Block.{apply_block}
+use Rattle.mp_seqpool.specs.Keep.{keep}
 use Rattle.mp_signatures.specs.Scheme.{accepted_by}
 use Rattle.mp_seqpool.specs.declared.refusal.Refusal.{Refusal}
 use Rattle.mp_seqpool.specs.declared.command.Reply.{Reply}
@@ -18,7 +18,7 @@ use Rattle.mp_seqpool.specs.Pool.{Pool}
 use Rattle.mp_seqpool.specs.SlowPool.{is_at_limit, answer, next}
 use Rattle.mp_names.specs.Names.{Names, name_of, with_reported}
 use Rattle.mp_lines.specs.declared.query.Query.{Query}
-use Rattle.mp_answers.specs.AnswerText.{answer_text}
+use Rattle.mp_answers.specs.AnswerText.{answer_text, given_text}
 use Rattle.mp_answers.specs.QueryText.{query_text, for_text, cursor_after}
 use Rattle.mp_session.specs.Request as sessions
 use Rattle.mp_serve.specs.ServedPool.{ServedPool, latest, state_back}
@@ -41,6 +41,8 @@ pub data Request : Type 0 where
   Return : ℕ → Request
   -- what the submit of the transaction would answer
   Check : Transaction → Request
+  -- submit the transaction, and answer with its id
+  Give : Transaction → Request
   -- the pool's numbers
   Count : Request
 
@@ -113,6 +115,11 @@ change names p (commands.Sync l) = go_on names p l
 abbrev pub read : Names → ServedPool → Query → Response
 read names p query = (record p { cursor = cursor_after p.cursor p.pool query }, query_text names p.cursor p.pool query)
 
+-- the submit of a transaction without a name
+abbrev pub give : Names → ServedPool → Transaction → Response
+give names p t =
+    (after_command p (commands.Submit t), given_text names (answer_to p (commands.Submit t)) (id_of t))
+
 abbrev pub respond_plainly : Names → ServedPool → sessions.Request → Response
 respond_plainly names p (sessions.Change c) = change names p c
 respond_plainly names p (sessions.Try l) = (p, for_text names (keep (accepted_by p.signatures) l p.pool.items))
@@ -124,4 +131,5 @@ respond names p (Extend block) =
     extend names p block.txs (apply_block (accepted_by p.signatures) p.pool.ledger block.tick block.block_bytes block.txs)
 respond names p (Return count) = go_back names p count (state_back p.former p.pool.ledger count)
 respond names p (Check t) = (p, answered names p (commands.Submit t))
+respond names p (Give t) = give names p t
 respond names p Count = (p, stats_text p.pool p.refused)

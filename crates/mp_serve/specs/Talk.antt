@@ -11,7 +11,7 @@ use Rattle.mp_seqpool.specs.Command as commands
 use Rattle.mp_seqpool.specs.SlowPool.{empty_pool, ticket_of}
 use Rattle.mp_names.specs.declared.names.Binding.{Binding}
 use Rattle.mp_names.specs.declared.names.Binding.TheVariants.{Opening, Made}
-use Rattle.mp_names.specs.Names.{Names, binding_named, with_binding, without_bindings, name_of}
+use Rattle.mp_names.specs.Names.{Names, first_names, binding_named, with_binding, without_bindings, name_of, reporting_by_id}
 use Rattle.mp_lines.specs.Lines.{Line}
 use Rattle.mp_session.specs.declared.settings.Settings.{Settings}
 use Rattle.mp_session.specs.Beginning.{Beginning, opening_ledger}
@@ -24,15 +24,20 @@ use Rattle.mp_session.specs.Session as sessions
 use Rattle.mp_session.specs.Request as requests
 use Rattle.mp_signatures.specs.declared.scheme.Scheme.{Scheme}
 use Rattle.mp_serve.specs.declared.conversation.Conversation.{Conversation}
-use Rattle.mp_serve.specs.Ask.{Ask, NewBlock, Does, Reads, Submits, Shows, Checks, Counts, Holds, Extends, Returns, Forgets, ask_of}
-use Rattle.mp_serve.specs.Refused.{none_counted}
+use Rattle.mp_serve.specs.Ask.{Ask, NewBlock, Does, Reads, Submits, SubmitsBytes, Shows, Checks, Counts, Holds, Extends, Returns, Forgets, ReportsById, Resets, ask_of}
+use Rattle.mp_serve.specs.Refused.{none_counted, one_more}
 use Rattle.mp_serve.specs.ServedPool.{ServedPool}
-use Rattle.mp_serve.specs.Request.{Block, Request, Response, Plain, Extend, Return, Check, Count, do_command, respond, answer_to, reported_if}
+use Rattle.mp_serve.specs.TxWord.{TxWord, tx_meant, put_meant}
+use Rattle.mp_serve.specs.Request.{Block, Request, Response, Plain, Extend, Return, Check, Give, Count, do_command, respond, answer_to, reported_if}
 use Rattle.mp_serve.specs.Texts.{ok_text, bytes_text, show_text, forgotten_text}
 
 -- before the first line
 abbrev pub new_conversation : Scheme → ℕ → Conversation
-new_conversation signatures salt = record { signatures = signatures; session = new_session salt }
+new_conversation signatures salt = record { signatures = signatures; session = new_session salt; line = 1 }
+
+-- after one more line, whose number is at most 2^64 - 1
+abbrev pub counted : Conversation → Conversation
+counted c = record c { line = one_more c.line }
 
 -- the state after a line, and the answer
 abbrev pub Step : Type 0
@@ -114,6 +119,34 @@ with_read names name (Err fault) = names
 abbrev pub read : Conversation → List ℕ → Result Transaction TxFault → Conversation × List ℕ
 read c name found = (with_names c (with_read c.session.names name found), bytes_text found)
 
+-- the pool submits the transaction with these bytes, if there is one; it has no name
+abbrev pub give : Conversation → Result Transaction TxFault → Conversation × List ℕ
+give c (Ok t) = ask c (Give t)
+give c (Err fault) = (c, bytes_text (Err fault))
+
+abbrev pub report_by_id : Conversation → Bool → Conversation × List ℕ
+report_by_id c by_id = (with_names c (reporting_by_id c.session.names by_id), ok_text)
+
+-- all names are forgotten, the peer is offered all again, and the next line has number 1; allowed from the first request on
+abbrev pub reset_at : Conversation → Stage ServedPool → Step
+reset_at c (Before b) = None
+reset_at c (Open p) = Some (record c { session = record c.session { names = first_names; stage = Open (record p { cursor = 0 }) }; line = 0 }, ok_text)
+
+-- ---- words for transactions
+
+abbrev pub show : Conversation → TxWord → Step
+show c word = option_map (λ t. (c, show_text t)) (tx_meant c.session.stage word)
+
+abbrev pub check : Conversation → TxWord → Step
+check c word = option_map (λ t. ask c (Check t)) (tx_meant c.session.stage word)
+
+-- without block bytes in the line, the setting applies
+abbrev pub block_at : Settings → NewBlock → List Transaction → Block
+block_at g b txs = record { tick = b.tick; block_bytes = unwrap_or b.block_bytes (block_bytes_of g); txs = txs }
+
+abbrev pub extend : Conversation → NewBlock → Step
+extend c b = option_map (λ txs. ask c (Extend (block_at c.session.settings b txs))) (put_meant c.session.stage [] b.txs)
+
 -- ---- lines
 
 -- a line that asks nothing of the pool is done
@@ -129,21 +162,20 @@ does c line = option_map (λ r. ask_if (with_session c r.0) r.1) (sessions.take 
 abbrev pub hold : Conversation → OutRef → Output → Step
 hold c r o = option_map (λ s. (with_session c s, ok_text)) (hold_at c.session r o c.session.stage)
 
--- without block bytes in the line, the setting applies
-abbrev pub block_at : Settings → NewBlock → Block
-block_at g b = record { tick = b.tick; block_bytes = unwrap_or b.block_bytes (block_bytes_of g); txs = b.txs }
-
 abbrev pub take : Conversation → Ask → Step
 take c (Does line) = does c line
 take c (Reads name bytes) = Some (read c name (transaction_of bytes))
 take c (Submits name t) = Some (submit c name t)
-take c (Shows t) = Some (c, show_text t)
-take c (Checks t) = Some (ask c (Check t))
+take c (SubmitsBytes bytes) = Some (give c (transaction_of bytes))
+take c (Shows word) = show c word
+take c (Checks word) = check c word
 take c Counts = Some (ask c Count)
 take c (Holds r o) = hold c r o
-take c (Extends block) = Some (ask c (Extend (block_at c.session.settings block)))
+take c (Extends block) = extend c block
 take c (Returns count) = Some (ask c (Return count))
 take c (Forgets names) = Some (forget c names)
+take c (ReportsById by_id) = Some (report_by_id c by_id)
+take c Resets = reset_at c c.session.stage
 
 -- the state and the answer after a line, unless it is bad
 unfoldable pub line_step : Conversation → List ℕ → Step

@@ -9,8 +9,8 @@ use Rattle.mp_rules.specs.declared.invalid.Invalid.{Invalid}
 use Rattle.mp_seqpool.specs.declared.refusal.Refusal.TheVariants as refusals
 use Rattle.mp_seqpool.specs.Pool.{Pool}
 use Rattle.mp_seqpool.specs.SlowPool.{bytes_held, free_bytes}
-use Rattle.mp_names.specs.Names.{Names, name_of}
-use Rattle.mp_answers.specs.AnswerText.{number_text, refusal_text}
+use Rattle.mp_names.specs.Names.{Names}
+use Rattle.mp_answers.specs.AnswerText.{number_text, tx_name_text, refusal_text}
 use Rattle.mp_serve.specs.declared.refused.Counts.{Counts}
 use Rattle.mp_serve.specs.Refused.{counts_text}
 
@@ -63,10 +63,10 @@ pool_numbers p =
 unfoldable pub stats_text : Pool → Counts → List ℕ
 stats_text p refused = (pool_numbers p ++ counts_text refused) ++ 10 ∷ []
 
--- the name of the transaction, if there is one
+-- the name or the id under which the transaction is reported, if there is one
 abbrev pub name_if_any : Names → Option Transaction → List ℕ
 name_if_any names None = []
-name_if_any names (Some t) = name_of (id_of t) names
+name_if_any names (Some t) = tx_name_text names (id_of t)
 
 -- the transaction of the block at this index isn't valid after those before it
 unfoldable pub block_refused_text : Names → List Transaction → ℕ → Invalid → List ℕ

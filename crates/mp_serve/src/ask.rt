@@ -1,17 +1,17 @@
 //! What a line asks for.
 
 ghost use Rattle.std.specs.Prelude.{◌≡◌, [], Some, None, map, option_map, OnOk};
-ghost use Rattle.std.specs.Arc.{arc_value};
 ghost use Rattle.mp_text.specs.Words.{words_of};
 ghost use Rattle.mp_lines.specs.Lines.{line_of};
 ghost use Rattle.mp_lines.specs.Inside.LedgerHead.{to_head};
 ghost use Rattle.mp_names.specs.Fault.{Gives, IsBad};
 ghost use Rattle.mp_names.specs.Names.{is_among};
-ghost use Rattle.mp_serve.specs.Ask.{Does, Shows, Checks, Forgets, bytes_by, bytes_ask, submit_by, submit_ask, one_tx, utxo_by, utxo_ask, put_txs, block_behind, adopt_ask, back_ask, put_names, forget_ask, ledger_ask, clean_ask, words_ask, hex_ask, long_ask, ask_within};
-ghost use Rattle.mp_serve.specs.Inside.Ask.{to_ask};
+ghost use Rattle.mp_serve.specs.Ask.{Does, Shows, Checks, Forgets, bytes_by, bytes_ask, give_ask, submit_by, submit_ask, one_tx, utxo_by, utxo_ask, put_txs, block_behind, adopt_ask, back_ask, put_names, forget_ask, names_ask, ledger_ask, clean_ask, words_ask, hex_ask, long_ask, ask_within};
+ghost use Rattle.mp_serve.specs.Inside.Ask.{to_ask, to_tx_word};
 
-use crate::block::{NewBlock, Txs};
+use crate::block::NewBlock;
 use crate::output::{AROUND_BYTES, output_in, ref_in};
+use crate::tx_word::{TxWord, tx_word_of};
 use mp_lines::{
     Form, LedgerHead, Line, bytes_of, no_word, one_word, read_head, two_words, unclean,
 };
@@ -30,10 +30,12 @@ pub enum Ask {
     Reads(Name, Vec<u8, Memory>),
     /// Submit the transaction, and report it under the name from then on.
     Submits(Name, Arc<Tx, Memory>),
+    /// Submit the transaction that has these bytes. It has no name.
+    SubmitsBytes(Vec<u8, Memory>),
     /// The bytes of the transaction.
-    Shows(Arc<Tx, Memory>),
+    Shows(TxWord),
     /// What its submit would answer.
-    Checks(Arc<Tx, Memory>),
+    Checks(TxWord),
     /// The pool's numbers.
     Counts,
     /// Add the output to the opening ones.
@@ -44,11 +46,20 @@ pub enum Ask {
     Returns(u64),
     /// Forget these names.
     Forgets(Vec<Name, Memory>),
+    /// Report transactions by their ids from now on, or by their names.
+    ReportsById(bool),
+    /// Forget all names, and begin again with line 1.
+    Resets,
 }
 
 const BYTES: Form = Form {
     word: b"bytes",
     text: b"bytes NAME HEX",
+};
+
+const GIVE: Form = Form {
+    word: b"give",
+    text: b"give HEX",
 };
 
 const SUBMIT: Form = Form {
@@ -91,6 +102,21 @@ const FORGET: Form = Form {
     text: b"forget NAME ..",
 };
 
+const IDS: Form = Form {
+    word: b"ids",
+    text: b"ids",
+};
+
+const NAMES: Form = Form {
+    word: b"names",
+    text: b"names",
+};
+
+const RESET: Form = Form {
+    word: b"reset",
+    text: b"reset",
+};
+
 fn bytes_by<'a>(
     memory: Memory,
     names: &Names,
@@ -114,6 +140,14 @@ fn bytes_ask<'a>(memory: Memory, names: &Names, words: &'a [u8]) -> Result<Ask, 
     bytes_by(memory, names, name, digits)
 }
 
+// give HEX
+fn give_ask<'a>(memory: Memory, words: &'a [u8]) -> Result<Ask, LineFault<'a>>
+    ensures { Gives to_ask (give_ask (words_of words.now)) result }
+{
+    let digits = one_word(GIVE.text, words)?;
+    Ok(Ask::SubmitsBytes(bytes_of(memory, digits)?))
+}
+
 fn submit_by<'a>(memory: Memory, names: &Names, word: &'a [u8]) -> Result<Ask, LineFault<'a>>
     ensures { Gives to_ask (submit_by names.now word.now) result }
 {
@@ -130,17 +164,12 @@ fn submit_ask<'a>(memory: Memory, names: &Names, words: &'a [u8]) -> Result<Ask,
     submit_by(memory, names, word)
 }
 
-// The transaction that is the only word of a line of this form.
-fn one_tx<'a>(
-    names: &Names,
-    form: &'static [u8],
-    words: &'a [u8],
-) -> Result<Arc<Tx, Memory>, LineFault<'a>>
-    ensures { Gives arc_value (one_tx names.now (words_of words.now)) result }
+// The only word of a line of this form, which is for a transaction.
+fn one_tx<'a>(names: &Names, form: &'static [u8], words: &'a [u8]) -> Result<TxWord, LineFault<'a>>
+    ensures { Gives to_tx_word (one_tx names.now (words_of words.now)) result }
 {
     let word = one_word(form, words)?;
-    let declared = names.tx(word)?;
-    Ok(Arc::try_clone(declared.tx())?)
+    tx_word_of(names, word)
 }
 
 fn show_ask<'a>(names: &Names, words: &'a [u8]) -> Result<Ask, LineFault<'a>>
@@ -174,18 +203,21 @@ fn utxo_ask<'a>(memory: Memory, words: &'a [u8]) -> Result<Ask, LineFault<'a>>
     utxo_by(memory, word, digits)
 }
 
-// Adds the transactions that are named.
-fn put_txs<'a>(txs: &mut Txs, names: &Names, words: &'a [u8]) -> Result<(), LineFault<'a>>
+// Adds the words, which are for transactions.
+fn put_txs<'a>(
+    txs: &mut Vec<TxWord, Memory>,
+    names: &Names,
+    words: &'a [u8],
+) -> Result<(), LineFault<'a>>
     ensures ok { OnOk result
-        (put_txs names.now (map arc_value txs.old.items) (words_of words.now)
-        ≡ Some (map arc_value txs.new.items)) }
+        (put_txs names.now (map to_tx_word txs.old.items) (words_of words.now)
+        ≡ Some (map to_tx_word txs.new.items)) }
     ensures bad { IsBad result
-        → put_txs names.now (map arc_value txs.old.items) (words_of words.now) ≡ None }
+        → put_txs names.now (map to_tx_word txs.old.items) (words_of words.now) ≡ None }
 {
     let mut rest = words;
     while let Some((word, others)) = first_word(rest) {
-        let declared = names.tx(word)?;
-        txs.push(Arc::try_clone(declared.tx())?)?;
+        txs.push(tx_word_of(names, word)?)?;
         rest = others;
     }
     Ok(())
@@ -277,6 +309,31 @@ fn scenario_ask<'a>(memory: Memory, names: &Names, line: &'a [u8]) -> Result<Ask
     Ok(Ask::Does(Line::parse(memory, names, line)?))
 }
 
+fn names_ask<'a>(
+    memory: Memory,
+    names: &Names,
+    line: &'a [u8],
+    word: &'a [u8],
+    words: &'a [u8],
+) -> Result<Ask, LineFault<'a>>
+    ensures { Gives to_ask (names_ask names.now line.now word.now (words_of words.now)) result }
+{
+    if word == FORGET.word {
+        forget_ask(memory, words)
+    } else if word == IDS.word {
+        no_word(IDS.text, words)?;
+        Ok(Ask::ReportsById(true))
+    } else if word == NAMES.word {
+        no_word(NAMES.text, words)?;
+        Ok(Ask::ReportsById(false))
+    } else if word == RESET.word {
+        no_word(RESET.text, words)?;
+        Ok(Ask::Resets)
+    } else {
+        scenario_ask(memory, names, line)
+    }
+}
+
 fn ledger_ask<'a>(
     memory: Memory,
     names: &Names,
@@ -292,10 +349,8 @@ fn ledger_ask<'a>(
         adopt_ask(memory, names, words)
     } else if word == BACK.word {
         back_ask(words)
-    } else if word == FORGET.word {
-        forget_ask(memory, words)
     } else {
-        scenario_ask(memory, names, line)
+        names_ask(memory, names, line, word, words)
     }
 }
 
@@ -310,6 +365,8 @@ fn clean_ask<'a>(
 {
     if word == BYTES.word {
         bytes_ask(memory, names, words)
+    } else if word == GIVE.word {
+        give_ask(memory, words)
     } else if word == SUBMIT.word {
         submit_ask(memory, names, words)
     } else if word == SHOW.word {
@@ -333,7 +390,7 @@ fn words_ask<'a>(memory: Memory, names: &Names, line: &'a [u8]) -> Result<Ask, L
     }
 }
 
-// A line of bytes, or of an output.
+// A line of a transaction's bytes, or of an output.
 fn hex_ask<'a>(
     memory: Memory,
     names: &Names,
@@ -345,6 +402,8 @@ fn hex_ask<'a>(
 {
     if word == BYTES.word {
         bytes_ask(memory, names, words)
+    } else if word == GIVE.word {
+        give_ask(memory, words)
     } else if word == UTXO.word {
         utxo_ask(memory, words)
     } else {

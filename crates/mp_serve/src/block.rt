@@ -1,9 +1,6 @@
 //! Blocks whose ledger states a pool adopts.
 
-ghost use Rattle.std.specs.Prelude.{◌≡◌, map, unwrap_or};
-ghost use Rattle.mp_session.specs.Settings.{block_bytes_of};
-ghost use Rattle.mp_serve.specs.Inside.Ask.{to_block};
-
+use crate::tx_word::TxWord;
 use mp_memory::Memory;
 use mp_names::BlockBytes;
 use mp_session::{Settings, block_bytes_at};
@@ -20,7 +17,8 @@ pub struct NewBlock {
     pub tick: u64,
     /// The block bytes, if the line gives them.
     pub block_bytes: Option<BlockBytes>,
-    pub txs: Txs,
+    /// Words for its transactions.
+    pub txs: Vec<TxWord, Memory>,
 }
 
 /// A block's transactions, with the tick and the block bytes (1 to 2^39) of the ledger state after it.
@@ -57,24 +55,18 @@ impl Block {
     ghost use Rattle.std.specs.Arc.{arc_value};
     ghost use Rattle.mp_tx.specs.Ledger.{HasBlockBytes};
     ghost use Rattle.mp_session.specs.Settings.{block_bytes_of};
-    ghost use Rattle.mp_serve.specs.Inside.Ask.{to_block};
 
-    /// The block that a line gives. Without block bytes in the line, the setting applies.
-    pub fn at(settings: &Settings, block: NewBlock) -> Block
+    /// A block of these transactions. Without block bytes in the line, the setting applies.
+    pub fn at(settings: &Settings, tick: u64, block_bytes: &Option<BlockBytes>, txs: Txs) -> Block
         ensures { result ≡ record {
-          tick = block.tick;
-          block_bytes = unwrap_or block.block_bytes (block_bytes_of settings.now);
-          txs = (to_block block).txs;
+          tick = tick;
+          block_bytes = unwrap_or block_bytes.now (block_bytes_of settings.now);
+          txs = map arc_value txs.items;
         } }
     {
-        let NewBlock {
-            tick,
-            block_bytes,
-            txs,
-        } = block;
         Block {
             tick,
-            block_bytes: block_bytes_at(settings, &block_bytes),
+            block_bytes: block_bytes_at(settings, block_bytes),
             txs,
         }
     }

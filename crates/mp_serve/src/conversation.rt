@@ -9,14 +9,15 @@ ghost use Rattle.mp_serve.specs.Inside.Request.{to_request};
 
 use crate::answer::Answer;
 use crate::ask::Ask;
-use crate::block::Block;
+use crate::block::{Block, NewBlock};
 use crate::forgetting::names_to_go;
 use crate::pool::ServedPool;
 use crate::request::Request;
 use crate::texts::{Text, forgotten_line, read_line, show_line, undecodable_line};
+use crate::tx_word::{TxWord, tx_meant, txs_meant};
 use mp_lines::Line;
 use mp_memory::{Memory, NoMemory};
-use mp_names::{Binding, DeclaredTx, LineFault, Name, Names};
+use mp_names::{Binding, DeclaredTx, LineFault, Name, Names, Reason};
 use mp_session::{Beginning, Session, Settings, Stage};
 use mp_signatures::Signatures;
 use mp_tx::{OutRef, Output, Salt, Tx, TxFault};
@@ -28,6 +29,8 @@ pub struct Conversation {
     /// Which signatures the pool accepts.
     pub signatures: Signatures,
     pub session: Session<ServedPool>,
+    /// The number of the next line, from 1, or from the last reset.
+    pub line: u64,
 }
 
 // Opens the pool and lets it respond.
@@ -77,8 +80,9 @@ impl Conversation {
     ghost use Rattle.mp_names.specs.Fault as lines;
     ghost use Rattle.mp_lines.specs.Inside.Line.{to_line};
     ghost use Rattle.mp_tx.specs.Reading.{transaction_of};
-    ghost use Rattle.mp_serve.specs.Talk.{new_conversation, ask, submit, hold, does, read, forget, take, line_step};
-    ghost use Rattle.mp_serve.specs.Inside.Ask.{to_ask};
+    ghost use Rattle.mp_serve.specs.Talk.{new_conversation, ask, submit, hold, does, read, give, show, check, extend, report_by_id, reset_at, counted, forget, take, line_step};
+    ghost use Rattle.mp_serve.specs.Request.{Give};
+    ghost use Rattle.mp_serve.specs.Inside.Ask.{to_ask, to_block, to_tx_word};
     ghost use Rattle.mp_serve.specs.Inside.Request.{to_request};
     ghost use Rattle.mp_serve.specs.Inside.Answer.{text_of};
 
@@ -90,6 +94,7 @@ impl Conversation {
         Ok(Conversation {
             signatures,
             session,
+            line: 1,
         })
     }
 
@@ -202,6 +207,103 @@ impl Conversation {
         }
     }
 
+    // Submits the transaction, which has no name.
+    fn give_tx(&mut self, memory: Memory, tx: Tx) -> Result<Text, NoMemory>
+        ensures ok { IfOk result (λ text. ask self.old (Give tx) ≡ (self.new, text.items)) }
+        ensures err { OnErr result (self.new ≡ self.old) }
+    {
+        let tx = Arc::new(memory, tx)?;
+        self.ask(memory, &Request::Give(tx))
+    }
+
+    // Submits the transaction with these bytes, which has no name.
+    fn give(&mut self, memory: Memory, bytes: &[u8]) -> Result<Text, NoMemory>
+        ensures ok { IfOk result (λ text. give self.old (transaction_of bytes.now)
+            ≡ (self.new, text.items)) }
+        ensures err { OnErr result (self.new ≡ self.old) }
+    {
+        match Tx::decode(memory, bytes) {
+            Ok(tx) => self.give_tx(memory, tx),
+            Err(TxFault::NoMemory) => Err(NoMemory),
+            Err(fault) => undecodable_line(memory, fault),
+        }
+    }
+
+    // The bytes of the transaction that the word means.
+    fn show<'a>(&self, memory: Memory, word: TxWord) -> Result<Text, LineFault<'a>>
+        ensures { lines.Gives (λ text. (self.now, text.items))
+            (show self.now (to_tx_word word)) result }
+    {
+        let tx = tx_meant(&self.session.stage, word)?;
+        Ok(show_line(memory, &tx)?)
+    }
+
+    // What the submit of the transaction that the word means would answer.
+    fn check<'a>(&mut self, memory: Memory, word: TxWord) -> Result<Text, LineFault<'a>>
+        ensures ok { IfOk result (λ text. check self.old (to_tx_word word)
+            ≡ Some (self.new, text.items)) }
+        ensures bad { lines.IsBad result → check self.old (to_tx_word word) ≡ None }
+        ensures err { OnErr result (self.new ≡ self.old) }
+    {
+        let tx = tx_meant(&self.session.stage, word)?;
+        Ok(self.ask(memory, &Request::Check(tx))?)
+    }
+
+    // Adopts the ledger state after the block.
+    fn extend<'a>(&mut self, memory: Memory, block: NewBlock) -> Result<Text, LineFault<'a>>
+        ensures ok { IfOk result (λ text. extend self.old (to_block block)
+            ≡ Some (self.new, text.items)) }
+        ensures bad { lines.IsBad result → extend self.old (to_block block) ≡ None }
+        ensures err { OnErr result (self.new ≡ self.old) }
+    {
+        let NewBlock {
+            tick,
+            block_bytes,
+            txs,
+        } = block;
+        let txs = txs_meant(memory, &self.session.stage, txs)?;
+        let block = Block::at(&self.session.settings, tick, &block_bytes, txs);
+        Ok(self.ask(memory, &Request::Extend(block))?)
+    }
+
+    // From now on transactions are reported by their ids, or by their names.
+    fn report_by_id(&mut self, by_id: bool) -> Answer
+        ensures { report_by_id self.old by_id ≡ (self.new, text_of result) }
+    {
+        self.session.names.report_by_id(by_id);
+        Answer::Done
+    }
+
+    /// Counts the line that was answered. Its number stays at 2^64 - 1.
+    pub fn count_line(&mut self)
+        ensures { self.new ≡ counted self.old }
+    {
+        self.line = self.line.saturating_add(1);
+    }
+
+    // Forgets all names. The peer is offered all again, and the next line has number 1. Allowed from the first request on.
+    fn reset<'a>(&mut self, memory: Memory) -> Result<Answer, LineFault<'a>>
+        ensures ok { IfOk result (λ answer.
+            reset_at self.old self.old.session.stage ≡ Some (self.new, text_of answer)) }
+        ensures bad { lines.IsBad result → reset_at self.old self.old.session.stage ≡ None }
+        ensures err { OnErr result (self.new ≡ self.old) }
+    {
+        let Session {
+            names,
+            settings,
+            stage,
+        } = &mut self.session;
+        match stage {
+            Stage::Before(_) => Err(LineFault::Bad(Reason::NotOpen)),
+            Stage::Open(pool) => {
+                *names = Names::new(memory, settings.salt())?;
+                pool.offer_again();
+                self.line = 0;
+                Ok(Answer::Done)
+            }
+        }
+    }
+
     // Forgets the names, except those under which the pool reports what it holds.
     fn forget(&mut self, memory: Memory, listed: Vec<Name, Memory>) -> Result<Text, NoMemory>
         ensures ok { IfOk result (λ text.
@@ -219,7 +321,7 @@ impl Conversation {
     ///
     /// # Errors
     /// `Bad` for a setting that comes twice or after the first request. `Bad` for an output that comes after the first request,
-    /// has a reference that is taken, or is the 65,537th with a name.
+    /// has a reference that is taken, or is the 65,537th with a name. `Bad` for a word `#ID` if the pool doesn't hold that id.
     pub fn take<'a>(&mut self, memory: Memory, ask: Ask) -> Result<Answer, LineFault<'a>>
         ensures ok { IfOk result (λ answer.
             take self.old (to_ask ask) ≡ Some (self.new, text_of answer)) }
@@ -229,15 +331,15 @@ impl Conversation {
         let text = match ask {
             Ask::Does(line) => return self.does(memory, line),
             Ask::Holds(reference, output) => return self.hold(memory, reference, output),
+            Ask::ReportsById(by_id) => return Ok(self.report_by_id(by_id)),
+            Ask::Resets => return self.reset(memory),
             Ask::Reads(name, bytes) => self.read(memory, name, &bytes)?,
             Ask::Submits(name, tx) => self.submit(memory, &name, &tx)?,
-            Ask::Shows(tx) => show_line(memory, &tx)?,
-            Ask::Checks(tx) => self.ask(memory, &Request::Check(tx))?,
+            Ask::SubmitsBytes(bytes) => self.give(memory, &bytes)?,
+            Ask::Shows(word) => self.show(memory, word)?,
+            Ask::Checks(word) => self.check(memory, word)?,
             Ask::Counts => self.ask(memory, &Request::Count)?,
-            Ask::Extends(block) => {
-                let block = Block::at(&self.session.settings, block);
-                self.ask(memory, &Request::Extend(block))?
-            }
+            Ask::Extends(block) => self.extend(memory, block)?,
             Ask::Returns(count) => self.ask(memory, &Request::Return(count))?,
             Ask::Forgets(names) => self.forget(memory, names)?,
         };

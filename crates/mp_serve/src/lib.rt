@@ -20,6 +20,7 @@ mod refused;
 mod request;
 mod serving;
 mod texts;
+mod tx_word;
 
 pub use answer::Answer;
 pub use ask::MAX_LINE_BYTES;

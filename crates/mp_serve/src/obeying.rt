@@ -7,19 +7,20 @@ ghost use Rattle.mp_seqpool.specs.Command.{Submit};
 ghost use Rattle.mp_seqpool.specs.Inside.Command.{command_of};
 ghost use Rattle.mp_seqpool.specs.Prepared.{Prepares};
 ghost use Rattle.mp_seqpool.specs.SlowPool.{answer, next, AreSigned, IsRefused};
-ghost use Rattle.mp_answers.specs.AnswerText.{answer_text};
+ghost use Rattle.mp_tx.specs.Spelling.{id_of};
+ghost use Rattle.mp_answers.specs.AnswerText.{answer_text, given_text};
 ghost use Rattle.mp_signatures.specs.Scheme.{accepted_by};
 ghost use Rattle.mp_serve.specs.Request.{counted_anew, reported_as, reported_if};
 ghost use Rattle.mp_serve.specs.Inside.Pool.{IsReady};
 ghost use Rattle.mp_serve.specs.Inside.KeepsLedger.{KeepsLedger};
 
 use crate::texts::Text;
-use mp_answers::{answer_line, reply_line};
+use mp_answers::{answer_line, given_refused_line, given_reply_line, reply_line};
 use mp_memory::{Memory, NoMemory};
 use mp_names::{Name, Names};
 use mp_seqpool::{Command, Prepared, Refusal, SeqPool};
 use mp_signatures::Signatures;
-use mp_tx::Tx;
+use mp_tx::{Tx, TxId};
 use std::sync::Arc;
 
 fn prepare(
@@ -194,6 +195,80 @@ pub fn submit(
     ensures ledger { pool.new.pool.ledger ≡ pool.old.pool.ledger }
 {
     take_in(memory, names, name, signatures, pool, tx)
+}
+
+fn given_refused(
+    memory: Memory,
+    names: &Names,
+    refusal: &Refusal,
+    id: &TxId,
+) -> Result<Answered, NoMemory>
+    ensures text { IfOk result (λ r.
+        r.0.items ≡ given_text names.now (Err refusal.now) id.now) }
+    ensures refusal { IfOk result (λ r. r.1 ≡ Some refusal.now) }
+{
+    let text = given_refused_line(memory, names, refusal, id)?;
+    Ok((text, Some(*refusal)))
+}
+
+// Submits the transaction. The line is allocated first, so that nothing has to be undone.
+fn take_given(
+    memory: Memory,
+    names: &Names,
+    signatures: &Signatures,
+    pool: &mut SeqPool,
+    tx: &Arc<Tx, Memory>,
+) -> Result<Answered, NoMemory>
+    requires { IsReady (accepted_by signatures.now) pool.old.pool }
+    ensures pool { OnOk result (pool.new.pool
+        ≡ counted_anew (next (accepted_by signatures.now) pool.old.pool
+        (Submit (arc_value tx.now)))) }
+    ensures text { IfOk result (λ r. r.0.items ≡ given_text names.now
+        (answer (accepted_by signatures.now) pool.old.pool (Submit (arc_value tx.now)))
+        (id_of (arc_value tx.now))) }
+    ensures refusal { IfOk result (λ r. r.1
+        ≡ result_err (answer (accepted_by signatures.now) pool.old.pool
+        (Submit (arc_value tx.now)))) }
+    ensures err { OnErr result (pool.new.pool ≡ pool.old.pool) }
+{
+    match pool.prepare_submit(tx, None, signatures) {
+        Ok(prepared) => {
+            let text = given_reply_line(memory, prepared.reply(), tx.id())?;
+            let _ = pool.finish(prepared);
+            count_anew(pool);
+            Ok((text, None))
+        }
+        Err(refusal) => match refusal {
+            Refusal::NoMemory => Err(NoMemory),
+            other => given_refused(memory, names, &other, tx.id()),
+        },
+    }
+}
+
+/// Submits the transaction. Returns the line of the answer, which has its id, and the refusal if it is refused. After an `Err`
+/// nothing has changed.
+pub fn give(
+    memory: Memory,
+    names: &Names,
+    signatures: &Signatures,
+    pool: &mut SeqPool,
+    tx: &Arc<Tx, Memory>,
+) -> Result<Answered, NoMemory>
+    requires { IsReady (accepted_by signatures.now) pool.old.pool }
+    ensures pool { OnOk result (pool.new.pool
+        ≡ counted_anew (next (accepted_by signatures.now) pool.old.pool
+        (Submit (arc_value tx.now)))) }
+    ensures text { IfOk result (λ r. r.0.items ≡ given_text names.now
+        (answer (accepted_by signatures.now) pool.old.pool (Submit (arc_value tx.now)))
+        (id_of (arc_value tx.now))) }
+    ensures refusal { IfOk result (λ r. r.1
+        ≡ result_err (answer (accepted_by signatures.now) pool.old.pool
+        (Submit (arc_value tx.now)))) }
+    ensures err { OnErr result (pool.new.pool ≡ pool.old.pool) }
+    ensures ready { IsReady (accepted_by signatures.now) pool.new.pool }
+    ensures ledger { pool.new.pool.ledger ≡ pool.old.pool.ledger }
+{
+    take_given(memory, names, signatures, pool, tx)
 }
 
 /// What the submit would answer.

@@ -4,15 +4,15 @@ use crate::adopting::{go_back, go_on};
 use crate::block::Block;
 use crate::extending::{Extended, extend};
 use crate::former::{Former, Formers};
-use crate::obeying::{check, obey, submit};
+use crate::obeying::{check, give, obey, submit};
 use crate::refused::{Counts, count_if_refused, count_one, none_counted};
 use crate::request::Request;
 use crate::texts::{Text, back_refused_line, stats_line};
 use mp_answers::{kept_line, query_line};
-use mp_block::AppliedBlock;
 use mp_lines::Query;
 use mp_memory::{Memory, NoMemory};
 use mp_names::{Name, Names};
+use mp_rules::AppliedBlock;
 use mp_seqpool::{Command, Config, SeqPool};
 use mp_session as session;
 use mp_session::{Beginning, Settings};
@@ -61,14 +61,15 @@ impl Model for ServedPool {
 }
 
 impl ServedPool {
-    ghost use Rattle.std.specs.Prelude.{◌≡◌, IfOk, OnOk, OnErr, is_some};
+    ghost use Rattle.std.specs.Prelude.{◌≡◌, IfOk, OnOk, OnErr, is_some, option_map, option_and_then};
+    ghost use Rattle.mp_tickets.specs.Tickets.{item_at};
     ghost use Rattle.mp_seqpool.specs.SlowPool.{ticket_of};
     ghost use Rattle.mp_serve.specs.Talk.{opened};
     ghost use Rattle.std.specs.Arc.{arc_value};
     ghost use Rattle.mp_seqpool.specs.Command.{Submit};
     ghost use Rattle.mp_seqpool.specs.Inside.Command.{command_of};
     ghost use Rattle.mp_session.specs.Inside.Request as sessions;
-    ghost use Rattle.mp_serve.specs.Request.{Extend, Return, Check, answer_to, reported_if, do_command, go_on, change, read, respond_plainly, respond};
+    ghost use Rattle.mp_serve.specs.Request.{Extend, Return, Check, answer_to, reported_if, do_command, go_on, change, read, give, respond_plainly, respond};
     ghost use Rattle.mp_serve.specs.Inside.KeepsLedger.{KeepsLedger};
     ghost use Rattle.mp_serve.specs.Inside.Request.{to_request};
 
@@ -100,6 +101,44 @@ impl ServedPool {
         ensures { result ≡ is_some (ticket_of id.now self.now.pool.items) }
     {
         self.pool.ticket_of(id).is_some()
+    }
+
+    /// The peer is offered all transactions again.
+    pub fn offer_again(&mut self)
+        ensures { self.new ≡ record self.old { cursor = 0 } }
+    {
+        self.cursor = 0;
+    }
+
+    /// The transaction with this id, if the pool holds it.
+    pub fn share_held(&self, id: &TxId) -> Result<Option<Arc<Tx, Memory>>, NoMemory>
+        ensures { IfOk result (λ t. option_map arc_value t
+            ≡ option_and_then (item_at self.now.pool.items)
+            (ticket_of id.now self.now.pool.items)) }
+    {
+        let Some(ticket) = self.pool.ticket_of(id) else {
+            return Ok(None);
+        };
+        match self.pool.get(ticket) {
+            Some(tx) => Ok(Some(Arc::try_clone(tx)?)),
+            None => Ok(None),
+        }
+    }
+
+    // Submits the transaction. A refusal is counted. The answer has the transaction's id.
+    fn give(
+        &mut self,
+        memory: Memory,
+        names: &Names,
+        tx: &Arc<Tx, Memory>,
+    ) -> Result<Text, NoMemory>
+        ensures ok { IfOk result (λ text.
+            give names.now self.old (arc_value tx.now) ≡ (self.new, text.items)) }
+        ensures err { OnErr result (self.new ≡ self.old) }
+    {
+        let (text, refusal) = give(memory, names, &self.signatures, &mut self.pool, tx)?;
+        count_if_refused(&mut self.refused, &refusal);
+        Ok(text)
     }
 
     /// Submits the transaction, and reports it under the name from then on if it is accepted. A refusal is counted.
@@ -294,6 +333,7 @@ impl ServedPool {
             Request::Extend(block) => self.adopt_block(memory, names, block),
             Request::Return(count) => self.return_by(memory, names, *count),
             Request::Check(tx) => self.check(memory, names, tx),
+            Request::Give(tx) => self.give(memory, names, tx),
             Request::Count => stats_line(memory, &self.pool, &self.refused),
         }
     }

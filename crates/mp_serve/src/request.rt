@@ -17,6 +17,8 @@ pub enum Request {
     Return(u64),
     /// What the submit of the transaction would answer.
     Check(Arc<Tx, Memory>),
+    /// Submit the transaction, and answer with its id.
+    Give(Arc<Tx, Memory>),
     /// The pool's numbers.
     Count,
 }

@@ -28,15 +28,16 @@ fn answer_all<D: Device>(
         (D.output device.old) (D.output device.new) result) }
     ensures turn { EndsAt result (D.turn device.new) }
 {
-    for number in 1..u64::MAX {
+    for _count in 1..u64::MAX {
         let found = match device.read_line(line, MAX_LINE_BYTES) {
             Ok(LineRead::End) => return Ok(()),
             Ok(found) => found,
             Err(_) => return Err(Fault::ReadFault),
         };
+        let number = conversation.line;
         let answer = answer(conversation, memory, number, found, line);
         match tell(device, &answer) {
-            Ok(()) => {}
+            Ok(()) => conversation.count_line(),
             Err(_) => return Err(Fault::WriteFault),
         }
     }

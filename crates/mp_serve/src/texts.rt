@@ -7,11 +7,11 @@ ghost use Rattle.std.specs.Arc.{arc_value};
 ghost use Rattle.mp_serve.specs.Texts.{bad_text, fault_name, tx_words, bytes_text, show_text, pool_numbers, stats_text, name_if_any, block_refused_text, back_refused_text, forgotten_text};
 
 use crate::refused::{Counts, put_counts};
-use mp_answers::{put_number, put_refusal, put_word};
+use mp_answers::{put_id, put_number, put_refusal, put_tx_name, put_word};
 use mp_memory::{Memory, NoMemory};
 use mp_names::{Names, Reason};
 use mp_seqpool::{Invalid, Refusal, SeqPool};
-use mp_tx::{Tx, TxFault, TxId};
+use mp_tx::{Tx, TxFault};
 use std::sync::Arc;
 
 /// One line of text.
@@ -47,17 +47,6 @@ fn put_hex(memory: Memory, text: &mut Text, bytes: &[u8]) -> Result<(), NoMemory
 {
     let digits = hex::encode(memory, bytes)?;
     put_word(text, digits.as_bytes())
-}
-
-// Each byte of an id as two digits. It allocates only their space in the text.
-fn put_id(text: &mut Text, id: &TxId) -> Result<(), NoMemory>
-    ensures { OnOk result (text.new.items ≡ text.old.items ++ encode_lower id.now) }
-{
-    let mut digits = [0; 64];
-    match hex::encode_to_slice(id.as_slice(), &mut digits) {
-        Ok(()) => put_word(text, &digits),
-        Err(_) => unreachable!(),
-    }
 }
 
 // The size and the id.
@@ -149,12 +138,17 @@ pub fn stats_line(memory: Memory, pool: &SeqPool, refused: &Counts) -> Result<Te
     Ok(text)
 }
 
-fn name_if_any<'a>(names: &'a Names, tx: Option<&Arc<Tx, Memory>>) -> &'a [u8]
-    ensures { result.now ≡ name_if_any names.now (option_map arc_value (option_copied tx.entry)) }
+fn put_name_if_any(
+    text: &mut Text,
+    names: &Names,
+    tx: Option<&Arc<Tx, Memory>>,
+) -> Result<(), NoMemory>
+    ensures { OnOk result (text.new.items ≡ text.old.items
+        ++ name_if_any names.now (option_map arc_value (option_copied tx.entry))) }
 {
     match tx {
-        Some(tx) => names.name_of(tx.id()),
-        None => &[],
+        Some(tx) => put_tx_name(text, names, tx.id()),
+        None => Ok(()),
     }
 }
 
@@ -164,11 +158,17 @@ fn tx_at(txs: &[Arc<Tx, Memory>], place: usize) -> Option<&Arc<Tx, Memory>>
     txs.get(place)
 }
 
-// The name of the transaction at the index, if there is one.
-fn name_at<'a>(names: &'a Names, txs: &[Arc<Tx, Memory>], place: usize) -> &'a [u8]
-    ensures { result.now ≡ name_if_any names.now (slice_get (map arc_value txs.now) place) }
+// The name or the id under which the transaction at the index is reported, if there is one.
+fn put_name_at(
+    text: &mut Text,
+    names: &Names,
+    txs: &[Arc<Tx, Memory>],
+    place: usize,
+) -> Result<(), NoMemory>
+    ensures { OnOk result (text.new.items ≡ text.old.items
+        ++ name_if_any names.now (slice_get (map arc_value txs.now) place)) }
 {
-    name_if_any(names, tx_at(txs, place))
+    put_name_if_any(text, names, tx_at(txs, place))
 }
 
 /// The line that refuses a block: the transaction at this index isn't valid after those before it.
@@ -185,7 +185,7 @@ pub fn block_refused_line(
 {
     let mut text = Vec::new(memory);
     put_word(&mut text, b"refused adopt ")?;
-    put_word(&mut text, name_at(names, txs, place))?;
+    put_name_at(&mut text, names, txs, place)?;
     put_word(&mut text, b" ")?;
     put_refusal(memory, &mut text, names, &Refusal::Invalid(fault))?;
     text.push(b'\n')?;
