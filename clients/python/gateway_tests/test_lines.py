@@ -53,7 +53,7 @@ class ClientSocket(GatewayCase):
         lines += [
             "after x",
             f"after {2**64}",
-            "remove z1",
+            f"remove #{'0' * 64}",
             "bytes a 00",
             "sn\xe4pshot",
             "z" * 70000,
@@ -91,8 +91,8 @@ class OperatorSocket(GatewayCase):
         await self.accept(first, second, third)
         (forged,) = await self.operate("forge 300")
         word, count, size, item = forged.split()
-        self.assertEqual((word, count, size, item[:3]), ("block", "1", "288", "11:"))
-        lines = [f"bytes b {pay(2).hex()}", f"adopt 8 {item[3:]} b", "forget b", "snapshot"]
+        self.assertEqual((word, count, size, item), ("block", "1", "288", f"11:{id_of(first)}"))
+        lines = [f"bytes b {pay(2).hex()}", f"adopt 8 #{item[3:]} b", "forget b", "snapshot"]
         self.assertEqual(
             (await self.operate(*lines))[1:3], ["kept 12 13 dropped 11", "forgotten 1"]
         )
@@ -102,21 +102,25 @@ class OperatorSocket(GatewayCase):
         self.assertEqual((await self.get("/mempool"))["tick"], 7)
         await self.accept(first, second, pay(2))
 
-    async def test_its_own_names(self) -> None:
+    async def test_names_and_other_lines(self) -> None:
         await self.start()
-        lines = [f"bytes z9 {pay(0).hex()}", "", "nonsense", "tx zz in=g0", "ids", "# a comment"]
+        lines = [f"stage {pay(0).hex()}", "", "nonsense", "submit x", "# a comment", "names", "ids"]
         answers = await self.operate(*lines)
-        for number in (1, 3, 4, 5):
+        for number in (1, 3, 4):
             self.assertTrue(answers[number - 1].startswith(f"bad {number}: "), answers[number - 1])
-        self.assertEqual((answers[1], answers[5]), ("ok", "ok"))
+        self.assertEqual([answers[place] for place in (1, 4, 5, 6)], ["ok"] * 4)
 
-    async def test_the_gateway_forgets_its_names(self) -> None:
+    async def test_transactions_of_clients_have_ids(self) -> None:
         await self.start()
-        await self.post(spend(pay(1), 0, 100))
-        await self.accept(pay(0))
-        got = await self.operate("forget z1", "adopt 8 z2", "stats", "forget z2", "show z2")
-        self.assertEqual(got[:2], ["forgotten 0", "kept dropped 11"])
-        self.assertEqual((got[3], got[4][:6]), ("forgotten 0", "bad 5:"))
+        one, two = id_of(pay(0)), id_of(pay(1))
+        await self.accept(pay(0), pay(1))
+        self.assertEqual(await self.operate("after 10"), [f"after 11:{one} 12:{two}"])
+        lines = [f"bytes a {pay(0).hex()}", "lookup 11", "names", "lookup 11", f"has #{one}"]
+        got = await self.operate(*lines)
+        self.assertEqual(got[1:], [f"lookup {one}", "ok", "lookup a", "has yes"])
+        got = await self.operate(f"adopt 8 #{one}", "forget a", f"show #{one}", "after 10")
+        self.assertEqual(got[:2], ["kept 12 dropped 11", "forgotten 1"])
+        self.assertEqual((got[2][:6], got[3]), ("bad 3:", f"after 12:{two}"))
 
     async def test_its_submits_are_known(self) -> None:
         await self.start()
@@ -124,6 +128,10 @@ class OperatorSocket(GatewayCase):
         got = await self.operate(f"bytes a {data.hex()}", "submit a", "submit a", "submit b")
         self.assertEqual(got[1:3], ["accepted 11", "refused already 11"])
         self.assertEqual(await self.held(), [id_of(data)])
+        other = id_of(pay(1))
+        self.assertEqual(await self.operate(f"give {pay(1).hex()}"), [f"accepted 12 {other}"])
+        self.assertEqual(await self.held(), [id_of(data), other])
+        self.assertEqual(await self.operate(f"remove #{other}"), ["removed 12 dropped"])
         self.assertEqual(await self.operate("remove a"), ["removed 11 dropped"])
         self.assertEqual(await self.held(), [])
         async with self.http.head(f"{self.url}/mempool/txs/{id_of(data)}") as answer:

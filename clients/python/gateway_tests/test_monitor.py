@@ -36,7 +36,7 @@ class Session(GatewayCase):
             await self.ask(socket, "acquireMempool"), {"acquired": "mempool", "slot": 7}
         )
         await self.accept(pay(2))
-        await self.operate("remove z1")
+        await self.operate(f"remove #{id_of(first)}")
         size = await self.ask(socket, "sizeOfMempool")
         self.assertEqual(size["maxCapacity"], {"bytes": 40000})
         self.assertEqual(

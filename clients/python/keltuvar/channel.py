@@ -7,6 +7,7 @@ import math
 import os
 import select
 import time
+from collections.abc import Callable
 from typing import Protocol
 
 _CHUNK = 1 << 16
@@ -45,9 +46,19 @@ class Unasked(Exception):
 
 
 class Channel:
-    """Two streams, which become non-blocking, and a third one for standard error."""
+    """Two streams, which become non-blocking, and a third one for standard error.
 
-    def __init__(self, answers: Stream, lines: Stream, errors: Stream | None = None) -> None:
+    `has_ended` says whether the program has. Without it only the streams show that.
+    """
+
+    def __init__(
+        self,
+        answers: Stream,
+        lines: Stream,
+        errors: Stream | None = None,
+        has_ended: Callable[[], bool] = lambda: False,
+    ) -> None:
+        self._has_ended = has_ended
         self._streams = [answers, lines] if errors is None else [answers, lines, errors]
         self._lines = lines
         self._answers_fd, self._lines_fd = answers.fileno(), lines.fileno()
@@ -60,14 +71,13 @@ class Channel:
 
     def exchange(self, lines: bytes, count: int, until: float) -> list[str]:
         """Writes the lines, and returns `count` answers without their line feeds."""
-        if self._receive() or self._unfinished:
+        if self._unfinished or (self._poll(0, sending=False) and self._receive()):
             raise Unasked
         unsent = memoryview(lines)
         answers: list[bytes] = []
         while True:
             unsent = unsent[self._send(unsent) :]
-            if len(answers) < count or unsent:
-                self._wait(bool(unsent), until)
+            if (len(answers) < count or unsent) and self._wait(bool(unsent), until):
                 answers += self._receive()
             if len(answers) > count or (len(answers) == count and (unsent or self._unfinished)):
                 raise Unasked
@@ -124,13 +134,25 @@ class Channel:
         self._unfinished = [others[-1]] if others[-1] else []
         return whole
 
-    def _wait(self, sending: bool, until: float) -> None:
-        """Waits until something can be read, or written if there is something to send."""
+    def _wait(self, sending: bool, until: float) -> bool:
+        """Waits until something can be read, or written if there is something to send.
+
+        Returns whether it can be read. A named pipe that nobody has opened yet can't, and a read
+        would seem to be at its end.
+        """
         left = until - time.monotonic()
         if self._cancelled:
             raise Cancelled
         if left <= 0:
             raise OutOfTime
+        has_ended = self._has_ended()
+        can_read = self._poll(0 if has_ended else min(left, _LONGEST_WAIT), sending)
+        if has_ended and not can_read:
+            raise Ended
+        return can_read
+
+    def _poll(self, seconds: float, sending: bool) -> bool:
+        """Waits at most this long, and returns whether something can be read."""
         events = {self._answers_fd: select.POLLIN}
         if sending:
             events[self._lines_fd] = events.get(self._lines_fd, 0) | select.POLLOUT
@@ -139,9 +161,10 @@ class Channel:
         poll = select.poll()
         for descriptor, mask in events.items():
             poll.register(descriptor, mask)
-        ready = poll.poll(math.ceil(min(left, _LONGEST_WAIT) * 1000))
-        if any(descriptor == self._errors_fd for descriptor, _ in ready):
+        ready = [descriptor for descriptor, _ in poll.poll(math.ceil(seconds * 1000))]
+        if self._errors_fd in ready:
             self._drain_errors()
+        return self._answers_fd in ready
 
     def _drain_errors(self) -> None:
         """Keeps the end of the program's standard error so far."""

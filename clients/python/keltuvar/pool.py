@@ -9,7 +9,7 @@ import threading
 import time
 from collections.abc import Callable, Iterable, Sequence
 from types import TracebackType
-from typing import Literal, TypeVar
+from typing import Literal, Self, TypeAlias, TypeVar
 
 from . import answers, words
 from .channel import Cancelled, Channel, Ended, OutOfTime, Stream, Unasked
@@ -31,14 +31,16 @@ from .values import (
 )
 
 T = TypeVar("T")
+Program: TypeAlias = str | os.PathLike[str]
+Signatures: TypeAlias = Literal["trial", "checked", "ed25519", "scenarios"]
 
 
-class _NoTurn(Exception):
+class NoTurn(Exception):
     """Other threads took all the time that a call has."""
 
 
 # How many seconds a program that has closed a stream has to end, so that its status is its own.
-_LAST_WORDS = 1.0
+LAST_WORDS = 1.0
 # How many characters of a line an error shows.
 _MOST_TOLD = 60
 _MOST_BLOCK, _MOST_LIMIT = 2**39, 2**32
@@ -46,6 +48,8 @@ _MOST_BLOCK, _MOST_LIMIT = 2**39, 2**32
 
 class Pool:
     """A pool that a program holds.
+
+    A transaction is its name, or `#` and the id of one that the pool holds.
 
     Each call sends one line to `keltuvar serve` and reads its answer. Any number of threads may
     call. A call raises `Refused`, `Undecodable`, `BadLine` or `OutOfMemory` if the answer says so.
@@ -60,9 +64,9 @@ class Pool:
 
     def __init__(
         self,
-        program: str | os.PathLike[str],
+        program: Program,
         *,
-        signatures: Literal["trial", "checked", "ed25519", "scenarios"] = "trial",
+        signatures: Signatures = "trial",
         salt: int | None = None,
         timeout: float | None = None,
     ) -> None:
@@ -74,15 +78,8 @@ class Pool:
         salt: a number for the program's `--salt`; without one the program chooses.
         timeout: the limit of each call that has none of its own; None is no limit.
         """
-        if signatures not in ("trial", "checked", "ed25519", "scenarios"):
-            raise ValueError(f"{signatures!r:.80} is none of 'trial', 'checked' and 'ed25519'")
-        command = [os.fspath(program), "serve"]
-        if signatures in ("checked", "ed25519"):
-            command += ["--signatures", signatures]
-        if salt is not None:
-            command += ["--salt", words.format_number(salt)]
-        limit = _check_seconds(math.inf if timeout is None else timeout)
-        process = Process(command)
+        limit = read_limit(timeout)
+        process = Process(make_command(program, signatures, salt))
         self._set_up(process.channel, process, limit)
 
     @classmethod
@@ -95,9 +92,13 @@ class Pool:
 
         Both become non-blocking, and are closed with the pool.
         """
-        limit = _check_seconds(math.inf if timeout is None else timeout)
+        return cls._over(Channel(answers, lines), None, read_limit(timeout))
+
+    @classmethod
+    def _over(cls, channel: Channel, process: Process | None, limit: float) -> Self:
+        """Returns a pool over a channel, and perhaps the process that it ends with itself."""
         pool = cls.__new__(cls)
-        pool._set_up(Channel(answers, lines), None, limit)
+        pool._set_up(channel, process, limit)
         return pool
 
     def _set_up(self, channel: Channel, process: Process | None, limit: float) -> None:
@@ -143,7 +144,7 @@ class Pool:
         until = time.monotonic() + seconds
         self._closed = True
         try:
-            with contextlib.suppress(_NoTurn):
+            with contextlib.suppress(NoTurn):
                 self._in_turn(seconds, lambda: self._finish(until))
         finally:
             self._stop()
@@ -161,8 +162,8 @@ class Pool:
             if self._process:
                 self._process.kill()
         finally:
-            with contextlib.suppress(_NoTurn):
-                self._in_turn(_LAST_WORDS, self._channel.close)
+            with contextlib.suppress(NoTurn):
+                self._in_turn(LAST_WORDS, self._channel.close)
 
     # Lines as they are.
 
@@ -316,7 +317,7 @@ class Pool:
         return self._ask(line, answers.read_ticket, timeout)
 
     def submit(self, transaction: str, *, timeout: float | None = None) -> int:
-        """Submits a transaction, and returns its ticket."""
+        """Submits a declared transaction, and returns its ticket."""
         return self._ask(["submit", words.format_name(transaction)], answers.read_ticket, timeout)
 
     def give(self, data: bytes, *, timeout: float | None = None) -> Given:
@@ -439,16 +440,16 @@ class Pool:
             raise Closed("the pool is that of another process")
         try:
             return self._in_turn(seconds, lambda: self._exchange_in_turn(lines, read, until))
-        except _NoTurn:
+        except NoTurn:
             raise Timeout(told, seconds, sent=False) from None
         except OutOfTime:
             raise Timeout(told, seconds, sent=True) from None
 
     def _in_turn(self, seconds: float, action: Callable[[], T]) -> T:
-        """Holds the lock during the action. Raises `_NoTurn` after this many seconds without it."""
+        """Holds the lock during the action. Raises `NoTurn` after this many seconds without it."""
         try:
             if not self._turn.acquire(timeout=min(seconds, threading.TIMEOUT_MAX)):
-                raise _NoTurn
+                raise NoTurn
             return action()
         finally:
             # After an interrupt just after `acquire` only the lock knows who holds it.
@@ -464,7 +465,7 @@ class Pool:
         if self._closed or self._fault is not None:
             raise self._end()
         if time.monotonic() >= until:
-            raise _NoTurn
+            raise NoTurn
         told = _shorten(lines[0])
         self._fault = f"the call of '{told}' was interrupted, so the program was ended"
         try:
@@ -476,7 +477,7 @@ class Pool:
             self._fault = f"the call of '{told}' had no answer in time, so the program was ended"
             raise
         except Ended:
-            self._finish(time.monotonic() + _LAST_WORDS)
+            self._hear_end()
             status = "" if self.status is None else f" with status {self.status}"
             self._fault = f"the program ended{status} before it answered '{told}'"
             raise self._end() from None
@@ -492,15 +493,39 @@ class Pool:
             if self._fault is not None:
                 self._end()
 
+    def _hear_end(self) -> None:
+        """Gives a program that has closed a stream the time to end by itself."""
+        self._finish(time.monotonic() + LAST_WORDS)
+
+    def _error_text(self) -> str:
+        """Returns the end of the program's standard error so far."""
+        return self._channel.error_text()
+
     def _end(self) -> KeltuvarError:
         """Ends the program, under the lock. Returns why no further call can be made."""
         if self._process:
             self._process.kill()
-        error_text = self._channel.error_text()
+        error_text = self._error_text()
         self._channel.close()
         if self._closed:
             return Closed("the pool is closed")
         return Broken(self._fault or "", self.status, error_text)
+
+
+def make_command(program: Program, signatures: Signatures, salt: int | None) -> list[str]:
+    """Returns the command line that begins a conversation."""
+    if signatures not in ("trial", "checked", "ed25519", "scenarios"):
+        raise ValueError(f"{signatures!r:.80} is none of 'trial', 'checked' and 'ed25519'")
+    command = [os.fspath(program), "serve"]
+    if signatures in ("checked", "ed25519"):
+        command += ["--signatures", signatures]
+    if salt is not None:
+        command += ["--salt", words.format_number(salt)]
+    return command
+
+
+def read_limit(timeout: float | None) -> float:
+    return _check_seconds(math.inf if timeout is None else timeout)
 
 
 def _check_seconds(timeout: float) -> float:

@@ -39,9 +39,9 @@ class Process:
     def end(self, patience: float) -> None:
         """Waits this long for it to end, then asks it to, then kills it."""
         try:
-            if not self._has_ended(patience):
+            if not self.has_ended(patience):
                 self._send(signal.SIGTERM)
-                self._has_ended(_ASKED)
+                self.has_ended(_ASKED)
         finally:
             self.kill()
 
@@ -50,9 +50,9 @@ class Process:
         try:
             self._send(signal.SIGKILL)
         finally:
-            self._has_ended(_KILLED)
+            self.has_ended(_KILLED)
 
-    def _has_ended(self, seconds: float) -> bool:
+    def has_ended(self, seconds: float) -> bool:
         """Waits this long for it to end, and returns whether it did."""
         with contextlib.suppress(subprocess.TimeoutExpired):
             self._child.wait(seconds)

@@ -82,8 +82,8 @@ class ClientLines(LineServer):
                 return f"accepted {receipt.ticket} {receipt.id}"
             case Undecodable(fault=fault):
                 return f"undecodable {fault}"
-            case Refused(args=refusal):
-                return " ".join(["refused", *refusal, str(receipt.id)])
+            case Refused(word=word, details=details):
+                return " ".join(["refused", word, *details, str(receipt.id)])
             case error:
                 raise error
 

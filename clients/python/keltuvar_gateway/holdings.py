@@ -10,10 +10,10 @@ from .transactions import Reference, make_reference, read_references
 class Held:
     """A transaction that the pool holds, or held."""
 
-    __slots__ = ("_references", "data", "id", "name", "ticket")
+    __slots__ = ("_references", "data", "id", "ticket")
 
-    def __init__(self, transaction_id: str, ticket: int, name: str, data: bytes) -> None:
-        self.id, self.ticket, self.name, self.data = transaction_id, ticket, name, data
+    def __init__(self, transaction_id: str, ticket: int, data: bytes) -> None:
+        self.id, self.ticket, self.data = transaction_id, ticket, data
         self._references: frozenset[Reference] | None = None
 
     @property
@@ -47,12 +47,10 @@ class Holdings:
             raise ValueError(f"ticket {held.ticket} or its transaction is in the pool already")
         self._by_id[held.id] = self._by_ticket[held.ticket] = held
 
-    def drop(self, tickets: Iterable[int]) -> list[Held]:
-        """Takes out the transactions with these tickets, and returns them."""
-        dropped = [self._at(ticket) for ticket in tickets]
-        for held in dropped:
+    def drop(self, tickets: Iterable[int]) -> None:
+        """Takes out the transactions with these tickets."""
+        for held in self.pick(tickets):
             del self._by_id[held.id], self._by_ticket[held.ticket]
-        return dropped
 
     def find(self, transaction_id: str) -> Held | None:
         """Returns the transaction of this id."""

@@ -9,12 +9,11 @@ from collections.abc import Callable, Iterable, Iterator, Sequence
 from itertools import chain, islice
 from typing import Any, TypeVar
 
-from keltuvar import KeltuvarError, Stats, answers, error_in
+from keltuvar import KeltuvarError, Refused, Stats, answers, error_in
 
 from .backend import BadStart, Backend, Busy, Receipt, View
 from .holdings import Held, Holdings
 from .ledger import Ledger
-from .names import Names, is_ours
 from .operation import Operation
 from .program import Down, Program
 from .state import State
@@ -42,7 +41,6 @@ class OneConversation(Backend):
         self._holdings = Holdings()
         # What a new process of the pool doesn't have yet, oldest first.
         self._missing = list(state.transactions)
-        self._names = Names()
         self._program: Program | None = None
         self._changed = asyncio.Event()
         self._is_open = False
@@ -53,11 +51,11 @@ class OneConversation(Backend):
         state = self.copy_state()
         self._is_open, self._missing, self._holdings = False, state.transactions, Holdings()
         self._ledger.forget_former()
-        self._names.drop_released()
         self._program = program = await Program.start(self._command)
         try:
             # The last line opens the pool.
-            await self._ask_each(program, chain(state.settings(), state.utxo_lines(), ["stats"]))
+            last = ["ids", "stats"]
+            await self._ask_each(program, chain(state.settings(), state.utxo_lines(), last))
             await self._give_missing(program)
         except BaseException:
             program.kill("it couldn't be given what it is to begin with")
@@ -106,35 +104,27 @@ class OneConversation(Backend):
 
     async def submit(self, data: bytes) -> Receipt:
         program = self._live()
-        if program.waiting >= 2 * self._most_waiting:
+        if program.waiting >= self._most_waiting:
             raise Busy
         return await self._give(program, data, self.answers)
 
     def _give(self, program: Program, data: bytes, counts: Counter[str]) -> asyncio.Future[Receipt]:
-        """Declares and submits a transaction under a name of the gateway's."""
-        name = self._names.make()
-        declared: list[str] = []
+        """Submits a transaction, which gets no name."""
 
-        def read(submitted: str) -> Receipt:
-            receipt = self._read_receipt(name, data, declared[0], submitted)
+        def read(answer: str) -> Receipt:
+            receipt = self._read_receipt(data, answer)
             counts[receipt.word] += 1
             return receipt
 
-        before, take = [f"bytes {name} {data.hex()}"], declared.append
-        return self._send(program, before, take, f"submit {name}", read)
+        return self._send(program, [], str, f"give {data.hex()}", read)
 
-    def _read_receipt(self, name: str, data: bytes, declared: str, submitted: str) -> Receipt:
-        error = error_in(declared)
+    def _read_receipt(self, data: bytes, answer: str) -> Receipt:
+        error = error_in(answer)
         if error is not None:
-            return Receipt(None, None, error)
-        transaction_id = answers.read_declared(declared).id
-        error = error_in(submitted)
-        if error is not None:
-            self._release([name])
-            return Receipt(transaction_id, None, error)
-        ticket = answers.read_ticket(submitted)
-        self._add(Held(transaction_id, ticket, name, data))
-        return Receipt(transaction_id, ticket, None)
+            return Receipt(error.id if isinstance(error, Refused) else None, None, error)
+        given = answers.read_given(answer)
+        self._add(Held(given.id, given.ticket, data))
+        return Receipt(given.id, given.ticket, None)
 
     # Reads.
 
@@ -203,10 +193,11 @@ class OneConversation(Backend):
         """Does what an answered line of the operator's has done, in the copies."""
         if error_in(answer) is None:
             match operation.words:
-                case ["submit", name]:
+                case ["submit", _]:
                     shown = operation.transactions()[0]
-                    ticket = answers.read_ticket(answer)
-                    self._add(Held(shown.id, ticket, name, shown.data))
+                    self._add(Held(shown.id, answers.read_ticket(answer), shown.data))
+                case ["give", digits]:
+                    self._read_receipt(bytes.fromhex(digits), answer)
                 case ["remove", *_]:
                     removed = answers.read_removed(answer)
                     self._drop([*removed.removed, *removed.dropped])
@@ -263,30 +254,8 @@ class OneConversation(Backend):
         self._tell_change()
 
     def _drop(self, tickets: Iterable[int]) -> None:
-        """Drops transactions, and releases the names that the gateway made for them."""
-        dropped = self._holdings.drop(tickets)
-        self._release(held.name for held in dropped if is_ours(held.name))
+        self._holdings.drop(tickets)
         self._tell_change()
-
-    def _release(self, names: Iterable[str]) -> None:
-        """Has the pool forget names soon, many in a line."""
-        if self._names.release(names):
-            asyncio.get_running_loop().call_soon(self._forget_released)
-
-    def _forget_released(self) -> None:
-        if self._program is None or self._program.is_lost:
-            return
-        for names in self._names.take_released():
-            self._program.send(f"forget {' '.join(names)}", self._make_sure_of(names))
-
-    def _make_sure_of(self, names: list[str]) -> Callable[[str], None]:
-        """Returns what releases names again if the pool couldn't forget them."""
-
-        def take(answer: str) -> None:
-            if error_in(answer) is not None:
-                self._release(names)
-
-        return take
 
     def _tell_change(self) -> None:
         """Wakes those who wait for a change."""

@@ -5,7 +5,6 @@ from __future__ import annotations
 from keltuvar import Shown, answers, words
 
 from .ledger import Ledger
-from .names import is_ours
 from .transactions import Reference, decode, make_reference
 
 
@@ -23,10 +22,8 @@ class Operation:
 
     def _find_fault(self) -> str:
         match self.words:
-            case ["bytes" | "tx" | "out" | "stage", name, *_] if is_ours(name):
-                return f"names like '{name:.16}' are the gateway's own"
-            case ["names" | "ids", *_]:
-                return "the gateway itself needs the names in answers"
+            case ["stage", *_]:
+                return "the gateway wouldn't know what is staged"
         return ""
 
     def _names(self) -> list[str]:

@@ -105,6 +105,9 @@ FIELDS = (
 )
 
 
+ID = "f8f11283a19134b80b18f90f8ab47ef21a315808b705b442408dadb4fffe20b1"
+
+
 class Refusals(unittest.TestCase):
     def check(self, refused: Any, words: str, fields: dict[str, Any], text: str) -> None:
         self.assertIsInstance(refused, Refused)
@@ -142,6 +145,8 @@ class Refusals(unittest.TestCase):
             "already x",
             "already -1",
             "already 1 2",
+            f"already {ID}",
+            f"already 1 {ID} {ID}",
             "full 1",
             "full 1 2 3",
             "missing \u0661",

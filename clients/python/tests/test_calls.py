@@ -98,6 +98,7 @@ CALLS: list[tuple[Callable[[Pool], object], str, str, object]] = [
         LedgerChange((), (1,)),
     ),
     (lambda pool: pool.show("a"), "show a", f"tx 2 {ID} 01Ff", Shown(2, ID, b"\x01\xff")),
+    (lambda pool: pool.show(f"#{ID}"), f"show #{ID}", f"tx 1 {ID} 00", Shown(1, ID, b"\0")),
     (lambda pool: pool.check("a"), "check a", "accepted 7", 7),
     (lambda pool: pool.submit("a"), "submit a", "accepted 18446744073709551615", 2**64 - 1),
     (
@@ -143,6 +144,7 @@ CALLS: list[tuple[Callable[[Pool], object], str, str, object]] = [
     (lambda pool: pool.lookup(2), "lookup 2", "lookup none", None),
     (lambda pool: pool.has("a"), "has a", "has yes", True),
     (lambda pool: pool.has("b"), "has b", "has no", False),
+    (lambda pool: pool.after(6), "after 6", f"after 7:{ID}", (Item(7, ID),)),
     (
         lambda pool: pool.snapshot(),
         "snapshot",
@@ -168,6 +170,7 @@ CALLS: list[tuple[Callable[[Pool], object], str, str, object]] = [
 WRONG: list[tuple[Callable[[Pool], object], list[str]]] = [
     (lambda pool: pool.out("g0", 5), ["", "OK", "ok ", "ok ok", "accepted 1", "bad", "bad 5"]),
     (lambda pool: pool.submit("a"), ["ok", "accepted", "accepted x", "accepted 1 2", "refused"]),
+    (lambda pool: pool.give(b"a"), ["accepted 1", "accepted 1 a", f"accepted {ID}", "ok"]),
     (lambda pool: pool.remove("a"), ["removed", "removed 1", "removed x dropped", "kept dropped"]),
     (lambda pool: pool.back(1), ["kept", "kept 1", "removed dropped", "kept dropped -1"]),
     (lambda pool: pool.after(0), ["after a", "after 1:a:b", "after x:a", "for 1:a", "after "]),

@@ -15,6 +15,7 @@ from keltuvar import (
     Block,
     Broken,
     Declared,
+    Given,
     Input,
     Item,
     LedgerChange,
@@ -118,6 +119,31 @@ class Program(unittest.TestCase):
         pool.utxo("0" * 64, 0, PLAIN_OUTPUT)
         pool.tx_from_bytes("a", PLAIN)
         self.assertEqual(pool.submit("a"), 1)
+
+    def test_transactions_without_names(self) -> None:
+        pool = self.begin()
+        pool.utxo("0" * 64, 0, PLAIN_OUTPUT)
+        with self.assertRaises(Undecodable):
+            pool.give(b"\x03")
+        with self.assertRaises(BadLine):
+            pool.show(f"#{PLAIN_ID}")
+        self.assertEqual(pool.give(PLAIN), Given(1, PLAIN_ID))
+        refused = refusal(lambda: pool.give(PLAIN))
+        self.assertEqual((refused.word, refused.ticket, refused.id), ("already", 1, PLAIN_ID))
+        self.assertEqual(pool.show(f"#{PLAIN_ID}").data, PLAIN)
+        self.assertEqual(refusal(lambda: pool.check(f"#{PLAIN_ID}")).ticket, 1)
+        self.assertEqual((pool.has(f"#{PLAIN_ID}"), pool.has("#" + "0" * 64)), (True, False))
+        self.assertEqual(pool.lookup(1), PLAIN_ID)
+        pool.tx_from_bytes("a", PLAIN)
+        self.assertEqual(pool.lookup(1), "a")
+        pool.ids()
+        self.assertEqual(pool.snapshot().items, (Item(1, PLAIN_ID),))
+        pool.names()
+        self.assertEqual(pool.after(0), (Item(1, "a"),))
+        self.assertEqual(pool.adopt(1, [f"#{PLAIN_ID}"]), LedgerChange((), (1,)))
+        self.assertEqual(pool.back(1), LedgerChange((), ()))
+        self.assertEqual(pool.give(PLAIN).ticket, 2)
+        self.assertEqual(pool.remove(f"#{PLAIN_ID}"), Removed((2,), ()))
 
     def test_removal(self) -> None:
         pool = self.begin()

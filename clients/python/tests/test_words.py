@@ -34,6 +34,17 @@ NO_NAMES: list[Any] = [
     b"a",
     ["a"],
 ]
+NO_IDS: list[Any] = [
+    "#a",
+    "#" + "a" * 63,
+    "#" + "a" * 65,
+    "#" + "g" * 64,
+    "#" + "A" * 64,
+    "##" + "a" * 63,
+    "#" + "a" * 64 + "\n",
+    "#" + "a" * 64 + " b",
+    "a" * 64,
+]
 NO_REFERENCES: list[Any] = [
     *NO_NAMES,
     "a.",
@@ -91,6 +102,22 @@ class Injection(unittest.TestCase):
         ]
         for call in calls:
             self.refuses(call, NO_NAMES)
+
+    def test_ids(self) -> None:
+        pool = self.pool
+        calls: list[Callable[[Any], object]] = [
+            lambda name: pool.show(name),
+            lambda name: pool.check(name),
+            lambda name: pool.has(name),
+            lambda name: pool.remove("a", name),
+            lambda name: pool.adopt(1, ["a", name]),
+        ]
+        for call in calls:
+            self.refuses(call, NO_IDS)
+        good = "#" + "a" * 64
+        calls = [lambda name: pool.submit(name), lambda name: pool.forget(name)]
+        for call in calls:
+            self.refuses(call, [good, *NO_IDS])
 
     def test_references(self) -> None:
         pool = self.pool
