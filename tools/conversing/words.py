@@ -154,10 +154,11 @@ class Names:
         return COIN_POLICY if word == "coin" else self.script(word).hash
 
     def name_of_tx(self, id: bytes) -> str:
-        """Gives the name by which the pool accepted the transaction, or else the first that was declared for the id."""
+        """Gives the name by which the pool accepted the transaction, or the first that was declared for the id, or the id."""
         if id in self.reported:
             return self.reported[id]
-        return next(name for name, one in self.others.items() if isinstance(one, Declared) and one.tx.id == id)
+        names = (name for name, one in self.others.items() if isinstance(one, Declared) and one.tx.id == id)
+        return next(names, id.hex())
 
     def accept(self, word: str) -> None:
         """Notes the name by which the pool accepted a transaction."""
