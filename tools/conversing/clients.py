@@ -63,6 +63,9 @@ class Shared(RandomTalk):
         return found.tx.octets if isinstance(found, Declared) else None
 
     def _submit_for(self, client: int, octets: bytes) -> None:
+        if self.chance(0.5):
+            self.of[client].append(b"give " + octets.hex().encode())
+            return
         name = f"n{len(self.names_of[client])}"
         self.names_of[client].append(name)
         self.of[client] += [f"bytes {name} {octets.hex()}".encode(), f"submit {name}".encode()]
@@ -70,7 +73,10 @@ class Shared(RandomTalk):
     def _say_more(self, client: int) -> None:
         names = self.names_of[client] or ["n0"]
         name = self.rng.choice(names)
-        kinds = [f"check {name}", f"show {name}", f"has {name}", f"forget {name}", "snapshot", "stats", "# ..", ""]
+        held = self.talk.pool.items
+        word = f"#{self.rng.choice(held).tx.id.hex()}" if held and self.chance(0.5) else name
+        kinds = [f"check {word}", f"show {word}", f"has {word}", f"forget {name}", "snapshot", "stats", "ids", "names", "# ..", ""]
+        kinds += ["reset"] if self.chance(0.2) else []
         line = self.rng.choice(kinds) if self.chance(0.8) else self.rng.choice(SPOILT)
         self.of[client].append(line.encode())
 
@@ -104,16 +110,17 @@ class Conversation:
         self.talk = opened if number == 0 else Talk(opened.verifier)
         self.talk.settings = dict(opened.settings)
         self.next = opened.lines if number == 0 else 0
+        self.reset = 0  # How many lines there were when their numbers began anew.
         self.point = 0  # How many changes it has seen.
         self.offered = 0
 
     def answer_at(self, pool: Pool) -> tuple[str, Pool]:
         """Gives the model's answer to the next line with a pool, and the pool afterwards."""
         line, talk = self.lines[self.next], self.talk
-        talk.pool, talk.lines = copy_of(pool), self.next
+        talk.pool, talk.lines = copy_of(pool), self.next - self.reset
         talk.pool.offered = self.offered
         if self.number and line.split()[:1] and line.split()[0].decode("latin-1") in OF_OPERATOR:
-            return f"bad {self.next + 1}: ", talk.pool
+            return f"bad {talk.lines + 1}: ", talk.pool
         return talk.hear(line), talk.pool
 
     def take_step(self, pool: Pool) -> Pool | None:
@@ -126,6 +133,8 @@ class Conversation:
             return None
         self.offered = after.offered
         self.next += 1
+        if self.lines[self.next - 1].split() == [b"reset"] and answer == "ok":
+            self.reset = self.next
         return after
 
     def advance(self, upto: int, pools: list[Pool]) -> None:
