@@ -41,8 +41,6 @@ pub enum Reason<'a> {
     LateSetting,
     SetBefore(&'a [u8]),
     LateOutput,
-    /// Nothing was asked of the pool.
-    NotOpen,
     ManyOutputs,
     NotInRace,
 }
@@ -96,7 +94,6 @@ impl<'a> Reason<'a> {
             Reason::LateSetting => ("a setting stands above the first command", NOTHING, ""),
             Reason::SetBefore(word) => ("'", word, "' was set before"),
             Reason::LateOutput => ("an output stands above the first command", NOTHING, ""),
-            Reason::NotOpen => ("no command comes before it", NOTHING, ""),
             Reason::ManyOutputs => ("there are at most 65536 outputs", NOTHING, ""),
             Reason::NotInRace => (RACE, NOTHING, ""),
             Reason::Byte(_) => ("it has the byte ", NOTHING, ""),
