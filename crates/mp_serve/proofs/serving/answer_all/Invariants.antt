@@ -4,7 +4,7 @@ use Rattle.mp_serve.proofs.Progress.{Stands}
 use Rattle.mp_serve.proofs.serving.answer_all.Given as goal
 
 -- the lines so far were answered, and those that are left weren't read
-abbrev pub invariant-loop-_count : goal.invariant-loop-_count
-invariant-loop-_count g l =
+abbrev pub invariant-loop-count : goal.invariant-loop-count
+invariant-loop-count g l =
     Stands l.fn.conversation (g.D.Device.input l.fn.device) (g.D.Device.input l.device) (g.D.Device.output l.fn.device) (g.D.Device.output l.device) l.conversation l._count
     × (g.D.Device.turn l.device ≡ Listens)
