@@ -1,0 +1,140 @@
+-- How a line of a conversation is answered, over a pool that others change at the same time.
+use Rattle.std.specs.Prelude.{◌≡◌, ◌⊎◌, ℕ, ◌-◌, List, [], ◌∷◌, ◌++◌, length, take, Option, None, Some, Result, Ok, Err}
+use Rattle.std.specs.Result.{result_err}
+use Rattle.mp_tx.specs.Transaction.{Transaction}
+use Rattle.mp_tx.specs.Ledger.{LedgerState}
+use Rattle.mp_rules.specs.declared.invalid.Invalid.{Invalid}
+use Rattle.mp_rules.specs.Verifier.{Accepts}
+use Rattle.mp_block.specs.Block.{apply_block}
+use Rattle.mp_seqpool.specs.declared.refusal.Refusal.{Refusal}
+use Rattle.mp_seqpool.specs.declared.command.Reply.{Reply}
+use Rattle.mp_seqpool.specs.Command as commands
+use Rattle.mp_seqpool.specs.Command.{Command}
+use Rattle.mp_history.specs.Entry.{Entry}
+use Rattle.mp_history.specs.Log.{Log, IsLegalLog}
+use Rattle.mp_reader.specs.Pass.{Pass}
+use Rattle.mp_reader.specs.Seen.{IsSeen}
+use Rattle.mp_mempool.specs.Answers.{IsEntered, IsRefusedAt, IsForeign}
+use Rattle.mp_lines.specs.Lines.{Submit, Remove, Sync}
+use Rattle.mp_session.specs.Ledgers.{ledger_at}
+use Rattle.mp_answers.specs.AnswerText.{answer_text}
+use Rattle.mp_serve.specs.Ask.{Ask, NewBlock, Does, Submits, Extends, Returns}
+use Rattle.mp_serve.specs.Refused.{counted_if}
+use Rattle.mp_serve.specs.Request.{Block, reported_if, one_adopt_more, one_back_more}
+use Rattle.mp_serve.specs.ServedPool.{latest, state_back}
+use Rattle.mp_serve.specs.Served.{IsBadLine}
+use Rattle.mp_serve.specs.Talk as alone
+use Rattle.mp_serve.specs.Texts.{no_memory_text, block_refused_text, back_refused_text}
+use Rattle.mp_clients.specs.declared.conversation.Conversation.{Conversation}
+use Rattle.mp_clients.specs.Client.{Client, served_at, alone_at}
+use Rattle.mp_clients.specs.Asking.{asked_by}
+
+-- ---- what a change makes of a client, by its answer and the pass afterwards
+
+-- a refusal is counted
+abbrev pub changed : Client → Result Reply Refusal → Pass → Client
+changed k a pass = record k { pass = pass; refused = counted_if k.refused (result_err a) }
+
+-- a ledger state is adopted; the former ones are given
+abbrev pub adopted : Client → LedgerState → List LedgerState → Result Reply Refusal → Pass → Client
+adopted k l former (Ok reply) pass = record k { pass = pass; ledger = l; former = former }
+adopted k l former (Err refusal) pass = changed k (Err refusal) pass
+
+-- a new ledger state
+abbrev pub gone_on : Client → LedgerState → Result Reply Refusal → Pass → Client
+gone_on k l a pass = adopted k l (latest (k.former ++ k.ledger ∷ [])) a pass
+
+-- the ledger state this many steps ago
+abbrev pub gone_back : Client → LedgerState → ℕ → Result Reply Refusal → Pass → Client
+gone_back k l count a pass = adopted k l (take (length k.former - count) k.former) a pass
+
+abbrev pub with_client : {N : Type 0} → Conversation N → Client → Conversation N
+with_client c k = record c { client = k }
+
+-- The verifier decides which signatures are good.
+module _ (accepts : Accepts) (callers : ℕ) where
+  -- The pool's answer to a change. An entry is the caller's own, and follows those of others; a refusal is that of the pool that
+  -- the caller has then seen.
+  abbrev pub IsAnswerTo : Pass → Command → Result Reply Refusal → Pass → Type 0
+  IsAnswerTo before command (Ok reply) after =
+      (place : ℕ) × (e : Entry) × IsEntered accepts callers before command place e after × (e.reply ≡ reply)
+  IsAnswerTo before command (Err refusal) after = IsRefusedAt accepts callers before command refusal after
+
+  -- A change was answered. `does` says what it makes of the client.
+  pub record IsChanged (k : Client) (command : Command) (does : Result Reply Refusal → Pass → Client) (a : Result Reply Refusal)
+      (after : Client) : Type 0 where
+    pub answer : IsAnswerTo k.pass command a after.pass
+    pub after_is : after ≡ does a after.pass
+
+  -- A client has looked at the pool, and nothing else has changed.
+  pub record HasLooked (k after : Client) : Type 0 where
+    pub seen : IsSeen accepts callers k.pass after.pass
+    pub same : after ≡ record k { pass = after.pass }
+
+  module _ {N : Type 0} where
+    -- The line is answered as it would be alone, with the pool that the conversation has then seen.
+    pub record IsAnsweredAlone (c : Conversation N) (ask : Ask) (text : List ℕ) (u : Conversation N) : Type 0 where
+      pub seen : IsSeen accepts callers c.client.pass u.client.pass
+      pub step : alone.take (alone_at accepts c u.client.pass.front) ask ≡ Some (alone_at accepts u u.client.pass.front, text)
+      pub ledger : u.client.ledger ≡ c.client.ledger
+
+    -- The line makes a change, and the text is the pool's answer.
+    pub record IsAnsweredBy (c : Conversation N) (command : Command) (does : Result Reply Refusal → Pass → Client)
+        (text : List ℕ) (u : Conversation N) : Type 0 where
+      pub answer : Result Reply Refusal
+      pub change : IsChanged c.client command does answer u.client
+      pub text_is : text ≡ answer_text c.names answer
+      pub after : u ≡ with_client c u.client
+
+    -- An accepted transaction is reported under the name from then on.
+    pub record IsSubmitted (c : Conversation N) (name : List ℕ) (t : Transaction) (text : List ℕ) (u : Conversation N)
+        : Type 0 where
+      pub answer : Result Reply Refusal
+      pub change : IsChanged c.client (commands.Submit t) (changed c.client) answer u.client
+      pub text_is : text ≡ answer_text c.names answer
+      pub after : u ≡ record c { names = reported_if c.names name t answer; client = u.client }
+
+    -- the ledger state after the block is adopted, if it has one
+    abbrev pub IsExtended : Conversation N → List Transaction → Result LedgerState (ℕ × Invalid) → List ℕ → Conversation N → Type 0
+    IsExtended c txs (Ok l) text u = IsAnsweredBy c (commands.Sync l) (gone_on c.client l) text u
+    IsExtended c txs (Err r) text u =
+        (text ≡ block_refused_text c.names txs r.0 r.1)
+        × (u ≡ with_client c (record c.client { refused = one_adopt_more c.client.refused }))
+
+    abbrev pub IsExtendedBy : Conversation N → Block → List ℕ → Conversation N → Type 0
+    IsExtendedBy c b text u =
+        IsExtended c b.txs (apply_block accepts c.client.ledger b.tick b.block_bytes b.txs) text u
+
+    -- the ledger state this many steps ago is adopted, if it is kept
+    abbrev pub IsReturned : Conversation N → ℕ → Option LedgerState → List ℕ → Conversation N → Type 0
+    IsReturned c count (Some l) text u = IsAnsweredBy c (commands.Sync l) (gone_back c.client l count) text u
+    IsReturned c count None text u =
+        (text ≡ back_refused_text (length c.client.former))
+        × (u ≡ with_client c (record c.client { refused = one_back_more c.client.refused }))
+
+    -- Changes are answered by the pool, and go by what the conversation itself adopted. All else is answered as it would be alone.
+    abbrev pub IsTaken : Conversation N → Ask → List ℕ → Conversation N → Type 0
+    IsTaken c (Does (Submit t)) text u = IsAnsweredBy c (commands.Submit t) (changed c.client) text u
+    IsTaken c (Does (Remove ids)) text u = IsAnsweredBy c (commands.Remove ids) (changed c.client) text u
+    IsTaken c (Does (Sync l)) text u =
+        IsAnsweredBy c (commands.Sync (ledger_at c.settings l)) (gone_on c.client (ledger_at c.settings l)) text u
+    IsTaken c (Submits name t) text u = IsSubmitted c name t text u
+    IsTaken c (Extends block) text u = IsExtendedBy c (alone.block_at c.settings block) text u
+    IsTaken c (Returns count) text u = IsReturned c count (state_back c.client.former c.client.ledger count) text u
+    IsTaken c ask text u = IsAnsweredAlone c ask text u
+
+    -- After an allocation failure nothing has changed but what the conversation has seen of the pool; or the change was made, and
+    -- only the answer and the name are lost.
+    abbrev pub IsLost : Conversation N → Ask → Conversation N → Type 0
+    IsLost c ask u =
+        (u ≡ c) ⊎ ((HasLooked c.client u.client × (u ≡ with_client c u.client))
+        ⊎ ((text : List ℕ) × (v : Conversation N) × IsTaken c ask text v × (u ≡ record v { names = c.names })))
+
+    -- a line that isn't in the language, or that the conversation may not ask, is bad
+    abbrev pub IsHeard : ℕ → Conversation N → Option Ask → List ℕ → Conversation N → Type 0
+    IsHeard n c None text u = (IsBadLine n text ⊎ (text ≡ no_memory_text)) × (u ≡ c)
+    IsHeard n c (Some ask) text u = IsTaken c ask text u ⊎ ((text ≡ no_memory_text) × IsLost c ask u)
+
+    -- the answer to the line with this number
+    abbrev pub IsAnswer : ℕ → Conversation N → List ℕ → List ℕ → Conversation N → Type 0
+    IsAnswer n c line text u = IsHeard n c (asked_by c line) text u

@@ -1,0 +1,6 @@
+-- What only the crate's own clauses, views and invariants cite.
+pub mod Client
+pub mod Checked
+pub mod Asked
+pub mod Steps
+pub mod Notes

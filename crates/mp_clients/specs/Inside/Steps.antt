@@ -1,0 +1,37 @@
+-- Parts of the answer to a line.
+use Rattle.std.specs.Prelude.{◌≡◌, ◌⊎◌, ℕ, List, Some}
+use Rattle.mp_rules.specs.Verifier.{Accepts}
+use Rattle.mp_names.specs.Names.{Names}
+use Rattle.mp_serve.specs.Request.{Request, respond}
+use Rattle.mp_clients.specs.declared.conversation.Conversation.{Conversation}
+use Rattle.mp_serve.specs.Ask.{Ask}
+use Rattle.mp_serve.specs.declared.conversation.Conversation as alone
+use Rattle.mp_serve.specs.Talk.{Step}
+use Rattle.mp_clients.specs.declared.stop.Stop.{Stop}
+use Rattle.mp_clients.specs.declared.stop.Stop.TheVariants.{NoMemory, Foreign}
+use Rattle.mp_clients.specs.Client.{Client, served_at, alone_at}
+use Rattle.mp_clients.specs.Answers.{IsLost}
+
+-- the pool that the client has seen responds so, and the client has seen no more
+pub record Responds (accepts : Accepts) (names : Names) (k : Client) (request : Request) (text : List ℕ) (after : Client)
+    : Type 0 where
+  pub said : respond names (served_at accepts k k.pass.front) request ≡ (served_at accepts after k.pass.front, text)
+  pub pass : after.pass ≡ k.pass
+  pub ledger : after.ledger ≡ k.ledger
+
+-- With the pool that the conversation has seen, the step leads to this text and this state, and the conversation has seen no more.
+pub record IsToldAlone {N : Type 0} (accepts : Accepts) (c : Conversation N) (does : alone.Conversation → Step) (text : List ℕ)
+    (u : Conversation N) : Type 0 where
+  pub said : does (alone_at accepts c c.client.pass.front) ≡ Some (alone_at accepts u c.client.pass.front, text)
+  pub pass : u.client.pass ≡ c.client.pass
+  pub ledger : u.client.ledger ≡ c.client.ledger
+
+-- After an allocation failure nothing has changed, or only the answer and the name are lost; else nothing has changed.
+abbrev pub IsStopped : {N : Type 0} → (List ℕ → Conversation N → Type 0) → Conversation N → Conversation N → Stop → Type 0
+IsStopped {N} Does c u NoMemory =
+    (u ≡ c) ⊎ ((text : List ℕ) × (v : Conversation N) × Does text v × (u ≡ record v { names = c.names }))
+IsStopped Does c u Foreign = u ≡ c
+
+abbrev pub IsStoppedAt : {N : Type 0} → Accepts → ℕ → Conversation N → Ask → Conversation N → Stop → Type 0
+IsStoppedAt accepts callers c ask u NoMemory = IsLost accepts callers c ask u
+IsStoppedAt accepts callers c ask u Foreign = u ≡ c

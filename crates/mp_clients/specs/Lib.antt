@@ -1,0 +1,5 @@
+pub mod Client
+pub mod Asking
+pub mod Answers
+pub mod Told
+pub mod Inside

@@ -1,0 +1,51 @@
+//! What a conversation may ask once the pool is open.
+
+ghost use Rattle.std.specs.Prelude.{◌≡◌, true, false, IfSome, IfNone};
+ghost use Rattle.mp_lines.specs.Inside.Line.{to_line};
+ghost use Rattle.mp_serve.specs.Inside.Ask.{to_ask};
+ghost use Rattle.mp_clients.specs.Asking.{is_operator, may_do, may_ask};
+
+use mp_lines::Line;
+use mp_serve::Ask;
+
+const LATE_SETTING: &[u8] = b"a setting stands above the first command";
+
+const LATE_OUTPUT: &[u8] = b"an output stands above the first command";
+
+const OPERATOR: &[u8] = b"only the operator may ask this";
+
+// Why the caller may not ask for what only the operator may.
+fn unless_operator(caller: u32) -> Option<&'static [u8]>
+    ensures some { IfSome result (λ _. is_operator caller ≡ false) }
+    ensures none { IfNone result (is_operator caller ≡ true) }
+{
+    if caller == 0 { None } else { Some(OPERATOR) }
+}
+
+// Why the caller may not ask for what the line does.
+fn forbids_line(caller: u32, line: &Line) -> Option<&'static [u8]>
+    ensures some { IfSome result (λ _. may_do caller (to_line line.now) ≡ false) }
+    ensures none { IfNone result (may_do caller (to_line line.now) ≡ true) }
+{
+    match line {
+        Line::Sets(_) => Some(LATE_SETTING),
+        Line::Out(_, _) => Some(LATE_OUTPUT),
+        Line::Remove(_) => unless_operator(caller),
+        Line::Sync(_) => unless_operator(caller),
+        _ => None,
+    }
+}
+
+/// Why the caller may not ask this, if it may not.
+pub fn forbids(caller: u32, ask: &Ask) -> Option<&'static [u8]>
+    ensures some { IfSome result (λ _. may_ask caller (to_ask ask.now) ≡ false) }
+    ensures none { IfNone result (may_ask caller (to_ask ask.now) ≡ true) }
+{
+    match ask {
+        Ask::Does(line) => forbids_line(caller, line),
+        Ask::Holds(_, _) => Some(LATE_OUTPUT),
+        Ask::Extends(_) => unless_operator(caller),
+        Ask::Returns(_) => unless_operator(caller),
+        _ => None,
+    }
+}

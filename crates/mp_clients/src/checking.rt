@@ -1,0 +1,93 @@
+//! What a submit would be answered, by a version of the pool.
+
+ghost use Rattle.std.specs.Prelude.{◌≡◌, Ok, IfOk};
+ghost use Rattle.mp_seqpool.specs.Command.{Submit};
+ghost use Rattle.mp_seqpool.specs.SlowPool.{answer, ticket_of};
+ghost use Rattle.mp_seqpool.specs.Inside.Place.{misplaced};
+ghost use Rattle.mp_clients.specs.Inside.Checked.{IsOverlayOf};
+
+use crate::reading::free_bytes;
+use mp_items::Run;
+use mp_memory::{Memory, NoMemory};
+use mp_rules::{Verifier, check};
+use mp_seqpool::{Answer, Invalid, Refusal, Reply};
+use mp_tx::{Tx, TxId};
+use mp_utxo::Overlay;
+use mp_versions::Version;
+use std::sync::Arc;
+
+// The ticket of the item with this id.
+fn ticket_of(items: Run<'_>, id: &TxId) -> Option<u64>
+    ensures { result ≡ ticket_of id.now items.entry }
+{
+    for item in items {
+        if id == item.tx.id() {
+            return Some(item.ticket);
+        }
+    }
+    None
+}
+
+// Why the pool has no place for the transaction, whatever the rules say.
+#[tactic(auto, unfolding(mp_seqpool::specs::Inside::Place::misplaced))]
+fn misplaced(version: &Version, limit: u64, tx: &Tx) -> Option<Refusal>
+    requires { limit ≡ version.now.pool.limit }
+    ensures { result ≡ misplaced version.now.pool tx.now }
+{
+    if version.number() >= limit {
+        return Some(Refusal::HistoryFull);
+    }
+    if version.last_ticket() == u64::MAX {
+        return Some(Refusal::TicketsSpent);
+    }
+    if let Some(ticket) = ticket_of(version.contents(), tx.id()) {
+        return Some(Refusal::AlreadyInPool(ticket));
+    }
+    let need = tx.size();
+    let free = free_bytes(version);
+    if need > free {
+        return Some(Refusal::Full { need, free });
+    }
+    None
+}
+
+// The version's ledger state with all its transactions applied.
+fn overlay_of(memory: Memory, version: &Version) -> Result<Overlay, NoMemory>
+    ensures { IfOk result (IsOverlayOf version.now.pool) }
+{
+    let mut overlay = Overlay::over(memory, version.ledger())?;
+    for item in version.contents() {
+        overlay.reserve_for(&item.tx)?;
+        overlay.apply(item.ticket, Arc::try_clone(&item.tx)?);
+    }
+    Ok(overlay)
+}
+
+/// What the submit of the transaction would be answered by the version's pool, which makes at most `limit` changes. It walks over
+/// all its transactions.
+///
+/// # Errors
+/// `NoMemory`.
+pub fn answer_of<V: Verifier>(
+    memory: Memory,
+    version: &Version,
+    limit: u64,
+    tx: &Tx,
+    verifier: &V,
+) -> Result<Answer, NoMemory>
+    requires { limit ≡ version.now.pool.limit }
+    ensures { IfOk result (λ a.
+        answer (V.accepts verifier.now) version.now.pool (Submit tx.now) ≡ a) }
+{
+    if let Some(refusal) = misplaced(version, limit, tx) {
+        return Ok(Err(refusal));
+    }
+    let overlay = overlay_of(memory, version)?;
+    match check(memory, tx, &overlay, version.ledger().tick(), verifier) {
+        Ok(_) => Ok(Ok(Reply::Accepted {
+            ticket: version.last_ticket() + 1,
+        })),
+        Err(Invalid::NoMemory) => Err(NoMemory),
+        Err(fault) => Ok(Err(Refusal::Invalid(fault))),
+    }
+}

@@ -1,0 +1,23 @@
+//! Conversations with a pool that they share. Each line is answered before the next of its conversation is read.
+#![tactic(auto)]
+
+mod allowed;
+mod answering;
+mod asking;
+mod checking;
+mod client;
+mod conversation;
+mod conversing;
+mod fault;
+mod forgetting;
+mod former;
+mod reading;
+mod shared;
+mod stop;
+
+pub use client::Client;
+pub use conversation::Conversation;
+pub use conversing::answer_all;
+pub use fault::Fault;
+pub use shared::Shared;
+pub use stop::Stop;
