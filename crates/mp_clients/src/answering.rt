@@ -101,11 +101,7 @@ fn answer_line<N: PoolName, V: Verifier>(
 }
 
 // The answer to a line that is too long.
-fn answer_long<N: PoolName>(
-    conversation: &Conversation<N>,
-    memory: Memory,
-    number: u64,
-) -> Answer
+fn answer_long<N: PoolName>(conversation: &Conversation<N>, memory: Memory, number: u64) -> Answer
     ensures { (line : List ℕ) → longest < length line → IsAnswer N.accepts N.callers number
         conversation.now line (text_of result) conversation.now }
 {

@@ -177,7 +177,12 @@ impl<N: PoolName> Client<N> {
     ///
     /// # Errors
     /// `NoMemory`.
-    pub fn check(&self, memory: Memory, names: &Names, tx: &Arc<Tx, Memory>) -> Result<Text, NoMemory>
+    pub fn check(
+        &self,
+        memory: Memory,
+        names: &Names,
+        tx: &Arc<Tx, Memory>,
+    ) -> Result<Text, NoMemory>
         ensures { IfOk result (λ text. Responds N.accepts names.now
             self.now (Check (arc_value tx.now)) text.items self.now) }
     {

@@ -26,12 +26,7 @@ use mp_tx::{Ledger, Tx, TxFault};
 use std::sync::{Arc, Wait};
 
 // If the submit was accepted, the transaction is reported under the name from now on.
-fn report_if(
-    names: &mut Names,
-    name: &Name,
-    tx: &Tx,
-    asked: &Asked,
-) -> Result<(), NoMemory>
+fn report_if(names: &mut Names, name: &Name, tx: &Tx, asked: &Asked) -> Result<(), NoMemory>
     ensures ok { OnOk result
         (names.new ≡ reported_if names.old name.now tx.now (answer_in asked.now)) }
     ensures err { OnErr result (names.new ≡ names.old) }
@@ -138,7 +133,13 @@ impl<N: PoolName> Conversation<N> {
             self.old block.now) self.old self.new) }
     {
         let client = &self.client;
-        match extend(memory, &self.names, client.signatures(), client.ledger(), block)? {
+        match extend(
+            memory,
+            &self.names,
+            client.signatures(),
+            client.ledger(),
+            block,
+        )? {
             Extended::To(applied) => {
                 let AppliedBlock { ledger, undo: _ } = applied;
                 self.go_on(rt, shared, memory, ledger)

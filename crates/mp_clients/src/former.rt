@@ -36,7 +36,11 @@ fn find_back<'a>(formers: &'a [Ledger], now: &'a Ledger, count: usize) -> Option
 }
 
 /// The ledger state this many steps ago, if it is kept.
-pub fn state_back(formers: &[Ledger], now: &Ledger, count: usize) -> Result<Option<Ledger>, NoMemory>
+pub fn state_back(
+    formers: &[Ledger],
+    now: &Ledger,
+    count: usize,
+) -> Result<Option<Ledger>, NoMemory>
     ensures { IfOk result (λ l. l ≡ state_back formers.now now.now count) }
 {
     match find_back(formers, now, count) {

@@ -26,12 +26,7 @@ struct Found {
 }
 
 // The longest prefix of these items that has at most `count` items and fits into `room` bytes.
-fn first_within(
-    memory: Memory,
-    items: Run<'_>,
-    count: u64,
-    room: u64,
-) -> Result<Found, NoMemory>
+fn first_within(memory: Memory, items: Run<'_>, count: u64, room: u64) -> Result<Found, NoMemory>
     ensures items { IfOk result
         (λ f. items_of f.items.items ≡ take count (within room items.entry)) }
     ensures bytes { IfOk result (λ f. f.bytes ≡ bytes_of (items_of f.items.items)) }

@@ -1,0 +1,13 @@
+use Rattle.std.proofs.Common.{◌≡◌, ◌-◌, ◌≤◌, ◌++◌, length, take}
+use Rattle.mp_resync.specs.Keep.{bytes_of}
+use Rattle.mp_seqpool.specs.Item.{items_of}
+use Rattle.mp_seqpool.specs.Reading.{within}
+use Rattle.mp_clients.proofs.reading.first_within.Given as goal
+
+-- the items so far, and those of the rest that still fit, are all
+abbrev pub invariant-loop-item : goal.invariant-loop-item
+invariant-loop-item l =
+    (items_of l.found.items ++ take (l.count - length l.found.items) (within (l.room - l.bytes) l.item-iterator) ≡ take l.count (within l.room l.fn.items))
+    × (l.bytes ≡ bytes_of (items_of l.found.items))
+    × (l.bytes ≤ l.room)
+    × (length l.found.items ≤ l.count)
