@@ -21,3 +21,6 @@ pub use conversing::answer_all;
 pub use fault::Fault;
 pub use shared::Shared;
 pub use stop::Stop;
+
+#[test]
+fn compiles() {}
