@@ -6,7 +6,7 @@ use Rattle.std.proofs.lemmas.List.{map-append}
 use Rattle.std.proofs.lemmas.List.Sums.{sum_by-append}
 use Rattle.mp_tx.specs.Transaction.{Transaction}
 use Rattle.mp_tx.specs.Spelling.{size_of}
-use Rattle.mp_resync.specs.Keep.{transactions, bytes_of}
+use Rattle.mp_seqpool.specs.Keep.{transactions, bytes_of}
 use Rattle.mp_seqpool.specs.Reading.{within}
 
 fits : (size room : ℕ) → size ≤ room → nat_le size room ≡ true

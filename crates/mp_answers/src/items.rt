@@ -2,7 +2,7 @@
 
 ghost use Rattle.std.specs.Prelude.{◌≡◌, ◌++◌, option_map, OnOk};
 ghost use Rattle.std.specs.Arc.{arc_value};
-ghost use Rattle.mp_resync.specs.Keep.{bytes_of};
+ghost use Rattle.mp_seqpool.specs.Keep.{bytes_of};
 ghost use Rattle.mp_seqpool.specs.Item.{items_of};
 ghost use Rattle.mp_answers.specs.AnswerText.{item_text, items_text};
 ghost use Rattle.mp_answers.specs.QueryText.{sized_text, found_text, has_text};

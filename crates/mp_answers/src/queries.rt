@@ -2,8 +2,8 @@
 
 ghost use Rattle.std.specs.Prelude.{◌≡◌, ◌++◌, [], codes, take, if◌then◌else◌, IfOk, OnOk};
 ghost use Rattle.mp_tickets.specs.Tickets.{has_ticket};
-ghost use Rattle.mp_resync.specs.ValidatedTx.{ticketed};
-ghost use Rattle.mp_resync.specs.Keep.{keep, bytes_of};
+ghost use Rattle.mp_seqpool.specs.ValidatedTx.{ticketed};
+ghost use Rattle.mp_seqpool.specs.Keep.{keep, bytes_of};
 ghost use Rattle.mp_seqpool.specs.Prepared.{apart};
 ghost use Rattle.mp_seqpool.specs.SlowPool.{AreSigned};
 ghost use Rattle.mp_seqpool.specs.Item.{items_of};
@@ -16,8 +16,7 @@ use crate::words::{put_number, put_word};
 use mp_lines::Query;
 use mp_memory::{Memory, NoMemory};
 use mp_names::Names;
-use mp_resync::ValidatedTx;
-use mp_seqpool::{Item, SeqPool, Verifier};
+use mp_seqpool::{Item, SeqPool, ValidatedTx, Verifier};
 use mp_tickets::{Iter, Tickets};
 use mp_tx::{Ledger, Tx};
 use std::sync::Arc;

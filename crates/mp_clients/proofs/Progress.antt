@@ -12,7 +12,7 @@ use Rattle.mp_answers.proofs.Appending.{Appends-nothing, Appends-more}
 use Rattle.mp_serve.proofs.Lines.{first_through}
 use Rattle.mp_serve.proofs.Progress.{no_line}
 use Rattle.mp_serve.specs.Served.{AppendsUpTo}
-use Rattle.mp_clients.specs.declared.fault.Fault.TheVariants.{ReadFault, WriteFault, ManyLines, Foreign}
+use Rattle.mp_clients.specs.declared.fault.Fault.TheVariants.{ReadFault, WriteFault, ManyLines, Foreign, Untold}
 use Rattle.mp_clients.specs.Told.{AreTold, WereTold, WasCut, Ended}
 
 -- if a line was read, there was one
@@ -95,9 +95,9 @@ module _ {S : Type 0} (Step : ℕ → S → List ℕ → List ℕ → S → Type
   stands-first g None old s n e one = tt
   stands-first g (Some bytes) old s n e one = (bytes, refl, begins g old (lines_of bytes) s n e one)
 
-  module _ (g : S) (old now : Option (List ℕ)) (s : S) (n : ℕ) where
+  module _ (Loses : S → S → Type 0) (g : S) (old now : Option (List ℕ)) (s : S) (n : ℕ) where
     -- at the end of the input
-    pub ends : (all left : Option (List ℕ)) → Stands g all left old now s n → IsAtEnd left → IfSome all (λ bytes. Ended Step g bytes old now (Ok tt) s)
+    pub ends : (all left : Option (List ℕ)) → Stands g all left old now s n → IsAtEnd left → IfSome all (λ bytes. Ended Step Loses g bytes old now (Ok tt) s)
     ends None left i end = tt
     ends (Some bytes) left (rest, is, p) end =
         let none : rest ≡ [] = subst IsAtEnd is end in
@@ -105,17 +105,22 @@ module _ {S : Type 0} (Step : ℕ → S → List ℕ → List ℕ → S → Type
         (p.text, subst (λ l. AreTold Step 1 g l p.text s) (sym done) p.told, p.wrote)
 
     -- if a read fails
-    pub fails : (all left : Option (List ℕ)) → Stands g all left old now s n → IfSome all (λ bytes. Ended Step g bytes old now (Err ReadFault) s)
+    pub fails : (all left : Option (List ℕ)) → Stands g all left old now s n → IfSome all (λ bytes. Ended Step Loses g bytes old now (Err ReadFault) s)
     fails None left i = tt
     fails (Some bytes) left (rest, is, p) = (length p.lines, stopped g old now (lines_of bytes) (lines_of rest) s n p)
 
     -- if the pool has an entry of the conversation that it doesn't know
-    pub breaks : (all left : Option (List ℕ)) → Stands g all left old now s n → IfSome all (λ bytes. Ended Step g bytes old now (Err Foreign) s)
+    pub breaks : (all left : Option (List ℕ)) → Stands g all left old now s n → IfSome all (λ bytes. Ended Step Loses g bytes old now (Err Foreign) s)
     breaks None left i = tt
     breaks (Some bytes) left (rest, is, p) = (length p.lines, stopped g old now (lines_of bytes) (lines_of rest) s n p)
 
+    -- if an answer is lost
+    pub loses : (u : S) → Loses s u → (all left : Option (List ℕ)) → Stands g all left old now s n → IfSome all (λ bytes. Ended Step Loses g bytes old now (Err Untold) u)
+    loses u l None left i = tt
+    loses u l (Some bytes) left (rest, is, p) = (length p.lines, s, stopped g old now (lines_of bytes) (lines_of rest) s n p, l)
+
     -- if no more lines can be counted
-    pub ends_counting : (all left : Option (List ℕ)) → Stands g all left old now s n → n ≡ 2 ^ 64 - 1 → IfSome all (λ bytes. Ended Step g bytes old now (Err ManyLines) s)
+    pub ends_counting : (all left : Option (List ℕ)) → Stands g all left old now s n → n ≡ 2 ^ 64 - 1 → IfSome all (λ bytes. Ended Step Loses g bytes old now (Err ManyLines) s)
     ends_counting None left i last = tt
     ends_counting (Some bytes) left (rest, is, p) last =
         let c = p.count in
@@ -141,7 +146,7 @@ module _ {S : Type 0} (Step : ℕ → S → List ℕ → List ℕ → S → Type
           )
 
       -- if a write fails
-      pub stands-cut : (all : Option (List ℕ)) → Stands g all left old now s n → AppendsUpTo now new answer → IfSome all (λ bytes. Ended Step g bytes old new (Err WriteFault) u)
+      pub stands-cut : (all : Option (List ℕ)) → Stands g all left old now s n → AppendsUpTo now new answer → IfSome all (λ bytes. Ended Step Loses g bytes old new (Err WriteFault) u)
       stands-cut None i w = tt
       stands-cut (Some bytes) (rest, is, p) w =
           let is_line : IsLine limit rest found kept = subst (λ o. IfSome o (λ bytes. IsLine limit bytes found kept)) is line in

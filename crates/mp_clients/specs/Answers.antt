@@ -5,16 +5,17 @@ use Rattle.mp_tx.specs.Transaction.{Transaction}
 use Rattle.mp_tx.specs.Ledger.{LedgerState}
 use Rattle.mp_rules.specs.declared.invalid.Invalid.{Invalid}
 use Rattle.mp_rules.specs.Verifier.{Accepts}
-use Rattle.mp_block.specs.Block.{apply_block}
+use Rattle.mp_rules.specs.Block.{apply_block}
 use Rattle.mp_seqpool.specs.declared.refusal.Refusal.{Refusal}
 use Rattle.mp_seqpool.specs.declared.command.Reply.{Reply}
 use Rattle.mp_seqpool.specs.Command as commands
 use Rattle.mp_seqpool.specs.Command.{Command}
 use Rattle.mp_history.specs.Entry.{Entry}
 use Rattle.mp_history.specs.Log.{Log, IsLegalLog}
-use Rattle.mp_reader.specs.Pass.{Pass}
-use Rattle.mp_reader.specs.Seen.{IsSeen}
-use Rattle.mp_mempool.specs.Answers.{IsEntered, IsRefusedAt, IsForeign}
+use Rattle.mp_mempool.specs.Pass.{Pass}
+use Rattle.mp_mempool.specs.Seen.{IsSeen}
+use Rattle.mp_mempool.specs.Answers.{IsEntered, IsRefusedAt}
+use Rattle.mp_names.specs.Names.{Names}
 use Rattle.mp_lines.specs.Lines.{Submit, Remove, Sync}
 use Rattle.mp_session.specs.Ledgers.{ledger_at}
 use Rattle.mp_answers.specs.AnswerText.{answer_text}
@@ -31,14 +32,14 @@ use Rattle.mp_clients.specs.Asking.{asked_by}
 
 -- ---- what a change makes of a client, by its answer and the pass afterwards
 
--- a refusal is counted
-abbrev pub changed : Client → Result Reply Refusal → Pass → Client
-changed k a pass = record k { pass = pass; refused = counted_if k.refused (result_err a) }
+-- the client has seen more of the pool
+abbrev pub moved : Client → Result Reply Refusal → Pass → Client
+moved k a pass = record k { pass = pass }
 
 -- a ledger state is adopted; the former ones are given
 abbrev pub adopted : Client → LedgerState → List LedgerState → Result Reply Refusal → Pass → Client
 adopted k l former (Ok reply) pass = record k { pass = pass; ledger = l; former = former }
-adopted k l former (Err refusal) pass = changed k (Err refusal) pass
+adopted k l former (Err refusal) pass = record k { pass = pass }
 
 -- a new ledger state
 abbrev pub gone_on : Client → LedgerState → Result Reply Refusal → Pass → Client
@@ -47,6 +48,10 @@ gone_on k l a pass = adopted k l (latest (k.former ++ k.ledger ∷ [])) a pass
 -- the ledger state this many steps ago
 abbrev pub gone_back : Client → LedgerState → ℕ → Result Reply Refusal → Pass → Client
 gone_back k l count a pass = adopted k l (take (length k.former - count) k.former) a pass
+
+-- a refusal is counted
+abbrev pub counting : Result Reply Refusal → Client → Client
+counting a k = record k { refused = counted_if k.refused (result_err a) }
 
 abbrev pub with_client : {N : Type 0} → Conversation N → Client → Conversation N
 with_client c k = record c { client = k }
@@ -60,8 +65,8 @@ module _ (accepts : Accepts) (callers : ℕ) where
       (place : ℕ) × (e : Entry) × IsEntered accepts callers before command place e after × (e.reply ≡ reply)
   IsAnswerTo before command (Err refusal) after = IsRefusedAt accepts callers before command refusal after
 
-  -- A change was answered. `does` says what it makes of the client.
-  pub record IsChanged (k : Client) (command : Command) (does : Result Reply Refusal → Pass → Client) (a : Result Reply Refusal)
+  -- A change was asked. `does` says what it makes of the client.
+  pub record IsAsked (k : Client) (command : Command) (does : Result Reply Refusal → Pass → Client) (a : Result Reply Refusal)
       (after : Client) : Type 0 where
     pub answer : IsAnswerTo k.pass command a after.pass
     pub after_is : after ≡ does a after.pass
@@ -78,25 +83,22 @@ module _ (accepts : Accepts) (callers : ℕ) where
       pub step : alone.take (alone_at accepts c u.client.pass.front) ask ≡ Some (alone_at accepts u u.client.pass.front, text)
       pub ledger : u.client.ledger ≡ c.client.ledger
 
-    -- The line makes a change, and the text is the pool's answer.
+    -- The line makes a change, and the text is the pool's answer. An accepted transaction may get a name.
     pub record IsAnsweredBy (c : Conversation N) (command : Command) (does : Result Reply Refusal → Pass → Client)
-        (text : List ℕ) (u : Conversation N) : Type 0 where
+        (names : Result Reply Refusal → Names) (text : List ℕ) (u : Conversation N) : Type 0 where
       pub answer : Result Reply Refusal
-      pub change : IsChanged c.client command does answer u.client
+      pub pass : Pass
+      pub asked : IsAsked c.client command does answer (does answer pass)
       pub text_is : text ≡ answer_text c.names answer
-      pub after : u ≡ with_client c u.client
+      pub after : u ≡ record c { names = names answer; client = counting answer (does answer pass) }
 
-    -- An accepted transaction is reported under the name from then on.
-    pub record IsSubmitted (c : Conversation N) (name : List ℕ) (t : Transaction) (text : List ℕ) (u : Conversation N)
-        : Type 0 where
-      pub answer : Result Reply Refusal
-      pub change : IsChanged c.client (commands.Submit t) (changed c.client) answer u.client
-      pub text_is : text ≡ answer_text c.names answer
-      pub after : u ≡ record c { names = reported_if c.names name t answer; client = u.client }
+    -- the names stay
+    abbrev pub same_names : Conversation N → Result Reply Refusal → Names
+    same_names c a = c.names
 
     -- the ledger state after the block is adopted, if it has one
     abbrev pub IsExtended : Conversation N → List Transaction → Result LedgerState (ℕ × Invalid) → List ℕ → Conversation N → Type 0
-    IsExtended c txs (Ok l) text u = IsAnsweredBy c (commands.Sync l) (gone_on c.client l) text u
+    IsExtended c txs (Ok l) text u = IsAnsweredBy c (commands.Sync l) (gone_on c.client l) (same_names c) text u
     IsExtended c txs (Err r) text u =
         (text ≡ block_refused_text c.names txs r.0 r.1)
         × (u ≡ with_client c (record c.client { refused = one_adopt_more c.client.refused }))
@@ -107,34 +109,40 @@ module _ (accepts : Accepts) (callers : ℕ) where
 
     -- the ledger state this many steps ago is adopted, if it is kept
     abbrev pub IsReturned : Conversation N → ℕ → Option LedgerState → List ℕ → Conversation N → Type 0
-    IsReturned c count (Some l) text u = IsAnsweredBy c (commands.Sync l) (gone_back c.client l count) text u
+    IsReturned c count (Some l) text u = IsAnsweredBy c (commands.Sync l) (gone_back c.client l count) (same_names c) text u
     IsReturned c count None text u =
         (text ≡ back_refused_text (length c.client.former))
         × (u ≡ with_client c (record c.client { refused = one_back_more c.client.refused }))
 
     -- Changes are answered by the pool, and go by what the conversation itself adopted. All else is answered as it would be alone.
     abbrev pub IsTaken : Conversation N → Ask → List ℕ → Conversation N → Type 0
-    IsTaken c (Does (Submit t)) text u = IsAnsweredBy c (commands.Submit t) (changed c.client) text u
-    IsTaken c (Does (Remove ids)) text u = IsAnsweredBy c (commands.Remove ids) (changed c.client) text u
+    IsTaken c (Does (Submit t)) text u = IsAnsweredBy c (commands.Submit t) (moved c.client) (same_names c) text u
+    IsTaken c (Does (Remove ids)) text u = IsAnsweredBy c (commands.Remove ids) (moved c.client) (same_names c) text u
     IsTaken c (Does (Sync l)) text u =
-        IsAnsweredBy c (commands.Sync (ledger_at c.settings l)) (gone_on c.client (ledger_at c.settings l)) text u
-    IsTaken c (Submits name t) text u = IsSubmitted c name t text u
+        IsAnsweredBy c (commands.Sync (ledger_at c.settings l)) (gone_on c.client (ledger_at c.settings l)) (same_names c) text u
+    IsTaken c (Submits name t) text u =
+        IsAnsweredBy c (commands.Submit t) (moved c.client) (reported_if c.names name t) text u
     IsTaken c (Extends block) text u = IsExtendedBy c (alone.block_at c.settings block) text u
     IsTaken c (Returns count) text u = IsReturned c count (state_back c.client.former c.client.ledger count) text u
     IsTaken c ask text u = IsAnsweredAlone c ask text u
 
-    -- After an allocation failure nothing has changed but what the conversation has seen of the pool; or the change was made, and
-    -- only the answer and the name are lost.
-    abbrev pub IsLost : Conversation N → Ask → Conversation N → Type 0
-    IsLost c ask u =
-        (u ≡ c) ⊎ ((HasLooked c.client u.client × (u ≡ with_client c u.client))
-        ⊎ ((text : List ℕ) × (v : Conversation N) × IsTaken c ask text v × (u ≡ record v { names = c.names })))
+    -- After an allocation failure nothing has changed but what the conversation has seen of the pool.
+    abbrev pub IsUnchanged : Conversation N → Conversation N → Type 0
+    IsUnchanged c u = (u ≡ c) ⊎ (HasLooked c.client u.client × (u ≡ with_client c u.client))
 
     -- a line that isn't in the language, or that the conversation may not ask, is bad
     abbrev pub IsHeard : ℕ → Conversation N → Option Ask → List ℕ → Conversation N → Type 0
     IsHeard n c None text u = (IsBadLine n text ⊎ (text ≡ no_memory_text)) × (u ≡ c)
-    IsHeard n c (Some ask) text u = IsTaken c ask text u ⊎ ((text ≡ no_memory_text) × IsLost c ask u)
+    IsHeard n c (Some ask) text u = IsTaken c ask text u ⊎ ((text ≡ no_memory_text) × IsUnchanged c u)
 
     -- the answer to the line with this number
     abbrev pub IsAnswer : ℕ → Conversation N → List ℕ → List ℕ → Conversation N → Type 0
     IsAnswer n c line text u = IsHeard n c (asked_by c line) text u
+
+    -- A change was made, but not told: only its answer and its name are lost.
+    pub record IsUntold (c u : Conversation N) : Type 0 where
+      pub ask : Ask
+      pub text : List ℕ
+      pub told : Conversation N
+      pub taken : IsTaken c ask text told
+      pub after : u ≡ record told { names = c.names }

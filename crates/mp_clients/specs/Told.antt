@@ -3,10 +3,8 @@ use Rattle.std.specs.Prelude.{◌≡◌, ℕ, ◌+◌, ◌-◌, ◌^◌, List, [
 use Rattle.std.specs.Io.KnownBytes.{Appends}
 use Rattle.mp_text.specs.Lines.{lines_of}
 use Rattle.mp_serve.specs.Served.{AppendsUpTo}
-use Rattle.mp_serve.specs.declared.device.Turn.{Turn}
-use Rattle.mp_serve.specs.declared.device.Turn.TheVariants.{Listens, Failed}
 use Rattle.mp_clients.specs.declared.fault.Fault.{Fault}
-use Rattle.mp_clients.specs.declared.fault.Fault.TheVariants.{ReadFault, WriteFault, ManyLines, Foreign}
+use Rattle.mp_clients.specs.declared.fault.Fault.TheVariants.{ReadFault, WriteFault, ManyLines, Foreign, Untold}
 
 -- A step says what may be answered to the line with a number, and what state follows.
 module _ {S : Type 0} (Step : ℕ → S → List ℕ → List ℕ → S → Type 0) where
@@ -24,11 +22,13 @@ module _ {S : Type 0} (Step : ℕ → S → List ℕ → List ℕ → S → Type
   abbrev pub WasCut : S → Option (List ℕ) → Option (List ℕ) → List (List ℕ) → S → Type 0
   WasCut s old new lines u = (k : ℕ) × (text : List ℕ) × AreTold 1 s (take k lines) text u × AppendsUpTo old new text
 
-  -- how a conversation ends, from the state s to u: at the end of its input, or before
-  abbrev pub Ended : S → List ℕ → Option (List ℕ) → Option (List ℕ) → Result (Unit {0}) Fault → S → Type 0
-  Ended s bytes old new (Ok done) u = WereTold s old new (lines_of bytes) u
-  Ended s bytes old new (Err WriteFault) u = WasCut s old new (lines_of bytes) u
-  Ended s bytes old new (Err ReadFault) u = (k : ℕ) × WereTold s old new (take k (lines_of bytes)) u
-  Ended s bytes old new (Err Foreign) u = (k : ℕ) × WereTold s old new (take k (lines_of bytes)) u
-  Ended s bytes old new (Err ManyLines) u =
+  -- How a conversation ends, from the state s to u: at the end of its input, or before. `Loses` says what else may have happened if
+  -- an answer was lost.
+  abbrev pub Ended : (S → S → Type 0) → S → List ℕ → Option (List ℕ) → Option (List ℕ) → Result (Unit {0}) Fault → S → Type 0
+  Ended Loses s bytes old new (Ok done) u = WereTold s old new (lines_of bytes) u
+  Ended Loses s bytes old new (Err WriteFault) u = WasCut s old new (lines_of bytes) u
+  Ended Loses s bytes old new (Err ReadFault) u = (k : ℕ) × WereTold s old new (take k (lines_of bytes)) u
+  Ended Loses s bytes old new (Err Foreign) u = (k : ℕ) × WereTold s old new (take k (lines_of bytes)) u
+  Ended Loses s bytes old new (Err Untold) u = (k : ℕ) × (t : S) × WereTold s old new (take k (lines_of bytes)) t × Loses t u
+  Ended Loses s bytes old new (Err ManyLines) u =
       (k : ℕ) × (k ≡ 2 ^ 64 - 2) × WereTold s old new (take k (lines_of bytes)) u

@@ -1,6 +1,6 @@
 //! The answer to a line.
 
-ghost use Rattle.std.specs.Prelude.{◌≡◌, ◌≢◌, ◌⊎◌, ◌<◌, ◌++◌, ◌∷◌, [], ℕ, List, length, IfOk, OnErr};
+ghost use Rattle.std.specs.Prelude.{◌≡◌, ◌≢◌, ◌⊎◌, ◌<◌, ◌++◌, ◌∷◌, [], ℕ, List, length, IfOk, IfErr};
 ghost use Rattle.mp_text.specs.LineInput.{IsLine, first_line};
 ghost use Rattle.mp_serve.specs.Ask.{longest};
 ghost use Rattle.mp_serve.specs.Inside.Ask.{to_ask};
@@ -9,9 +9,11 @@ ghost use Rattle.mp_serve.specs.Served.{IsBadLine};
 ghost use Rattle.mp_serve.specs.Texts.{bad_text, no_memory_text};
 ghost use Rattle.mp_clients.specs.Asking.{allowed};
 ghost use Rattle.mp_clients.specs.Answers.{IsHeard, IsAnswer};
+ghost use Rattle.mp_clients.specs.Inside.Steps.{IsEnded};
 
 use crate::allowed::forbids;
 use crate::conversation::Conversation;
+use crate::fault::Fault;
 use crate::shared::Shared;
 use crate::stop::Stop;
 use mp_answers::{put_number, put_word};
@@ -65,10 +67,10 @@ fn answer_ask<N: PoolName, V: Verifier>(
     memory: Memory,
     number: u64,
     ask: Ask,
-) -> Result<Answer, Stop>
+) -> Result<Answer, Fault>
     ensures ok { IfOk result (λ answer. IsHeard N.accepts N.callers number conversation.old
         (allowed conversation.old.client.pass.caller (to_ask ask)) (text_of answer) conversation.new) }
-    ensures err { OnErr result (conversation.new ≡ conversation.old) }
+    ensures err { IfErr result (IsEnded N.accepts N.callers conversation.old conversation.new) }
 {
     if let Some(why) = forbids(conversation.client.caller(), &ask) {
         return Ok(answer_forbidden(memory, number, why));
@@ -76,7 +78,8 @@ fn answer_ask<N: PoolName, V: Verifier>(
     match conversation.take(rt, shared, memory, ask) {
         Ok(answer) => Ok(answer),
         Err(Stop::NoMemory) => Ok(Answer::NoMemory),
-        Err(Stop::Foreign) => Err(Stop::Foreign),
+        Err(Stop::Untold) => Err(Fault::Untold),
+        Err(Stop::Foreign) => Err(Fault::Foreign),
     }
 }
 
@@ -88,10 +91,10 @@ fn answer_line<N: PoolName, V: Verifier>(
     memory: Memory,
     number: u64,
     line: &[u8],
-) -> Result<Answer, Stop>
+) -> Result<Answer, Fault>
     ensures ok { IfOk result (λ answer. IsAnswer N.accepts N.callers number
         conversation.old line.now (text_of answer) conversation.new) }
-    ensures err { OnErr result (conversation.new ≡ conversation.old) }
+    ensures err { IfErr result (IsEnded N.accepts N.callers conversation.old conversation.new) }
 {
     match Ask::parse(memory, &conversation.names, line) {
         Ok(ask) => answer_ask(conversation, rt, shared, memory, number, ask),
@@ -111,7 +114,8 @@ fn answer_long<N: PoolName>(conversation: &Conversation<N>, memory: Memory, numb
 /// The answer to what was read of the line with this number.
 ///
 /// # Errors
-/// `Foreign`, if the pool has an entry of this conversation that it doesn't know. Then nothing has changed.
+/// `Foreign`, if the pool has an entry of this conversation that it doesn't know. Then nothing has changed. `Untold`, if a change
+/// was made and its answer is lost.
 pub fn answer<N: PoolName, V: Verifier>(
     conversation: &mut Conversation<N>,
     rt: &impl Wait,
@@ -120,12 +124,12 @@ pub fn answer<N: PoolName, V: Verifier>(
     number: u64,
     found: LineRead,
     kept: &[u8],
-) -> Result<Answer, Stop>
+) -> Result<Answer, Fault>
     requires { found ≢ LineRead.End }
     ensures ok { IfOk result (λ answer. (bytes : List ℕ) → IsLine longest bytes found kept.now
         → IsAnswer N.accepts N.callers number
         conversation.old (first_line bytes) (text_of answer) conversation.new) }
-    ensures err { OnErr result (conversation.new ≡ conversation.old) }
+    ensures err { IfErr result (IsEnded N.accepts N.callers conversation.old conversation.new) }
 {
     match found {
         LineRead::Whole => answer_line(conversation, rt, shared, memory, number, kept),

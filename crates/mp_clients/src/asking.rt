@@ -1,21 +1,22 @@
 //! Asking the shared pool for a change.
 
-ghost use Rattle.std.specs.Prelude.{◌≡◌, IfOk, OnErr};
+ghost use Rattle.std.specs.Prelude.{◌≡◌, ◌++◌, ◌∷◌, [], Ok, IfOk, IfErr, OnOk, OnErr};
 ghost use Rattle.std.specs.Result.{result_err};
 ghost use Rattle.mp_seqpool.specs.Inside.Command.{command_of};
-ghost use Rattle.mp_answers.specs.AnswerText.{answer_text};
+ghost use Rattle.mp_answers.specs.AnswerText.{reply_text, answer_text};
+ghost use Rattle.mp_names.specs.Names as told;
 ghost use Rattle.mp_serve.specs.Refused.{counted_if};
 ghost use Rattle.mp_clients.specs.Answers.{IsAnswerTo};
-ghost use Rattle.mp_clients.specs.Inside.Asked.{answer_in};
+ghost use Rattle.mp_clients.specs.Inside.Asked.{answer_in, IsUnanswered};
 
 use crate::stop::Stop;
-use mp_answers::{answer_line, reply_line};
+use mp_answers::{answer_line, put_reply};
 use mp_history::PoolName;
 use mp_memory::{Memory, NoMemory};
 use mp_mempool::{Mempool, Pass, Receipt, Refusal};
 use mp_names::Names;
 use mp_rules::Verifier;
-use mp_seqpool::Command;
+use mp_seqpool::{Command, Reply};
 use mp_serve::{Counts, Text, count_if_refused};
 use std::sync::Wait;
 
@@ -51,12 +52,54 @@ pub fn count_refusal(counts: &mut Counts, asked: &Asked)
     }
 }
 
-/// The line of the answer.
-pub fn asked_line(memory: Memory, names: &Names, asked: &Asked) -> Result<Text, NoMemory>
-    ensures { IfOk result (λ text. text.items ≡ answer_text names.now (answer_in asked.now)) }
+// The line of an accepted submit has at most this many bytes.
+const ACCEPTED_ROOM: usize = 32;
+
+/// Room for the line of an accepted submit.
+pub fn make_room(memory: Memory) -> Result<Text, NoMemory>
+    ensures { IfOk result (λ text. text.items ≡ []) }
+{
+    Ok(Vec::with_capacity(memory, ACCEPTED_ROOM)?)
+}
+
+// Writes the line of the reply into the room.
+fn put_line(text: &mut Text, reply: &Reply) -> Result<(), NoMemory>
+    ensures { OnOk result (text.new.items ≡ text.old.items ++ (reply_text reply.now ++ 10 ∷ [])) }
+{
+    put_reply(text, reply)?;
+    text.push(b'\n')?;
+    Ok(())
+}
+
+// The line of the reply, in the room.
+#[tactic(auto, unfolding(mp_answers::specs::AnswerText::answer_text))]
+fn reply_in(room: Text, reply: &Reply) -> Result<Text, NoMemory>
+    requires { room.items ≡ [] }
+    ensures { IfOk result (λ text. (names : told.Names)
+        → text.items ≡ answer_text names (Ok reply.now)) }
+{
+    let mut text = room;
+    put_line(&mut text, reply)?;
+    Ok(text)
+}
+
+/// The line of the answer, in the room for that of an accepted submit.
+///
+/// # Errors
+/// `Untold` if the change was made, and `NoMemory` if it was refused.
+pub fn asked_line(memory: Memory, names: &Names, room: Text, asked: &Asked) -> Result<Text, Stop>
+    requires { room.items ≡ [] }
+    ensures ok { IfOk result (λ text. text.items ≡ answer_text names.now (answer_in asked.now)) }
+    ensures err { IfErr result (IsUnanswered (answer_in asked.now)) }
 {
     match asked {
-        Ok(receipt) => reply_line(memory, &receipt.entry.reply),
-        Err(refusal) => answer_line(memory, names, &Err(*refusal)),
+        Ok(receipt) => match reply_in(room, &receipt.entry.reply) {
+            Ok(text) => Ok(text),
+            Err(_) => Err(Stop::Untold),
+        },
+        Err(refusal) => match answer_line(memory, names, &Err(*refusal)) {
+            Ok(text) => Ok(text),
+            Err(_) => Err(Stop::NoMemory),
+        },
     }
 }

@@ -7,13 +7,12 @@ ghost use Rattle.mp_seqpool.specs.Inside.Place.{misplaced};
 ghost use Rattle.mp_clients.specs.Inside.Checked.{IsOverlayOf};
 
 use crate::reading::free_bytes;
-use mp_items::Run;
 use mp_memory::{Memory, NoMemory};
 use mp_rules::{Verifier, check};
 use mp_seqpool::{Answer, Invalid, Refusal, Reply};
 use mp_tx::{Tx, TxId};
 use mp_utxo::Overlay;
-use mp_versions::Version;
+use mp_versions::{Run, Version};
 use std::sync::Arc;
 
 // The ticket of the item with this id.

@@ -1,6 +1,6 @@
 //! What a conversation has of the pool that it shares with others.
 
-use crate::asking::{Asked, ask_pool, asked_line, count_refusal};
+use crate::asking::{Asked, ask_pool, count_refusal};
 use crate::checking::answer_of;
 use crate::former::{Formers, keep_latest};
 use crate::reading::{for_line, query_line, stats_line};
@@ -15,8 +15,8 @@ use mp_rules::Verifier;
 use mp_seqpool::Command;
 use mp_serve::{Counts, Text, count_one, none_counted};
 use mp_signatures::Signatures;
-use mp_trial::keep_valid;
 use mp_tx::{Ledger, Tx, TxId};
+use mp_versions::keep_valid;
 use std::marker::Model;
 use std::sync::{Arc, Wait};
 
@@ -74,7 +74,7 @@ impl<N: PoolName> Client<N> {
     ghost use Rattle.mp_serve.specs.Request.{Plain, Check, Count, one_adopt_more, one_back_more};
     ghost use Rattle.mp_serve.specs.ServedPool.{state_back};
     ghost use Rattle.mp_clients.specs.Client.{new_client};
-    ghost use Rattle.mp_clients.specs.Answers.{HasLooked, IsChanged, changed, gone_on, gone_back};
+    ghost use Rattle.mp_clients.specs.Answers.{HasLooked, IsAsked, counting, moved, gone_on, gone_back};
     ghost use Rattle.mp_clients.specs.Inside.Asked.{answer_in};
     ghost use Rattle.mp_clients.specs.Inside.Steps.{Responds};
 
@@ -203,7 +203,7 @@ impl<N: PoolName> Client<N> {
         stats_line(memory, self.pass.shown().version(), &self.refused)
     }
 
-    /// Makes the change, which keeps the ledger state. A refusal is counted.
+    /// Asks for the change, which keeps the ledger state. A refusal isn't counted.
     ///
     /// # Errors
     /// Then nothing has changed.
@@ -213,16 +213,14 @@ impl<N: PoolName> Client<N> {
         pool: &Mempool<N, V>,
         command: &Command,
     ) -> Result<Asked, Stop>
-        ensures ok { IfOk result (λ asked. IsChanged N.accepts N.callers
-            self.old (command_of command.now) (changed self.old) (answer_in asked) self.new) }
+        ensures ok { IfOk result (λ asked. IsAsked N.accepts N.callers
+            self.old (command_of command.now) (moved self.old) (answer_in asked) self.new) }
         ensures err { OnErr result (self.new ≡ self.old) }
     {
-        let asked = ask_pool(rt, pool, &mut self.pass, command)?;
-        count_refusal(&mut self.refused, &asked);
-        Ok(asked)
+        ask_pool(rt, pool, &mut self.pass, command)
     }
 
-    /// Adopts a new ledger state.
+    /// Adopts a new ledger state. A refusal isn't counted.
     ///
     /// # Errors
     /// Then nothing has changed.
@@ -232,7 +230,7 @@ impl<N: PoolName> Client<N> {
         pool: &Mempool<N, V>,
         ledger: Ledger,
     ) -> Result<Asked, Stop>
-        ensures ok { IfOk result (λ asked. IsChanged N.accepts N.callers
+        ensures ok { IfOk result (λ asked. IsAsked N.accepts N.callers
             self.old (Sync ledger) (gone_on self.old ledger) (answer_in asked) self.new) }
         ensures err { OnErr result (self.new ≡ self.old) }
     {
@@ -247,9 +245,7 @@ impl<N: PoolName> Client<N> {
             }
             Ok(Err(refusal)) => {
                 let _ = self.former.pop();
-                let asked = Err(refusal);
-                count_refusal(&mut self.refused, &asked);
-                Ok(asked)
+                Ok(Err(refusal))
             }
             Err(stop) => {
                 let _ = self.former.pop();
@@ -258,7 +254,7 @@ impl<N: PoolName> Client<N> {
         }
     }
 
-    /// Adopts the ledger state this many steps ago.
+    /// Adopts the ledger state this many steps ago. A refusal isn't counted.
     ///
     /// # Errors
     /// Then nothing has changed.
@@ -270,7 +266,7 @@ impl<N: PoolName> Client<N> {
         ledger: Ledger,
     ) -> Result<Asked, Stop>
         requires { count ≤ length self.old.former }
-        ensures ok { IfOk result (λ asked. IsChanged N.accepts N.callers
+        ensures ok { IfOk result (λ asked. IsAsked N.accepts N.callers
             self.old (Sync ledger) (gone_back self.old ledger count) (answer_in asked) self.new) }
         ensures err { OnErr result (self.new ≡ self.old) }
     {
@@ -282,12 +278,15 @@ impl<N: PoolName> Client<N> {
                 self.ledger = ledger;
                 Ok(Ok(receipt))
             }
-            Err(refusal) => {
-                let asked = Err(refusal);
-                count_refusal(&mut self.refused, &asked);
-                Ok(asked)
-            }
+            Err(refusal) => Ok(Err(refusal)),
         }
+    }
+
+    /// Counts the refusal, if there is one.
+    pub fn count_refusal(&mut self, asked: &Asked)
+        ensures { self.new ≡ counting (answer_in asked.now) self.old }
+    {
+        count_refusal(&mut self.refused, asked);
     }
 
     /// Counts a refused block.

@@ -1,21 +1,20 @@
 //! The state of a conversation, line by line.
 
-ghost use Rattle.std.specs.Prelude.{◌≡◌, OnOk, OnErr};
+ghost use Rattle.std.specs.Prelude.{◌≡◌, OnOk, OnErr, IfErr};
 ghost use Rattle.mp_serve.specs.Request.{reported_if};
-ghost use Rattle.mp_clients.specs.Inside.Asked.{answer_in};
+ghost use Rattle.mp_clients.specs.Inside.Asked.{answer_in, IsUnanswered};
 
-use crate::asking::{Asked, asked_line};
+use crate::asking::{Asked, asked_line, make_room};
 use crate::client::Client;
 use crate::forgetting::names_to_go;
 use crate::former::state_back;
 use crate::shared::Shared;
 use crate::stop::Stop;
-use mp_block::AppliedBlock;
 use mp_history::PoolName;
 use mp_lines::Line;
 use mp_memory::{Memory, NoMemory};
 use mp_names::{Binding, DeclaredTx, Name, Names};
-use mp_rules::Verifier;
+use mp_rules::{AppliedBlock, Verifier};
 use mp_seqpool::{Command, Ids};
 use mp_serve::{
     Answer, Ask, Block, Extended, Text, back_refused_line, extend, forgotten_line, read_line,
@@ -61,8 +60,8 @@ impl<N: PoolName> Conversation<N> {
     ghost use Rattle.mp_clients.specs.Client.{alone_at};
     ghost use Rattle.mp_clients.specs.Asking.{may_do, may_ask};
     ghost use Rattle.mp_clients.specs.Inside.Notes.{is_note, is_alone};
-    ghost use Rattle.mp_clients.specs.Answers.{IsAnsweredBy, IsSubmitted, IsExtendedBy, IsReturned, IsTaken, changed, gone_on, gone_back};
-    ghost use Rattle.mp_clients.specs.Inside.Steps.{IsStopped, IsStoppedAt, IsToldAlone};
+    ghost use Rattle.mp_clients.specs.Answers.{IsAnsweredBy, IsExtendedBy, IsReturned, IsTaken, moved, gone_on, gone_back, same_names};
+    ghost use Rattle.mp_clients.specs.Inside.Steps.{IsStopped, IsToldAlone};
 
     // Makes the change, which keeps the ledger state.
     fn change<V: Verifier>(
@@ -73,12 +72,15 @@ impl<N: PoolName> Conversation<N> {
         command: &Command,
     ) -> Result<Text, Stop>
         ensures ok { IfOk result (λ text. IsAnsweredBy N.accepts N.callers
-            self.old (command_of command.now) (changed self.old.client) text.items self.new) }
-        ensures err { IfErr result (IsStopped (IsAnsweredBy N.accepts N.callers
-            self.old (command_of command.now) (changed self.old.client)) self.old self.new) }
+            self.old (command_of command.now) (moved self.old.client) (same_names self.old) text.items self.new) }
+        ensures err { IfErr result (IsStopped N.accepts N.callers (IsAnsweredBy N.accepts N.callers
+            self.old (command_of command.now) (moved self.old.client) (same_names self.old)) self.old self.new) }
     {
+        let room = make_room(memory)?;
         let asked = self.client.change(rt, &shared.pool, command)?;
-        Ok(asked_line(memory, &self.names, &asked)?)
+        let text = asked_line(memory, &self.names, room, &asked)?;
+        self.client.count_refusal(&asked);
+        Ok(text)
     }
 
     // Submits the transaction. If it is accepted, it is reported under the name.
@@ -90,15 +92,19 @@ impl<N: PoolName> Conversation<N> {
         name: &Name,
         tx: Arc<Tx, Memory>,
     ) -> Result<Text, Stop>
-        ensures ok { IfOk result (λ text. IsSubmitted N.accepts N.callers
-            self.old name.now (arc_value tx) text.items self.new) }
-        ensures err { IfErr result (IsStopped (IsSubmitted N.accepts N.callers
-            self.old name.now (arc_value tx)) self.old self.new) }
+        ensures ok { IfOk result (λ text. IsAnsweredBy N.accepts N.callers
+            self.old (Submit (arc_value tx)) (moved self.old.client)
+            (reported_if self.old.names name.now (arc_value tx)) text.items self.new) }
+        ensures err { IfErr result (IsStopped N.accepts N.callers (IsAnsweredBy N.accepts N.callers
+            self.old (Submit (arc_value tx)) (moved self.old.client)
+            (reported_if self.old.names name.now (arc_value tx))) self.old self.new) }
     {
         let named = Arc::try_clone(&tx)?;
+        let room = make_room(memory)?;
         let asked = self.client.change(rt, &shared.pool, &Command::Submit(tx))?;
-        let text = asked_line(memory, &self.names, &asked)?;
+        let text = asked_line(memory, &self.names, room, &asked)?;
         report_if(&mut self.names, name, &named, &asked)?;
+        self.client.count_refusal(&asked);
         Ok(text)
     }
 
@@ -111,12 +117,15 @@ impl<N: PoolName> Conversation<N> {
         ledger: Ledger,
     ) -> Result<Text, Stop>
         ensures ok { IfOk result (λ text. IsAnsweredBy N.accepts N.callers
-            self.old (Sync ledger) (gone_on self.old.client ledger) text.items self.new) }
-        ensures err { IfErr result (IsStopped (IsAnsweredBy N.accepts N.callers
-            self.old (Sync ledger) (gone_on self.old.client ledger)) self.old self.new) }
+            self.old (Sync ledger) (gone_on self.old.client ledger) (same_names self.old) text.items self.new) }
+        ensures err { IfErr result (IsStopped N.accepts N.callers (IsAnsweredBy N.accepts N.callers
+            self.old (Sync ledger) (gone_on self.old.client ledger) (same_names self.old)) self.old self.new) }
     {
+        let room = make_room(memory)?;
         let asked = self.client.go_on(rt, &shared.pool, ledger)?;
-        Ok(asked_line(memory, &self.names, &asked)?)
+        let text = asked_line(memory, &self.names, room, &asked)?;
+        self.client.count_refusal(&asked);
+        Ok(text)
     }
 
     // Adopts the ledger state after the block.
@@ -129,7 +138,7 @@ impl<N: PoolName> Conversation<N> {
     ) -> Result<Text, Stop>
         ensures ok { IfOk result (λ text. IsExtendedBy N.accepts N.callers
             self.old block.now text.items self.new) }
-        ensures err { IfErr result (IsStopped (IsExtendedBy N.accepts N.callers
+        ensures err { IfErr result (IsStopped N.accepts N.callers (IsExtendedBy N.accepts N.callers
             self.old block.now) self.old self.new) }
     {
         let client = &self.client;
@@ -162,12 +171,15 @@ impl<N: PoolName> Conversation<N> {
     ) -> Result<Text, Stop>
         requires { count ≤ length self.old.client.former }
         ensures ok { IfOk result (λ text. IsAnsweredBy N.accepts N.callers
-            self.old (Sync ledger) (gone_back self.old.client ledger count) text.items self.new) }
-        ensures err { IfErr result (IsStopped (IsAnsweredBy N.accepts N.callers
-            self.old (Sync ledger) (gone_back self.old.client ledger count)) self.old self.new) }
+            self.old (Sync ledger) (gone_back self.old.client ledger count) (same_names self.old) text.items self.new) }
+        ensures err { IfErr result (IsStopped N.accepts N.callers (IsAnsweredBy N.accepts N.callers
+            self.old (Sync ledger) (gone_back self.old.client ledger count) (same_names self.old)) self.old self.new) }
     {
+        let room = make_room(memory)?;
         let asked = self.client.go_back(rt, &shared.pool, count, ledger)?;
-        Ok(asked_line(memory, &self.names, &asked)?)
+        let text = asked_line(memory, &self.names, room, &asked)?;
+        self.client.count_refusal(&asked);
+        Ok(text)
     }
 
     // Adopts the ledger state this many steps ago, or answers how many are kept.
@@ -181,7 +193,7 @@ impl<N: PoolName> Conversation<N> {
         ensures ok { IfOk result (λ text. IsReturned N.accepts N.callers
             self.old count (state_back self.old.client.former self.old.client.ledger count)
             text.items self.new) }
-        ensures err { IfErr result (IsStopped (IsReturned N.accepts N.callers
+        ensures err { IfErr result (IsStopped N.accepts N.callers (IsReturned N.accepts N.callers
             self.old count (state_back self.old.client.former self.old.client.ledger count))
             self.old self.new) }
     {
@@ -265,8 +277,8 @@ impl<N: PoolName> Conversation<N> {
         requires { may_do self.old.client.pass.caller (to_line line) ≡ true }
         ensures ok { IfOk result (λ answer. IsTaken N.accepts N.callers
             self.old (Does (to_line line)) (text_of answer) self.new) }
-        ensures err { IfErr result (IsStoppedAt N.accepts N.callers
-            self.old (Does (to_line line)) self.new) }
+        ensures err { IfErr result (IsStopped N.accepts N.callers (IsTaken N.accepts N.callers
+            self.old (Does (to_line line))) self.old self.new) }
     {
         let text = match line {
             Line::Submit(tx) => self.change(rt, shared, memory, &Command::Submit(tx))?,
@@ -310,8 +322,8 @@ impl<N: PoolName> Conversation<N> {
     /// Does what is asked, and returns the answer.
     ///
     /// # Errors
-    /// `NoMemory`: nothing has changed but what the conversation has seen, or only the answer and the name are lost. `Foreign`, if
-    /// the pool has an entry of this conversation that it doesn't know: nothing has changed.
+    /// `NoMemory`: nothing has changed but what the conversation has seen. `Untold`: the change was made, but its answer and its
+    /// name are lost. `Foreign`, if the pool has an entry of this conversation that it doesn't know: nothing has changed.
     pub fn take<V: Verifier>(
         &mut self,
         rt: &impl Wait,
@@ -322,8 +334,8 @@ impl<N: PoolName> Conversation<N> {
         requires { may_ask self.old.client.pass.caller (to_ask ask) ≡ true }
         ensures ok { IfOk result (λ answer. IsTaken N.accepts N.callers
             self.old (to_ask ask) (text_of answer) self.new) }
-        ensures err { IfErr result (IsStoppedAt N.accepts N.callers
-            self.old (to_ask ask) self.new) }
+        ensures err { IfErr result (IsStopped N.accepts N.callers (IsTaken N.accepts N.callers
+            self.old (to_ask ask)) self.old self.new) }
     {
         let text = match ask {
             Ask::Does(line) => return self.does(rt, shared, memory, line),

@@ -1,7 +1,7 @@
 //! A conversation over a device, with a pool that others share.
 
 ghost use Rattle.std.specs.Prelude.{◌≡◌, IfSome};
-ghost use Rattle.mp_clients.specs.Answers.{IsAnswer};
+ghost use Rattle.mp_clients.specs.Answers.{IsAnswer, IsUntold};
 ghost use Rattle.mp_clients.specs.Told.{Ended};
 
 use crate::answering::answer;
@@ -18,7 +18,8 @@ use std::sync::Wait;
 /// Answers each line of the input as it comes, until the input ends. `line` is the buffer for it.
 ///
 /// # Errors
-/// `ReadFault` and `WriteFault` if the device fails. `ManyLines` after 2^64 - 2 lines. `Foreign` isn't expected.
+/// `ReadFault` and `WriteFault` if the device fails. `ManyLines` after 2^64 - 2 lines. `Untold` if a change
+/// was made and its answer is lost. `Foreign` isn't expected.
 pub fn answer_all<N: PoolName, V: Verifier, D: Device>(
     rt: &impl Wait,
     shared: &Shared<N, V>,
@@ -29,7 +30,7 @@ pub fn answer_all<N: PoolName, V: Verifier, D: Device>(
 ) -> Result<(), Fault>
     requires { D.turn device.old ≡ Turn.Listens }
     ensures answers { IfSome (D.input device.old) (λ bytes.
-        Ended (IsAnswer N.accepts N.callers) conversation.old bytes
+        Ended (IsAnswer N.accepts N.callers) (IsUntold N.accepts N.callers) conversation.old bytes
         (D.output device.old) (D.output device.new) result conversation.new) }
 {
     for number in 1..u64::MAX {
@@ -40,7 +41,7 @@ pub fn answer_all<N: PoolName, V: Verifier, D: Device>(
         };
         let answer = match answer(conversation, rt, shared, memory, number, found, line) {
             Ok(answer) => answer,
-            Err(_) => return Err(Fault::Foreign),
+            Err(fault) => return Err(fault),
         };
         match tell(device, &answer) {
             Ok(()) => {}

@@ -11,6 +11,8 @@ pub enum Fault {
     ManyLines,
     /// The pool has an entry of this conversation that it doesn't know. It isn't expected.
     Foreign,
+    /// An allocation failed after a change was made, so its answer is lost.
+    Untold,
 }
 
 impl fmt::Display for Fault {
@@ -20,6 +22,7 @@ impl fmt::Display for Fault {
             Fault::WriteFault => "fault: write",
             Fault::ManyLines => "fault: lines",
             Fault::Foreign => "fault: foreign",
+            Fault::Untold => "fault: an answer was lost",
         })
     }
 }

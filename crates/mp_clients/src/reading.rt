@@ -2,7 +2,7 @@
 
 ghost use Rattle.std.specs.Prelude.{◌≡◌, ◌++◌, [], codes, take, option_map, IfOk, OnOk};
 ghost use Rattle.std.specs.Arc.{arc_value};
-ghost use Rattle.mp_resync.specs.Keep.{bytes_of};
+ghost use Rattle.mp_seqpool.specs.Keep.{bytes_of};
 ghost use Rattle.mp_seqpool.specs.Item.{items_of};
 ghost use Rattle.mp_seqpool.specs.Reading.{within, offer, moved};
 ghost use Rattle.mp_seqpool.specs.SlowPool.{free_bytes};
@@ -11,12 +11,11 @@ ghost use Rattle.mp_answers.specs.QueryText.{sized_text, words_text, query_text,
 ghost use Rattle.mp_serve.specs.Texts.{pool_numbers, stats_text};
 
 use mp_answers::{put_found, put_has, put_item, put_items, put_number, put_sized, put_word};
-use mp_items::{Item, Run};
 use mp_lines::Query;
 use mp_memory::{Memory, NoMemory};
 use mp_names::Names;
 use mp_serve::{Counts, Text, put_counts};
-use mp_versions::Version;
+use mp_versions::{Item, Run, Version};
 
 // Items of a version, and the total number of their bytes.
 #[derive(Drop)]

@@ -9,8 +9,10 @@ use std::alloc::{AllocError, AllocFailed};
 /// Why a line gets no answer of its own.
 #[derive(Clone, Copy, Debug, PartialEq, Eq)]
 pub enum Stop {
-    /// An allocation failed.
+    /// An allocation failed. No change was made.
     NoMemory,
+    /// An allocation failed after a change was made.
+    Untold,
     /// The pool has an entry of this conversation that it doesn't know.
     Foreign,
 }

@@ -1,7 +1,7 @@
 //! A block of transactions.
-use mp_items::RunWithin;
 use mp_memory::{Memory, NoMemory};
 use mp_tx::{OutRef, Tx};
+use mp_versions::RunWithin;
 use std::sync::Arc;
 
 /// Transactions, and the total number of their bytes.

@@ -2,3 +2,10 @@ pub mod Ends
 pub mod Running
 pub mod Auditing
 pub mod Racing
+pub mod Commands
+pub mod GivenValues
+pub mod KeptByParsing
+pub mod Numbers
+pub mod Parsers
+pub mod NamePlaces
+pub mod Taken

@@ -4,3 +4,5 @@ pub mod Told
 pub mod Picture
 pub mod Salt
 pub mod Scheme
+pub mod CommandLine
+pub mod Inside

@@ -2,9 +2,9 @@
 use Rattle.std.specs.Prelude.{List, map, ◌++◌}
 use Rattle.mp_seqpool.specs.declared.command.Reply.{Reply}
 use Rattle.mp_seqpool.specs.declared.command.Reply.TheVariants as replies
-use Rattle.mp_picture.specs.declared.mark.Kind.{Kind}
-use Rattle.mp_picture.specs.declared.mark.Kind.TheVariants.{Accepted, Removed, Synced, Refused}
-use Rattle.mp_picture.specs.declared.mark.Mark.{Mark}
+use Rattle.mp_race.specs.declared.picture.mark.Kind.{Kind}
+use Rattle.mp_race.specs.declared.picture.mark.Kind.TheVariants.{Accepted, Removed, Synced, Refused}
+use Rattle.mp_race.specs.declared.picture.mark.Mark.{Mark}
 use Rattle.mp_race.specs.declared.told.Told.{Told}
 use Rattle.mp_race.specs.declared.told.Refused as told
 use Rattle.mp_race.specs.declared.racing.Raced.{Raced}

@@ -6,10 +6,10 @@ ghost use Rattle.mp_signatures.specs.Scheme.{accepted_by};
 ghost use Rattle.mp_main.specs.Status.{EndsAs};
 ghost use Rattle.mp_main.specs.Legal.{IsAudited};
 
+use crate::command_line::{Input, SchemeName};
 use crate::ending::{end_audit, end_bad_history, end_fault, end_unread};
 use crate::scenarios::scenario_of;
 use crate::schemes::signatures_of;
-use mp_command_line::{Input, SchemeName};
 use mp_memory::Memory;
 use mp_race::{Fault, History, Scenario, audit_history};
 use mp_signatures::Signatures;

@@ -7,10 +7,10 @@ ghost use Rattle.mp_serve.specs.Device.{EndsAt};
 ghost use Rattle.mp_serve.specs.Talk.{new_conversation};
 ghost use Rattle.mp_main.specs.Status.{EndsAs};
 
+use crate::command_line::SchemeName;
 use crate::ending::end_fault;
 use crate::salt::salt_of;
 use crate::schemes::signatures_of;
-use mp_command_line::SchemeName;
 use mp_memory::Memory;
 use mp_serve::{Device, Fault, Streams, Turn, serve};
 use mp_signatures::Signatures;

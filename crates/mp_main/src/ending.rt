@@ -10,10 +10,10 @@ ghost use Rattle.mp_main.specs.Legal.{IsSaid};
 
 use clap::Error;
 use clap::error::ErrorKind;
-use mp_driver::Stop;
 use mp_history::AuditFault;
 use mp_names::Reason;
 use mp_race::Fault;
+use mp_session::Stop;
 use mp_text::{WriteFault, write_all};
 use std::process::ExitCode;
 use std::{fmt, io};

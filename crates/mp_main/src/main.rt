@@ -8,6 +8,7 @@
 #![tactic(auto)]
 
 mod audits;
+mod command_line;
 mod conversation;
 mod ending;
 mod files;
@@ -20,9 +21,9 @@ mod schemes;
 mod slow;
 
 use audits::audit_files;
+use command_line::{Asked, parse_words};
 use conversation::converse;
 use ending::{end_unparsed, end_unworded};
-use mp_command_line::{Asked, parse_words};
 use races::race_scenario;
 use runs::run_scenario;
 use std::process::ExitCode;

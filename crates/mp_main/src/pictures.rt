@@ -7,7 +7,7 @@ ghost use Rattle.mp_main.specs.Picture.{kind_of, entry_mark, refusal_mark, marks
 use crate::ending::end_fault;
 use crate::files::write_file;
 use mp_memory::{Memory, NoMemory};
-use mp_picture::{Kind, Mark, put_picture};
+use mp_race::picture::{Kind, Mark, put_picture};
 use mp_race::{Fault, Raced, Refused, Told};
 use mp_seqpool::Reply;
 use std::process::ExitCode;

@@ -6,13 +6,13 @@ ghost use Rattle.mp_signatures.specs.Scheme.{accepted_by};
 ghost use Rattle.mp_main.specs.Status.{EndsAs};
 ghost use Rattle.mp_main.specs.Told.{IsReported, RaceEnds};
 
+use crate::command_line::{Input, SchemeName, Wishes};
 use crate::ending::end_fault;
 use crate::files::write_history;
 use crate::pictures::write_picture;
 use crate::scenarios::scenario_of;
 use crate::schemes::signatures_of;
 use crate::slow::Slow;
-use mp_command_line::{Input, SchemeName, Wishes};
 use mp_history::NewName;
 use mp_memory::Memory;
 use mp_race::{Fault, Raced, Scenario, race};

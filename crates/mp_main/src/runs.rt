@@ -2,14 +2,14 @@
 
 ghost use Rattle.std.specs.Prelude.{IfSome};
 ghost use Rattle.std.specs.Process.{exit_status};
-ghost use Rattle.mp_driver.specs.Ending.{Ended};
+ghost use Rattle.mp_session.specs.Ending.{Ended};
 ghost use Rattle.mp_main.specs.Status.{EndsAs};
 
+use crate::command_line::{Input, SchemeName};
 use crate::ending::{end_answers, end_fault, end_unread};
 use crate::schemes::signatures_of;
-use mp_command_line::{Input, SchemeName};
-use mp_driver::{Fault, answer_text};
 use mp_memory::Memory;
+use mp_session::{Fault, answer_text};
 use mp_signatures::Signatures;
 use mp_text::{InputFault, read_all};
 use std::fs::File;

@@ -5,8 +5,8 @@ ghost use Rattle.std.specs.Process.{exit_status};
 ghost use Rattle.mp_text.specs.Lines.{lines_of};
 ghost use Rattle.mp_race.specs.Reading.{scenario_from};
 
+use crate::command_line::Input;
 use crate::ending::{end_bad_line, end_fault, end_unread};
-use mp_command_line::Input;
 use mp_memory::Memory;
 use mp_race::{Fault, Scenario};
 use mp_text::{InputFault, read_all};

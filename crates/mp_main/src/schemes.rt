@@ -4,10 +4,10 @@ ghost use Rattle.std.specs.Prelude.{◌≡◌, IfErr, IfOk};
 ghost use Rattle.std.specs.Process.{exit_status};
 ghost use Rattle.mp_main.specs.Scheme as told;
 
+use crate::command_line::SchemeName;
 use crate::ending::end_fault;
-use mp_command_line::SchemeName;
-use mp_driver::Fault;
 use mp_memory::{Memory, NoMemory};
+use mp_session::Fault;
 use mp_signatures::{Scheme, Signatures};
 use std::process::ExitCode;
 

@@ -5,7 +5,7 @@ use Rattle.std.specs.Option.{option_or}
 use Rattle.mp_history.specs.Entry.{Entry}
 use Rattle.mp_history.specs.Log.{Log, Begins, last_of}
 use Rattle.mp_history.proofs.Law.{eqb-refl}
-use Rattle.mp_reader.specs.Pass.{Pass, IsEntryOf, IsOwn}
+use Rattle.mp_mempool.specs.Pass.{Pass, IsEntryOf, IsOwn}
 use Rattle.mp_mempool.specs.Answers.{AreOthers, IsForeign}
 
 -- the caller made the entry at this place

@@ -2,3 +2,9 @@ pub mod Entries
 pub mod Points
 pub mod Numbered
 pub mod Succeeding
+pub mod Seeing
+pub mod Signed
+pub mod Entering
+pub mod Places
+pub mod Preparing
+pub mod Steps

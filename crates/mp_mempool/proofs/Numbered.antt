@@ -7,7 +7,7 @@ use Rattle.std.proofs.lemmas.List.{take_more, length-map}
 use Rattle.std.proofs.lemmas.List.FromFn.{length-range_with_len, get_or-range_with_len}
 use Rattle.std.proofs.lemmas.Option.{slice_get-get_or, slice_get-map, slice_get_past, slice_get_cases, get_or_from_slice_get, none-some}
 use Rattle.std.proofs.Math.Seq.{take-length}
-use Rattle.mp_reader.specs.Pass.{Pass}
+use Rattle.mp_mempool.specs.Pass.{Pass}
 use Rattle.mp_mempool.specs.Successor.{numbers, AreAll, AreBadAt}
 
 take-range : (a n k : ℕ) → k ≤ n → take k (range_with_len a n) ≡ range_with_len a k

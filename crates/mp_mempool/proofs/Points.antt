@@ -9,9 +9,9 @@ use Rattle.mp_seqpool.specs.SlowPool.{answer}
 use Rattle.mp_seqpool.specs.SlowPool as slow
 use Rattle.mp_history.specs.Entry.{Entry}
 use Rattle.mp_history.specs.Log.{Log, Begins, IsLegalLog, entered, last_of, state_after}
-use Rattle.mp_reader.specs.Pass.{Pass, IsOwn}
-use Rattle.mp_reader.specs.Seen.{continued}
-use Rattle.mp_reader.proofs.Seeing.{goes_on}
+use Rattle.mp_mempool.specs.Pass.{Pass, IsOwn}
+use Rattle.mp_mempool.specs.Seen.{continued}
+use Rattle.mp_mempool.proofs.Seeing.{goes_on}
 use Rattle.mp_mempool.specs.declared.refusal.Refusal.TheVariants.{Pool}
 use Rattle.mp_mempool.specs.Answers.{IsEntered, IsRefusedAt, IsRefused, with_entry}
 use Rattle.mp_mempool.proofs.Entries.{others}

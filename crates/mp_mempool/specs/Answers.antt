@@ -8,8 +8,8 @@ use Rattle.mp_seqpool.specs.Command.{Command}
 use Rattle.mp_seqpool.specs.SlowPool.{answer}
 use Rattle.mp_history.specs.Entry.{Entry}
 use Rattle.mp_history.specs.Log.{Log, Begins, IsLegalLog, entered, last_of, state_after}
-use Rattle.mp_reader.specs.Pass.{Pass, IsEntryOf}
-use Rattle.mp_reader.specs.Seen.{continued, seen}
+use Rattle.mp_mempool.specs.Pass.{Pass, IsEntryOf}
+use Rattle.mp_mempool.specs.Seen.{continued, seen}
 use Rattle.mp_mempool.specs.declared.refusal.Refusal.{Refusal}
 use Rattle.mp_mempool.specs.declared.refusal.Refusal.TheVariants.{Pool, Foreign}
 

@@ -4,7 +4,7 @@ use Rattle.mp_tx.specs.Ledger.{LedgerState}
 use Rattle.mp_seqpool.specs.SlowPool.{empty_pool}
 use Rattle.mp_history.specs.Log.{Log}
 use Rattle.mp_history.specs.Caller.{new_callers}
-use Rattle.mp_reader.specs.Pass.{Pass, pass_of}
+use Rattle.mp_mempool.specs.Pass.{Pass, pass_of}
 use Rattle.mp_mempool.specs.declared.config.Config.{Config}
 use Rattle.mp_mempool.specs.declared.refusal.OpenRefusal.{OpenRefusal}
 use Rattle.mp_mempool.specs.declared.refusal.OpenRefusal.TheVariants.{NoMemory, BadCallers, BadLimit}

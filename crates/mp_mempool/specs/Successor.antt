@@ -4,7 +4,7 @@ use Rattle.std.specs.List.{range_with_len}
 use Rattle.mp_rules.specs.Verifier.{Accepts}
 use Rattle.mp_history.specs.Log.{Log, Begins, IsLegalLog, last_of}
 use Rattle.mp_history.specs.Successors.{successor}
-use Rattle.mp_reader.specs.Pass.{Pass}
+use Rattle.mp_mempool.specs.Pass.{Pass}
 use Rattle.mp_mempool.specs.declared.refusal.OpenRefusal.TheVariants as opening
 use Rattle.mp_mempool.specs.declared.refusal.SuccessorRefusal.{SuccessorRefusal}
 use Rattle.mp_mempool.specs.declared.refusal.SuccessorRefusal.TheVariants.{NoMemory, BadPasses, BadCallers, BadLimit, Foreign}

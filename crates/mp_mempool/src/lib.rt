@@ -5,12 +5,14 @@
 mod config;
 mod mempool;
 mod opening;
+mod read;
 mod readers;
 mod refusal;
 mod successor;
 pub mod under_lock;
+pub mod write;
 
 pub use config::Config;
 pub use mempool::{Handover, Mempool, Opened};
-pub use mp_reader::{Pass, Reader, Receipt, SnapshotFor};
+pub use read::{Pass, Reader, Receipt, SnapshotFor};
 pub use refusal::{OpenRefusal, Refusal, SuccessorRefusal};

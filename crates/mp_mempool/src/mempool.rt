@@ -11,14 +11,14 @@ ghost use Rattle.mp_mempool.specs.Inside.Heir.{IsHeir};
 
 use crate::config::Config;
 use crate::opening::{Parts, open_fault, open_parts};
+use crate::read::{Pass, Reader, Receipt};
 use crate::readers::{Readers, make_readers};
 use crate::refusal::{OpenRefusal, Refusal, SuccessorRefusal};
 use crate::successor::{Heir, prepare};
 use crate::under_lock::{remove_in, submit_in, sync_in};
+use crate::write::Locked;
 use mp_history::{History, NewName, PoolName};
-use mp_locked::Locked;
 use mp_memory::{Memory, NoMemory};
-use mp_reader::{Pass, Reader, Receipt};
 use mp_rules::Verifier;
 use mp_seqpool::{Command, Ids};
 use mp_tx::{Ledger, Tx};

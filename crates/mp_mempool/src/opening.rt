@@ -2,15 +2,15 @@
 ghost use Rattle.std.specs.Prelude.{◌≡◌, ◌≤◌, ◌^◌, [], ◌∷◌, ◌++◌, All, map, length, replicate, None, Some, IfNone, IfOk, OnOk};
 ghost use Rattle.mp_history.specs.Log.{IsLegalLog};
 ghost use Rattle.mp_history.specs.PoolName.{head_of};
-ghost use Rattle.mp_reader.specs.Pass.{pass_of};
+ghost use Rattle.mp_mempool.specs.Pass.{pass_of};
 ghost use Rattle.mp_mempool.specs.Opening.{fresh_log, fresh_passes, open_fault};
 
 use crate::config::Config;
+use crate::read::Pass;
 use crate::refusal::OpenRefusal;
+use crate::write::Locked;
 use mp_history::{Caller, CommitRight, History, NewName, PoolName};
-use mp_locked::Locked;
 use mp_memory::{Memory, NoMemory};
-use mp_reader::Pass;
 use mp_seqpool::SeqPool;
 use mp_tx::Ledger;
 use mp_versions::{Boards, Publisher, Shown, Version};

@@ -2,9 +2,9 @@
 ghost use Rattle.std.specs.Prelude.{◌≡◌};
 ghost use Rattle.std.specs.Arc.{arc_value};
 
+use crate::read::Reader;
 use mp_history::PoolName;
 use mp_memory::{Memory, NoMemory};
-use mp_reader::Reader;
 use mp_rules::Verifier;
 use mp_versions::Boards;
 use std::sync::Arc;

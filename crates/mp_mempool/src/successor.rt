@@ -9,12 +9,12 @@ ghost use Rattle.mp_mempool.specs.Successor.{numbers, AreAll, AreBadAt, IsKnownT
 ghost use Rattle.mp_mempool.specs.Inside.Heir.{IsHeir};
 
 use crate::opening::{Desk, open_fault, set_desk};
+use crate::read::{Pass, Reader};
 use crate::readers::{Readers, make_readers};
 use crate::refusal::{OpenRefusal, SuccessorRefusal};
+use crate::write::Locked;
 use mp_history::{CommitRight, Front, History, NewName, PoolName};
-use mp_locked::Locked;
 use mp_memory::{Memory, NoMemory};
-use mp_reader::{Pass, Reader};
 use mp_rules::Verifier;
 use mp_versions::{Publisher, Shown};
 use std::sync::{Arc, Wait};

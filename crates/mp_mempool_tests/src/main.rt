@@ -9,7 +9,7 @@ mod seqpool;
 mod trials;
 
 use mp_memory::Memory;
-use mp_pool_samples::samples::{Samples, all_samples};
+use mp_testing::commands::{Samples, all_samples};
 use peers::costs::alike_offers;
 use std::io;
 use std::rt::Clock;

@@ -21,7 +21,7 @@ use crate::mempool::tables::held_tables;
 use crate::mempool::threads::held_threads;
 use crate::mempool::unshown::held_unshown;
 pub use calls::ask;
-use mp_pool_samples::samples::Samples;
+use mp_testing::commands::Samples;
 use std::io;
 use std::sync::Wait;
 use std::thread::Threads;

@@ -3,7 +3,7 @@
 //! fail.
 ghost use Rattle.std.specs.Prelude.{◌≡◌};
 ghost use Rattle.mp_history.specs.PoolName.{head_of};
-ghost use Rattle.mp_pool_samples.specs.Names.{any};
+ghost use Rattle.mp_testing.specs.Names.{any};
 
 mod asks;
 pub mod costs;
@@ -17,9 +17,8 @@ use mp_history::{NewName, PoolName};
 use mp_memory::Memory;
 use mp_mempool::{Config, Mempool, Pass, Reader};
 use mp_peer::PeerReader;
-use mp_pool_samples::samples::{ALL, Samples};
-use mp_pool_samples::{ACCEPTS_ALL, AcceptsAll};
-use mp_testing::count;
+use mp_testing::commands::{ALL, Samples};
+use mp_testing::{ACCEPTS_ALL, AcceptsAll, count};
 use mp_tx::Ledger;
 use std::io;
 use std::marker::Brand;

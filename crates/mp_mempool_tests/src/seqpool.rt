@@ -2,11 +2,10 @@
 //! same call then answers.
 use crate::trials::{Trial, count_trial};
 use mp_memory::NoMemory;
-use mp_pool_samples::samples::{AFTER_FIRST, GUARDED, OF_120, REMOVE_FIRST, Samples, THREE};
-use mp_pool_samples::told::{Told, read_answer, with_digit};
-use mp_pool_samples::{ACCEPTS_ALL, CONFIG};
 use mp_seqpool::{Command, SeqPool, play};
-use mp_testing::{Call, Seen, under_each_refusal};
+use mp_testing::commands::{AFTER_FIRST, GUARDED, OF_120, REMOVE_FIRST, Samples, THREE};
+use mp_testing::told::{Told, read_answer, with_digit};
+use mp_testing::{ACCEPTS_ALL, CONFIG, Call, Seen, under_each_refusal};
 use mp_versions::Version;
 use std::io;
 

@@ -11,7 +11,6 @@ mod lines;
 mod name_costs;
 mod names;
 mod output;
-mod picture;
 mod rows;
 mod rules;
 mod salts;
@@ -78,8 +77,7 @@ fn try_text(rt: &(impl Print + Clock), alloc: Global, memory: Memory) -> io::Res
     tell(rt, "names", &names::stories(memory))?;
     tell(rt, "growths of names", &names::growths(memory))?;
     tell(rt, "many names", &names::many(memory))?;
-    tell(rt, "costs of names", &name_costs::steps(rt, memory))?;
-    tell(rt, "pictures", &picture::growths(memory))
+    tell(rt, "costs of names", &name_costs::steps(rt, memory))
 }
 
 fn main(rt: HostRuntime) -> Result<()> {

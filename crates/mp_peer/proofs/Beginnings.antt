@@ -11,14 +11,14 @@ use Rattle.mp_utxo.specs.Apply.{Unspent, apply}
 use Rattle.mp_rules.specs.Verifier.{Accepts}
 use Rattle.mp_rules.specs.Validity.{Chain}
 use Rattle.mp_tickets.specs.Tickets.{after}
-use Rattle.mp_resync.specs.Keep.{transactions, bytes_of}
+use Rattle.mp_seqpool.specs.Keep.{transactions, bytes_of}
 use Rattle.mp_seqpool.specs.Pool.{Pool}
 use Rattle.mp_seqpool.specs.PoolLaws.{IsLawful}
 use Rattle.mp_seqpool.proofs.Histories.{lawful-after}
 use Rattle.mp_history.specs.Log.{Log, IsLegalLog, commands, state_after}
 use Rattle.mp_history.proofs.Prefixes.{prefix_trans}
 use Rattle.mp_seqpool.specs.Reading.{within, offer}
-use Rattle.mp_items.proofs.Withins.{longest_within}
+use Rattle.mp_versions.proofs.Withins.{longest_within}
 use Rattle.mp_peer.specs.Offers.{IsLongestOffer}
 use Rattle.mp_peer.specs.Blocks.{IsValidBlock}
 

@@ -4,7 +4,7 @@ use Rattle.std.specs.Prelude.{Result, Ok, Err, OnErr}
 use Rattle.std.proofs.lemmas.List.Sums.{sum_by-cons}
 use Rattle.mp_tx.specs.Transaction.{Transaction}
 use Rattle.mp_tx.specs.Spelling.{size_of}
-use Rattle.mp_resync.specs.Keep.{transactions, bytes_of}
+use Rattle.mp_seqpool.specs.Keep.{transactions, bytes_of}
 
 -- after one more item, the items so far and those that may still come are the same
 pub one_taken : (count at : ℕ) (done all left rest : List (ℕ × Transaction)) (i : ℕ × Transaction) → at < count → left ≡ i ∷ rest → done ++ take (count - at) left ≡ all

@@ -4,7 +4,7 @@ use Rattle.std.specs.List.Sorted.{IsStrictlyIncreasing}
 use mathlib.Core.List.{IsPrefix}
 use Rattle.mp_tx.specs.Transaction.{Transaction}
 use Rattle.mp_rules.specs.Verifier.{Accepts}
-use Rattle.mp_resync.specs.Keep.{tickets, bytes_of}
+use Rattle.mp_seqpool.specs.Keep.{tickets, bytes_of}
 use Rattle.mp_history.specs.Log.{Log, Begins, state_after}
 use Rattle.mp_history.specs.Successors.{Succeeds}
 use Rattle.mp_seqpool.specs.Reading.{offer, moved}

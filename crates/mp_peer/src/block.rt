@@ -1,15 +1,14 @@
 //! Blocks of a pool's transactions.
 ghost use Rattle.std.specs.Prelude.{◌≡◌, ◌≢◌, ◌<◌, ◌^◌, [], length, IfOk, OnErr};
-ghost use Rattle.mp_resync.specs.Keep.{bytes_of};
+ghost use Rattle.mp_seqpool.specs.Keep.{bytes_of};
 ghost use Rattle.mp_history.specs.Log.{state_after};
 ghost use Rattle.mp_seqpool.specs.Item.{items_of};
 ghost use Rattle.mp_seqpool.specs.Reading.{within};
 
 use crate::first_items::share_first;
 use mp_history::PoolName;
-use mp_items::{Item, Items};
 use mp_memory::{Memory, NoMemory};
-use mp_versions::Snapshot;
+use mp_versions::{Item, Items, Snapshot};
 
 /// The first transactions of a pool, for a block. They are the pool's own, and shared.
 #[derive(Drop)]

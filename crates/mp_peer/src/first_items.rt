@@ -2,8 +2,8 @@
 ghost use Rattle.std.specs.Prelude.{◌≡◌, ◌≢◌, [], take, IfOk, OnOk, OnErr};
 ghost use Rattle.mp_seqpool.specs.Item.{items_of};
 
-use mp_items::{Item, Items, RunWithin};
 use mp_memory::{Memory, NoMemory};
+use mp_versions::{Item, Items, RunWithin};
 
 // Adds the run's first items, at most `count`, to an empty vector.
 fn push_first(

@@ -5,9 +5,8 @@ ghost use Rattle.mp_seqpool.specs.Reading.{moved, offer};
 
 use crate::first_items::share_first;
 use mp_history::PoolName;
-use mp_items::Items;
 use mp_memory::{Memory, NoMemory};
-use mp_versions::Snapshot;
+use mp_versions::{Items, Snapshot};
 use std::marker::Model;
 
 /// Reads a pool for one peer. Each offer has what comes after the last one. So no transaction is offered twice under one ticket,

@@ -2,10 +2,9 @@
 //! other transactions, and each allocation fails in turn before.
 use crate::rounds::{answers, growths};
 use mp_memory::Memory;
-use mp_pool_samples::CONFIG;
-use mp_pool_samples::samples::{push_remove, push_tx, submitted};
 use mp_seqpool::{Command, SeqPool};
-use mp_testing::{Seen, count, ledger, opening, output_of, parts};
+use mp_testing::commands::{push_remove, push_tx, submitted};
+use mp_testing::{CONFIG, Seen, count, ledger, opening, output_of, parts};
 use std::io;
 
 const SMALL: u16 = 200;

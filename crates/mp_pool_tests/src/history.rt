@@ -7,7 +7,7 @@ mod handovers;
 use crate::history::audits::held_audits;
 use crate::history::committing::held_commits;
 use crate::history::handovers::held_handovers;
-use mp_pool_samples::samples::Samples;
+use mp_testing::commands::Samples;
 use std::io;
 use std::sync::Wait;
 use std::thread::Threads;

@@ -9,7 +9,7 @@ mod seqpool;
 mod versions;
 
 use mp_memory::Memory;
-use mp_pool_samples::samples::{Samples, all_samples};
+use mp_testing::commands::{Samples, all_samples};
 use std::io;
 use std::sync::Wait;
 use std::thread::Threads;

@@ -1,10 +1,9 @@
 //! The cost of removes, round after round. A remove of a transaction without dependents builds no overlay, and the
 //! number of vacant places stays bounded.
 use mp_memory::Memory;
-use mp_pool_samples::samples::{ALL, REMOVE_FIRST, Samples};
-use mp_pool_samples::{ACCEPTS_ALL, CONFIG};
 use mp_seqpool::{Command, SeqPool};
-use mp_testing::{Seen, count};
+use mp_testing::commands::{ALL, REMOVE_FIRST, Samples};
+use mp_testing::{ACCEPTS_ALL, CONFIG, Seen, count};
 use std::io;
 
 const ROUNDS: u64 = 200;

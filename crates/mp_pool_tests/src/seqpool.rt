@@ -1,10 +1,9 @@
 //! The sequential pool: answers to commands that no scenario can give, computed by hand. A scenario's remove names at
 //! least one transaction, and its sync can't change the output of a reference.
-use mp_pool_samples::samples::{GUARDED, OF_100, Samples};
-use mp_pool_samples::told::{Told, read_answer, with_digit};
-use mp_pool_samples::{ACCEPTS_ALL, CONFIG};
 use mp_seqpool::{Played, SeqPool, play};
-use mp_testing::{Seen, count};
+use mp_testing::commands::{GUARDED, OF_100, Samples};
+use mp_testing::told::{Told, read_answer, with_digit};
+use mp_testing::{ACCEPTS_ALL, CONFIG, Seen, count};
 use std::io;
 
 // The answers to the guarded commands, on a pool whose guarded output has 100 coin. The validator reads the bundle of

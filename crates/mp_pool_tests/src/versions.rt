@@ -10,7 +10,7 @@ use crate::versions::board::held_boards;
 use crate::versions::pages::held_pages;
 use crate::versions::reading::held_readings;
 use crate::versions::sharing::held_shares;
-use mp_pool_samples::samples::Samples;
+use mp_testing::commands::Samples;
 use std::io;
 use std::sync::Wait;
 use std::thread::Threads;

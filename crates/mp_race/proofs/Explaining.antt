@@ -7,7 +7,7 @@ use Rattle.mp_rules.specs.Verifier.{Accepts}
 use Rattle.mp_seqpool.specs.Pool.{Pool}
 use Rattle.mp_history.specs.Entry.{Entry}
 use Rattle.mp_history.specs.Log.{Log, Begins, IsLegalLog, last_of}
-use Rattle.mp_reader.specs.Pass.{Pass}
+use Rattle.mp_mempool.specs.Pass.{Pass}
 use Rattle.mp_race.specs.declared.told.Done.{Done}
 use Rattle.mp_race.specs.declared.told.Refused.{Refused}
 use Rattle.mp_race.specs.declared.ordering.Ordered.{Ordered}

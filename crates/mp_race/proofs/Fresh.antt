@@ -7,7 +7,7 @@ use Rattle.std.proofs.lemmas.List.FromFn.{length-range_with_len}
 use Rattle.std.proofs.lemmas.List.Elements.{All-nil, All-cons}
 use Rattle.mp_history.specs.Log.{Log}
 use Rattle.mp_history.specs.Caller.{new_caller}
-use Rattle.mp_reader.specs.Pass.{Pass, pass_of}
+use Rattle.mp_mempool.specs.Pass.{Pass, pass_of}
 use Rattle.mp_mempool.specs.Opening.{fresh_passes}
 use Rattle.mp_race.specs.Inside.Work.{IsUnused}
 

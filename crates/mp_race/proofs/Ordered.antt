@@ -9,7 +9,7 @@ use Rattle.std.proofs.lemmas.List.Elements.{All-head, All-tail}
 use Rattle.std.proofs.lemmas.Option.{slice_get_within, get_or_from_slice_get}
 use Rattle.mp_history.specs.Entry.{Entry}
 use Rattle.mp_history.specs.Log.{Log, last_of}
-use Rattle.mp_reader.specs.Pass.{Pass}
+use Rattle.mp_mempool.specs.Pass.{Pass}
 use Rattle.mp_race.specs.declared.told.Done.{Done}
 use Rattle.mp_race.specs.declared.ordering.Ordered.{Ordered}
 use Rattle.mp_race.specs.Task.{Task}

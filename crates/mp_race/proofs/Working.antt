@@ -11,8 +11,8 @@ use Rattle.mp_seqpool.specs.Pool.{Pool}
 use Rattle.mp_seqpool.specs.SlowPool.{answer}
 use Rattle.mp_history.specs.Entry.{Entry}
 use Rattle.mp_history.specs.Log.{Log, Begins, pool_of, state_after}
-use Rattle.mp_reader.specs.Pass.{Pass}
-use Rattle.mp_reader.specs.Seen.{IsSeen, seen, continued}
+use Rattle.mp_mempool.specs.Pass.{Pass}
+use Rattle.mp_mempool.specs.Seen.{IsSeen, seen, continued}
 use Rattle.mp_mempool.specs.Answers.{IsEntered, IsRefusedAt, AreOthers, with_entry}
 use Rattle.mp_race.specs.declared.told.Done.{Done}
 use Rattle.mp_race.specs.declared.told.Refused.{Refused}

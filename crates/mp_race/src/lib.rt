@@ -10,6 +10,7 @@ mod input;
 mod jobs;
 mod laws;
 mod ordering;
+pub mod picture;
 mod racing;
 mod reading;
 mod refusals;

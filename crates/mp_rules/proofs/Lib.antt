@@ -11,3 +11,8 @@ pub mod SameOutputs
 pub mod Order
 pub mod Meeting
 pub mod GivesTrue
+pub mod Spending
+pub mod Making
+pub mod BlockEffect
+pub mod Blocks
+pub mod BlockTouches

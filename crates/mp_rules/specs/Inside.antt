@@ -4,3 +4,4 @@ pub mod Resolved
 pub mod Groups
 pub mod ScriptContext
 pub mod Unmoved
+pub mod RefusedBlock

@@ -7,3 +7,7 @@ pub mod Checked
 pub mod Invalid
 pub mod Laws
 pub mod Inside
+pub mod Block
+pub mod Touched
+pub mod BlockRefusal
+pub mod BlockLaws

@@ -1,8 +1,8 @@
 -- The exit status of the program.
 use Rattle.std.specs.Prelude.{◌≡◌, ℕ, List, Option, Result, Ok, Err}
 use Rattle.mp_signatures.specs.declared.scheme.Scheme.{Scheme}
-use Rattle.mp_driver.specs.declared.fault.Fault.{Fault}
-use Rattle.mp_driver.specs.Ending.{Ended}
+use Rattle.mp_session.specs.declared.fault.Fault.{Fault}
+use Rattle.mp_session.specs.Ending.{Ended}
 
 -- 0, or 1 after a fault
 abbrev pub status_of : Result (Unit {0}) Fault → ℕ

@@ -7,6 +7,7 @@ mod cases;
 mod devices;
 mod long;
 mod meeting;
+mod picture;
 mod reports;
 mod runs;
 mod serving;
@@ -27,6 +28,7 @@ fn check_all<R: Print + Threads + Wait + Sync>(
     println!(rt; "runs {}", runs::held(rt, memory, alloc)?)?;
     println!(rt; "talks {}", talks::held(rt, memory, alloc)?)?;
     println!(rt; "reports {}", reports::held(rt, memory)?)?;
+    println!(rt; "pictures {}", picture::held(rt, memory)?)?;
     println!(rt; "long {}", long::held(rt, memory)?)?;
     println!(rt; "meetings {}", meeting::held(rt, memory)?)?;
     println!(rt; "devices {}", devices::held(rt, memory, alloc)?)?;

@@ -1,6 +1,6 @@
 //! Runs of scenarios: devices that fail, the most bytes of an input, and allocations that fail.
-use mp_driver::{Fault, run};
 use mp_memory::Memory;
+use mp_session::{Fault, run};
 use mp_signatures::{Scheme, Signatures};
 use mp_testing::{FailingReader, FailingWriter, MAX_GROWTHS, Seen, count};
 use std::alloc::Global;

@@ -5,11 +5,11 @@ use std::alloc::Global;
 use std::io;
 
 // Of runs.
-const RUNS: [(mp_driver::Fault, u64, &str); 4] = [
-    (mp_driver::Fault::NoMemory, 1, "fault: no memory"),
-    (mp_driver::Fault::BadLine(7), 2, "fault: bad line 7"),
-    (mp_driver::Fault::ReadFault, 3, "fault: read"),
-    (mp_driver::Fault::WriteFault, 4, "fault: write"),
+const RUNS: [(mp_session::Fault, u64, &str); 4] = [
+    (mp_session::Fault::NoMemory, 1, "fault: no memory"),
+    (mp_session::Fault::BadLine(7), 2, "fault: bad line 7"),
+    (mp_session::Fault::ReadFault, 3, "fault: read"),
+    (mp_session::Fault::WriteFault, 4, "fault: write"),
 ];
 
 // Of races.

@@ -26,9 +26,9 @@ use Rattle.mp_rules.proofs.Faults.{each_rule}
 use Rattle.mp_rules.proofs.Meeting.{validity_is_local}
 use Rattle.mp_rules.proofs.Valid.{valid}
 use Rattle.mp_tickets.specs.Tickets.{IsRisingFrom, IsRising, item_at}
-use Rattle.mp_resync.specs.ValidatedTx.{ticketed}
-use Rattle.mp_resync.specs.Parted.{is_timely, is_spent_since, is_lost, IsUntouched}
-use Rattle.mp_resync.specs.Keep.{transactions, tickets, is_valid, keep_upon, keep, dropped_upon}
+use Rattle.mp_seqpool.specs.ValidatedTx.{ticketed}
+use Rattle.mp_seqpool.specs.Parted.{is_timely, is_spent_since, is_lost, IsUntouched}
+use Rattle.mp_seqpool.specs.Keep.{transactions, tickets, is_valid, keep_upon, keep, dropped_upon}
 use Rattle.mp_seqpool.specs.declared.command.Reply.TheVariants.{Synced}
 use Rattle.mp_seqpool.specs.Command.{Sync}
 use Rattle.mp_seqpool.specs.Pool.{Pool, Holding}

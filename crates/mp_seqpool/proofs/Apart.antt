@@ -7,7 +7,7 @@ use Rattle.mp_tx.specs.Transaction.{Transaction}
 use Rattle.mp_utxo.specs.Apply.{Unspent, apply}
 use Rattle.mp_rules.specs.Verifier.{Accepts}
 use Rattle.mp_tickets.specs.Tickets.{IsRisingFrom, has_ticket}
-use Rattle.mp_resync.specs.Keep.{tickets, is_named, named, unnamed, is_valid, keep_upon, dropped_upon}
+use Rattle.mp_seqpool.specs.Keep.{tickets, is_named, named, unnamed, is_valid, keep_upon, dropped_upon}
 use Rattle.mp_seqpool.specs.Prepared.{apart}
 
 pub all_above : (low m : ℕ) (ys : List (ℕ × Transaction)) → m ≤ low → IsRisingFrom low ys → AllByRecursion (λ y. m < y.0) ys

@@ -11,7 +11,7 @@ use Rattle.mp_rules.specs.Checked.{IsSigned}
 use Rattle.mp_rules.proofs.Faults.{each_rule}
 use Rattle.mp_rules.proofs.Meeting.{still}
 use Rattle.mp_rules.proofs.Valid.{faultless}
-use Rattle.mp_resync.specs.Keep.{transactions, is_valid, keep_upon, dropped_upon}
+use Rattle.mp_seqpool.specs.Keep.{transactions, is_valid, keep_upon, dropped_upon}
 use Rattle.mp_seqpool.specs.Inside.Chained.{all_accepted}
 
 module _ (accepts : Accepts) where

@@ -16,7 +16,7 @@ use Rattle.mp_rules.specs.Validity.{Chain, InInterval, InputsThere, ReferencesTh
 use Rattle.mp_rules.specs.FirstFault.{first_fault}
 use Rattle.mp_rules.proofs.Valid.{valid, faultless}
 use Rattle.mp_rules.proofs.Meeting.{validity_is_local}
-use Rattle.mp_resync.specs.Keep.{transactions, is_named, named, unnamed, is_valid, keep_upon, dropped_upon}
+use Rattle.mp_seqpool.specs.Keep.{transactions, is_named, named, unnamed, is_valid, keep_upon, dropped_upon}
 use Rattle.mp_seqpool.specs.Pool.{Pool}
 use Rattle.mp_seqpool.specs.PoolLaws.{IsLawful}
 use Rattle.mp_seqpool.specs.Dependents.{is_among, hangs_on, left_of, dependents_of, ids_named, IsApart, DropsDependents}

@@ -10,7 +10,7 @@ use Rattle.mp_utxo.specs.Overlay.{IsUnder, HasNone}
 use Rattle.mp_utxo.proofs.Items.{in-txs}
 use Rattle.mp_utxo.proofs.Makers.{Apart, apart-ids, other_bytes}
 use Rattle.mp_utxo.proofs.Places.{In, in-contains, all-at}
-use Rattle.mp_resync.specs.Keep.{transactions}
+use Rattle.mp_seqpool.specs.Keep.{transactions}
 use Rattle.mp_seqpool.specs.SlowPool.{ticket_of}
 
 missed : {A : Type 0} (b : Bool) (x : A) (o : Option A) → cond b (Some x) o ≡ None → (b ≡ false) × (o ≡ None)

@@ -9,7 +9,7 @@ use Rattle.mp_rules.specs.Verifier.{Accepts}
 use Rattle.mp_rules.specs.Validity.{IsValid}
 use Rattle.mp_rules.proofs.Valid.{valid}
 use Rattle.mp_tickets.specs.Tickets.{IsRising}
-use Rattle.mp_resync.specs.Keep.{transactions, unnamed, keep, dropped}
+use Rattle.mp_seqpool.specs.Keep.{transactions, unnamed, keep, dropped}
 use Rattle.mp_seqpool.specs.declared.refusal.Refusal.TheVariants as refusals
 use Rattle.mp_seqpool.specs.declared.command.Reply.{Reply}
 use Rattle.mp_seqpool.specs.Command.{Command, Submit, Remove, Sync}

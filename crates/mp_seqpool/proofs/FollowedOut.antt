@@ -12,7 +12,7 @@ use Rattle.mp_rules.specs.Validity.{IsValid, Chain}
 use Rattle.mp_rules.specs.FirstFault.{first_fault}
 use Rattle.mp_rules.proofs.Valid.{valid}
 use Rattle.mp_tickets.specs.Tickets.{IsRisingFrom, has_ticket, item_at}
-use Rattle.mp_resync.specs.Keep.{transactions, tickets, is_named, unnamed, is_valid, keep_upon, dropped_upon}
+use Rattle.mp_seqpool.specs.Keep.{transactions, tickets, is_named, unnamed, is_valid, keep_upon, dropped_upon}
 use Rattle.mp_seqpool.specs.Prepared.{apart}
 use Rattle.mp_seqpool.specs.Inside.Followed.{beyond}
 use Rattle.mp_seqpool.proofs.Apart.{all_above, not_among, above_tested}

@@ -18,7 +18,7 @@ use Rattle.mp_utxo.proofs.Makers.{apart-ids}
 use Rattle.mp_utxo.proofs.Places.{In, in-contains}
 use Rattle.mp_tickets.specs.Tickets.{IsRising, has_ticket, item_at}
 use Rattle.mp_tickets.proofs.Rising.{rising_after}
-use Rattle.mp_resync.specs.Keep.{transactions}
+use Rattle.mp_seqpool.specs.Keep.{transactions}
 use Rattle.mp_seqpool.specs.Prepared.{apart, GoInTurn}
 use Rattle.mp_seqpool.proofs.Apart.{rising_filter}
 use Rattle.mp_seqpool.proofs.Dependents.{weaker}

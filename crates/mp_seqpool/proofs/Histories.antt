@@ -15,7 +15,7 @@ use Rattle.mp_rules.specs.Verifier.{Accepts}
 use Rattle.mp_rules.specs.Validity.{Chain}
 use Rattle.mp_rules.specs.FirstFault.{first_fault}
 use Rattle.mp_rules.proofs.Valid.{valid}
-use Rattle.mp_resync.specs.Keep.{transactions, tickets, unnamed, keep}
+use Rattle.mp_seqpool.specs.Keep.{transactions, tickets, unnamed, keep}
 use Rattle.mp_seqpool.specs.declared.refusal.Refusal.{Refusal}
 use Rattle.mp_seqpool.specs.declared.refusal.Refusal.TheVariants as refusals
 use Rattle.mp_seqpool.specs.declared.command.Reply.{Reply}

@@ -14,8 +14,8 @@ use Rattle.mp_utxo.specs.Leaf.{IsLeaf, LacksOne, others, other_items}
 use Rattle.mp_rules.specs.Verifier.{Accepts}
 use Rattle.mp_rules.specs.Validity.{Chain}
 use Rattle.mp_tickets.specs.Tickets.{IsRising, has_ticket, item_at, without}
-use Rattle.mp_resync.specs.ValidatedTx.{ValidatedTx, ticketed}
-use Rattle.mp_resync.specs.Keep.{transactions}
+use Rattle.mp_seqpool.specs.ValidatedTx.{ValidatedTx, ticketed}
+use Rattle.mp_seqpool.specs.Keep.{transactions}
 use Rattle.mp_seqpool.specs.Prepared.{apart, GoInTurn}
 use Rattle.mp_seqpool.specs.Inside.Chained.{all_accepted}
 use Rattle.mp_seqpool.specs.Inside.NamedLeaves.{Lacks}

@@ -13,7 +13,7 @@ use Rattle.mp_rules.specs.FirstFault.{first_fault}
 use Rattle.mp_rules.specs.Checked.{IsSigned}
 use Rattle.mp_rules.proofs.Faults.{each_rule}
 use Rattle.mp_rules.proofs.Valid.{valid}
-use Rattle.mp_resync.specs.Keep.{transactions, tickets, is_named, unnamed, is_valid, keep_upon}
+use Rattle.mp_seqpool.specs.Keep.{transactions, tickets, is_named, unnamed, is_valid, keep_upon}
 
 -- ---- lists
 

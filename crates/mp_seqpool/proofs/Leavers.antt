@@ -13,8 +13,8 @@ use Rattle.mp_tx.specs.Spelling.{id_of, size_of}
 use Rattle.mp_rules.specs.Checked.{WasValid}
 use Rattle.mp_tickets.specs.Tickets.{IsRisingFrom, IsRising, has_ticket, item_at, without}
 use Rattle.mp_tickets.proofs.Rising.{rising_after, not_after, without-none, rising_without}
-use Rattle.mp_resync.specs.ValidatedTx.{ValidatedTx, ticketed}
-use Rattle.mp_resync.specs.Keep.{transactions, tickets}
+use Rattle.mp_seqpool.specs.ValidatedTx.{ValidatedTx, ticketed}
+use Rattle.mp_seqpool.specs.Keep.{transactions, tickets}
 use Rattle.mp_seqpool.specs.declared.command.Reply.TheVariants.{Accepted, Removed, Synced}
 use Rattle.mp_seqpool.specs.Prepared.{apart}
 use Rattle.mp_seqpool.specs.Inside.Leaving.{bytes_in, AreKnown, lacking, TakesOut, Leaves}

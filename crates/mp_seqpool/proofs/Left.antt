@@ -12,10 +12,10 @@ use Rattle.mp_utxo.specs.Apply.{Unspent, apply}
 use Rattle.mp_rules.specs.Verifier.{Accepts}
 use Rattle.mp_rules.specs.Checked.{IsSigned, WasValid}
 use Rattle.mp_tickets.specs.Tickets.{IsRisingFrom, IsRising, has_ticket, among}
-use Rattle.mp_resync.specs.ValidatedTx.{ValidatedTx, IsVouched, ticketed}
-use Rattle.mp_resync.specs.Keep.{transactions, tickets, is_named, named, unnamed, is_valid, keep_upon, keep, dropped}
-use Rattle.mp_resync.specs.declared.kept.Kept.{Kept}
-use Rattle.mp_resync.specs.Kept.{IsKeptOf}
+use Rattle.mp_seqpool.specs.ValidatedTx.{ValidatedTx, IsVouched, ticketed}
+use Rattle.mp_seqpool.specs.Keep.{transactions, tickets, is_named, named, unnamed, is_valid, keep_upon, keep, dropped}
+use Rattle.mp_seqpool.specs.declared.kept.Kept.{Kept}
+use Rattle.mp_seqpool.specs.Kept.{IsKeptOf}
 use Rattle.mp_seqpool.specs.declared.refusal.Refusal.{Refusal}
 use Rattle.mp_seqpool.specs.declared.refusal.Refusal.TheVariants as refusals
 use Rattle.mp_seqpool.specs.declared.command.Reply.{Reply}

@@ -25,3 +25,8 @@ pub mod Submits
 pub mod TakingFollowed
 pub mod TakingOut
 pub mod TicketsNamed
+pub mod KeptLast
+pub mod Naming
+pub mod Revalidated
+pub mod Turns
+pub mod TellingApart

@@ -1,7 +1,7 @@
 -- A pool without items.
 use Rattle.std.proofs.Common.{◌≡◌, ℕ, List, [], ap, ◌∙◌}
 use Rattle.mp_tx.specs.Ledger.{LedgerState}
-use Rattle.mp_resync.specs.ValidatedTx.{ValidatedTx, ticketed}
+use Rattle.mp_seqpool.specs.ValidatedTx.{ValidatedTx, ticketed}
 use Rattle.mp_seqpool.specs.Pool.{Pool}
 use Rattle.mp_seqpool.specs.SlowPool.{empty_pool}
 

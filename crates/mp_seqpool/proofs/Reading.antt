@@ -4,7 +4,7 @@ use Rattle.std.specs.Prelude.{nat_eq, nat_lt, option_map}
 use Rattle.std.proofs.lemmas.Map.Made.{lookup-map_values}
 use Rattle.mp_tx.specs.Transaction.{Transaction}
 use Rattle.mp_tickets.specs.Tickets.{item_at, after}
-use Rattle.mp_resync.specs.ValidatedTx.{ValidatedTx, ticketed}
+use Rattle.mp_seqpool.specs.ValidatedTx.{ValidatedTx, ticketed}
 
 pub item_ticketed : (items : List (ℕ × ValidatedTx)) (ticket : ℕ) → item_at (ticketed items) ticket ≡ option_map (λ v. v.tx) (item_at items ticket)
 item_ticketed items ticket = lookup-map_values (λ (v : ValidatedTx). v.tx) (λ k. nat_eq k ticket) items

@@ -12,7 +12,7 @@ use Rattle.mp_utxo.specs.Apply.{Unspent, apply, after, output_made}
 use Rattle.mp_utxo.specs.Leaf.{IsFed}
 use Rattle.mp_utxo.proofs.Makers.{Apart}
 use Rattle.mp_utxo.proofs.Places.{In}
-use Rattle.mp_resync.specs.Keep.{transactions}
+use Rattle.mp_seqpool.specs.Keep.{transactions}
 use Rattle.mp_seqpool.proofs.Dependents.{weaker}
 use Rattle.mp_seqpool.proofs.LeafOut.{none_there, made_once, spent_gone, still_gone, gone_after, of_spent}
 

@@ -12,8 +12,8 @@ use Rattle.mp_tx.specs.Ledger.{LedgerState}
 use Rattle.mp_rules.specs.Verifier.{Accepts}
 use Rattle.mp_rules.specs.Validity.{IsValid, Chain}
 use Rattle.mp_rules.specs.FirstFault.{first_fault}
-use Rattle.mp_resync.specs.ValidatedTx.{ValidatedTx, ticketed}
-use Rattle.mp_resync.specs.Keep.{transactions, tickets}
+use Rattle.mp_seqpool.specs.ValidatedTx.{ValidatedTx, ticketed}
+use Rattle.mp_seqpool.specs.Keep.{transactions, tickets}
 use Rattle.mp_seqpool.specs.declared.refusal.Refusal.{Refusal}
 use Rattle.mp_seqpool.specs.declared.refusal.Refusal.TheVariants as refusals
 use Rattle.mp_seqpool.specs.declared.command.Reply.{Reply}

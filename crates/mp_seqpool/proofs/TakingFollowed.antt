@@ -18,8 +18,8 @@ use Rattle.mp_utxo.proofs.Places.{In, in-contains, all-at}
 use Rattle.mp_rules.specs.Verifier.{Accepts}
 use Rattle.mp_rules.specs.Validity.{IsValid, InputsThere, ReferencesThere}
 use Rattle.mp_tickets.specs.Tickets.{IsRising, has_ticket, item_at}
-use Rattle.mp_resync.specs.ValidatedTx.{ticketed}
-use Rattle.mp_resync.specs.Keep.{transactions, tickets, is_named}
+use Rattle.mp_seqpool.specs.ValidatedTx.{ticketed}
+use Rattle.mp_seqpool.specs.Keep.{transactions, tickets, is_named}
 use Rattle.mp_seqpool.specs.declared.command.Reply.TheVariants.{Removed}
 use Rattle.mp_seqpool.specs.declared.pool.SeqPool.TheInside.{Inside}
 use Rattle.mp_seqpool.specs.Command.{Remove}

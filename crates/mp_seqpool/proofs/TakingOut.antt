@@ -2,8 +2,8 @@
 use Rattle.std.proofs.Common.{◌≡◌, ℕ, List, sym, ap, subst, ◌∙◌}
 use Rattle.std.specs.Prelude.{All}
 use Rattle.mp_utxo.specs.Overlay.{Overlay}
-use Rattle.mp_resync.specs.ValidatedTx.{ticketed}
-use Rattle.mp_resync.specs.Keep.{transactions}
+use Rattle.mp_seqpool.specs.ValidatedTx.{ticketed}
+use Rattle.mp_seqpool.specs.Keep.{transactions}
 use Rattle.mp_seqpool.specs.declared.command.Reply.{Reply}
 use Rattle.mp_seqpool.specs.declared.pool.SeqPool.TheInside.{Inside}
 use Rattle.mp_seqpool.specs.SlowPool.{pool_upon}

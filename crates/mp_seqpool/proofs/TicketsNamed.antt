@@ -15,7 +15,7 @@ use Rattle.std.proofs.lemmas.Map.Keys.{IsStrictlyIncreasing-dedup}
 use Rattle.mp_tx.specs.Transaction.{Transaction}
 use Rattle.mp_tx.specs.Spelling.{id_of}
 use Rattle.mp_tickets.specs.Tickets.{IsRisingFrom, IsRising, has_ticket}
-use Rattle.mp_resync.specs.Keep.{transactions, tickets, is_named, named}
+use Rattle.mp_seqpool.specs.Keep.{transactions, tickets, is_named, named}
 use Rattle.mp_seqpool.specs.SlowPool.{ticket_of}
 use Rattle.mp_seqpool.proofs.Apart.{all_above, not_among, rising_filter}
 use Rattle.mp_seqpool.proofs.Dependents.{weaker, unlike}

@@ -9,3 +9,7 @@ pub mod Place
 pub mod Rules
 pub mod Steps
 pub mod SeqPool
+pub mod IdSet
+pub mod Judged
+pub mod Parts
+pub mod ValidatedTx

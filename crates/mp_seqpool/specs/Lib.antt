@@ -9,3 +9,7 @@ pub mod Inside
 pub mod Item
 pub mod Reading
 pub mod Dependents
+pub mod Keep
+pub mod Kept
+pub mod Parted
+pub mod ValidatedTx

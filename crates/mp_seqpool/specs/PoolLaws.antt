@@ -7,7 +7,7 @@ use Rattle.mp_seqpool.specs.declared.command.Reply.TheVariants.{Accepted}
 use Rattle.mp_rules.specs.Verifier.{Accepts}
 use Rattle.mp_rules.specs.Validity.{Chain}
 use Rattle.mp_seqpool.specs.Command.{Command}
-use Rattle.mp_resync.specs.Keep.{transactions, tickets}
+use Rattle.mp_seqpool.specs.Keep.{transactions, tickets}
 use Rattle.mp_seqpool.specs.Pool.{Pool}
 use Rattle.mp_seqpool.specs.SlowPool.{answer, next, pool_after}
 

@@ -10,8 +10,8 @@ use Rattle.mp_utxo.specs.Leaf.{IsLeaf}
 use Rattle.mp_rules.specs.Verifier.{Accepts}
 use Rattle.mp_rules.specs.Checked.{WasValid}
 use Rattle.mp_tickets.specs.Tickets.{has_ticket, item_at, among}
-use Rattle.mp_resync.specs.ValidatedTx.{ValidatedTx}
-use Rattle.mp_resync.specs.Keep.{transactions}
+use Rattle.mp_seqpool.specs.ValidatedTx.{ValidatedTx}
+use Rattle.mp_seqpool.specs.Keep.{transactions}
 use Rattle.mp_seqpool.specs.declared.command.Reply.{Reply}
 use Rattle.mp_seqpool.specs.declared.command.Reply.TheVariants.{Accepted, Removed, Synced}
 use Rattle.mp_seqpool.specs.Command.{Command, Submit, Remove, Sync}

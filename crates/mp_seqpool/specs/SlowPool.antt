@@ -11,7 +11,7 @@ use Rattle.mp_rules.specs.declared.invalid.Invalid.{Invalid}
 use Rattle.mp_rules.specs.Verifier.{Accepts}
 use Rattle.mp_rules.specs.FirstFault.{first_fault}
 use Rattle.mp_rules.specs.Checked.{IsSigned}
-use Rattle.mp_resync.specs.Keep.{transactions, tickets, bytes_of, named, unnamed, keep, dropped}
+use Rattle.mp_seqpool.specs.Keep.{transactions, tickets, bytes_of, named, unnamed, keep, dropped}
 use Rattle.mp_seqpool.specs.declared.refusal.Refusal.{Refusal}
 use Rattle.mp_seqpool.specs.declared.refusal.Refusal.TheVariants as refusals
 use Rattle.mp_seqpool.specs.declared.command.Reply.{Reply}

@@ -2,13 +2,13 @@
 
 ghost use Rattle.std.specs.Prelude.{◌≡◌, ◌+◌, ◌≤◌, ◌^◌};
 ghost use Rattle.mp_tickets.specs.Tickets.{without};
-ghost use Rattle.mp_resync.specs.ValidatedTx.{ticketed};
+ghost use Rattle.mp_seqpool.specs.ValidatedTx.{ticketed};
 ghost use Rattle.mp_seqpool.specs.Inside.Leaving.{bytes_in, AreKnown, TakesOut, Leaves};
 ghost use Rattle.mp_seqpool.specs.Inside.NamedLeaves.{HasLeaves, Lacks};
 ghost use Rattle.mp_seqpool.specs.Inside.Followed.{HasInTurn};
 
 use crate::command::Reply;
-use mp_resync::ValidatedTx;
+use crate::validated_tx::ValidatedTx;
 use mp_tickets::{TicketList, Tickets};
 use mp_utxo::Overlay;
 

@@ -4,12 +4,15 @@ use crate::command::{Answer, Command, Reply};
 use crate::config::Config;
 use crate::going::{are_among, as_tickets, in_order, insert_in_order};
 use crate::ids::Ids;
+use crate::kept::Kept;
 use crate::leaving::{few_of, take_in_turn, take_leaves, take_told};
+use crate::parting::part;
 use crate::prepared::{Effect, Prepared, keep_effect};
 use crate::refusal::Refusal;
+use crate::revalidation::revalidate;
 use crate::steps::{adopt_step, append_step, sync_step, take_out_step};
+use crate::validated_tx::ValidatedTx;
 use mp_memory::{Memory, NoMemory};
-use mp_resync::{Kept, ValidatedTx, part, revalidate};
 use mp_rules::{Checked, Resolved, Verifier, check, check_with};
 use mp_tickets::{Iter, Node, TicketList, Tickets, make_node};
 use mp_tx::{Ledger, OutRef, Tx, TxId};
@@ -77,10 +80,10 @@ impl SeqPool {
     ghost use Rattle.mp_rules.specs.FirstFault.{first_fault};
     ghost use Rattle.mp_rules.specs.Checked.{IsChecked, WasValid};
     ghost use Rattle.mp_tickets.specs.Tickets.{IsRising, has_ticket, shown};
-    ghost use Rattle.mp_resync.specs.ValidatedTx as resync;
-    ghost use Rattle.mp_resync.specs.ValidatedTx.{ticketed};
-    ghost use Rattle.mp_resync.specs.Keep.{transactions, tickets, dropped};
-    ghost use Rattle.mp_resync.specs.Kept.{IsKeptOf};
+    ghost use Rattle.mp_seqpool.specs.ValidatedTx as resync;
+    ghost use Rattle.mp_seqpool.specs.ValidatedTx.{ticketed};
+    ghost use Rattle.mp_seqpool.specs.Keep.{transactions, tickets, dropped};
+    ghost use Rattle.mp_seqpool.specs.Kept.{IsKeptOf};
     ghost use Rattle.mp_seqpool.specs.Inside.Chained.{all_accepted};
     ghost use Rattle.mp_seqpool.specs.Inside.NamedLeaves.{tickets_named};
     ghost use Rattle.mp_seqpool.specs.Inside.Followed.{EndsAt, IsMadeAmong, DependsOn, DependsAt, AreFollowed, TakesFollowed};
@@ -757,8 +760,8 @@ impl SeqPool {
     ghost use Rattle.std.specs.Arc.{arc_value};
     ghost use Rattle.std.specs.Map.Iter.{ShowsInOrder};
     ghost use Rattle.mp_tickets.specs.Tickets.{item_at, after, shown};
-    ghost use Rattle.mp_resync.specs.ValidatedTx as resync;
-    ghost use Rattle.mp_resync.specs.ValidatedTx.{ticketed};
+    ghost use Rattle.mp_seqpool.specs.ValidatedTx as resync;
+    ghost use Rattle.mp_seqpool.specs.ValidatedTx.{ticketed};
     ghost use Rattle.mp_seqpool.specs.SlowPool.{bytes_held, free_bytes, ticket_of};
 
     /// The capacity in bytes: twice the block bytes of the adopted ledger state. A submit can't exceed it. After a

@@ -5,8 +5,8 @@ ghost use Rattle.mp_seqpool.specs.Prepared.{Keep};
 ghost use Rattle.mp_seqpool.specs.Inside.Effect.{effect_of, IsOfOne};
 
 use crate::command::{Command, Reply};
+use crate::validated_tx::ValidatedTx;
 use mp_memory::{Memory, NoMemory};
-use mp_resync::ValidatedTx;
 use mp_tickets::{Node, Tickets};
 use mp_tx::{Ledger, Tx};
 use mp_utxo::Overlay;

@@ -9,9 +9,11 @@ ghost use Rattle.mp_seqpool.specs.Inside.Followed.{beyond};
 
 use crate::command::{Command, Reply};
 use crate::ids::Ids;
+use crate::kept::Kept;
+use crate::parting::Parted;
 use crate::prepared::{Effect, Prepared, keep_effect};
+use crate::validated_tx::ValidatedTx;
 use mp_memory::{Memory, NoMemory};
-use mp_resync::{Kept, Parted, ValidatedTx};
 use mp_rules::Resolved;
 use mp_tickets::{Tickets, make_node};
 use mp_tx::{Ledger, Tx};

@@ -7,7 +7,7 @@ use Rattle.mp_text.specs.Words.{words_of}
 use Rattle.mp_tx.specs.Transaction.{Transaction}
 use Rattle.mp_tx.specs.Spelling.{id_of}
 use Rattle.mp_tx.specs.Ledger.{LedgerState}
-use Rattle.mp_resync.specs.Keep.{keep}
+use Rattle.mp_seqpool.specs.Keep.{keep}
 use Rattle.mp_seqpool.specs.declared.refusal.Refusal.{Refusal}
 use Rattle.mp_seqpool.specs.declared.command.Reply.{Reply}
 use Rattle.mp_seqpool.specs.Command.{Command}
@@ -30,9 +30,9 @@ use Rattle.mp_session.specs.declared.session.Stage.TheVariants.{Before, Open}
 use Rattle.mp_session.specs.Settings.{with_setting}
 use Rattle.mp_session.specs.Request.{Request, Change, Try, Read}
 use Rattle.mp_session.specs.Session as sessions
-use Rattle.mp_driver.specs.Pool.{ScenarioPool}
-use Rattle.mp_driver.specs.declared.scene.Scene.{Scene}
-use Rattle.mp_driver.specs.Scene as runs
+use Rattle.mp_session.specs.Pool.{ScenarioPool}
+use Rattle.mp_session.specs.declared.scene.Scene.{Scene}
+use Rattle.mp_session.specs.Scene as runs
 use Rattle.mp_serve.specs.declared.conversation.Conversation.{Conversation}
 use Rattle.mp_serve.specs.declared.refused.Counts.{Counts}
 use Rattle.mp_serve.specs.Refused.{none_counted, counted_if}

@@ -6,9 +6,9 @@ use Rattle.mp_names.specs.DeclaredTx.{DeclaredTx}
 use Rattle.mp_names.specs.Names.{Names, tx_named, name_of}
 use Rattle.mp_session.specs.declared.session.Stage.{Stage}
 use Rattle.mp_session.specs.declared.session.Stage.TheVariants.{Before, Open}
-use Rattle.mp_driver.specs.Pool.{ScenarioPool}
-use Rattle.mp_driver.specs.declared.scene.Scene.{Scene}
-use Rattle.mp_driver.specs.Scene as runs
+use Rattle.mp_session.specs.Pool.{ScenarioPool}
+use Rattle.mp_session.specs.declared.scene.Scene.{Scene}
+use Rattle.mp_session.specs.Scene as runs
 use Rattle.mp_serve.specs.declared.conversation.Conversation.{Conversation}
 use Rattle.mp_serve.specs.Texts.{ok_text}
 use Rattle.mp_serve.specs.Talk.{line_step}

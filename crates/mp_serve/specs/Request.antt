@@ -6,8 +6,8 @@ use Rattle.mp_tx.specs.Transaction.{Transaction}
 use Rattle.mp_tx.specs.Spelling.{id_of}
 use Rattle.mp_tx.specs.Ledger.{LedgerState}
 use Rattle.mp_rules.specs.declared.invalid.Invalid.{Invalid}
-use Rattle.mp_block.specs.Block.{apply_block}
-use Rattle.mp_resync.specs.Keep.{keep}
+use Rattle.mp_rules.specs.Block.{apply_block}
+use Rattle.mp_seqpool.specs.Keep.{keep}
 use Rattle.mp_signatures.specs.Scheme.{accepted_by}
 use Rattle.mp_seqpool.specs.declared.refusal.Refusal.{Refusal}
 use Rattle.mp_seqpool.specs.declared.command.Reply.{Reply}

@@ -1,15 +1,15 @@
 //! The ledger state after a block.
 
 ghost use Rattle.std.specs.Prelude.{IfOk};
-ghost use Rattle.mp_block.specs.Block.{apply_block};
+ghost use Rattle.mp_rules.specs.Block.{apply_block};
 ghost use Rattle.mp_signatures.specs.Scheme.{accepted_by};
 ghost use Rattle.mp_serve.specs.Inside.Extended.{IsExtended};
 
 use crate::block::Block;
 use crate::texts::{Text, block_refused_line};
-use mp_block::{AppliedBlock, BlockRefusal, apply_block};
 use mp_memory::{Memory, NoMemory};
 use mp_names::Names;
+use mp_rules::{AppliedBlock, BlockRefusal, apply_block};
 use mp_signatures::Signatures;
 use mp_tx::Ledger;
 

@@ -2,7 +2,7 @@
 
 ghost use Rattle.std.specs.Prelude.{ℕ, List, map};
 ghost use Rattle.mp_signatures.specs.declared.scheme.Scheme.{Scheme};
-ghost use Rattle.mp_driver.specs.Scene.{empty_scene};
+ghost use Rattle.mp_session.specs.Scene.{empty_scene};
 ghost use Rattle.mp_serve.specs.Talk.{new_conversation};
 ghost use Rattle.mp_serve.specs.PlainRun.{or_ok, IsPlainRun, Answers};
 

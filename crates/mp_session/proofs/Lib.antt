@@ -1,2 +1,4 @@
 mod Repeats
 mod Pending
+pub mod Lawful
+pub mod Progress

@@ -4,7 +4,7 @@ use Rattle.std.specs.FinMap.{get}
 use Rattle.mp_tx.specs.declared.reference.OutRef.{OutRef}
 use Rattle.mp_tx.specs.declared.output.Output.{Output}
 use Rattle.mp_tx.specs.Ledger.{LedgerState, ledger_of, ledger_after}
-use Rattle.mp_block.specs.Block.{at_tick}
+use Rattle.mp_rules.specs.Block.{at_tick}
 use Rattle.mp_names.specs.declared.payment.Payment.{Payment}
 use Rattle.mp_names.specs.Payments.{output_of}
 use Rattle.mp_names.specs.References.{opening_ref}

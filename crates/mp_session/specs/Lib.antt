@@ -4,3 +4,7 @@ pub mod Beginning
 pub mod Request
 pub mod Session
 pub mod Inside
+pub mod Pool
+pub mod Scene
+pub mod Ending
+pub mod Fault

@@ -1,1 +1,2 @@
 mod Left
+pub mod Signed

@@ -8,10 +8,10 @@ use Rattle.mp_tx.specs.Transaction.{Transaction}
 use Rattle.mp_tx.specs.Spelling.{size_of}
 use Rattle.mp_tickets.specs.Tickets.{IsRising}
 use Rattle.mp_tickets.proofs.Rising.{rising_push}
-use Rattle.mp_resync.specs.Keep.{tickets, bytes_of}
-use Rattle.mp_items.proofs.ByteSums.{sum-last}
+use Rattle.mp_seqpool.specs.Keep.{tickets, bytes_of}
+use Rattle.mp_versions.proofs.ByteSums.{sum-last}
 use Rattle.mp_versions.specs.declared.version.Version.TheInside.{Inside}
-use Rattle.mp_items.specs.Layout.{items_in, IsLaid}
+use Rattle.mp_versions.specs.Layout.{items_in, IsLaid}
 use Rattle.mp_versions.specs.Inside.Version.{IsCounted}
 
 below : (last : ℕ) (items : List (ℕ × Transaction)) → All (λ k. k ≤ last) (tickets items) → AllByRecursion (λ i. i.0 < last + 1) items

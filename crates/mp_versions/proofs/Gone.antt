@@ -5,11 +5,11 @@ use Rattle.std.proofs.lemmas.List.Elements.{All-cons, All-head, All-tail}
 use Rattle.mp_tx.specs.Transaction.{Transaction}
 use Rattle.mp_tx.specs.Spelling.{size_of}
 use Rattle.mp_tickets.specs.Tickets.{IsRisingFrom, IsRising, has_ticket, among}
-use Rattle.mp_resync.specs.Keep.{transactions, tickets, bytes_of}
+use Rattle.mp_seqpool.specs.Keep.{transactions, tickets, bytes_of}
 use Rattle.mp_seqpool.specs.declared.command.Reply.{Reply}
 use Rattle.mp_seqpool.specs.declared.command.Reply.TheVariants.{Accepted, Removed, Synced}
 use Rattle.mp_seqpool.specs.Prepared.{apart, left_by}
-use Rattle.mp_items.proofs.ByteSums.{sum_first}
+use Rattle.mp_versions.proofs.ByteSums.{sum_first}
 
 parts : (b : Bool) (n : ℕ) (i : ℕ × Transaction) (gone stay : List (ℕ × Transaction)) → n ≡ size_of i.1 + (bytes_of gone + bytes_of stay)
     → n ≡ bytes_of (cond b (i ∷ gone) gone) + bytes_of (cond (not b) (i ∷ stay) stay)

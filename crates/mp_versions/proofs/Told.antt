@@ -7,7 +7,7 @@ use Rattle.mp_seqpool.specs.Command.{Submit, Remove, Sync}
 use Rattle.mp_seqpool.specs.Pool.{Pool, Holding}
 use Rattle.mp_seqpool.specs.SlowPool.{HasPlace, bytes_held, pool_with, pool_upon}
 use Rattle.mp_seqpool.specs.Prepared.{Prepared, Effect, Append, Keep, TakeOut, Adopt, changed, left_by, leads_to, told, CanChange, IsPrepared}
-use Rattle.mp_items.proofs.ByteSums.{sum-last}
+use Rattle.mp_versions.proofs.ByteSums.{sum-last}
 
 not_itself : (n : ℕ) → n + 1 ≡ n → ⊥
 not_itself n e = absurd (omega (arith, e))

@@ -1,3 +1,6 @@
 pub mod Inside
 pub mod Shown
 pub mod Version
+pub mod Layout
+pub mod Pages
+pub mod Reading

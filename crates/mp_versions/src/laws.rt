@@ -1,11 +1,14 @@
-//! What holds of versions.
+//! What holds of versions, and of reading items. The law of reading is the contract of a function that does nothing.
 
-ghost use Rattle.std.specs.Prelude.{◌≡◌, ◌≤◌, length, slice_get, option_map, All, flat_map};
+ghost use Rattle.std.specs.Prelude.{◌≡◌, ◌≤◌, ℕ, List, length, slice_get, option_map, All, flat_map};
+ghost use Rattle.mp_tx.specs.Transaction.{Transaction};
 ghost use Rattle.mp_seqpool.specs.Item.{items_of};
+ghost use Rattle.mp_seqpool.specs.Reading.{within};
+ghost use Rattle.mp_versions.specs.Reading.{IsLongestWithin};
 
+use crate::layout::chunk_at;
 use crate::version::Version;
-use mp_items::Item;
-use mp_items::layout::chunk_at;
+use mp_seqpool::Item;
 
 /// The chunk at this index, from 0, of the chunks that make up the version's items. Joined in order they are its items, and each
 /// has 1 to 64. Versions share the chunks that don't change between them.
@@ -17,3 +20,9 @@ pub fn chunk(version: &Version, place: usize) -> Option<&[Item]>
 {
     chunk_at(&version.layout, place)
 }
+
+/// What is read within a number of bytes is the longest prefix with at most that many bytes.
+pub fn longest_within()
+    ensures { (bytes : ℕ) (items : List (ℕ × Transaction))
+        → IsLongestWithin bytes items (within bytes items) }
+{}

@@ -3,15 +3,32 @@
 
 mod board;
 mod boards;
+mod chunk;
+mod items;
+mod kept_items;
 pub mod laws;
+pub mod layout;
+mod page;
+mod pages;
 mod publisher;
+mod run;
+mod run_back;
 mod shown;
 mod snapshot;
 mod subscriber;
 mod version;
 
 pub use boards::Boards;
+pub use chunk::Chunk;
+pub use items::Items;
+pub use kept_items::{KeptItems, keep_valid};
+pub use layout::Layout;
+pub use mp_seqpool::Item;
+pub use page::Page;
+pub use pages::Pages;
 pub use publisher::Publisher;
+pub use run::{Run, RunWithin};
+pub use run_back::RunBack;
 pub use shown::Shown;
 pub use snapshot::Snapshot;
 pub use subscriber::Subscriber;

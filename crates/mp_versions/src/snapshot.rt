@@ -8,9 +8,9 @@ ghost use Rattle.mp_seqpool.specs.PoolLaws.{Lasts};
 ghost use Rattle.mp_history.specs.Log.{state_after};
 ghost use Rattle.mp_seqpool.specs.Reading.{within};
 
+use crate::run::{Run, RunWithin};
 use crate::shown::Shown;
 use mp_history::PoolName;
-use mp_items::{Run, RunWithin};
 use mp_memory::Memory;
 use mp_tx::{Tx, TxId};
 use std::marker::Model;

@@ -3,20 +3,21 @@ ghost use Rattle.std.specs.Prelude.{◌≡◌, ◌==◌, ◌<◌, ◌≤◌, ◌
 ghost use Rattle.std.specs.List.Sorted.{IsStrictlyIncreasing};
 ghost use Rattle.std.specs.Arc.{arc_value};
 ghost use Rattle.mp_tickets.specs.Tickets.{IsRising, after, item_at};
-ghost use Rattle.mp_resync.specs.Keep.{tickets, bytes_of};
+ghost use Rattle.mp_seqpool.specs.Keep.{tickets, bytes_of};
 ghost use Rattle.mp_seqpool.specs.Config.{renewed};
 ghost use Rattle.mp_seqpool.specs.SlowPool.{HasPlace, bytes_held, pool_with, pool_upon, ticket_of};
 ghost use Rattle.mp_seqpool.specs.Prepared.{IsPrepared, apart, left_by, leads_to};
-ghost use Rattle.mp_items.specs.Layout.{items_in, IsLaid};
+ghost use Rattle.mp_versions.specs.Layout.{items_in, IsLaid};
 ghost use Rattle.mp_seqpool.specs.Reading.{within};
 ghost use Rattle.mp_versions.specs.Inside.Version.{IsRestOf};
 
-use mp_items::layout::{
-    bytes_among, count_of, find, grown, has, of_pool, run_after, run_back, run_of, without,
+use crate::layout::{
+    Layout, bytes_among, count_of, find, grown, has, of_pool, run_after, run_back, run_of, without,
 };
-use mp_items::{Item, Layout, Run, RunBack, RunWithin};
+use crate::run::{Run, RunWithin};
+use crate::run_back::RunBack;
 use mp_memory::{Memory, NoMemory};
-use mp_seqpool::{Command, Config, Prepared, Reply, SeqPool};
+use mp_seqpool::{Command, Config, Item, Prepared, Reply, SeqPool};
 use mp_tx::{Ledger, Tx, TxId};
 use std::marker::Model;
 use std::sync::Arc;

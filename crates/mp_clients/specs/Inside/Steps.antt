@@ -1,16 +1,17 @@
 -- Parts of the answer to a line.
-use Rattle.std.specs.Prelude.{◌≡◌, ◌⊎◌, ℕ, List, Some}
+use Rattle.std.specs.Prelude.{◌≡◌, ℕ, List, Some}
 use Rattle.mp_rules.specs.Verifier.{Accepts}
 use Rattle.mp_names.specs.Names.{Names}
 use Rattle.mp_serve.specs.Request.{Request, respond}
 use Rattle.mp_clients.specs.declared.conversation.Conversation.{Conversation}
-use Rattle.mp_serve.specs.Ask.{Ask}
 use Rattle.mp_serve.specs.declared.conversation.Conversation as alone
 use Rattle.mp_serve.specs.Talk.{Step}
+use Rattle.mp_clients.specs.declared.fault.Fault.{Fault}
+use Rattle.mp_clients.specs.declared.fault.Fault.TheVariants as faults
 use Rattle.mp_clients.specs.declared.stop.Stop.{Stop}
-use Rattle.mp_clients.specs.declared.stop.Stop.TheVariants.{NoMemory, Foreign}
+use Rattle.mp_clients.specs.declared.stop.Stop.TheVariants.{NoMemory, Untold, Foreign}
 use Rattle.mp_clients.specs.Client.{Client, served_at, alone_at}
-use Rattle.mp_clients.specs.Answers.{IsLost}
+use Rattle.mp_clients.specs.Answers.{IsUnchanged, IsUntold}
 
 -- the pool that the client has seen responds so, and the client has seen no more
 pub record Responds (accepts : Accepts) (names : Names) (k : Client) (request : Request) (text : List ℕ) (after : Client)
@@ -26,12 +27,16 @@ pub record IsToldAlone {N : Type 0} (accepts : Accepts) (c : Conversation N) (do
   pub pass : u.client.pass ≡ c.client.pass
   pub ledger : u.client.ledger ≡ c.client.ledger
 
--- After an allocation failure nothing has changed, or only the answer and the name are lost; else nothing has changed.
-abbrev pub IsStopped : {N : Type 0} → (List ℕ → Conversation N → Type 0) → Conversation N → Conversation N → Stop → Type 0
-IsStopped {N} Does c u NoMemory =
-    (u ≡ c) ⊎ ((text : List ℕ) × (v : Conversation N) × Does text v × (u ≡ record v { names = c.names }))
-IsStopped Does c u Foreign = u ≡ c
+-- After an allocation failure nothing has changed but what the conversation has seen; or the change was made, but only its answer
+-- and its name are lost. Else nothing has changed.
+abbrev pub IsStopped : {N : Type 0} → Accepts → ℕ → (List ℕ → Conversation N → Type 0) → Conversation N → Conversation N → Stop → Type 0
+IsStopped accepts callers Does c u NoMemory = IsUnchanged accepts callers c u
+IsStopped {N} accepts callers Does c u Untold =
+    (text : List ℕ) × (v : Conversation N) × Does text v × (u ≡ record v { names = c.names })
+IsStopped accepts callers Does c u Foreign = u ≡ c
 
-abbrev pub IsStoppedAt : {N : Type 0} → Accepts → ℕ → Conversation N → Ask → Conversation N → Stop → Type 0
-IsStoppedAt accepts callers c ask u NoMemory = IsLost accepts callers c ask u
-IsStoppedAt accepts callers c ask u Foreign = u ≡ c
+-- why the conversation ends without an answer
+abbrev pub IsEnded : {N : Type 0} → Accepts → ℕ → Conversation N → Conversation N → Fault → Type 0
+IsEnded accepts callers c u faults.Foreign = u ≡ c
+IsEnded accepts callers c u faults.Untold = IsUntold accepts callers c u
+IsEnded accepts callers c u fault = ⊥

@@ -3,9 +3,9 @@ use crate::mempool::heard::{Heard, read_answer, read_kept, read_snapshot};
 use mp_history::PoolName;
 use mp_memory::Memory;
 use mp_mempool::{Mempool, Pass, Reader, Receipt, Refusal};
-use mp_pool_samples::AcceptsAll;
-use mp_pool_samples::samples::Samples;
 use mp_seqpool::Command;
+use mp_testing::AcceptsAll;
+use mp_testing::commands::Samples;
 use mp_versions::Shown;
 use std::sync::Wait;
 

@@ -1,15 +1,15 @@
 //! What a pool releases while it lives: transactions that have left it, once its callers have read.
 ghost use Rattle.std.specs.Prelude.{◌≡◌};
 ghost use Rattle.mp_history.specs.PoolName.{head_of};
-ghost use Rattle.mp_pool_samples.specs.Names.{any};
+ghost use Rattle.mp_testing.specs.Names.{any};
 
 use crate::mempool::calls::Call;
 use crate::mempool::heard::Heard;
 use crate::mempool::pools::{LONG, Line, open_two, play_with};
 use crate::mempool::tables::count_owners;
 use mp_history::{NewName, PoolName};
-use mp_pool_samples::samples::{CHAINED, NOTHING, REMOVE_SECOND, SUBMITS, Samples};
-use mp_pool_samples::told::Told;
+use mp_testing::commands::{CHAINED, NOTHING, REMOVE_SECOND, SUBMITS, Samples};
+use mp_testing::told::Told;
 use mp_testing::{Seen, count};
 use std::io;
 use std::marker::Brand;

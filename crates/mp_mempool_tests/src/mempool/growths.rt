@@ -3,10 +3,10 @@
 use crate::mempool::calls::Call;
 use crate::mempool::heard::{Heard, NO_MEMORY};
 use crate::mempool::pools::{LONG, Line, MAX_GROWTHS, Played, play};
-use mp_pool_samples::samples::{
+use mp_testing::commands::{
     ALL, CHAINED, EVEN, MERGED, PART, REMOVE_SECOND, RIVAL, SIGNED, Samples,
 };
-use mp_pool_samples::told::Told;
+use mp_testing::told::Told;
 use mp_testing::{Seen, count};
 use std::io;
 use std::sync::Wait;

@@ -1,11 +1,10 @@
 //! What callers hear, as plain data.
 use mp_history::PoolName;
-use mp_items::{Item, Run};
 use mp_memory::NoMemory;
 use mp_mempool::{Receipt, Refusal, SnapshotFor};
-use mp_pool_samples::told::{Told, read_refusal, read_reply, with_digit};
 use mp_testing::Seen;
-use mp_versions::Snapshot;
+use mp_testing::told::{Told, read_refusal, read_reply, with_digit};
+use mp_versions::{Item, Run, Snapshot};
 
 /// What a caller hears. Tickets are the digits of a number: 1 and 2 are 12, 0 is none, and `MANY` are more than 19.
 #[derive(Clone, Copy)]

@@ -64,7 +64,7 @@ impl Meeting {
 }
 
 impl Verifier for Meeting {
-    ghost use Rattle.mp_pool_samples.specs.Names.{any};
+    ghost use Rattle.mp_testing.specs.Names.{any};
 
     ghost accepts = { λ _. any };
 

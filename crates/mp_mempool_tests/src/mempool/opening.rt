@@ -4,7 +4,7 @@ use crate::mempool::heard::Heard;
 use crate::mempool::pools::{Line, Played, play};
 use crate::trials::{Trial, count_trial};
 use mp_mempool::OpenRefusal;
-use mp_pool_samples::samples::Samples;
+use mp_testing::commands::Samples;
 use mp_testing::{Seen, count, under_each_refusal};
 use std::io;
 use std::sync::Wait;

@@ -1,16 +1,15 @@
 //! Pools on which tables of calls are played.
 ghost use Rattle.std.specs.Prelude.{◌≡◌};
 ghost use Rattle.mp_history.specs.PoolName.{head_of};
-ghost use Rattle.mp_pool_samples.specs.Names.{any};
+ghost use Rattle.mp_testing.specs.Names.{any};
 
 use crate::mempool::calls::{Call, Parts, Passes, make};
 use crate::mempool::heard::Heard;
 use mp_history::{NewName, PoolName};
 use mp_memory::{Memory, NoMemory};
 use mp_mempool::{Config, Mempool, OpenRefusal, Opened, Reader};
-use mp_pool_samples::samples::{ALL, Samples};
-use mp_pool_samples::{ACCEPTS_ALL, AcceptsAll};
-use mp_testing::Seen;
+use mp_testing::commands::{ALL, Samples};
+use mp_testing::{ACCEPTS_ALL, AcceptsAll, Seen};
 use mp_tx::Ledger;
 use std::marker::Brand;
 use std::sync::{Arc, Wait};

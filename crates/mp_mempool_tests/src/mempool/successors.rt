@@ -1,7 +1,7 @@
 //! A pool that hands over to a successor, or fails to and is then as before.
 ghost use Rattle.std.specs.Prelude.{◌≡◌};
 ghost use Rattle.mp_history.specs.PoolName.{head_of};
-ghost use Rattle.mp_pool_samples.specs.Names.{any};
+ghost use Rattle.mp_testing.specs.Names.{any};
 
 use crate::mempool::calls::{Call, Passes};
 use crate::mempool::heard::Heard;
@@ -10,10 +10,9 @@ use crate::mempool::tables::count_owners;
 use mp_history::{NewName, PoolName};
 use mp_memory::Memory;
 use mp_mempool::{Opened, Pass, SuccessorRefusal};
-use mp_pool_samples::AcceptsAll;
-use mp_pool_samples::samples::{CHAINED, REMOVE_SECOND, SUBMITS, Samples};
-use mp_pool_samples::told::Told;
-use mp_testing::{Seen, count};
+use mp_testing::commands::{CHAINED, REMOVE_SECOND, SUBMITS, Samples};
+use mp_testing::told::Told;
+use mp_testing::{AcceptsAll, Seen, count};
 use mp_versions::Shown;
 use std::io;
 use std::marker::Brand;

@@ -2,11 +2,9 @@
 use crate::mempool::calls::Call;
 use crate::mempool::heard::Heard;
 use crate::mempool::pools::{LONG, Line, play};
-use mp_pool_samples::samples::{
-    ALL, CHAINED, NOTHING, PART, REMOVE_SECOND, RIVAL, SUBMITS, Samples,
-};
-use mp_pool_samples::told::Told;
 use mp_seqpool::Command;
+use mp_testing::commands::{ALL, CHAINED, NOTHING, PART, REMOVE_SECOND, RIVAL, SUBMITS, Samples};
+use mp_testing::told::Told;
 use mp_testing::{Seen, count};
 use std::io;
 use std::sync::{Arc, Wait};

@@ -1,18 +1,17 @@
 //! Two threads that share a pool.
 ghost use Rattle.std.specs.Prelude.{◌≡◌};
 ghost use Rattle.mp_history.specs.PoolName.{head_of};
-ghost use Rattle.mp_pool_samples.specs.Names.{any};
+ghost use Rattle.mp_testing.specs.Names.{any};
 
 use crate::mempool::meeting::{Flags, Meeting};
 use crate::mempool::pools::LONG;
 use mp_history::{Entry, NewName, PoolName};
 use mp_memory::Memory;
 use mp_mempool::{Config, Mempool, Pass, Receipt};
-use mp_pool_samples::samples::{ALL, RIVAL, SIGNED, Samples};
-use mp_pool_samples::told::Told;
-use mp_pool_samples::{CONFIG, tell};
 use mp_seqpool::{Command, Reply};
-use mp_testing::{Seen, count};
+use mp_testing::commands::{ALL, RIVAL, SIGNED, Samples};
+use mp_testing::told::Told;
+use mp_testing::{CONFIG, Seen, count, tell};
 use mp_tx::Ledger;
 use std::io;
 use std::marker::Brand;

@@ -2,9 +2,9 @@
 use crate::mempool::calls::Call;
 use crate::mempool::heard::{Heard, MANY};
 use crate::mempool::pools::{LONG, Line, MAX_GROWTHS, Played, play};
-use mp_pool_samples::samples::Samples;
-use mp_pool_samples::told::Told;
+use mp_testing::commands::Samples;
 use mp_testing::count;
+use mp_testing::told::Told;
 use std::io;
 use std::sync::Wait;
 

@@ -5,9 +5,8 @@ use crate::peers::seen::{see_block, see_offer};
 use mp_history::PoolName;
 use mp_mempool::{Mempool, Pass, Reader};
 use mp_peer::PeerReader;
-use mp_pool_samples::AcceptsAll;
-use mp_pool_samples::samples::Samples;
-use mp_testing::Seen;
+use mp_testing::commands::Samples;
+use mp_testing::{AcceptsAll, Seen};
 use std::sync::Wait;
 
 /// A call.

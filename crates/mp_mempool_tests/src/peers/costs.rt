@@ -1,14 +1,13 @@
 //! The cost of an offer: about the same in a large pool as in a small one.
 ghost use Rattle.std.specs.Prelude.{◌≡◌};
 ghost use Rattle.mp_history.specs.PoolName.{head_of};
-ghost use Rattle.mp_pool_samples.specs.Names.{any};
+ghost use Rattle.mp_testing.specs.Names.{any};
 
 use mp_history::{NewName, PoolName};
 use mp_memory::Memory;
 use mp_mempool::{Config, Mempool, Pass};
 use mp_peer::PeerReader;
-use mp_pool_samples::{ACCEPTS_ALL, AcceptsAll};
-use mp_testing::{ledger, opening, transaction};
+use mp_testing::{ACCEPTS_ALL, AcceptsAll, ledger, opening, transaction};
 use mp_tx::Ledger;
 use mp_versions::Snapshot;
 use std::marker::Brand;

@@ -3,7 +3,7 @@ use crate::peers::seen::{owners, see_block, see_offer};
 use mp_history::PoolName;
 use mp_mempool::Pass;
 use mp_peer::PeerReader;
-use mp_pool_samples::samples::Samples;
+use mp_testing::commands::Samples;
 use mp_testing::{Call, Seen, under_each_refusal};
 
 /// The call that is tried.

@@ -1,8 +1,8 @@
 //! The calls in order, with the expected answers.
 use crate::peers::asks::Ask;
 use crate::peers::growths::Trial;
-use mp_pool_samples::samples::{ALL, PART, REMOVE_THIRD};
 use mp_testing::Seen;
+use mp_testing::commands::{ALL, PART, REMOVE_THIRD};
 
 /// The purpose of a call, the call, and its expected answer.
 pub type Row = (&'static str, Ask, Seen);

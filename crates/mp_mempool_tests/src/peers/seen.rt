@@ -1,14 +1,13 @@
 //! Observed offers and blocks, as numbers.
 use crate::mempool::count_owners;
 use mp_history::PoolName;
-use mp_items::Item;
 use mp_peer::{PeerReader, forge};
-use mp_pool_samples::samples::Samples;
-use mp_pool_samples::told::with_digit;
 use mp_seqpool::Command;
 use mp_testing::Seen;
+use mp_testing::commands::Samples;
+use mp_testing::told::with_digit;
 use mp_tx::TxId;
-use mp_versions::Snapshot;
+use mp_versions::{Item, Snapshot};
 
 // The number of samples that are submitted, from the first on: a list of all of them takes more than one allocation.
 const SUBMITTED: usize = 6;

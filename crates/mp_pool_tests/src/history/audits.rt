@@ -1,11 +1,10 @@
 //! Audits that were computed by hand.
 use crate::history::entries::{Telling, idle_entries, three_entries};
 use mp_history::Entry;
-use mp_pool_samples::samples::{PART, Samples};
-use mp_pool_samples::told::Told;
-use mp_pool_samples::{CONFIG, tell};
 use mp_seqpool::Config;
-use mp_testing::{Seen, count};
+use mp_testing::commands::{PART, Samples};
+use mp_testing::told::Told;
+use mp_testing::{CONFIG, Seen, count, tell};
 use std::io;
 
 const ONE_CHANGE: Config = Config { limit: 1, last: 0 };

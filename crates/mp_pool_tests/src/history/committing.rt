@@ -4,11 +4,10 @@ ghost use Rattle.mp_history.specs.PoolName.{head_of};
 
 use mp_history::{Caller, CommitRight, Entry, Front, History, NewName, PoolName, look};
 use mp_memory::{Memory, NoMemory};
-use mp_pool_samples::samples::{HUNDRED, Samples};
-use mp_pool_samples::told::Told;
-use mp_pool_samples::{CONFIG, tell};
 use mp_seqpool::{Command, Reply, SeqPool};
-use mp_testing::{Seen, count};
+use mp_testing::commands::{HUNDRED, Samples};
+use mp_testing::told::Told;
+use mp_testing::{CONFIG, Seen, count, tell};
 use std::io;
 use std::marker::Brand;
 use std::sync::{Mutex, Wait};

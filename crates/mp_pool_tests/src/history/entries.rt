@@ -2,8 +2,8 @@
 //! first pays. The removal takes out the first, so the second goes with it.
 use mp_history::Entry;
 use mp_memory::{Memory, NoMemory};
-use mp_pool_samples::samples::{NOTHING, REMOVE_FIRST, Samples, THREE};
 use mp_seqpool::{Reply, Tickets};
+use mp_testing::commands::{NOTHING, REMOVE_FIRST, Samples, THREE};
 
 /// The variable parts of a history.
 #[derive(Clone, Copy)]

@@ -1,10 +1,9 @@
 //! Audits through a handover, computed by hand: a history goes on in that of the successor.
 use crate::history::entries::{Entries, Telling, three_entries};
 use mp_history::Entry;
-use mp_pool_samples::samples::{PART, Samples};
-use mp_pool_samples::told::Told;
-use mp_pool_samples::{CONFIG, tell_handover};
-use mp_testing::{Seen, count};
+use mp_testing::commands::{PART, Samples};
+use mp_testing::told::Told;
+use mp_testing::{CONFIG, Seen, count, tell_handover};
 use std::io;
 
 // How many changes the successor may make.

@@ -3,15 +3,14 @@ ghost use Rattle.std.specs.Prelude.{◌≡◌, IfSome};
 ghost use Rattle.mp_seqpool.specs.PoolLaws.{IsLawful};
 ghost use Rattle.mp_seqpool.specs.Config.{renewed};
 ghost use Rattle.mp_history.specs.PoolName.{head_of};
-ghost use Rattle.mp_pool_samples.specs.Names.{any};
+ghost use Rattle.mp_testing.specs.Names.{any};
 
 use crate::versions::freed::count_freed;
 use mp_history::{History, NewName, PoolName};
 use mp_memory::{Memory, NoMemory};
-use mp_pool_samples::CONFIG;
-use mp_pool_samples::samples::{PART, Samples};
 use mp_seqpool::SeqPool;
-use mp_testing::{Seen, count};
+use mp_testing::commands::{PART, Samples};
+use mp_testing::{CONFIG, Seen, count};
 use mp_versions::{Boards, Publisher, Shown, Snapshot, Subscriber, Version};
 use std::io;
 use std::marker::Brand;

@@ -4,15 +4,13 @@ ghost use Rattle.std.specs.Coded.{codes};
 ghost use Rattle.std.specs.FinMap as finite;
 ghost use Rattle.mp_seqpool.specs.Prepared.{IsPrepared, leads_to};
 
-use mp_items::Run;
 use mp_memory::{Memory, NoMemory};
-use mp_pool_samples::samples::Samples;
-use mp_pool_samples::told::with_digit;
-use mp_pool_samples::{ACCEPTS_ALL, CONFIG};
 use mp_seqpool::{Command, Prepared, Refusal, SeqPool};
-use mp_testing::Seen;
+use mp_testing::commands::Samples;
+use mp_testing::told::with_digit;
+use mp_testing::{ACCEPTS_ALL, CONFIG, Seen};
 use mp_tx::Ledger;
-use mp_versions::Version;
+use mp_versions::{Run, Version};
 
 /// A pool and its version.
 pub struct Both {

@@ -2,8 +2,8 @@
 //! more.
 use crate::versions::both::{Both, start, step};
 use mp_memory::{Memory, NoMemory};
-use mp_pool_samples::samples::Samples;
 use mp_seqpool::Command;
+use mp_testing::commands::Samples;
 use mp_testing::{Seen, count, ledger, opening, transaction};
 use mp_versions::{Version, laws};
 use std::io;

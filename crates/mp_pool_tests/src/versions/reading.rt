@@ -2,12 +2,11 @@
 //! tickets 64 and 65.
 use crate::versions::both::{Both, asked, step};
 use crate::versions::pages::chunk_len;
-use mp_items::{Run, RunWithin};
 use mp_memory::{Memory, NoMemory};
-use mp_pool_samples::samples::{ALL, REMOVE_TWO, Samples};
 use mp_seqpool::SeqPool;
+use mp_testing::commands::{ALL, REMOVE_TWO, Samples};
 use mp_testing::{Seen, count};
-use mp_versions::Version;
+use mp_versions::{Run, RunWithin, Version};
 use std::io;
 
 // What is read.

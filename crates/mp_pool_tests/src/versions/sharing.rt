@@ -4,8 +4,8 @@ ghost use Rattle.mp_seqpool.specs.Prepared.{IsPrepared};
 
 use crate::versions::both::{Both, asked, next, prepare};
 use mp_memory::{Memory, NoMemory};
-use mp_pool_samples::samples::{ALL, HUNDRED, REMOVE_SEVENTIETH, Samples};
 use mp_seqpool::{Command, Prepared, SeqPool};
+use mp_testing::commands::{ALL, HUNDRED, REMOVE_SEVENTIETH, Samples};
 use mp_testing::{Seen, count};
 use mp_versions::Version;
 use std::io;

@@ -7,7 +7,7 @@ use Rattle.mp_history.specs.Log.{Log, Begins, IsLegalLog}
 use Rattle.mp_race.specs.declared.told.Done.{Done}
 use Rattle.mp_race.specs.declared.told.Refused.{Refused}
 use Rattle.mp_race.specs.declared.ordering.Ordered.{Ordered}
-use Rattle.mp_reader.specs.Pass.{Pass}
+use Rattle.mp_mempool.specs.Pass.{Pass}
 use Rattle.mp_race.specs.Task.{Task}
 use Rattle.mp_race.specs.Race.{IsRace}
 use Rattle.mp_race.specs.History.{AreEntriesOf}

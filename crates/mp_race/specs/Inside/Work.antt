@@ -6,8 +6,8 @@ use Rattle.mp_seqpool.specs.Command.{Command}
 use Rattle.mp_seqpool.specs.Pool.{Pool}
 use Rattle.mp_history.specs.Entry.{Entry}
 use Rattle.mp_history.specs.Log.{Log, last_of}
-use Rattle.mp_reader.specs.Pass.{Pass}
-use Rattle.mp_reader.specs.Seen.{IsSeen}
+use Rattle.mp_mempool.specs.Pass.{Pass}
+use Rattle.mp_mempool.specs.Seen.{IsSeen}
 use Rattle.mp_mempool.specs.Answers.{IsEntered, IsRefusedAt}
 use Rattle.mp_race.specs.declared.told.Done.{Done}
 use Rattle.mp_race.specs.declared.told.Refused.{Refused}

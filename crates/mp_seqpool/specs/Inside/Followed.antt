@@ -10,7 +10,7 @@ use Rattle.mp_utxo.specs.Overlay.{Overlay}
 use Rattle.mp_utxo.specs.Leaf.{IsMadeBy, HasDependentsAmong}
 use Rattle.mp_rules.specs.Validity.{Chain}
 use Rattle.mp_tickets.specs.Tickets.{IsRising, has_ticket, item_at}
-use Rattle.mp_resync.specs.Keep.{transactions, named}
+use Rattle.mp_seqpool.specs.Keep.{transactions, named}
 use Rattle.mp_seqpool.specs.declared.command.Reply.TheVariants.{Removed}
 use Rattle.mp_seqpool.specs.Command.{Remove}
 use Rattle.mp_seqpool.specs.Pool.{Pool}

@@ -4,8 +4,8 @@ use Rattle.std.specs.List.{filter}
 use Rattle.mp_tx.specs.Spelling.{id_of, size_of}
 use Rattle.mp_rules.specs.Checked.{WasValid}
 use Rattle.mp_tickets.specs.Tickets.{IsRising, has_ticket}
-use Rattle.mp_resync.specs.ValidatedTx.{ValidatedTx, ticketed}
-use Rattle.mp_resync.specs.Keep.{transactions, tickets}
+use Rattle.mp_seqpool.specs.ValidatedTx.{ValidatedTx, ticketed}
+use Rattle.mp_seqpool.specs.Keep.{transactions, tickets}
 use Rattle.mp_seqpool.specs.declared.command.Reply.{Reply}
 use Rattle.mp_seqpool.specs.Prepared.{left_by}
 

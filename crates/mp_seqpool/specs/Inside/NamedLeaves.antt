@@ -7,7 +7,7 @@ use Rattle.mp_utxo.specs.Overlay.{Overlay}
 use Rattle.mp_utxo.specs.Leaf.{IsLeaf}
 use Rattle.mp_rules.specs.Validity.{Chain}
 use Rattle.mp_tickets.specs.Tickets.{IsRising, item_at}
-use Rattle.mp_resync.specs.Keep.{transactions, tickets, named}
+use Rattle.mp_seqpool.specs.Keep.{transactions, tickets, named}
 use Rattle.mp_seqpool.specs.Pool.{Pool}
 use Rattle.mp_seqpool.specs.Prepared.{apart}
 use Rattle.mp_seqpool.specs.Inside.Chained.{all_accepted}

@@ -2,9 +2,9 @@
 use Rattle.std.specs.Prelude.{◌≡◌, ℕ, List}
 use Rattle.mp_tx.specs.Ledger.{LedgerState}
 use Rattle.mp_utxo.specs.Overlay.{Overlay}
-use Rattle.mp_resync.specs.declared.parting.Parted.{Parted}
-use Rattle.mp_resync.specs.Keep.{transactions}
-use Rattle.mp_resync.specs.Parted.{IsParted}
+use Rattle.mp_seqpool.specs.declared.parting.Parted.{Parted}
+use Rattle.mp_seqpool.specs.Keep.{transactions}
+use Rattle.mp_seqpool.specs.Parted.{IsParted}
 use Rattle.mp_seqpool.specs.declared.command.Reply.{Reply}
 use Rattle.mp_seqpool.specs.declared.command.Reply.TheVariants.{Synced}
 use Rattle.mp_seqpool.specs.Command.{Command, Sync}

@@ -2,12 +2,12 @@
 use Rattle.std.specs.Prelude.{◌≡◌, ℕ, ◌≤◌, ◌^◌, List, length, All}
 use Rattle.mp_tx.specs.Transaction.{Transaction}
 use Rattle.mp_tickets.specs.Tickets.{IsRising}
-use Rattle.mp_resync.specs.Keep.{tickets, bytes_of}
+use Rattle.mp_seqpool.specs.Keep.{tickets, bytes_of}
 use Rattle.mp_seqpool.specs.Pool.{Pool}
 use Rattle.mp_versions.specs.declared.version.Version.TheInside.{Inside}
 use Rattle.mp_versions.specs.declared.version.Rest.{Rest}
 use Rattle.mp_versions.specs.Version.{Version}
-use Rattle.mp_items.specs.Layout.{items_in, chunks_in, IsLaid}
+use Rattle.mp_versions.specs.Layout.{items_in, chunks_in, IsLaid}
 
 abbrev pub state : Inside → Pool
 state v = record {

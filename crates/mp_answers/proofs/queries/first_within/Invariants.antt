@@ -1,6 +1,6 @@
 use Rattle.std.proofs.Common.{◌≡◌, ◌-◌, ◌≤◌, ◌++◌, length, take}
-use Rattle.mp_resync.specs.ValidatedTx.{ticketed}
-use Rattle.mp_resync.specs.Keep.{bytes_of}
+use Rattle.mp_seqpool.specs.ValidatedTx.{ticketed}
+use Rattle.mp_seqpool.specs.Keep.{bytes_of}
 use Rattle.mp_seqpool.specs.Item.{items_of}
 use Rattle.mp_seqpool.specs.Reading.{within}
 use Rattle.mp_answers.proofs.queries.first_within.Given as goal

@@ -1,5 +1,5 @@
 use Rattle.std.proofs.Common.{◌≡◌, ◌++◌}
-use Rattle.mp_resync.specs.Keep.{transactions}
+use Rattle.mp_seqpool.specs.Keep.{transactions}
 use Rattle.mp_clients.proofs.checking.overlay_of.Given as goal
 
 -- the items so far were applied

@@ -1,5 +1,5 @@
 use Rattle.std.proofs.Common.{◌≡◌, ◌-◌, ◌≤◌, ◌++◌, length, take}
-use Rattle.mp_resync.specs.Keep.{bytes_of}
+use Rattle.mp_seqpool.specs.Keep.{bytes_of}
 use Rattle.mp_seqpool.specs.Item.{items_of}
 use Rattle.mp_seqpool.specs.Reading.{within}
 use Rattle.mp_clients.proofs.reading.first_within.Given as goal

@@ -1,5 +1,5 @@
 use Rattle.std.proofs.Common.{◌≡◌, map}
-use Rattle.mp_reader.specs.Pass.{pass_of}
+use Rattle.mp_mempool.specs.Pass.{pass_of}
 use Rattle.mp_mempool.proofs.opening.put_passes.Given as goal
 
 -- the passes so far

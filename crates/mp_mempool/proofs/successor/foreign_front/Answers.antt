@@ -3,7 +3,7 @@ use Rattle.std.specs.Prelude.{All}
 use Rattle.std.proofs.lemmas.List.Elements.{All-more, at_read}
 use Rattle.std.proofs.lemmas.List.{take_all}
 use Rattle.mp_history.specs.Log.{Log}
-use Rattle.mp_reader.specs.Pass.{Pass}
+use Rattle.mp_mempool.specs.Pass.{Pass}
 use Rattle.mp_mempool.specs.Answers.{IsForeign}
 use Rattle.mp_mempool.specs.Successor.{IsKnownTo}
 use Rattle.mp_mempool.proofs.Entries.{foreign_told}

@@ -1,4 +1,4 @@
-use Rattle.mp_pool_samples.proofs.Signed.{signed}
+use Rattle.mp_testing.proofs.Signed.{signed}
 use Rattle.mp_mempool_tests.proofs.seqpool.step.Goals as goal
 
 pub step-requires : goal.step-requires

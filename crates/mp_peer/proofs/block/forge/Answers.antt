@@ -1,5 +1,5 @@
 use Rattle.std.proofs.Common.{◌≡◌, ◌≢◌, ◌≤◌, [], ap, refl, ◌∙◌, arith}
-use Rattle.mp_resync.specs.Keep.{bytes_of}
+use Rattle.mp_seqpool.specs.Keep.{bytes_of}
 use Rattle.mp_history.specs.Log.{state_after}
 use Rattle.mp_seqpool.specs.Item.{items_of}
 use Rattle.mp_seqpool.specs.Reading.{within}

@@ -1,5 +1,5 @@
 use Rattle.std.proofs.Common.{◌≡◌, ◌+◌, drop}
-use Rattle.mp_resync.specs.Keep.{bytes_of}
+use Rattle.mp_seqpool.specs.Keep.{bytes_of}
 use Rattle.mp_seqpool.specs.Item.{items_of}
 use Rattle.mp_peer.proofs.block.sum_sizes.Given as goal
 

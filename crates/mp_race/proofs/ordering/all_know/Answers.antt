@@ -1,6 +1,6 @@
 use Rattle.std.proofs.Common.{◌≡◌, ℕ, ◌+◌, List, [], ◌∷◌, ◌++◌, take, length, sym, ap, subst, ◌∙◌, arith}
 use Rattle.std.proofs.lemmas.List.{take_more, length-take-le}
-use Rattle.mp_reader.specs.Pass.{Pass}
+use Rattle.mp_mempool.specs.Pass.{Pass}
 use Rattle.mp_race.specs.Inside.Work.{AreNumbered}
 use Rattle.mp_race.proofs.Ordered.{numbered-push}
 use Rattle.mp_race.proofs.ordering.all_know.Goals as goal

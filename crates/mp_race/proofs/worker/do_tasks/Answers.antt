@@ -2,7 +2,7 @@ use Rattle.std.proofs.Common.{◌≡◌, ℕ, ◌+◌, ◌%◌, List, [], ◌∷
 use Rattle.std.specs.Prelude.{◌==◌}
 use Rattle.std.proofs.lemmas.List.{take_all, take_more, length-take-le, length-map, map-append}
 use Rattle.mp_history.proofs.Law.{eqb-refl}
-use Rattle.mp_reader.specs.Pass.{Pass}
+use Rattle.mp_mempool.specs.Pass.{Pass}
 use Rattle.mp_race.specs.declared.task.Task.{Task}
 use Rattle.mp_race.specs.Inside.Task.{task_of, tasks_of}
 use Rattle.mp_race.specs.Inside.Work.{HasMade}

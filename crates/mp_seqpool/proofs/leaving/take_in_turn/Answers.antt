@@ -1,5 +1,5 @@
 use Rattle.std.proofs.Common.{◌+◌, ◌-◌, length, refl, sym, ap, subst, ◌∙◌}
-use Rattle.mp_resync.specs.ValidatedTx.{ValidatedTx, ticketed}
+use Rattle.mp_seqpool.specs.ValidatedTx.{ValidatedTx, ticketed}
 use Rattle.mp_seqpool.proofs.InTurn.{AreOut, none_out, found_can_go, found_out, none_found}
 use Rattle.mp_seqpool.proofs.leaving.take_in_turn.Goals.{in-Some, in_default}
 use Rattle.mp_seqpool.proofs.leaving.take_in_turn.Goals as goal

@@ -1,4 +1,4 @@
-use Rattle.mp_resync.specs.ValidatedTx.{ticketed}
+use Rattle.mp_seqpool.specs.ValidatedTx.{ticketed}
 use Rattle.mp_seqpool.proofs.InTurn.{AreOut}
 use Rattle.mp_seqpool.proofs.leaving.take_in_turn.Given as goal
 

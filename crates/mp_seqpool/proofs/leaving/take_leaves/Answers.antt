@@ -1,5 +1,5 @@
 use Rattle.std.proofs.Common.{◌+◌, take, sym, ap, subst, ◌∙◌}
-use Rattle.mp_resync.specs.ValidatedTx.{ValidatedTx, ticketed}
+use Rattle.mp_seqpool.specs.ValidatedTx.{ValidatedTx, ticketed}
 use Rattle.mp_seqpool.specs.Inside.NamedLeaves.{Lacks}
 use Rattle.mp_seqpool.proofs.LeavesOut.{none_out, found_can_go, found_out, none_found}
 use Rattle.mp_seqpool.proofs.leaving.take_leaves.Goals.{in-Some, in_default}

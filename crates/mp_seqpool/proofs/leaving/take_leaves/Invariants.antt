@@ -1,5 +1,5 @@
 use Rattle.std.proofs.Common.{take}
-use Rattle.mp_resync.specs.ValidatedTx.{ticketed}
+use Rattle.mp_seqpool.specs.ValidatedTx.{ticketed}
 use Rattle.mp_seqpool.specs.Inside.NamedLeaves.{Lacks}
 use Rattle.mp_seqpool.proofs.leaving.take_leaves.Given as goal
 

@@ -1,7 +1,7 @@
 use Rattle.std.proofs.Common.{◌≡◌, ◌+◌, Some, None, sym, ap, subst, ◌∙◌}
 use Rattle.mp_tx.specs.Spelling.{size_of}
 use Rattle.mp_tickets.specs.Tickets.{item_at}
-use Rattle.mp_resync.specs.ValidatedTx.{ValidatedTx}
+use Rattle.mp_seqpool.specs.ValidatedTx.{ValidatedTx}
 use Rattle.mp_seqpool.specs.Inside.Leaving.{bytes_in, AreKnown}
 use Rattle.mp_seqpool.proofs.Leavers.{no_more, nothing, taken_known, taken_bytes}
 use Rattle.mp_seqpool.proofs.leaving.take_one.Goals as goal

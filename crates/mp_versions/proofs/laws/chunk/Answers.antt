@@ -1,9 +1,9 @@
 use Rattle.std.proofs.Common.{◌≡◌, ◌≤◌, length, subst}
 use Rattle.std.specs.List.{All}
 use Rattle.mp_versions.specs.Version.{Version}
-use Rattle.mp_items.specs.Layout.{chunks_in}
-use Rattle.mp_items.specs.Pages.{flattened}
-use Rattle.mp_items.proofs.Chunks.{joined_in, all_in, all_least, all_most}
+use Rattle.mp_versions.specs.Layout.{chunks_in}
+use Rattle.mp_versions.specs.Pages.{flattened}
+use Rattle.mp_versions.proofs.Chunks.{joined_in, all_in, all_least, all_most}
 use Rattle.mp_versions.proofs.laws.chunk.Goals as goal
 
 pub returns-clause-joined : goal.returns-clause-joined

@@ -1,5 +1,5 @@
 use Rattle.std.proofs.Common.{arith}
-use Rattle.mp_items.specs.Layout.{items_in}
+use Rattle.mp_versions.specs.Layout.{items_in}
 use Rattle.mp_versions.proofs.Gone.{count_within}
 use Rattle.mp_versions.proofs.version.count_up_to.Goals as goal
 

@@ -1,6 +1,6 @@
 use Rattle.std.proofs.Common.{subst, arith}
 use Rattle.std.specs.Prelude.{IfOk}
-use Rattle.mp_items.specs.Layout.{items_in}
+use Rattle.mp_versions.specs.Layout.{items_in}
 use Rattle.mp_versions.specs.Inside.Version.{IsRestOf}
 use Rattle.mp_versions.specs.declared.version.Rest.{Rest}
 use Rattle.mp_versions.proofs.Gone.{apart_none, rising_apart, fewer}

@@ -1,5 +1,5 @@
 use Rattle.std.proofs.Common.{arith}
-use Rattle.mp_items.specs.Layout.{items_in}
+use Rattle.mp_versions.specs.Layout.{items_in}
 use Rattle.mp_versions.proofs.Gone.{bytes_parted, less_gone}
 use Rattle.mp_versions.proofs.version.take_out.Goals as goal
 

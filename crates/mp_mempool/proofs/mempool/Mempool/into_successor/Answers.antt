@@ -1,5 +1,5 @@
 use Rattle.std.proofs.Common.{List, subst, ◌∙◌}
-use Rattle.mp_reader.specs.Pass.{Pass}
+use Rattle.mp_mempool.specs.Pass.{Pass}
 use Rattle.mp_mempool.specs.Successor.{HandsOver, IsRefusedSuccessor}
 use Rattle.mp_mempool.proofs.mempool.Mempool.into_successor.Goals as goal
 

@@ -1,4 +1,4 @@
-use Rattle.mp_pool_samples.specs.Names.{any}
+use Rattle.mp_testing.specs.Names.{any}
 use Rattle.mp_mempool_tests.proofs.mempool.successors.see_held.Given as goal
 
 -- the name that was just made, for this many callers

@@ -1,4 +1,4 @@
-use Rattle.mp_pool_samples.proofs.Signed.{signed}
+use Rattle.mp_testing.proofs.Signed.{signed}
 use Rattle.mp_pool_tests.proofs.versions.both.prepare.Goals as goal
 
 pub prepare_remove-requires : goal.prepare_remove-requires

@@ -1,7 +1,7 @@
 use Rattle.std.proofs.Common.{◌≡◌, ◌<◌, refl, sym, subst, ◌∙◌}
 use Rattle.std.specs.Prelude.{All}
 use Rattle.mp_tickets.specs.Tickets.{IsRising}
-use Rattle.mp_resync.specs.ValidatedTx.{ticketed}
+use Rattle.mp_seqpool.specs.ValidatedTx.{ticketed}
 use Rattle.mp_seqpool.specs.Pool.{Pool, Holding}
 use Rattle.mp_seqpool.specs.SlowPool.{pool_upon}
 use Rattle.mp_seqpool.specs.Prepared.{IsLeafAt, apart, left_by}

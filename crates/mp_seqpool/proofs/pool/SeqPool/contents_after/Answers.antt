@@ -1,6 +1,6 @@
 use Rattle.std.proofs.Common.{◌≡◌, ap, subst, ◌∙◌}
 use Rattle.mp_tickets.specs.Tickets.{after}
-use Rattle.mp_resync.specs.ValidatedTx.{ticketed}
+use Rattle.mp_seqpool.specs.ValidatedTx.{ticketed}
 use Rattle.mp_seqpool.specs.Pool.{Holding}
 use Rattle.mp_seqpool.proofs.Reading.{after_ticketed}
 use Rattle.mp_seqpool.proofs.pool.SeqPool.contents_after.Goals as goal

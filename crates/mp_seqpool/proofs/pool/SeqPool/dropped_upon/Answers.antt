@@ -1,5 +1,5 @@
 use Rattle.std.proofs.Common.{ap, ◌∙◌}
-use Rattle.mp_resync.specs.Keep.{dropped}
+use Rattle.mp_seqpool.specs.Keep.{dropped}
 use Rattle.mp_seqpool.proofs.Left.{none_named}
 use Rattle.mp_seqpool.proofs.pool.SeqPool.dropped_upon.Goals as goal
 

@@ -2,7 +2,7 @@ use Rattle.std.proofs.Common.{◌≡◌, sym, ap, subst, ◌∙◌}
 use Rattle.std.specs.Prelude.{Some, None, option_map}
 use Rattle.std.specs.Arc.{arc_value}
 use Rattle.mp_tickets.specs.Tickets.{item_at}
-use Rattle.mp_resync.specs.ValidatedTx.{ValidatedTx}
+use Rattle.mp_seqpool.specs.ValidatedTx.{ValidatedTx}
 use Rattle.mp_seqpool.specs.Pool.{Holding}
 use Rattle.mp_seqpool.proofs.Reading.{item_ticketed}
 use Rattle.mp_seqpool.proofs.pool.SeqPool.get.Goals as goal

@@ -6,7 +6,7 @@ use Rattle.std.proofs.lemmas.List.Filters.{dedup_is}
 use Rattle.std.proofs.lemmas.Map.Keys.{IsStrictlyIncreasing-dedup}
 use Rattle.mp_tx.specs.Spelling.{id_of}
 use Rattle.mp_tickets.specs.Tickets.{IsRising}
-use Rattle.mp_resync.specs.Keep.{transactions}
+use Rattle.mp_seqpool.specs.Keep.{transactions}
 use Rattle.mp_seqpool.specs.Pool.{Holding}
 use Rattle.mp_seqpool.proofs.Left.{rising_ticketed}
 use Rattle.mp_seqpool.proofs.TicketsNamed.{in_order}

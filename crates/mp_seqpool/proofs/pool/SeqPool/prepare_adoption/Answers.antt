@@ -1,8 +1,8 @@
 use Rattle.std.proofs.Common.{subst}
 use Rattle.std.specs.Prelude.{IfSome}
-use Rattle.mp_resync.specs.ValidatedTx.{ticketed}
-use Rattle.mp_resync.specs.Keep.{transactions}
-use Rattle.mp_resync.specs.Parted.{IsParted}
+use Rattle.mp_seqpool.specs.ValidatedTx.{ticketed}
+use Rattle.mp_seqpool.specs.Keep.{transactions}
+use Rattle.mp_seqpool.specs.Parted.{IsParted}
 use Rattle.mp_seqpool.specs.Pool.{Holding}
 use Rattle.mp_seqpool.proofs.pool.SeqPool.prepare_adoption.Goals as goal
 

@@ -3,8 +3,8 @@ use Rattle.std.specs.Arc.{arc_value}
 use Rattle.std.specs.Prelude.{IfSome, AllPairs}
 use Rattle.mp_tx.specs.Spelling.{id_of}
 use Rattle.mp_tickets.specs.Tickets.{IsRising}
-use Rattle.mp_resync.specs.Keep.{transactions}
-use Rattle.mp_resync.specs.Kept.{IsKeptOf}
+use Rattle.mp_seqpool.specs.Keep.{transactions}
+use Rattle.mp_seqpool.specs.Kept.{IsKeptOf}
 use Rattle.mp_seqpool.specs.Command.{Remove}
 use Rattle.mp_seqpool.specs.Pool.{Holding}
 use Rattle.mp_seqpool.specs.declared.refusal.Refusal.TheVariants.{NoMemory}

@@ -2,7 +2,7 @@ use Rattle.std.proofs.Common.{◌≢◌, ◌<◌, ◌≤◌, map, ap, subst, ◌
 use Rattle.std.specs.Prelude.{IfSome, AllPairs}
 use Rattle.mp_tx.specs.Spelling.{id_of}
 use Rattle.mp_tickets.specs.Tickets.{IsRising}
-use Rattle.mp_resync.specs.Keep.{transactions}
+use Rattle.mp_seqpool.specs.Keep.{transactions}
 use Rattle.mp_seqpool.specs.Command.{Sync}
 use Rattle.mp_seqpool.specs.Pool.{Holding}
 use Rattle.mp_seqpool.specs.declared.refusal.Refusal.TheVariants.{NoMemory}

@@ -1,6 +1,6 @@
 use Rattle.std.proofs.Common.{sym, subst}
 use Rattle.std.specs.Prelude.{IfOk}
-use Rattle.mp_resync.specs.Kept.{IsKeptOf}
+use Rattle.mp_seqpool.specs.Kept.{IsKeptOf}
 use Rattle.mp_seqpool.specs.Pool.{Holding}
 use Rattle.mp_seqpool.specs.SlowPool.{AreSigned}
 use Rattle.mp_seqpool.proofs.Left.{vouched}

@@ -3,7 +3,7 @@ use Rattle.std.specs.Arc.{arc_value}
 use Rattle.mp_tx.specs.Transaction.{Transaction}
 use Rattle.mp_tx.specs.Ledger.{LedgerState}
 use Rattle.mp_rules.specs.Validity.{IsValid}
-use Rattle.mp_resync.specs.ValidatedTx.{ValidatedTx, ticketed}
+use Rattle.mp_seqpool.specs.ValidatedTx.{ValidatedTx, ticketed}
 use Rattle.mp_seqpool.specs.Inside.Chained.{all_accepted}
 use Rattle.mp_seqpool.specs.Inside.SeqPool.{state}
 use Rattle.mp_seqpool.specs.Pool.{Holding}

@@ -1,7 +1,7 @@
 use Rattle.std.proofs.Common.{◌≡◌, subst}
 use Rattle.std.specs.Prelude.{IfSome, IfNone}
 use Rattle.mp_utxo.specs.Overlay.{IsUnder, HasNone}
-use Rattle.mp_resync.specs.ValidatedTx.{ticketed}
+use Rattle.mp_seqpool.specs.ValidatedTx.{ticketed}
 use Rattle.mp_seqpool.specs.Pool.{Holding}
 use Rattle.mp_seqpool.specs.SlowPool.{ticket_of}
 use Rattle.mp_seqpool.proofs.Distinct.{found_is}

@@ -2,8 +2,8 @@ use Rattle.std.proofs.Common.{ap, ◌∙◌}
 use Rattle.std.specs.Prelude.{is_some}
 use Rattle.mp_seqpool.specs.SlowPool.{ticket_of}
 use Rattle.mp_versions.specs.Version.{Version}
-use Rattle.mp_items.specs.Layout.{items_in}
-use Rattle.mp_items.proofs.Ids.{is_ticketed}
+use Rattle.mp_versions.specs.Layout.{items_in}
+use Rattle.mp_versions.proofs.Ids.{is_ticketed}
 use Rattle.mp_versions.proofs.version.Version.has.Goals as goal
 
 pub returns : goal.returns

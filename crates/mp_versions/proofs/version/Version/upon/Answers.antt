@@ -1,6 +1,6 @@
 use Rattle.std.proofs.Common.{◌<◌, length, sym, ap, subst, ◌∙◌, arith}
 use Rattle.mp_versions.specs.Version.{Version}
-use Rattle.mp_items.specs.Layout.{items_in}
+use Rattle.mp_versions.specs.Layout.{items_in}
 use Rattle.mp_seqpool.specs.Prepared.{left_by}
 use Rattle.mp_versions.proofs.Gone.{rising_left, given_left, bytes_left}
 use Rattle.mp_versions.proofs.Counting.{counted}

@@ -2,7 +2,7 @@ use Rattle.std.proofs.Common.{◌+◌, ◌++◌, ◌∷◌, [], refl, sym, ap, s
 use Rattle.std.specs.Arc.{arc_value}
 use Rattle.mp_tx.specs.Spelling.{size_of}
 use Rattle.mp_versions.specs.Version.{Version}
-use Rattle.mp_items.specs.Layout.{items_in}
+use Rattle.mp_versions.specs.Layout.{items_in}
 use Rattle.mp_seqpool.specs.SlowPool.{HasPlace}
 use Rattle.mp_versions.proofs.Gone.{count_within}
 use Rattle.mp_versions.proofs.Counting.{counted_more}

@@ -1,5 +1,0 @@
-pub mod Spending
-pub mod Making
-pub mod Effect
-pub mod Blocks
-pub mod Differing

@@ -1,5 +1,0 @@
-use Rattle.mp_block.proofs.Blocks.{block_is_a_chain}
-use Rattle.mp_block.proofs.laws.block_is_a_chain.Goals as goal
-
-pub returns : goal.returns
-returns c = block_is_a_chain

@@ -1,7 +1,0 @@
-//! The command line of the program: the words that it accepts, and what they ask for.
-#![tactic(auto)]
-
-mod asked;
-mod program;
-
-pub use asked::{Asked, Input, SchemeName, Wishes, parse_words};

@@ -1,4 +1,0 @@
-pub mod Pool
-pub mod Scene
-pub mod Ending
-pub mod Fault

@@ -1,6 +1,0 @@
-use Rattle.std.proofs.Common.{◌≡◌, take}
-use Rattle.mp_items.proofs.layout.growing.longer_page.Given as goal
-
--- the chunks so far
-abbrev pub invariant-loop-other : goal.invariant-loop-other
-invariant-loop-other l = l.all.items ≡ take l.other-index l.chunks

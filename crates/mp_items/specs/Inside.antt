@@ -1,4 +1,0 @@
--- What only the crate's own clauses, views and invariants cite.
-pub mod Built
-pub mod Left
-pub mod Run

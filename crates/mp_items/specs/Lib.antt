@@ -1,4 +1,0 @@
-pub mod Inside
-pub mod Layout
-pub mod Pages
-pub mod Reading

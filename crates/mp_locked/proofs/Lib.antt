@@ -1,4 +1,0 @@
-pub mod Entering
-pub mod Places
-pub mod Preparing
-pub mod Steps

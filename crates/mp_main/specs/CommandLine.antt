@@ -1,0 +1,243 @@
+-- The command lines that the program accepts: `keltuvar run [--explain] [--signatures WHICH] [FILE]`,
+-- `keltuvar race --workers N [--history FILE] [--svg FILE] [--verify-us MICROSECONDS] [--explain] [--signatures WHICH] [FILE]`,
+-- `keltuvar audit [--explain] [--signatures WHICH] SCENARIO HISTORY`, `keltuvar serve [--signatures WHICH] [--salt N]`, `--help`
+-- and `--version`.
+use Rattle.std.specs.Prelude.{◌≡◌, ◌≤◌, ◌⊎◌, ⊤, ℕ, Bool, true, false, List, [], ◌∷◌, map, Option, None, Some, codes}
+use Rattle.std.specs.Prelude.{option_and_then, option_map, unwrap_or}
+use Rattle.std.specs.Borrow.{Bor}
+use Rattle.std.specs.Str.Parse.{digits_value, without_leading_plus}
+use Rattle.clap.specs.Simple.{on_top}
+use Rattle.clap.specs.declared.builder.action.ArgAction.TheVariants.{SetTrue}
+use Rattle.clap.specs.declared.builder.value_parser.ValueParser.TheVariants.{Names, Unsigned}
+use Rattle.clap.specs.Words.{App, Row, Rule, Text, first_of, one_of, new_app, new_rule, subcommand_of, with_rule}
+use Rattle.clap.specs.Words.{with_subcommand}
+use Rattle.mp_main.specs.declared.command_line.asked.Asked.{Asked}
+use Rattle.mp_main.specs.declared.command_line.asked.Asked.TheVariants.{Run, Race, Audit, Serve}
+use Rattle.mp_main.specs.declared.command_line.asked.SchemeName.{SchemeName}
+use Rattle.mp_main.specs.declared.command_line.asked.SchemeName.TheVariants.{Trial, Checked, Ed25519}
+
+abbrev pub explain_rule : Rule
+explain_rule = record (new_rule (codes "explain")) { long = Some (codes "explain"); action = Some SetTrue }
+
+abbrev pub file_rule : Rule
+file_rule = new_rule (codes "FILE")
+
+-- a required number from 1 to 64
+abbrev pub workers_rule : Rule
+workers_rule = record (new_rule (codes "workers")) {
+  long = Some (codes "workers");
+  value_names = 1;
+  parser = Some (Unsigned 1 64);
+  required = true;
+}
+
+-- a number from 0 to 1,000,000
+abbrev pub verify_us_rule : Rule
+verify_us_rule = record (new_rule (codes "verify-us")) {
+  long = Some (codes "verify-us");
+  value_names = 1;
+  parser = Some (Unsigned 0 1000000);
+}
+
+-- one of these names
+abbrev pub signatures_rule : Bor (List (Bor Text)) → Rule
+signatures_rule names = record (new_rule (codes "signatures")) {
+  long = Some (codes "signatures");
+  value_names = 1;
+  parser = Some (Names names);
+}
+
+-- a number of 64 bits
+abbrev pub salt_rule : Rule
+salt_rule = record (new_rule (codes "salt")) {
+  long = Some (codes "salt");
+  value_names = 1;
+  parser = Some (Unsigned 0 18446744073709551615);
+}
+
+-- an option with a file
+abbrev pub output_rule : Text → Rule
+output_rule name = record (new_rule name) { long = Some name; value_names = 1 }
+
+-- a required file
+abbrev pub input_rule : Text → Rule
+input_rule id = record (new_rule id) { value_names = 1; required = true }
+
+-- `run`, with or without the flag and a file
+abbrev pub run_command : Bor (List (Bor Text)) → App
+run_command names = with_rule (with_rule (with_rule (new_app (codes "run")) explain_rule) (signatures_rule names)) file_rule
+
+-- a command with two output files and a number of microseconds
+abbrev pub with_wishes : App → App
+with_wishes command = with_rule (with_rule (with_rule command
+    (output_rule (codes "history"))) (output_rule (codes "svg"))) verify_us_rule
+
+-- `race`: `run` with a number of workers and those options
+abbrev pub race_command : Bor (List (Bor Text)) → App
+race_command names =
+    with_rule (with_rule (with_rule (with_wishes (with_rule (new_app (codes "race")) workers_rule)) explain_rule)
+    (signatures_rule names)) file_rule
+
+-- `audit` of a scenario and a history, with or without the flag
+abbrev pub audit_command : Bor (List (Bor Text)) → App
+audit_command names = with_rule (with_rule (with_rule (with_rule (new_app (codes "audit"))
+    explain_rule) (signatures_rule names)) (input_rule (codes "FILE"))) (input_rule (codes "history"))
+
+-- `serve`, with or without one of these names and a number
+abbrev pub serve_command : Bor (List (Bor Text)) → App
+serve_command names = with_rule (with_rule (new_app (codes "serve")) (signatures_rule names)) salt_rule
+
+-- the program without its commands, of which one is required
+abbrev pub bare_program : App
+bare_program = on_top (λ s. record s { has_version = true; disable_help_subcommand = true; subcommand_required = true })
+    (new_app (codes "keltuvar"))
+
+-- the only commands are `run`, `race`, `audit` and `serve`
+abbrev pub program_with : Bor (List (Bor Text)) → App
+program_with names = with_subcommand (with_subcommand (with_subcommand (with_subcommand bare_program
+    (run_command names).top)
+    (race_command names).top)
+    (audit_command names).top)
+    (serve_command names).top
+
+-- the accepted signatures: those of scenarios, or all of them because the host has checked them
+abbrev pub signature_names : List Text
+signature_names = codes "trial" ∷ codes "checked" ∷ codes "ed25519" ∷ codes "scenarios" ∷ []
+
+-- what a name says
+abbrev pub IsNamed : Text → SchemeName → Type 0
+IsNamed name Trial = (name ≡ codes "trial") ⊎ (name ≡ codes "scenarios")
+IsNamed name Checked = name ≡ codes "checked"
+IsNamed name Ed25519 = name ≡ codes "ed25519"
+
+-- one of those names
+abbrev pub IsSignatures : Text → Type 0
+IsSignatures name = (scheme : SchemeName) × IsNamed name scheme
+
+-- a value behind a reference; its place in memory doesn't matter
+abbrev pub lent : {X : Type 0} → X → Bor X
+lent x = record { ref_ptr = (0, 0); now = x }
+
+abbrev pub program : App
+program = program_with (lent (map lent signature_names))
+
+-- the command that these words name, after the program's name, with what they give to it
+abbrev pub met_in : List Text → Option (Text × List Row)
+met_in words = subcommand_of program words
+
+-- the name of that command
+abbrev pub command_in : List Text → Option Text
+command_in words = option_map (λ c. c.0) (met_in words)
+
+-- -- what was given to that command
+
+-- the first value of an argument
+abbrev pub value_of : Text → Option (Text × List Row) → Option Text
+value_of id command = option_and_then (first_of id) (option_map (λ c. c.1) command)
+
+-- the scenario's file, named FILE in each command
+abbrev pub file_of : Option (Text × List Row) → Option Text
+file_of = value_of (codes "FILE")
+
+-- the history's file, which has this name in a race and an audit
+abbrev pub history_of : Option (Text × List Row) → Option Text
+history_of = value_of (codes "history")
+
+-- the file for a picture of a race
+abbrev pub picture_of : Option (Text × List Row) → Option Text
+picture_of = value_of (codes "svg")
+
+-- the text of an option or a flag
+abbrev pub text_of : Text → Option (Text × List Row) → Option Text
+text_of id command = option_and_then (one_of id) (option_map (λ c. c.1) command)
+
+abbrev pub explain_of : Option (Text × List Row) → Option Text
+explain_of = text_of (codes "explain")
+
+-- the number that decimal digits denote, with or without a leading plus
+abbrev pub number_of : Text → ℕ
+number_of text = digits_value 10 (without_leading_plus text)
+
+abbrev pub workers_of : Option (Text × List Row) → Option ℕ
+workers_of command = option_map number_of (text_of (codes "workers") command)
+
+-- how many microseconds the check of a signature takes
+abbrev pub verify_us_of : Option (Text × List Row) → Option ℕ
+verify_us_of command = option_map number_of (text_of (codes "verify-us") command)
+
+-- the name of the accepted signatures
+abbrev pub signatures_of : Option (Text × List Row) → Option Text
+signatures_of = value_of (codes "signatures")
+
+-- the salt of a conversation's tables
+abbrev pub salt_of : Option (Text × List Row) → Option ℕ
+salt_of command = option_map number_of (text_of (codes "salt") command)
+
+-- what the text of a flag means
+pub record IsFlag (text : Option Text) (set : Bool) : Type 0 where
+  pub none : text ≡ None → set ≡ false
+  pub true_text : text ≡ Some (codes "true") → set ≡ true
+  pub false_text : text ≡ Some (codes "false") → set ≡ false
+
+-- what that name means, which is one of two
+abbrev pub IsChoice : Option Text → SchemeName → Type 0
+IsChoice None scheme = scheme ≡ Trial
+IsChoice (Some name) scheme = IsNamed name scheme
+
+-- -- what the words ask for
+
+abbrev pub name_of : Asked → Text
+name_of (Run input signatures) = codes "run"
+name_of (Race input workers signatures wishes) = codes "race"
+name_of (Audit scenario history signatures explains) = codes "audit"
+name_of (Serve signatures salt) = codes "serve"
+
+abbrev pub file_text : Option (Bor Text) → Option Text
+file_text = option_map (λ s. s.now)
+
+-- the scenario's file
+abbrev pub scenario_of : Asked → Option Text
+scenario_of (Run input signatures) = file_text input.file
+scenario_of (Race input workers signatures wishes) = file_text input.file
+scenario_of (Audit scenario history signatures explains) = Some scenario.now
+scenario_of (Serve signatures salt) = None
+
+abbrev pub explains_of : Asked → Bool
+explains_of (Run input signatures) = input.explains
+explains_of (Race input workers signatures wishes) = input.explains
+explains_of (Audit scenario history signatures explains) = explains
+explains_of (Serve signatures salt) = false
+
+-- the signatures that are accepted
+abbrev pub scheme_of : Asked → SchemeName
+scheme_of (Run input signatures) = signatures
+scheme_of (Race input workers signatures wishes) = signatures
+scheme_of (Audit scenario history signatures explains) = signatures
+scheme_of (Serve signatures salt) = signatures
+
+-- a race has the given number of workers, from 1 to 64
+abbrev pub HasWorkers : Option ℕ → Asked → Type 0
+HasWorkers given (Race input workers signatures wishes) = (given ≡ Some workers) × (1 ≤ workers) × (workers ≤ 64)
+HasWorkers given asked = ⊤
+
+-- the file for a race's history is the given one, or none; an audit is of the given one
+abbrev pub HasHistory : Option Text → Asked → Type 0
+HasHistory given (Run input signatures) = ⊤
+HasHistory given (Race input workers signatures wishes) = file_text wishes.history ≡ given
+HasHistory given (Audit scenario history signatures explains) = Some history.now ≡ given
+HasHistory given (Serve signatures salt) = ⊤
+
+-- the file for a race's picture is the given one, or none
+abbrev pub HasPicture : Option Text → Asked → Type 0
+HasPicture given (Race input workers signatures wishes) = file_text wishes.picture ≡ given
+HasPicture given asked = ⊤
+
+-- the check of a signature in a race takes the given number of microseconds, up to 1,000,000, or 0
+abbrev pub HasDelay : Option ℕ → Asked → Type 0
+HasDelay given (Race input workers signatures wishes) = (wishes.verify_us ≡ unwrap_or given 0) × (wishes.verify_us ≤ 1000000)
+HasDelay given asked = ⊤
+
+-- a conversation has the given salt, or none
+abbrev pub HasSalt : Option ℕ → Asked → Type 0
+HasSalt given (Serve signatures salt) = salt ≡ given
+HasSalt given asked = ⊤

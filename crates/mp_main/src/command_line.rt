@@ -1,0 +1,6 @@
+//! The command line of the program: the words that it accepts, and what they ask for.
+
+mod asked;
+mod program;
+
+pub use asked::{Asked, Input, SchemeName, Wishes, parse_words};

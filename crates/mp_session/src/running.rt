@@ -1,0 +1,102 @@
+//! A scenario's text, from a reader to a writer.
+
+ghost use Rattle.std.specs.Prelude.{◌≡◌, ◌≤◌, length, IfSome};
+ghost use Rattle.mp_session.specs.Scene.{empty_scene};
+ghost use Rattle.mp_session.specs.Ending.{stop_of, AreAnswers, Ended};
+
+use crate::fault::Fault;
+use crate::scene::Scene;
+use crate::stop::Stop;
+use mp_memory::Memory;
+use mp_names::LineFault;
+use mp_signatures::Signatures;
+use mp_text::{InputFault, MAX_BYTES, first_line, read_all, write_all};
+use std::io::{Read, Write};
+
+// Why the line with this number isn't answered.
+fn stop_at(number: u64, fault: LineFault<'_>) -> Stop<'_>
+    ensures { result ≡ stop_of number fault.entry }
+{
+    match fault {
+        LineFault::NoMemory => Stop::NoMemory,
+        LineFault::Bad(reason) => Stop::BadLine(number, reason),
+    }
+}
+
+// Executes the lines of a text in order, and writes the answer to each.
+fn answer_from<'a, W: Write>(
+    memory: Memory,
+    scene: &mut Scene,
+    text: &'a [u8],
+    writer: &mut W,
+) -> Result<(), Stop<'a>>
+    requires empty { scene.old ≡ empty_scene scene.old.signatures }
+    requires short { length text.now ≤ MAX_BYTES }
+    ensures { AreAnswers scene.old.signatures text.now
+        (W.contents writer.old) (W.contents writer.new) result }
+{
+    let mut rest = text;
+    let mut number = 1u64;
+    while let Some((line, after)) = first_line(rest) {
+        match scene.read_line(memory, line) {
+            Ok(answer) => match write_all(writer, &answer) {
+                Ok(()) => {}
+                Err(_) => return Err(Stop::Write),
+            },
+            Err(fault) => return Err(stop_at(number, fault)),
+        }
+        rest = after;
+        number += 1;
+    }
+    Ok(())
+}
+
+/// Executes the lines of a text in order, and writes the answer to each. The pool opens with the first command, and
+/// accepts these signatures.
+///
+/// # Errors
+/// `BadLine` at the first line that isn't in the language, after the answers to the lines before it. `Write` if a
+/// write fails, after a prefix of the answers. `NoMemory` after the answers to the lines before.
+pub fn answer_text<'a, W: Write>(
+    memory: Memory,
+    signatures: &Signatures,
+    text: &'a [u8],
+    writer: &mut W,
+) -> Result<(), Stop<'a>>
+    requires { length text.now ≤ MAX_BYTES }
+    ensures { AreAnswers signatures.now text.now
+        (W.contents writer.old) (W.contents writer.new) result }
+{
+    match Scene::new(memory, signatures) {
+        Ok(mut scene) => answer_from(memory, &mut scene, text, writer),
+        Err(_) => Err(Stop::NoMemory),
+    }
+}
+
+/// Reads all of the input, and then executes its lines in order, as `answer_text` does.
+///
+/// # Errors
+/// `ReadFault` before anything is written, if a read fails, if there are more than 2^24 bytes, or if 2^25 reads don't
+/// reach the end.
+/// `BadLine` at the first line that isn't in the language, after the answers to the lines before it.
+/// `WriteFault` if a write fails, after a prefix of the answers. `NoMemory` after the answers to the lines before.
+pub fn run<R: Read, W: Write>(
+    memory: Memory,
+    signatures: &Signatures,
+    reader: &mut R,
+    writer: &mut W,
+) -> Result<(), Fault>
+    ensures { IfSome (R.remaining reader.old) (λ bytes. Ended signatures.now bytes
+        (W.contents writer.old) (W.contents writer.new) result) }
+{
+    match read_all(memory, reader) {
+        Ok(text) => match answer_text(memory, signatures, &text, writer) {
+            Ok(()) => Ok(()),
+            Err(stop) => Err(stop.to_fault()),
+        },
+        Err(fault) => match fault {
+            InputFault::NoMemory => Err(Fault::NoMemory),
+            InputFault::Read => Err(Fault::ReadFault),
+        },
+    }
+}

@@ -1,2 +1,0 @@
--- What only the crate's own clauses cite.
-pub mod Kept
