@@ -1,1 +1,3 @@
 pub mod Progress
+pub mod Checks
+pub mod Steps

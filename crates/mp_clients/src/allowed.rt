@@ -3,6 +3,7 @@
 ghost use Rattle.std.specs.Prelude.{◌≡◌, true, false, IfSome, IfNone};
 ghost use Rattle.mp_lines.specs.Inside.Line.{to_line};
 ghost use Rattle.mp_serve.specs.Inside.Ask.{to_ask};
+ghost use Rattle.mp_clients.specs.Inside.Notes.{is_note, is_alone};
 ghost use Rattle.mp_clients.specs.Asking.{is_operator, may_do, may_ask};
 
 use mp_lines::Line;
@@ -47,5 +48,33 @@ pub fn forbids(caller: u32, ask: &Ask) -> Option<&'static [u8]>
         Ask::Extends(_) => unless_operator(caller),
         Ask::Returns(_) => unless_operator(caller),
         _ => None,
+    }
+}
+
+/// Whether the line only declares something, or asks for what makes no change.
+pub fn is_note(line: &Line) -> bool
+    ensures { result ≡ is_note (to_line line.now) }
+{
+    match line {
+        Line::Sets(_) => false,
+        Line::Out(_, _) => false,
+        Line::Submit(_) => false,
+        Line::Remove(_) => false,
+        Line::Sync(_) => false,
+        _ => true,
+    }
+}
+
+/// Whether this makes no change, and isn't in scenarios.
+pub fn is_alone(ask: &Ask) -> bool
+    ensures { result ≡ is_alone (to_ask ask.now) }
+{
+    match ask {
+        Ask::Does(_) => false,
+        Ask::Submits(_, _) => false,
+        Ask::Holds(_, _) => false,
+        Ask::Extends(_) => false,
+        Ask::Returns(_) => false,
+        _ => true,
     }
 }

@@ -7,7 +7,7 @@ ghost use Rattle.mp_answers.specs.AnswerText.{reply_text, answer_text};
 ghost use Rattle.mp_names.specs.Names as told;
 ghost use Rattle.mp_serve.specs.Refused.{counted_if};
 ghost use Rattle.mp_clients.specs.Answers.{IsAnswerTo};
-ghost use Rattle.mp_clients.specs.Inside.Asked.{answer_in, IsUnanswered};
+ghost use Rattle.mp_clients.specs.Inside.Asked.{answer_in, IsUnanswered, IsBefore};
 
 use crate::stop::Stop;
 use mp_answers::{answer_line, put_reply};
@@ -33,6 +33,7 @@ pub fn ask_pool<N: PoolName, V: Verifier>(
     ensures ok { IfOk result (λ asked. IsAnswerTo N.accepts N.callers
         pass.old (command_of command.now) (answer_in asked) pass.new) }
     ensures err { OnErr result (pass.new ≡ pass.old) }
+    ensures before { IfErr result IsBefore }
 {
     match pool.ask(rt, pass, command) {
         Ok(receipt) => Ok(Ok(receipt)),

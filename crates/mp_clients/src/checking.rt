@@ -1,6 +1,9 @@
 //! What a submit would be answered, by a version of the pool.
 
-ghost use Rattle.std.specs.Prelude.{◌≡◌, Ok, IfOk};
+ghost use Rattle.std.specs.Prelude.{◌≡◌, nat_eq, Ok, IfOk};
+ghost use Rattle.std.specs.Cmp.Lexicographic.{pointwise};
+ghost use Rattle.mp_tx.specs.Spelling.{id_of};
+ghost use Rattle.mp_seqpool.specs.Item.{item_of};
 ghost use Rattle.mp_seqpool.specs.Command.{Submit};
 ghost use Rattle.mp_seqpool.specs.SlowPool.{answer, ticket_of};
 ghost use Rattle.mp_seqpool.specs.Inside.Place.{misplaced};
@@ -15,12 +18,19 @@ use mp_utxo::Overlay;
 use mp_versions::{Run, Version};
 use std::sync::Arc;
 
+// Whether the item's transaction has this id.
+fn is_of(item: &Item, id: &TxId) -> bool
+    ensures { result ≡ pointwise nat_eq id.now (id_of (item_of item.now).1) }
+{
+    id == item.tx.id()
+}
+
 // The ticket of the item with this id.
 fn ticket_of(items: Run<'_>, id: &TxId) -> Option<u64>
     ensures { result ≡ ticket_of id.now items.entry }
 {
     for item in items {
-        if id == item.tx.id() {
+        if is_of(item, id) {
             return Some(item.ticket);
         }
     }

@@ -63,7 +63,7 @@ impl<N: PoolName> Model for Client<N> {
 }
 
 impl<N: PoolName> Client<N> {
-    ghost use Rattle.std.specs.Prelude.{◌≡◌, ◌≤◌, length, is_some, Some, IfOk, OnErr};
+    ghost use Rattle.std.specs.Prelude.{◌≡◌, ◌≤◌, length, is_some, Some, IfOk, IfErr, OnErr};
     ghost use Rattle.std.specs.Arc.{arc_value};
     ghost use Rattle.mp_signatures.specs.Scheme.{accepted_by};
     ghost use Rattle.mp_seqpool.specs.Command.{Sync};
@@ -75,7 +75,7 @@ impl<N: PoolName> Client<N> {
     ghost use Rattle.mp_serve.specs.ServedPool.{state_back};
     ghost use Rattle.mp_clients.specs.Client.{new_client};
     ghost use Rattle.mp_clients.specs.Answers.{HasLooked, IsAsked, counting, moved, gone_on, gone_back};
-    ghost use Rattle.mp_clients.specs.Inside.Asked.{answer_in};
+    ghost use Rattle.mp_clients.specs.Inside.Asked.{answer_in, IsBefore};
     ghost use Rattle.mp_clients.specs.Inside.Steps.{Responds};
 
     /// The client of a conversation that has asked nothing. The pool opened with the ledger state, for `limit` changes.
@@ -153,8 +153,8 @@ impl<N: PoolName> Client<N> {
             self.old (Plain (Read query)) text.items self.new) }
         ensures err { OnErr result (self.new ≡ self.old) }
     {
-        let version = self.pass.shown().version();
-        let (text, cursor) = query_line(memory, names, self.cursor, version, query)?;
+        let shown = self.pass.shown();
+        let (text, cursor) = query_line(memory, names, self.cursor, shown, query)?;
         self.cursor = cursor;
         Ok(text)
     }
@@ -216,6 +216,7 @@ impl<N: PoolName> Client<N> {
         ensures ok { IfOk result (λ asked. IsAsked N.accepts N.callers
             self.old (command_of command.now) (moved self.old) (answer_in asked) self.new) }
         ensures err { OnErr result (self.new ≡ self.old) }
+        ensures before { IfErr result IsBefore }
     {
         ask_pool(rt, pool, &mut self.pass, command)
     }
@@ -233,6 +234,7 @@ impl<N: PoolName> Client<N> {
         ensures ok { IfOk result (λ asked. IsAsked N.accepts N.callers
             self.old (Sync ledger) (gone_on self.old ledger) (answer_in asked) self.new) }
         ensures err { OnErr result (self.new ≡ self.old) }
+        ensures before { IfErr result IsBefore }
     {
         let former = self.ledger.share()?;
         let command = Command::Sync(ledger.share()?);
@@ -269,6 +271,7 @@ impl<N: PoolName> Client<N> {
         ensures ok { IfOk result (λ asked. IsAsked N.accepts N.callers
             self.old (Sync ledger) (gone_back self.old ledger count) (answer_in asked) self.new) }
         ensures err { OnErr result (self.new ≡ self.old) }
+        ensures before { IfErr result IsBefore }
     {
         let command = Command::Sync(ledger.share()?);
         let left = self.former.len() - count;

@@ -4,6 +4,7 @@ ghost use Rattle.std.specs.Prelude.{◌≡◌, OnOk, OnErr, IfErr};
 ghost use Rattle.mp_serve.specs.Request.{reported_if};
 ghost use Rattle.mp_clients.specs.Inside.Asked.{answer_in, IsUnanswered};
 
+use crate::allowed::{is_alone, is_note};
 use crate::asking::{Asked, asked_line, make_room};
 use crate::client::Client;
 use crate::forgetting::names_to_go;
@@ -45,7 +46,7 @@ pub struct Conversation<N: PoolName> {
 }
 
 impl<N: PoolName> Conversation<N> {
-    ghost use Rattle.std.specs.Prelude.{◌≡◌, ◌⊎◌, ◌≤◌, ℕ, List, length, true, Some, None, IfOk, IfErr, OnErr};
+    ghost use Rattle.std.specs.Prelude.{◌≡◌, ◌⊎◌, ◌≤◌, ℕ, List, length, true, false, Some, None, IfOk, IfErr, OnErr};
     ghost use Rattle.std.specs.Arc.{arc_value};
     ghost use Rattle.mp_tx.specs.Reading.{transaction_of};
     ghost use Rattle.mp_seqpool.specs.Command.{Submit, Remove, Sync};
@@ -59,7 +60,7 @@ impl<N: PoolName> Conversation<N> {
     ghost use Rattle.mp_serve.specs.Inside.Answer.{text_of};
     ghost use Rattle.mp_clients.specs.Client.{alone_at};
     ghost use Rattle.mp_clients.specs.Asking.{may_do, may_ask};
-    ghost use Rattle.mp_clients.specs.Inside.Notes.{is_note, is_alone};
+    ghost use Rattle.mp_clients.specs.Inside.Notes.{is_note, is_change, is_alone};
     ghost use Rattle.mp_clients.specs.Answers.{IsAnsweredBy, IsExtendedBy, IsReturned, IsTaken, moved, gone_on, gone_back, same_names};
     ghost use Rattle.mp_clients.specs.Inside.Steps.{IsStopped, IsToldAlone};
 
@@ -280,22 +281,46 @@ impl<N: PoolName> Conversation<N> {
         ensures err { IfErr result (IsStopped N.accepts N.callers (IsTaken N.accepts N.callers
             self.old (Does (to_line line))) self.old self.new) }
     {
-        let text = match line {
-            Line::Submit(tx) => self.change(rt, shared, memory, &Command::Submit(tx))?,
+        if is_note(&line) {
+            self.client.look(&shared.reader);
+            return Ok(self.note(memory, line)?);
+        }
+        Ok(Answer::Line(self.obey(rt, shared, memory, line)?))
+    }
+
+    // Makes the change that a line of a scenario asks for.
+    fn obey<V: Verifier>(
+        &mut self,
+        rt: &impl Wait,
+        shared: &Shared<N, V>,
+        memory: Memory,
+        line: Line,
+    ) -> Result<Text, Stop>
+        requires { is_change (to_line line) ≡ true }
+        ensures ok { IfOk result (λ text. IsTaken N.accepts N.callers
+            self.old (Does (to_line line)) text.items self.new) }
+        ensures err { IfErr result (IsStopped N.accepts N.callers (IsTaken N.accepts N.callers
+            self.old (Does (to_line line))) self.old self.new) }
+    {
+        match line {
+            Line::Submit(tx) => self.change(rt, shared, memory, &Command::Submit(tx)),
             Line::Remove(ids) => {
                 let command = Command::Remove(Arc::new(memory, Ids::of(ids))?);
-                self.change(rt, shared, memory, &command)?
+                self.change(rt, shared, memory, &command)
             }
             Line::Sync(ledger) => {
                 let ledger = ledger_at(memory, &self.settings, ledger)?;
-                self.go_on(rt, shared, memory, ledger)?
+                self.go_on(rt, shared, memory, ledger)
             }
-            other => {
-                self.client.look(&shared.reader);
-                return Ok(self.note(memory, other)?);
-            }
-        };
-        Ok(Answer::Line(text))
+            Line::Blank => unreachable!(),
+            Line::Sets(_) => unreachable!(),
+            Line::Script(_) => unreachable!(),
+            Line::Data(_) => unreachable!(),
+            Line::Out(_, _) => unreachable!(),
+            Line::Tx(_, _) => unreachable!(),
+            Line::For(_) => unreachable!(),
+            Line::Asks(_) => unreachable!(),
+        }
     }
 
     // Answers what neither changes the pool nor is in a scenario.
@@ -337,6 +362,28 @@ impl<N: PoolName> Conversation<N> {
         ensures err { IfErr result (IsStopped N.accepts N.callers (IsTaken N.accepts N.callers
             self.old (to_ask ask)) self.old self.new) }
     {
+        if is_alone(&ask) {
+            self.client.look(&shared.reader);
+            return Ok(Answer::Line(self.tell(memory, ask)?));
+        }
+        self.act(rt, shared, memory, ask)
+    }
+
+    // Does what a line of a scenario asks for, or makes another change.
+    fn act<V: Verifier>(
+        &mut self,
+        rt: &impl Wait,
+        shared: &Shared<N, V>,
+        memory: Memory,
+        ask: Ask,
+    ) -> Result<Answer, Stop>
+        requires may { may_ask self.old.client.pass.caller (to_ask ask) ≡ true }
+        requires acts { is_alone (to_ask ask) ≡ false }
+        ensures ok { IfOk result (λ answer. IsTaken N.accepts N.callers
+            self.old (to_ask ask) (text_of answer) self.new) }
+        ensures err { IfErr result (IsStopped N.accepts N.callers (IsTaken N.accepts N.callers
+            self.old (to_ask ask)) self.old self.new) }
+    {
         let text = match ask {
             Ask::Does(line) => return self.does(rt, shared, memory, line),
             Ask::Submits(name, tx) => self.submit(rt, shared, memory, &name, tx)?,
@@ -345,10 +392,12 @@ impl<N: PoolName> Conversation<N> {
                 self.adopt_block(rt, shared, memory, &block)?
             }
             Ask::Returns(count) => self.return_by(rt, shared, memory, count)?,
-            other => {
-                self.client.look(&shared.reader);
-                self.tell(memory, other)?
-            }
+            Ask::Reads(_, _) => unreachable!(),
+            Ask::Shows(_) => unreachable!(),
+            Ask::Checks(_) => unreachable!(),
+            Ask::Counts => unreachable!(),
+            Ask::Holds(_, _) => unreachable!(),
+            Ask::Forgets(_) => unreachable!(),
         };
         Ok(Answer::Line(text))
     }

@@ -1,50 +1,22 @@
 //! The lines of queries about a version of the pool.
 
-ghost use Rattle.std.specs.Prelude.{◌≡◌, ◌++◌, [], codes, take, option_map, IfOk, OnOk};
-ghost use Rattle.std.specs.Arc.{arc_value};
-ghost use Rattle.mp_seqpool.specs.Keep.{bytes_of};
+ghost use Rattle.std.specs.Prelude.{◌≡◌, ◌++◌, codes, IfOk, OnOk};
 ghost use Rattle.mp_seqpool.specs.Item.{items_of};
 ghost use Rattle.mp_seqpool.specs.Reading.{within, offer, moved};
 ghost use Rattle.mp_seqpool.specs.SlowPool.{free_bytes};
+ghost use Rattle.mp_history.specs.Log.{state_after};
 ghost use Rattle.mp_answers.specs.AnswerText.{items_text, numbers_text};
 ghost use Rattle.mp_answers.specs.QueryText.{sized_text, words_text, query_text, for_text, cursor_after};
 ghost use Rattle.mp_serve.specs.Texts.{pool_numbers, stats_text};
 
 use mp_answers::{put_found, put_has, put_item, put_items, put_number, put_sized, put_word};
+use mp_history::PoolName;
 use mp_lines::Query;
 use mp_memory::{Memory, NoMemory};
 use mp_names::Names;
+use mp_peer::{PeerReader, forge};
 use mp_serve::{Counts, Text, put_counts};
 use mp_versions::{Item, Run, Version};
-
-// Items of a version, and the total number of their bytes.
-#[derive(Drop)]
-struct Found {
-    items: Vec<Item, Memory>,
-    bytes: u64,
-}
-
-// The longest prefix of these items that has at most `count` items and fits into `room` bytes.
-fn first_within(memory: Memory, items: Run<'_>, count: u64, room: u64) -> Result<Found, NoMemory>
-    ensures items { IfOk result
-        (λ f. items_of f.items.items ≡ take count (within room items.entry)) }
-    ensures bytes { IfOk result (λ f. f.bytes ≡ bytes_of (items_of f.items.items)) }
-{
-    let mut found = Vec::new(memory);
-    let mut bytes = 0;
-    for item in items {
-        let size = item.tx.size();
-        if found.len() as u64 == count || size > room - bytes {
-            break;
-        }
-        found.push(item.share()?)?;
-        bytes += size;
-    }
-    Ok(Found {
-        items: found,
-        bytes,
-    })
-}
 
 // Appends each item.
 fn put_run(text: &mut Text, names: &Names, items: Run<'_>) -> Result<(), NoMemory>
@@ -74,76 +46,61 @@ fn put_snapshot(text: &mut Text, names: &Names, version: &Version) -> Result<(),
     put_run(text, names, version.contents())
 }
 
-// The longest prefix of the transactions, oldest first, that fits into `room` bytes.
-fn oldest_within(memory: Memory, version: &Version, room: u64) -> Result<Found, NoMemory>
-    ensures items { IfOk result
-        (λ f. items_of f.items.items ≡ within room version.now.pool.items) }
-    ensures bytes { IfOk result (λ f. f.bytes ≡ bytes_of (items_of f.items.items)) }
-{
-    first_within(memory, version.contents(), version.len() as u64, room)
-}
-
-// Appends the word, and those transactions.
-fn put_oldest(
+// Appends the word, and the longest prefix of the transactions, oldest first, that fits into `room` bytes.
+fn put_oldest<N: PoolName>(
     memory: Memory,
     text: &mut Text,
     names: &Names,
-    version: &Version,
+    snapshot: &Snapshot<'_, N>,
     word: &[u8],
     room: u64,
 ) -> Result<(), NoMemory>
-    ensures { OnOk result (text.new.items ≡ text.old.items
-        ++ (word.now ++ sized_text names.now (within room version.now.pool.items))) }
+    ensures { OnOk result (text.new.items ≡ text.old.items ++ (word.now
+        ++ sized_text names.now (within room (state_after N.accepts snapshot.now).items))) }
 {
     put_word(text, word)?;
-    let found = oldest_within(memory, version, room)?;
-    put_sized(text, names, found.bytes, &found.items)
-}
-
-// The ticket of the last item, or the cursor if there are none.
-fn moved_over(cursor: u64, items: &[Item]) -> u64
-    ensures { result ≡ moved cursor (items_of items.now) }
-{
-    match items.split_last() {
-        Some((item, _)) => item.ticket,
-        None => cursor,
-    }
+    let block = forge(memory, snapshot, room)?;
+    put_sized(text, names, block.bytes, block.items.as_slice())
 }
 
 // Appends what the peer is offered next.
-fn put_offer(
+fn put_offer<N: PoolName>(
     memory: Memory,
     text: &mut Text,
     names: &Names,
     cursor: &mut u64,
-    version: &Version,
+    snapshot: &Snapshot<'_, N>,
     count: u64,
     room: u64,
 ) -> Result<(), NoMemory>
-    ensures text { OnOk result (text.new.items ≡ text.old.items ++ (codes "offer"
-        ++ items_text names.now (offer cursor.old count room version.now.pool.items))) }
-    ensures cursor { OnOk result (cursor.new
-        ≡ moved cursor.old (offer cursor.old count room version.now.pool.items)) }
+    ensures text { OnOk result (text.new.items ≡ text.old.items ++ (codes "offer" ++ items_text
+        names.now (offer cursor.old count room (state_after N.accepts snapshot.now).items))) }
+    ensures cursor { OnOk result (cursor.new ≡ moved cursor.old
+        (offer cursor.old count room (state_after N.accepts snapshot.now).items)) }
 {
     put_word(text, b"offer")?;
-    let found = first_within(memory, version.after_ticket(*cursor), count, room)?;
-    put_items(text, names, &found.items)?;
-    *cursor = moved_over(*cursor, &found.items);
+    let mut peer = PeerReader::after(*cursor);
+    let items = peer.offer(memory, snapshot, count, room)?;
+    put_items(text, names, items.as_slice())?;
+    *cursor = peer.cursor();
     Ok(())
 }
 
-fn put_query(
+fn put_query<N: PoolName>(
     memory: Memory,
     text: &mut Text,
     names: &Names,
     cursor: &mut u64,
-    version: &Version,
+    shown: &Shown<N>,
     query: Query,
 ) -> Result<(), NoMemory>
-    ensures text { OnOk result (text.new.items
-        ≡ text.old.items ++ words_text names.now cursor.old version.now.pool query) }
-    ensures cursor { OnOk result (cursor.new ≡ cursor_after cursor.old version.now.pool query) }
+    ensures text { OnOk result (text.new.items ≡ text.old.items
+        ++ words_text names.now cursor.old (state_after N.accepts shown.now) query) }
+    ensures cursor { OnOk result (cursor.new
+        ≡ cursor_after cursor.old (state_after N.accepts shown.now) query) }
 {
+    let version = shown.version();
+    let snapshot = Snapshot::of(shown);
     match query {
         Query::Snapshot => put_snapshot(text, names, version),
         Query::After(ticket) => {
@@ -152,10 +109,10 @@ fn put_query(
         }
         Query::Lookup(ticket) => put_found(text, names, version.lookup(ticket)),
         Query::Has(id) => put_has(text, version.has(&id)),
-        Query::Take(bytes) => put_oldest(memory, text, names, version, b"take", bytes),
-        Query::Forge(bytes) => put_oldest(memory, text, names, version, b"block", bytes),
+        Query::Take(bytes) => put_oldest(memory, text, names, &snapshot, b"take", bytes),
+        Query::Forge(bytes) => put_oldest(memory, text, names, &snapshot, b"block", bytes),
         Query::Offer { count, bytes } => {
-            put_offer(memory, text, names, cursor, version, count, bytes)
+            put_offer(memory, text, names, cursor, &snapshot, count, bytes)
         }
     }
 }
@@ -165,20 +122,21 @@ fn put_query(
 /// # Errors
 /// `NoMemory`.
 #[tactic(auto, unfolding(mp_answers::specs::QueryText::query_text))]
-pub fn query_line(
+pub fn query_line<N: PoolName>(
     memory: Memory,
     names: &Names,
     cursor: u64,
-    version: &Version,
+    shown: &Shown<N>,
     query: Query,
 ) -> Result<(Text, u64), NoMemory>
-    ensures text { IfOk result
-        (λ r. r.0.items ≡ query_text names.now cursor version.now.pool query) }
-    ensures cursor { IfOk result (λ r. r.1 ≡ cursor_after cursor version.now.pool query) }
+    ensures text { IfOk result (λ r. r.0.items
+        ≡ query_text names.now cursor (state_after N.accepts shown.now) query) }
+    ensures cursor { IfOk result (λ r. r.1
+        ≡ cursor_after cursor (state_after N.accepts shown.now) query) }
 {
     let mut text = Vec::new(memory);
     let mut next = cursor;
-    put_query(memory, &mut text, names, &mut next, version, query)?;
+    put_query(memory, &mut text, names, &mut next, shown, query)?;
     text.push(b'\n')?;
     Ok((text, next))
 }

@@ -14,3 +14,8 @@ answer_in (Err refusal) = Err refusal
 abbrev pub IsUnanswered : Result Reply Refusal → Stop → Type 0
 IsUnanswered (Ok reply) stop = stop ≡ Untold
 IsUnanswered (Err refusal) stop = stop ≡ NoMemory
+
+-- no change was made
+abbrev pub IsBefore : Stop → Type 0
+IsBefore Untold = ⊥
+IsBefore stop = Unit {0}

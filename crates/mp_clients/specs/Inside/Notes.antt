@@ -11,6 +11,12 @@ is_note (Remove ids) = false
 is_note (Sync ledger) = false
 is_note line = true
 
+abbrev pub is_change : Line → Bool
+is_change (Submit t) = true
+is_change (Remove ids) = true
+is_change (Sync ledger) = true
+is_change line = false
+
 abbrev pub is_alone : Ask → Bool
 is_alone (Does line) = false
 is_alone (Submits name t) = false

@@ -1,0 +1,123 @@
+-- Parts of the answer to a line.
+use Rattle.std.proofs.Common.{◌≡◌, ℕ, true, List, inl, inr, refl, sym, ap, subst, ◌∙◌}
+use Rattle.std.specs.Prelude.{Bool, Option, Some, Result, Ok, Err}
+use Rattle.mp_rules.specs.Verifier.{Accepts}
+use Rattle.mp_seqpool.specs.declared.refusal.Refusal.{Refusal}
+use Rattle.mp_seqpool.specs.declared.command.Reply.{Reply}
+use Rattle.mp_seqpool.specs.Command.{Command}
+use Rattle.mp_names.specs.Names.{Names}
+use Rattle.mp_mempool.specs.Pass.{Pass}
+use Rattle.mp_mempool.specs.Seen.{IsSeen}
+use Rattle.mp_lines.specs.Lines as lines
+use Rattle.mp_answers.specs.AnswerText.{answer_text}
+use Rattle.mp_serve.specs.declared.conversation.Conversation as alone
+use Rattle.mp_serve.specs.Ask as asks
+use Rattle.mp_serve.specs.Ask.{Ask, Does}
+use Rattle.mp_serve.specs.Talk.{Step, take}
+use Rattle.mp_clients.specs.declared.conversation.Conversation.{Conversation}
+use Rattle.mp_clients.specs.declared.stop.Stop.{Stop}
+use Rattle.mp_clients.specs.declared.stop.Stop.TheVariants.{NoMemory, Untold, Foreign}
+use Rattle.mp_clients.specs.Client.{Client, alone_at}
+use Rattle.mp_clients.specs.Answers.{IsAsked, HasLooked, IsAnsweredAlone, IsAnsweredBy, IsTaken, IsUnchanged, counting, with_client}
+use Rattle.mp_clients.specs.Inside.Asked.{IsUnanswered, IsBefore}
+use Rattle.mp_clients.specs.Inside.Notes.{is_note, is_alone}
+use Rattle.mp_clients.specs.Inside.Steps.{IsToldAlone, IsStopped}
+
+module _ {N : Type 0} (accepts : Accepts) (callers : ℕ) where
+  -- ---- changes
+
+  module _ (c : Conversation N) (command : Command) (does : Result Reply Refusal → Pass → Client) (names : Result Reply Refusal → Names) where
+    -- a change that is answered
+    pub answered : (a : Result Reply Refusal) (k : Client) (text : List ℕ) (u : Conversation N) → IsAsked accepts callers c.client command does a k
+        → text ≡ answer_text c.names a → u ≡ record c { names = names a; client = counting a k } → IsAnsweredBy accepts callers c command does names text u
+    answered a k text u asked said is = record {
+      answer = a;
+      pass = k.pass;
+      asked = subst (IsAsked accepts callers c.client command does a) asked.after_is asked;
+      text_is = said;
+      after = is ∙ ap (λ (x : Client). record c { names = names a; client = counting a x }) asked.after_is;
+    }
+
+    -- a change that is made and not told
+    untold : (r : Reply) (k : Client) (u : Conversation N) → IsAsked accepts callers c.client command does (Ok r) k → u ≡ with_client c k
+        → IsStopped accepts callers (IsAnsweredBy accepts callers c command does names) c u Untold
+    untold r k u asked is = (
+      answer_text c.names (Ok r),
+      record c { names = names (Ok r); client = counting (Ok r) k },
+      answered (Ok r) k _ _ asked refl refl,
+      is,
+    )
+
+    -- a refusal that isn't told
+    unmoved : (f : Refusal) (k : Client) (u : Conversation N) → IsAsked accepts callers c.client command does (Err f) k → u ≡ with_client c k
+        → ((p : Pass) → does (Err f) p ≡ record c.client { pass = p }) → IsUnchanged accepts callers c u
+    unmoved f k u asked is moves = inr (
+      subst (λ (v : Conversation N). HasLooked accepts callers c.client v.client) (sym is) (record {
+        seen = record { more = asked.answer.others; pass = asked.answer.pass; legal = asked.answer.legal };
+        same = asked.after_is ∙ moves k.pass;
+      }),
+      is ∙ ap (λ (v : Conversation N). with_client c v.client) (sym is),
+    )
+
+    -- there is no line of the answer
+    pub stopped : (a : Result Reply Refusal) (k : Client) (u : Conversation N) (stop : Stop) → IsAsked accepts callers c.client command does a k → u ≡ with_client c k
+        → ((f : Refusal) (p : Pass) → does (Err f) p ≡ record c.client { pass = p }) → IsUnanswered a stop
+        → IsStopped accepts callers (IsAnsweredBy accepts callers c command does names) c u stop
+    stopped (Ok r) k u stop asked is moves why = subst (IsStopped accepts callers (IsAnsweredBy accepts callers c command does names) c u) (sym why) (untold r k u asked is)
+    stopped (Err f) k u stop asked is moves why = subst (IsStopped accepts callers (IsAnsweredBy accepts callers c command does names) c u) (sym why) (unmoved f k u asked is (moves f))
+
+  -- before a change was made
+  pub stopped_before : (Does : List ℕ → Conversation N → Type 0) (c u : Conversation N) (stop : Stop) → IsBefore stop → u ≡ c → IsStopped accepts callers Does c u stop
+  stopped_before Does c u NoMemory before same = inl same
+  stopped_before Does c u Untold before same = absurd before
+  stopped_before Does c u Foreign before same = same
+
+  -- ---- other lines
+
+  -- the client differs only by what it has seen
+  same_alone : (c : Conversation N) (k : Client) (does : alone.Conversation → Step) (text : List ℕ) (u : Conversation N) → k ≡ record c.client { pass = k.pass }
+      → does (alone_at accepts (with_client c k) k.pass.front) ≡ Some (alone_at accepts u k.pass.front, text)
+      → does (alone_at accepts c k.pass.front) ≡ Some (alone_at accepts u k.pass.front, text)
+  same_alone c k does text u same said =
+      subst (λ (x : Client). does (alone_at accepts (with_client c x) k.pass.front) ≡ Some (alone_at accepts u k.pass.front, text)) same said
+
+  pub answered_alone : (c : Conversation N) (k : Client) (ask : Ask) (text : List ℕ) (u : Conversation N) → HasLooked accepts callers c.client k
+      → IsToldAlone accepts (with_client c k) (λ x. take x ask) text u → IsAnsweredAlone accepts callers c ask text u
+  answered_alone c k ask text u looked told = record {
+    seen = subst (IsSeen accepts callers c.client.pass) (sym told.pass) looked.seen;
+    step = subst (λ (p : Pass). take (alone_at accepts c p.front) ask ≡ Some (alone_at accepts u p.front, text)) (sym told.pass)
+        (same_alone c k (λ x. take x ask) text u looked.same told.said);
+    ledger = told.ledger ∙ ap (λ (x : Client). x.ledger) looked.same;
+  }
+
+  -- a failed allocation
+  pub looked_only : (c : Conversation N) (k : Client) (u : Conversation N) → HasLooked accepts callers c.client k → u ≡ with_client c k → IsUnchanged accepts callers c u
+  looked_only c k u looked is = inr (
+    subst (λ (v : Conversation N). HasLooked accepts callers c.client v.client) (sym is) looked,
+    is ∙ ap (λ (v : Conversation N). with_client c v.client) (sym is),
+  )
+
+  pub taken_note : (c : Conversation N) (line : lines.Line) (text : List ℕ) (u : Conversation N) → is_note line ≡ true → IsAnsweredAlone accepts callers c (Does line) text u → IsTaken accepts callers c (Does line) text u
+  taken_note c lines.Blank text u e is = is
+  taken_note c (lines.Sets s) text u e is = Prim.cc
+  taken_note c (lines.Script s) text u e is = is
+  taken_note c (lines.Data s) text u e is = is
+  taken_note c (lines.Out n p) text u e is = Prim.cc
+  taken_note c (lines.Tx n t) text u e is = is
+  taken_note c (lines.Submit t) text u e is = Prim.cc
+  taken_note c (lines.Remove ids) text u e is = Prim.cc
+  taken_note c (lines.Sync l) text u e is = Prim.cc
+  taken_note c (lines.For l) text u e is = is
+  taken_note c (lines.Asks q) text u e is = is
+
+  pub taken_alone : (c : Conversation N) (ask : Ask) (text : List ℕ) (u : Conversation N) → is_alone ask ≡ true → IsAnsweredAlone accepts callers c ask text u → IsTaken accepts callers c ask text u
+  taken_alone c (asks.Does line) text u e is = Prim.cc
+  taken_alone c (asks.Reads n b) text u e is = is
+  taken_alone c (asks.Submits n t) text u e is = Prim.cc
+  taken_alone c (asks.Shows t) text u e is = is
+  taken_alone c (asks.Checks t) text u e is = is
+  taken_alone c asks.Counts text u e is = is
+  taken_alone c (asks.Holds r o) text u e is = Prim.cc
+  taken_alone c (asks.Extends b) text u e is = Prim.cc
+  taken_alone c (asks.Returns n) text u e is = Prim.cc
+  taken_alone c (asks.Forgets ns) text u e is = is
