@@ -1,6 +1,6 @@
 -- Parts of the answer to a line.
-use Rattle.std.proofs.Common.{◌≡◌, ℕ, true, List, inl, inr, refl, sym, ap, subst, ◌∙◌}
-use Rattle.std.specs.Prelude.{Bool, Option, Some, Result, Ok, Err}
+use Rattle.std.proofs.Common.{◌≡◌, ℕ, true, false, List, inl, inr, refl, sym, ap, subst, ◌∙◌}
+use Rattle.std.specs.Prelude.{Some, Result, Ok, Err}
 use Rattle.mp_rules.specs.Verifier.{Accepts}
 use Rattle.mp_seqpool.specs.declared.refusal.Refusal.{Refusal}
 use Rattle.mp_seqpool.specs.declared.command.Reply.{Reply}
@@ -18,9 +18,10 @@ use Rattle.mp_clients.specs.declared.conversation.Conversation.{Conversation}
 use Rattle.mp_clients.specs.declared.stop.Stop.{Stop}
 use Rattle.mp_clients.specs.declared.stop.Stop.TheVariants.{NoMemory, Untold, Foreign}
 use Rattle.mp_clients.specs.Client.{Client, alone_at}
+use Rattle.mp_clients.specs.Asking.{may_do}
 use Rattle.mp_clients.specs.Answers.{IsAsked, HasLooked, IsAnsweredAlone, IsAnsweredBy, IsTaken, IsUnchanged, counting, with_client}
 use Rattle.mp_clients.specs.Inside.Asked.{IsUnanswered, IsBefore}
-use Rattle.mp_clients.specs.Inside.Notes.{is_note, is_alone}
+use Rattle.mp_clients.specs.Inside.Notes.{is_note, is_change, is_alone}
 use Rattle.mp_clients.specs.Inside.Steps.{IsToldAlone, IsStopped}
 
 module _ {N : Type 0} (accepts : Accepts) (callers : ℕ) where
@@ -121,3 +122,17 @@ module _ {N : Type 0} (accepts : Accepts) (callers : ℕ) where
   taken_alone c (asks.Extends b) text u e is = Prim.cc
   taken_alone c (asks.Returns n) text u e is = Prim.cc
   taken_alone c (asks.Forgets ns) text u e is = is
+
+-- a line that may be done either only notes something or makes a change
+pub must_change : (caller : ℕ) (line : lines.Line) → may_do caller line ≡ true → is_note line ≡ false → is_change line ≡ true
+must_change caller lines.Blank m e = Prim.cc
+must_change caller (lines.Sets s) m e = Prim.cc
+must_change caller (lines.Script s) m e = Prim.cc
+must_change caller (lines.Data s) m e = Prim.cc
+must_change caller (lines.Out n p) m e = Prim.cc
+must_change caller (lines.Tx n t) m e = Prim.cc
+must_change caller (lines.Submit t) m e = refl
+must_change caller (lines.Remove ids) m e = refl
+must_change caller (lines.Sync l) m e = refl
+must_change caller (lines.For l) m e = Prim.cc
+must_change caller (lines.Asks q) m e = Prim.cc

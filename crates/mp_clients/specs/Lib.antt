@@ -2,4 +2,5 @@ pub mod Client
 pub mod Asking
 pub mod Answers
 pub mod Told
+pub mod Service
 pub mod Inside

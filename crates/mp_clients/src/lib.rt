@@ -12,6 +12,7 @@ mod fault;
 mod forgetting;
 mod former;
 mod reading;
+mod service;
 mod shared;
 mod stop;
 
@@ -19,8 +20,6 @@ pub use client::Client;
 pub use conversation::Conversation;
 pub use conversing::answer_all;
 pub use fault::Fault;
+pub use service::{Connected, Finished, Service, converse, serve_all};
 pub use shared::Shared;
 pub use stop::Stop;
-
-#[test]
-fn compiles() {}
