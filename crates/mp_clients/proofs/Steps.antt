@@ -1,6 +1,7 @@
 -- Parts of the answer to a line.
-use Rattle.std.proofs.Common.{◌≡◌, ℕ, true, false, List, inl, inr, refl, sym, ap, subst, ◌∙◌}
-use Rattle.std.specs.Prelude.{Some, Result, Ok, Err}
+use Rattle.std.proofs.Common.{◌≡◌, ℕ, true, false, List, inl, inr, refl, sym, ap, ap₂, subst, ◌∙◌}
+use Rattle.std.specs.Prelude.{Some, Result, Ok, Err, IfOk, IfErr, OnOk, OnErr}
+use Rattle.std.specs.declared.vec.Vec.{Vec}
 use Rattle.mp_rules.specs.Verifier.{Accepts}
 use Rattle.mp_seqpool.specs.declared.refusal.Refusal.{Refusal}
 use Rattle.mp_seqpool.specs.declared.command.Reply.{Reply}
@@ -66,6 +67,22 @@ module _ {N : Type 0} (accepts : Accepts) (callers : ℕ) where
         → IsStopped accepts callers (IsAnsweredBy accepts callers c command does names) c u stop
     stopped (Ok r) k u stop asked is moves why = subst (IsStopped accepts callers (IsAnsweredBy accepts callers c command does names) c u) (sym why) (untold r k u asked is)
     stopped (Err f) k u stop asked is moves why = subst (IsStopped accepts callers (IsAnsweredBy accepts callers c command does names) c u) (sym why) (unmoved f k u asked is (moves f))
+
+    -- the answer to a change, whether there is a line or not
+    pub finished : {A : Type 0} (a : Result Reply Refusal) (k l : Client) (n : Names) (r : Result (Vec ℕ A) Stop) → IsAsked accepts callers c.client command does a k
+        → ((f : Refusal) (p : Pass) → does (Err f) p ≡ record c.client { pass = p })
+        → IfOk r (λ t. t.items ≡ answer_text c.names a) → OnOk r (l ≡ counting a k) → OnOk r (n ≡ names a)
+        → IfErr r (IsUnanswered a) → OnErr r (l ≡ k) → OnErr r (n ≡ c.names)
+        → IfOk r (λ t. IsAnsweredBy accepts callers c command does names t.items (record c { names = n; client = l }))
+        × IfErr r (IsStopped accepts callers (IsAnsweredBy accepts callers c command does names) c (record c { names = n; client = l }))
+    finished a k l n (Ok t) asked moves said count named why same kept = (
+      answered a k t.items _ asked said (ap₂ (λ m x. record c { names = m; client = x }) named count),
+      tt,
+    )
+    finished a k l n (Err stop) asked moves said count named why same kept = (
+      tt,
+      stopped a k _ stop asked (ap₂ (λ m x. record c { names = m; client = x }) kept same) moves why,
+    )
 
   -- before a change was made
   pub stopped_before : (Does : List ℕ → Conversation N → Type 0) (c u : Conversation N) (stop : Stop) → IsBefore stop → u ≡ c → IsStopped accepts callers Does c u stop

@@ -1,7 +1,9 @@
 //! The state of a conversation, line by line.
 
-ghost use Rattle.std.specs.Prelude.{◌≡◌, OnOk, OnErr, IfErr};
+ghost use Rattle.std.specs.Prelude.{◌≡◌, [], IfOk, IfErr, OnOk, OnErr};
+ghost use Rattle.mp_answers.specs.AnswerText.{answer_text};
 ghost use Rattle.mp_serve.specs.Request.{reported_if};
+ghost use Rattle.mp_clients.specs.Answers.{counting};
 ghost use Rattle.mp_clients.specs.Inside.Asked.{answer_in, IsUnanswered};
 
 use crate::allowed::{is_alone, is_note};
@@ -26,14 +28,72 @@ use mp_tx::{Ledger, Tx, TxFault};
 use std::sync::{Arc, Wait};
 
 // If the submit was accepted, the transaction is reported under the name from now on.
-fn report_if(names: &mut Names, name: &Name, tx: &Tx, asked: &Asked) -> Result<(), NoMemory>
+fn report_if(names: &mut Names, name: &Name, tx: &Tx, asked: &Asked) -> Result<(), Stop>
     ensures ok { OnOk result
         (names.new ≡ reported_if names.old name.now tx.now (answer_in asked.now)) }
-    ensures err { OnErr result (names.new ≡ names.old) }
+    ensures err { IfErr result (IsUnanswered (answer_in asked.now)) }
+    ensures same { OnErr result (names.new ≡ names.old) }
 {
     match asked {
-        Ok(_) => report_under(names, name, tx),
+        Ok(_) => match report_under(names, name, tx) {
+            Ok(()) => Ok(()),
+            Err(_) => Err(Stop::Untold),
+        },
         Err(_) => Ok(()),
+    }
+}
+
+// The line of the answer. A refusal is counted.
+fn finish<N: PoolName>(
+    memory: Memory,
+    names: &Names,
+    client: &mut Client<N>,
+    room: Text,
+    asked: &Asked,
+) -> Result<Text, Stop>
+    requires { room.items ≡ [] }
+    ensures ok { IfOk result (λ text. text.items ≡ answer_text names.now (answer_in asked.now)) }
+    ensures client { OnOk result (client.new ≡ counting (answer_in asked.now) client.old) }
+    ensures err { IfErr result (IsUnanswered (answer_in asked.now)) }
+    ensures same { OnErr result (client.new ≡ client.old) }
+{
+    match asked_line(memory, names, room, asked) {
+        Ok(text) => {
+            client.count_refusal(asked);
+            Ok(text)
+        }
+        Err(stop) => Err(stop),
+    }
+}
+
+// The same for a submit. If it was accepted, the transaction is reported under the name from now on.
+fn finish_submit<N: PoolName>(
+    memory: Memory,
+    names: &mut Names,
+    client: &mut Client<N>,
+    room: Text,
+    name: &Name,
+    tx: &Tx,
+    asked: &Asked,
+) -> Result<Text, Stop>
+    requires { room.items ≡ [] }
+    ensures ok { IfOk result (λ text. text.items ≡ answer_text names.old (answer_in asked.now)) }
+    ensures client { OnOk result (client.new ≡ counting (answer_in asked.now) client.old) }
+    ensures names { OnOk result
+        (names.new ≡ reported_if names.old name.now tx.now (answer_in asked.now)) }
+    ensures err { IfErr result (IsUnanswered (answer_in asked.now)) }
+    ensures same { OnErr result (client.new ≡ client.old) }
+    ensures kept { OnErr result (names.new ≡ names.old) }
+{
+    match asked_line(memory, names, room, asked) {
+        Ok(text) => match report_if(names, name, tx, asked) {
+            Ok(()) => {
+                client.count_refusal(asked);
+                Ok(text)
+            }
+            Err(stop) => Err(stop),
+        },
+        Err(stop) => Err(stop),
     }
 }
 
@@ -54,7 +114,9 @@ impl<N: PoolName> Conversation<N> {
     ghost use Rattle.mp_lines.specs.Inside.Line.{to_line};
     ghost use Rattle.mp_session.specs.Ledgers.{ledger_at};
     ghost use Rattle.mp_serve.specs.Talk as alone;
+    ghost use Rattle.mp_serve.specs.Request.{reported_if};
     ghost use Rattle.mp_serve.specs.Ask.{Does};
+    ghost use Rattle.mp_clients.specs.declared.stop.Stop.TheVariants as stops;
     ghost use Rattle.mp_serve.specs.ServedPool.{state_back};
     ghost use Rattle.mp_serve.specs.Inside.Ask.{to_ask};
     ghost use Rattle.mp_serve.specs.Inside.Answer.{text_of};
@@ -77,11 +139,13 @@ impl<N: PoolName> Conversation<N> {
         ensures err { IfErr result (IsStopped N.accepts N.callers (IsAnsweredBy N.accepts N.callers
             self.old (command_of command.now) (moved self.old.client) (same_names self.old)) self.old self.new) }
     {
-        let room = make_room(memory)?;
-        let asked = self.client.change(rt, &shared.pool, command)?;
-        let text = asked_line(memory, &self.names, room, &asked)?;
-        self.client.count_refusal(&asked);
-        Ok(text)
+        let Ok(room) = make_room(memory) else {
+            return Err(Stop::NoMemory);
+        };
+        match self.client.change(rt, &shared.pool, command) {
+            Ok(asked) => finish(memory, &self.names, &mut self.client, room, &asked),
+            Err(stop) => Err(stop),
+        }
     }
 
     // Submits the transaction. If it is accepted, it is reported under the name.
@@ -100,13 +164,24 @@ impl<N: PoolName> Conversation<N> {
             self.old (Submit (arc_value tx)) (moved self.old.client)
             (reported_if self.old.names name.now (arc_value tx))) self.old self.new) }
     {
-        let named = Arc::try_clone(&tx)?;
-        let room = make_room(memory)?;
-        let asked = self.client.change(rt, &shared.pool, &Command::Submit(tx))?;
-        let text = asked_line(memory, &self.names, room, &asked)?;
-        report_if(&mut self.names, name, &named, &asked)?;
-        self.client.count_refusal(&asked);
-        Ok(text)
+        let Ok(named) = Arc::try_clone(&tx) else {
+            return Err(Stop::NoMemory);
+        };
+        let Ok(room) = make_room(memory) else {
+            return Err(Stop::NoMemory);
+        };
+        match self.client.change(rt, &shared.pool, &Command::Submit(tx)) {
+            Ok(asked) => finish_submit(
+                memory,
+                &mut self.names,
+                &mut self.client,
+                room,
+                name,
+                &named,
+                &asked,
+            ),
+            Err(stop) => Err(stop),
+        }
     }
 
     // Adopts a new ledger state.
@@ -122,11 +197,13 @@ impl<N: PoolName> Conversation<N> {
         ensures err { IfErr result (IsStopped N.accepts N.callers (IsAnsweredBy N.accepts N.callers
             self.old (Sync ledger) (gone_on self.old.client ledger) (same_names self.old)) self.old self.new) }
     {
-        let room = make_room(memory)?;
-        let asked = self.client.go_on(rt, &shared.pool, ledger)?;
-        let text = asked_line(memory, &self.names, room, &asked)?;
-        self.client.count_refusal(&asked);
-        Ok(text)
+        let Ok(room) = make_room(memory) else {
+            return Err(Stop::NoMemory);
+        };
+        match self.client.go_on(rt, &shared.pool, ledger) {
+            Ok(asked) => finish(memory, &self.names, &mut self.client, room, &asked),
+            Err(stop) => Err(stop),
+        }
     }
 
     // Adopts the ledger state after the block.
@@ -143,21 +220,17 @@ impl<N: PoolName> Conversation<N> {
             self.old block.now) self.old self.new) }
     {
         let client = &self.client;
-        match extend(
-            memory,
-            &self.names,
-            client.signatures(),
-            client.ledger(),
-            block,
-        )? {
-            Extended::To(applied) => {
+        let (signatures, ledger) = (client.signatures(), client.ledger());
+        match extend(memory, &self.names, signatures, ledger, block) {
+            Ok(Extended::To(applied)) => {
                 let AppliedBlock { ledger, undo: _ } = applied;
                 self.go_on(rt, shared, memory, ledger)
             }
-            Extended::Refused(text) => {
+            Ok(Extended::Refused(text)) => {
                 self.client.count_adopt();
                 Ok(text)
             }
+            Err(_) => Err(Stop::NoMemory),
         }
     }
 
@@ -176,11 +249,28 @@ impl<N: PoolName> Conversation<N> {
         ensures err { IfErr result (IsStopped N.accepts N.callers (IsAnsweredBy N.accepts N.callers
             self.old (Sync ledger) (gone_back self.old.client ledger count) (same_names self.old)) self.old self.new) }
     {
-        let room = make_room(memory)?;
-        let asked = self.client.go_back(rt, &shared.pool, count, ledger)?;
-        let text = asked_line(memory, &self.names, room, &asked)?;
-        self.client.count_refusal(&asked);
-        Ok(text)
+        let Ok(room) = make_room(memory) else {
+            return Err(Stop::NoMemory);
+        };
+        match self.client.go_back(rt, &shared.pool, count, ledger) {
+            Ok(asked) => finish(memory, &self.names, &mut self.client, room, &asked),
+            Err(stop) => Err(stop),
+        }
+    }
+
+    // Answers how many former ledger states are kept.
+    fn refuse_back(&mut self, memory: Memory) -> Result<Text, Stop>
+        ensures ok { IfOk result (λ text. (count : ℕ) → IsReturned N.accepts N.callers
+            self.old count None text.items self.new) }
+        ensures err { IfErr result (λ stop. (stop ≡ stops.NoMemory) × (self.new ≡ self.old)) }
+    {
+        match back_refused_line(memory, self.client.former().len() as u64) {
+            Ok(text) => {
+                self.client.count_back();
+                Ok(text)
+            }
+            Err(_) => Err(Stop::NoMemory),
+        }
     }
 
     // Adopts the ledger state this many steps ago, or answers how many are kept.
@@ -199,13 +289,10 @@ impl<N: PoolName> Conversation<N> {
             self.old self.new) }
     {
         let count = count as usize;
-        match state_back(self.client.former(), self.client.ledger(), count)? {
-            Some(ledger) => self.go_back(rt, shared, memory, count, ledger),
-            None => {
-                let text = back_refused_line(memory, self.client.former().len() as u64)?;
-                self.client.count_back();
-                Ok(text)
-            }
+        match state_back(self.client.former(), self.client.ledger(), count) {
+            Ok(Some(ledger)) => self.go_back(rt, shared, memory, count, ledger),
+            Ok(None) => self.refuse_back(memory),
+            Err(_) => Err(Stop::NoMemory),
         }
     }
 
@@ -283,9 +370,15 @@ impl<N: PoolName> Conversation<N> {
     {
         if is_note(&line) {
             self.client.look(&shared.reader);
-            return Ok(self.note(memory, line)?);
+            return match self.note(memory, line) {
+                Ok(answer) => Ok(answer),
+                Err(_) => Err(Stop::NoMemory),
+            };
         }
-        Ok(Answer::Line(self.obey(rt, shared, memory, line)?))
+        match self.obey(rt, shared, memory, line) {
+            Ok(text) => Ok(Answer::Line(text)),
+            Err(stop) => Err(stop),
+        }
     }
 
     // Makes the change that a line of a scenario asks for.
@@ -305,11 +398,15 @@ impl<N: PoolName> Conversation<N> {
         match line {
             Line::Submit(tx) => self.change(rt, shared, memory, &Command::Submit(tx)),
             Line::Remove(ids) => {
-                let command = Command::Remove(Arc::new(memory, Ids::of(ids))?);
-                self.change(rt, shared, memory, &command)
+                let Ok(ids) = Arc::new(memory, Ids::of(ids)) else {
+                    return Err(Stop::NoMemory);
+                };
+                self.change(rt, shared, memory, &Command::Remove(ids))
             }
             Line::Sync(ledger) => {
-                let ledger = ledger_at(memory, &self.settings, ledger)?;
+                let Ok(ledger) = ledger_at(memory, &self.settings, ledger) else {
+                    return Err(Stop::NoMemory);
+                };
                 self.go_on(rt, shared, memory, ledger)
             }
             Line::Blank => unreachable!(),
@@ -364,7 +461,10 @@ impl<N: PoolName> Conversation<N> {
     {
         if is_alone(&ask) {
             self.client.look(&shared.reader);
-            return Ok(Answer::Line(self.tell(memory, ask)?));
+            return match self.tell(memory, ask) {
+                Ok(text) => Ok(Answer::Line(text)),
+                Err(_) => Err(Stop::NoMemory),
+            };
         }
         self.act(rt, shared, memory, ask)
     }
@@ -384,14 +484,14 @@ impl<N: PoolName> Conversation<N> {
         ensures err { IfErr result (IsStopped N.accepts N.callers (IsTaken N.accepts N.callers
             self.old (to_ask ask)) self.old self.new) }
     {
-        let text = match ask {
+        let told = match ask {
             Ask::Does(line) => return self.does(rt, shared, memory, line),
-            Ask::Submits(name, tx) => self.submit(rt, shared, memory, &name, tx)?,
+            Ask::Submits(name, tx) => self.submit(rt, shared, memory, &name, tx),
             Ask::Extends(block) => {
                 let block = Block::at(&self.settings, block);
-                self.adopt_block(rt, shared, memory, &block)?
+                self.adopt_block(rt, shared, memory, &block)
             }
-            Ask::Returns(count) => self.return_by(rt, shared, memory, count)?,
+            Ask::Returns(count) => self.return_by(rt, shared, memory, count),
             Ask::Reads(_, _) => unreachable!(),
             Ask::Shows(_) => unreachable!(),
             Ask::Checks(_) => unreachable!(),
@@ -399,6 +499,9 @@ impl<N: PoolName> Conversation<N> {
             Ask::Holds(_, _) => unreachable!(),
             Ask::Forgets(_) => unreachable!(),
         };
-        Ok(Answer::Line(text))
+        match told {
+            Ok(text) => Ok(Answer::Line(text)),
+            Err(stop) => Err(stop),
+        }
     }
 }
