@@ -1,3 +1,5 @@
 pub mod Progress
 pub mod Checks
 pub mod Steps
+pub mod Clients
+pub mod Responses

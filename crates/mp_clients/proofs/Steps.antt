@@ -40,7 +40,7 @@ module _ {N : Type 0} (accepts : Accepts) (callers : ℕ) where
       after = is ∙ ap (λ (x : Client). record c { names = names a; client = counting a x }) asked.after_is;
     }
 
-    -- a change that is made and not told
+    -- a change whose answer is lost
     untold : (r : Reply) (k : Client) (u : Conversation N) → IsAsked accepts callers c.client command does (Ok r) k → u ≡ with_client c k
         → IsStopped accepts callers (IsAnsweredBy accepts callers c command does names) c u Untold
     untold r k u asked is = (
@@ -50,7 +50,7 @@ module _ {N : Type 0} (accepts : Accepts) (callers : ℕ) where
       is,
     )
 
-    -- a refusal that isn't told
+    -- a refusal without a line
     unmoved : (f : Refusal) (k : Client) (u : Conversation N) → IsAsked accepts callers c.client command does (Err f) k → u ≡ with_client c k
         → ((p : Pass) → does (Err f) p ≡ record c.client { pass = p }) → IsUnchanged accepts callers c u
     unmoved f k u asked is moves = inr (

@@ -139,10 +139,10 @@ module _ (accepts : Accepts) (callers : ℕ) where
     abbrev pub IsAnswer : ℕ → Conversation N → List ℕ → List ℕ → Conversation N → Type 0
     IsAnswer n c line text u = IsHeard n c (asked_by c line) text u
 
-    -- A change was made, but not told: only its answer and its name are lost.
+    -- A change was made, and only its answer and its name are lost.
     pub record IsUntold (c u : Conversation N) : Type 0 where
       pub ask : Ask
       pub text : List ℕ
-      pub told : Conversation N
-      pub taken : IsTaken c ask text told
-      pub after : u ≡ record told { names = c.names }
+      pub answered : Conversation N
+      pub taken : IsTaken c ask text answered
+      pub after : u ≡ record answered { names = c.names }

@@ -20,8 +20,8 @@ use mp_versions::keep_valid;
 use std::marker::Model;
 use std::sync::{Arc, Wait};
 
-/// What a conversation has of the pool that it shares with others: its pass, the ledger states that it adopted, the refusals that
-/// it was answered, and what its peer was offered.
+/// What a conversation has of the pool that it shares with others. It has its pass and the ledger states that it adopted. It counts
+/// refusals, and knows what its peer was offered.
 pub struct Client<N: PoolName> {
     pass: Pass<N>,
     signatures: Signatures,
@@ -102,14 +102,14 @@ impl<N: PoolName> Client<N> {
     }
 
     /// The number of the caller.
-    pub fn caller(&self) -> u32
+    pub(crate) fn caller(&self) -> u32
         ensures { result ≡ self.now.pass.caller }
     {
         self.pass.caller()
     }
 
     /// The front of what it has seen, which is legal.
-    pub fn front(&self) -> &Front<N>
+    pub(crate) fn front(&self) -> &Front<N>
         ensures front { result.now ≡ self.now.pass.front }
         ensures legal { IsLegalLog N.accepts N.callers self.now.pass.front }
     {
@@ -118,35 +118,35 @@ impl<N: PoolName> Client<N> {
     }
 
     /// The signatures that the pool accepts.
-    pub fn signatures(&self) -> &Signatures
+    pub(crate) fn signatures(&self) -> &Signatures
         ensures { result.now ≡ self.now.signatures }
     {
         &self.signatures
     }
 
     /// The ledger state that it adopted last.
-    pub fn ledger(&self) -> &Ledger
+    pub(crate) fn ledger(&self) -> &Ledger
         ensures { result.now ≡ self.now.ledger }
     {
         &self.ledger
     }
 
     /// The ledger states before that one, oldest first.
-    pub fn former(&self) -> &[Ledger]
+    pub(crate) fn former(&self) -> &[Ledger]
         ensures { result.now ≡ self.now.former }
     {
         &self.former
     }
 
     /// Looks at the newest version.
-    pub fn look<V: Verifier>(&mut self, reader: &Reader<N, V>)
+    pub(crate) fn look<V: Verifier>(&mut self, reader: &Reader<N, V>)
         ensures { HasLooked N.accepts N.callers self.old self.new }
     {
         reader.refresh(&mut self.pass);
     }
 
     /// Whether the pool that it has seen holds a transaction with this id.
-    pub fn holds(&self, id: &TxId) -> bool
+    pub(crate) fn holds(&self, id: &TxId) -> bool
         ensures { result
             ≡ is_some (ticket_of id.now (state_after N.accepts self.now.pass.front).items) }
     {
@@ -157,7 +157,7 @@ impl<N: PoolName> Client<N> {
     ///
     /// # Errors
     /// `NoMemory`. Then nothing has changed.
-    pub fn query(&mut self, memory: Memory, names: &Names, query: Query) -> Result<Text, NoMemory>
+    pub(crate) fn query(&mut self, memory: Memory, names: &Names, query: Query) -> Result<Text, NoMemory>
         ensures ok { IfOk result (λ text. Responds N.accepts names.now
             self.old (Plain (Read query)) text.items self.new) }
         ensures err { OnErr result (self.new ≡ self.old) }
@@ -172,7 +172,7 @@ impl<N: PoolName> Client<N> {
     ///
     /// # Errors
     /// `NoMemory`.
-    pub fn kept(&self, memory: Memory, names: &Names, ledger: &Ledger) -> Result<Text, NoMemory>
+    pub(crate) fn kept(&self, memory: Memory, names: &Names, ledger: &Ledger) -> Result<Text, NoMemory>
         ensures { IfOk result (λ text. Responds N.accepts names.now
             self.now (Plain (Try ledger.now)) text.items self.now) }
     {
@@ -186,7 +186,7 @@ impl<N: PoolName> Client<N> {
     ///
     /// # Errors
     /// `NoMemory`.
-    pub fn check(
+    pub(crate) fn check(
         &self,
         memory: Memory,
         names: &Names,
@@ -204,7 +204,7 @@ impl<N: PoolName> Client<N> {
     ///
     /// # Errors
     /// `NoMemory`.
-    pub fn count(&self, memory: Memory, names: &Names) -> Result<Text, NoMemory>
+    pub(crate) fn count(&self, memory: Memory, names: &Names) -> Result<Text, NoMemory>
         ensures { IfOk result (λ text. Responds N.accepts names.now
             self.now Count text.items self.now) }
     {
@@ -216,7 +216,7 @@ impl<N: PoolName> Client<N> {
     ///
     /// # Errors
     /// Then nothing has changed.
-    pub fn change<V: Verifier>(
+    pub(crate) fn change<V: Verifier>(
         &mut self,
         rt: &impl Wait,
         pool: &Mempool<N, V>,
@@ -234,7 +234,7 @@ impl<N: PoolName> Client<N> {
     ///
     /// # Errors
     /// Then nothing has changed.
-    pub fn go_on<V: Verifier>(
+    pub(crate) fn go_on<V: Verifier>(
         &mut self,
         rt: &impl Wait,
         pool: &Mempool<N, V>,
@@ -269,7 +269,7 @@ impl<N: PoolName> Client<N> {
     ///
     /// # Errors
     /// Then nothing has changed.
-    pub fn go_back<V: Verifier>(
+    pub(crate) fn go_back<V: Verifier>(
         &mut self,
         rt: &impl Wait,
         pool: &Mempool<N, V>,
@@ -295,21 +295,21 @@ impl<N: PoolName> Client<N> {
     }
 
     /// Counts the refusal, if there is one.
-    pub fn count_refusal(&mut self, asked: &Asked)
+    pub(crate) fn count_refusal(&mut self, asked: &Asked)
         ensures { self.new ≡ counting (answer_in asked.now) self.old }
     {
         count_refusal(&mut self.refused, asked);
     }
 
     /// Counts a refused block.
-    pub fn count_adopt(&mut self)
+    pub(crate) fn count_adopt(&mut self)
         ensures { self.new ≡ record self.old { refused = one_adopt_more self.old.refused } }
     {
         count_one(&mut self.refused.adopts);
     }
 
     /// Counts a request to go back too far.
-    pub fn count_back(&mut self)
+    pub(crate) fn count_back(&mut self)
         ensures { self.new ≡ record self.old { refused = one_back_more self.old.refused } }
     {
         count_one(&mut self.refused.backs);

@@ -446,7 +446,7 @@ impl<N: PoolName> Conversation<N> {
     /// # Errors
     /// `NoMemory`: nothing has changed but what the conversation has seen. `Untold`: the change was made, but its answer and its
     /// name are lost. `Foreign`, if the pool has an entry of this conversation that it doesn't know: nothing has changed.
-    pub fn take<V: Verifier>(
+    pub(crate) fn take<V: Verifier>(
         &mut self,
         rt: &impl Wait,
         shared: &Shared<N, V>,

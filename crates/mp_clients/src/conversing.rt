@@ -20,7 +20,7 @@ use std::sync::Wait;
 /// # Errors
 /// `ReadFault` and `WriteFault` if the device fails. `ManyLines` after 2^64 - 2 lines. `Untold` if a change
 /// was made and its answer is lost. `Foreign` isn't expected.
-pub fn answer_all<N: PoolName, V: Verifier, D: Device>(
+pub(crate) fn answer_all<N: PoolName, V: Verifier, D: Device>(
     rt: &impl Wait,
     shared: &Shared<N, V>,
     memory: Memory,

@@ -18,8 +18,6 @@ mod stop;
 
 pub use client::Client;
 pub use conversation::Conversation;
-pub use conversing::answer_all;
 pub use fault::Fault;
 pub use service::{Connected, Finished, Service, converse, serve_all};
 pub use shared::Shared;
-pub use stop::Stop;

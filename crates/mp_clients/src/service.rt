@@ -133,8 +133,8 @@ pub struct Service<N: PoolName, D: Device> {
     pub front: Front<N>,
 }
 
-/// Holds all conversations at once, each on a thread of its own if one can be made. One legal history explains them all: what
-/// each has seen is a prefix of it, and each of its lines was answered as the pool would at a point of that.
+/// Holds all conversations at once, each on a thread of its own if one can be made. One legal history explains them all. What each
+/// has seen is a prefix of it, and each line was answered as the pool would at a point of that.
 ///
 /// # Errors
 /// `NoMemory`. Then some conversations may not have begun.

@@ -1,0 +1,51 @@
+-- What stays true of a client.
+use Rattle.std.proofs.Common.{◌≡◌, ℕ, ◌≤◌, List, [], ◌∷◌, length, refl, sym, ap, ◌∙◌}
+use Rattle.std.specs.Prelude.{Result, Ok, Err, IfOk, OnErr}
+use Rattle.mp_tx.specs.Ledger.{LedgerState}
+use Rattle.mp_rules.specs.Verifier.{Accepts}
+use Rattle.mp_signatures.specs.declared.scheme.Scheme.{Scheme}
+use Rattle.mp_seqpool.specs.Pool.{Pool}
+use Rattle.mp_seqpool.specs.declared.refusal.Refusal.{Refusal}
+use Rattle.mp_seqpool.specs.declared.command.Reply.{Reply}
+use Rattle.mp_seqpool.specs.Command.{Command}
+use Rattle.mp_seqpool.specs.SlowPool.{next}
+use Rattle.mp_history.specs.Entry.{Entry}
+use Rattle.mp_history.specs.Log.{Log, pool_of, state_after}
+use Rattle.mp_mempool.specs.Pass.{Pass}
+use Rattle.mp_mempool.specs.Seen.{IsSeen}
+use Rattle.mp_mempool.specs.declared.read.receipt.Receipt.{Receipt}
+use Rattle.mp_serve.proofs.Pools.{limit-next}
+use Rattle.mp_clients.specs.declared.stop.Stop.{Stop}
+use Rattle.mp_clients.specs.Answers.{IsAnswerTo}
+use Rattle.mp_clients.specs.Inside.Asked.{answer_in}
+use Rattle.mp_clients.specs.Inside.Client.{IsClient}
+
+module _ (accepts : Accepts) where
+  limit-entries : (p : Pool) (es : List Entry) → (pool_of accepts p es).limit ≡ p.limit
+  limit-entries p [] = refl
+  limit-entries p (e ∷ es) = limit-entries (next accepts p e.command) es ∙ limit-next accepts p e.command
+
+  -- the limit of changes stays
+  pub limit-after : (log : Log) → (state_after accepts log).limit ≡ log.opening.limit
+  limit-after log = limit-entries log.opening log.entries
+
+  module _ (callers : ℕ) where
+    pub opening-seen : (p q : Pass) → IsSeen accepts callers p q → q.front.opening ≡ p.front.opening
+    opening-seen p q s = ap (λ (r : Pass). r.front.opening) s.pass
+
+    opening-answer : (p : Pass) (command : Command) (a : Result Reply Refusal) (q : Pass) → IsAnswerTo accepts callers p command a q → q.front.opening ≡ p.front.opening
+    opening-answer p command (Ok reply) q (place, e, entered, same) = ap (λ (r : Pass). r.front.opening) entered.pass
+    opening-answer p command (Err refusal) q refused = ap (λ (r : Pass). r.front.opening) refused.pass
+
+    pub opening-asked : (p : Pass) (command : Command) (r : Result (Result Receipt Refusal) Stop) (q : Pass) → IfOk r (λ a. IsAnswerTo accepts callers p command (answer_in a) q) → OnErr r (q ≡ p)
+        → q.front.opening ≡ p.front.opening
+    opening-asked p command (Ok a) q is same = opening-answer p command (answer_in a) q is
+    opening-asked p command (Err stop) q is same = ap (λ (r : Pass). r.front.opening) same
+
+  -- the client has another pass of the pool
+  pub still : (s : Scheme) (n : ℕ) (p q : Pass) (former former2 : List LedgerState) → q.front.opening ≡ p.front.opening → length former2 ≤ 2160 → IsClient accepts s n p former → IsClient accepts s n q former2
+  still s n p q former former2 same few is = record {
+    verifier = is.verifier;
+    limit_is = is.limit_is ∙ ap (λ (o : Pool). o.limit) (sym same);
+    few = few;
+  }
