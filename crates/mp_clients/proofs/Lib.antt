@@ -3,3 +3,5 @@ pub mod Checks
 pub mod Steps
 pub mod Clients
 pub mod Responses
+pub mod Ending
+pub mod Alone

@@ -15,7 +15,7 @@ use mp_rules::{Verifier, check};
 use mp_seqpool::{Answer, Invalid, Refusal, Reply};
 use mp_tx::{Tx, TxId};
 use mp_utxo::Overlay;
-use mp_versions::{Run, Version};
+use mp_versions::{Item, Run, Version};
 use std::sync::Arc;
 
 // Whether the item's transaction has this id.

@@ -16,7 +16,7 @@ use mp_memory::{Memory, NoMemory};
 use mp_names::Names;
 use mp_peer::{PeerReader, forge};
 use mp_serve::{Counts, Text, put_counts};
-use mp_versions::{Item, Run, Version};
+use mp_versions::{Item, Run, Shown, Snapshot, Version};
 
 // Appends each item.
 fn put_run(text: &mut Text, names: &Names, items: Run<'_>) -> Result<(), NoMemory>
