@@ -1,6 +1,6 @@
 //! What a submit would be answered, by a version of the pool.
 
-ghost use Rattle.std.specs.Prelude.{◌≡◌, nat_eq, Ok, IfOk};
+ghost use Rattle.std.specs.Prelude.{◌≡◌, ◌<◌, ◌-◌, ◌^◌, nat_eq, IfNone, IfOk};
 ghost use Rattle.std.specs.Cmp.Lexicographic.{pointwise};
 ghost use Rattle.mp_tx.specs.Spelling.{id_of};
 ghost use Rattle.mp_seqpool.specs.Item.{item_of};
@@ -41,7 +41,8 @@ fn ticket_of(items: Run<'_>, id: &TxId) -> Option<u64>
 #[tactic(auto, unfolding(mp_seqpool::specs::Inside::Place::misplaced))]
 fn misplaced(version: &Version, limit: u64, tx: &Tx) -> Option<Refusal>
     requires { limit ≡ version.now.pool.limit }
-    ensures { result ≡ misplaced version.now.pool tx.now }
+    ensures refusal { result ≡ misplaced version.now.pool tx.now }
+    ensures ticket { IfNone result (version.now.pool.last < 2 ^ 64 - 1) }
 {
     if version.number() >= limit {
         return Some(Refusal::HistoryFull);
@@ -58,6 +59,12 @@ fn misplaced(version: &Version, limit: u64, tx: &Tx) -> Option<Refusal>
         return Some(Refusal::Full { need, free });
     }
     None
+}
+
+fn tick_of(version: &Version) -> u64
+    ensures { result ≡ version.now.pool.ledger.tick }
+{
+    version.ledger().tick()
 }
 
 // The version's ledger state with all its transactions applied.
@@ -92,11 +99,14 @@ pub fn answer_of<V: Verifier>(
         return Ok(Err(refusal));
     }
     let overlay = overlay_of(memory, version)?;
-    match check(memory, tx, &overlay, version.ledger().tick(), verifier) {
-        Ok(_) => Ok(Ok(Reply::Accepted {
-            ticket: version.last_ticket() + 1,
-        })),
-        Err(Invalid::NoMemory) => Err(NoMemory),
-        Err(fault) => Ok(Err(Refusal::Invalid(fault))),
+    match check(memory, tx, &overlay, tick_of(version), verifier) {
+        Ok(_) => {
+            let ticket = version.last_ticket() + 1;
+            Ok(Ok(Reply::Accepted { ticket }))
+        }
+        Err(fault) => match fault {
+            Invalid::NoMemory => Err(NoMemory),
+            other => Ok(Err(Refusal::Invalid(other))),
+        },
     }
 }
