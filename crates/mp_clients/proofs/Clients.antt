@@ -16,7 +16,8 @@ use Rattle.mp_mempool.specs.Seen.{IsSeen}
 use Rattle.mp_mempool.specs.declared.read.receipt.Receipt.{Receipt}
 use Rattle.mp_serve.proofs.Pools.{limit-next}
 use Rattle.mp_clients.specs.declared.stop.Stop.{Stop}
-use Rattle.mp_clients.specs.Answers.{IsAnswerTo}
+use Rattle.mp_clients.specs.Answers.{IsAnswerTo, IsAsked, moved}
+use Rattle.mp_clients.specs.Client.{Client}
 use Rattle.mp_clients.specs.Inside.Asked.{answer_in}
 use Rattle.mp_clients.specs.Inside.Client.{IsClient}
 
@@ -41,6 +42,12 @@ module _ (accepts : Accepts) where
         → q.front.opening ≡ p.front.opening
     opening-asked p command (Ok a) q is same = opening-answer p command (answer_in a) q is
     opening-asked p command (Err stop) q is same = ap (λ (r : Pass). r.front.opening) same
+
+    -- the client has moved
+    pub asked_moved : (k : Client) (command : Command) (r : Result (Result Receipt Refusal) Stop) (q : Pass) → IfOk r (λ a. IsAnswerTo accepts callers k.pass command (answer_in a) q)
+        → IfOk r (λ a. IsAsked accepts callers k command (moved k) (answer_in a) (record k { pass = q }))
+    asked_moved k command (Ok a) q is = record { answer = is; after_is = refl }
+    asked_moved k command (Err stop) q is = tt
 
   -- the client has another pass of the pool
   pub still : (s : Scheme) (n : ℕ) (p q : Pass) (former former2 : List LedgerState) → q.front.opening ≡ p.front.opening → length former2 ≤ 2160 → IsClient accepts s n p former → IsClient accepts s n q former2

@@ -67,3 +67,19 @@ module _ (accepts : Accepts) (names : Names) (k : Client) where
     pass = ap (λ (a : Client). a.pass) is;
     ledger = ap (λ (a : Client). a.ledger) is;
   }
+
+  -- unless an allocation fails
+  pub tries_ok : {A E : Type 0} (r : Result (Vec ℕ A) E) (ledger : LedgerState) (log : Log) (p : Pool) (items : List (ℕ × Transaction)) → p ≡ state_after accepts log → log ≡ k.pass.front
+      → items ≡ keep (accepted_by k.signatures) ledger p.items → IfOk r (λ t. t.items ≡ for_text names items) → IfOk r (λ t. Responds accepts names k (Plain (Try ledger)) t.items k)
+  tries_ok (Ok t) ledger log p items state same kept said = tries ledger log p t.items k state same (said ∙ ap (for_text names) kept) refl
+  tries_ok (Err e) ledger log p items state same kept said = tt
+
+  pub checks_ok : {A E : Type 0} (r : Result (Vec ℕ A) E) (t : Transaction) (log : Log) (p : Pool) (a : Result Reply Refusal) → p ≡ state_after accepts log → log ≡ k.pass.front
+      → answer (accepted_by k.signatures) p (Submit t) ≡ a → IfOk r (λ x. x.items ≡ answer_text names a) → IfOk r (λ x. Responds accepts names k (Check t) x.items k)
+  checks_ok (Ok x) t log p a state same answers said = checks t log p a x.items k state same answers said refl
+  checks_ok (Err e) t log p a state same answers said = tt
+
+  pub counts_ok : {A E : Type 0} (r : Result (Vec ℕ A) E) (log : Log) (p : Pool) → p ≡ state_after accepts log → log ≡ k.pass.front
+      → IfOk r (λ t. t.items ≡ stats_text p k.refused) → IfOk r (λ t. Responds accepts names k Count t.items k)
+  counts_ok (Ok t) log p state same said = counts log p t.items k state same said refl
+  counts_ok (Err e) log p state same said = tt
