@@ -1,5 +1,5 @@
 -- What stays true of a client.
-use Rattle.std.proofs.Common.{◌≡◌, ℕ, ◌≤◌, List, [], ◌∷◌, length, refl, sym, ap, ◌∙◌}
+use Rattle.std.proofs.Common.{◌≡◌, ℕ, ◌≤◌, List, [], ◌∷◌, length, refl, sym, ap, ap₂, ◌∙◌}
 use Rattle.std.specs.Prelude.{Result, Ok, Err, IfOk, OnErr}
 use Rattle.mp_tx.specs.Ledger.{LedgerState}
 use Rattle.mp_rules.specs.Verifier.{Accepts}
@@ -16,9 +16,9 @@ use Rattle.mp_mempool.specs.Seen.{IsSeen}
 use Rattle.mp_mempool.specs.declared.read.receipt.Receipt.{Receipt}
 use Rattle.mp_serve.proofs.Pools.{limit-next}
 use Rattle.mp_clients.specs.declared.stop.Stop.{Stop}
-use Rattle.mp_clients.specs.Answers.{IsAnswerTo, IsAsked, moved}
+use Rattle.mp_clients.specs.Answers.{IsAnswerTo, IsAsked, moved, adopted}
 use Rattle.mp_clients.specs.Client.{Client}
-use Rattle.mp_clients.specs.Inside.Asked.{answer_in}
+use Rattle.mp_clients.specs.Inside.Asked.{answer_in, if_made}
 use Rattle.mp_clients.specs.Inside.Client.{IsClient}
 
 module _ (accepts : Accepts) where
@@ -42,6 +42,14 @@ module _ (accepts : Accepts) where
         → q.front.opening ≡ p.front.opening
     opening-asked p command (Ok a) q is same = opening-answer p command (answer_in a) q is
     opening-asked p command (Err stop) q is same = ap (λ (r : Pass). r.front.opening) same
+
+    -- the client has adopted a ledger state, if the change was made
+    pub asked_adopted : (k : Client) (command : Command) (l : LedgerState) (former : List LedgerState) (r : Result (Result Receipt Refusal) Stop) (q : Pass) (fs : List LedgerState) (now : LedgerState)
+        → IfOk r (λ a. IsAnswerTo accepts callers k.pass command (answer_in a) q) → IfOk r (λ a. fs ≡ if_made (answer_in a) former k.former) → IfOk r (λ a. now ≡ if_made (answer_in a) l k.ledger)
+        → IfOk r (λ a. IsAsked accepts callers k command (adopted k l former) (answer_in a) (record k { pass = q; ledger = now; former = fs }))
+    asked_adopted k command l former (Ok (Ok receipt)) q fs now is f n = record { answer = is; after_is = ap₂ (λ x y. record k { pass = q; ledger = x; former = y }) n f }
+    asked_adopted k command l former (Ok (Err refusal)) q fs now is f n = record { answer = is; after_is = ap₂ (λ x y. record k { pass = q; ledger = x; former = y }) n f }
+    asked_adopted k command l former (Err stop) q fs now is f n = tt
 
     -- the client has moved
     pub asked_moved : (k : Client) (command : Command) (r : Result (Result Receipt Refusal) Stop) (q : Pass) → IfOk r (λ a. IsAnswerTo accepts callers k.pass command (answer_in a) q)

@@ -1,8 +1,9 @@
 //! What a conversation has of the pool that it shares with others.
 
+use crate::adopting::{go_back, go_on};
 use crate::asking::{Asked, ask_pool, count_refusal};
 use crate::checking::answer_of;
-use crate::former::{Formers, keep_latest};
+use crate::former::Formers;
 use crate::reading::{for_line, query_line, stats_line};
 use crate::stop::Stop;
 use mp_answers::answer_line;
@@ -157,7 +158,12 @@ impl<N: PoolName> Client<N> {
     ///
     /// # Errors
     /// `NoMemory`. Then nothing has changed.
-    pub(crate) fn query(&mut self, memory: Memory, names: &Names, query: Query) -> Result<Text, NoMemory>
+    pub(crate) fn query(
+        &mut self,
+        memory: Memory,
+        names: &Names,
+        query: Query,
+    ) -> Result<Text, NoMemory>
         ensures ok { IfOk result (λ text. Responds N.accepts names.now
             self.old (Plain (Read query)) text.items self.new) }
         ensures err { OnErr result (self.new ≡ self.old) }
@@ -172,7 +178,12 @@ impl<N: PoolName> Client<N> {
     ///
     /// # Errors
     /// `NoMemory`.
-    pub(crate) fn kept(&self, memory: Memory, names: &Names, ledger: &Ledger) -> Result<Text, NoMemory>
+    pub(crate) fn kept(
+        &self,
+        memory: Memory,
+        names: &Names,
+        ledger: &Ledger,
+    ) -> Result<Text, NoMemory>
         ensures { IfOk result (λ text. Responds N.accepts names.now
             self.now (Plain (Try ledger.now)) text.items self.now) }
     {
@@ -245,24 +256,8 @@ impl<N: PoolName> Client<N> {
         ensures err { OnErr result (self.new ≡ self.old) }
         ensures before { IfErr result IsBefore }
     {
-        let former = self.ledger.share()?;
-        let command = Command::Sync(ledger.share()?);
-        self.former.push(former)?;
-        match ask_pool(rt, pool, &mut self.pass, &command) {
-            Ok(Ok(receipt)) => {
-                keep_latest(&mut self.former);
-                self.ledger = ledger;
-                Ok(Ok(receipt))
-            }
-            Ok(Err(refusal)) => {
-                let _ = self.former.pop();
-                Ok(Err(refusal))
-            }
-            Err(stop) => {
-                let _ = self.former.pop();
-                Err(stop)
-            }
-        }
+        let former = &mut self.former;
+        go_on(rt, pool, &mut self.pass, former, &mut self.ledger, ledger)
     }
 
     /// Adopts the ledger state this many steps ago. A refusal isn't counted.
@@ -282,16 +277,9 @@ impl<N: PoolName> Client<N> {
         ensures err { OnErr result (self.new ≡ self.old) }
         ensures before { IfErr result IsBefore }
     {
-        let command = Command::Sync(ledger.share()?);
         let left = self.former.len() - count;
-        match ask_pool(rt, pool, &mut self.pass, &command)? {
-            Ok(receipt) => {
-                self.former.truncate(left);
-                self.ledger = ledger;
-                Ok(Ok(receipt))
-            }
-            Err(refusal) => Ok(Err(refusal)),
-        }
+        let (former, now) = (&mut self.former, &mut self.ledger);
+        go_back(rt, pool, &mut self.pass, former, now, left, ledger)
     }
 
     /// Counts the refusal, if there is one.

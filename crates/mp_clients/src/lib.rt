@@ -1,6 +1,7 @@
 //! Conversations with a pool that they share. Each line is answered before the next of its conversation is read.
 #![tactic(auto)]
 
+mod adopting;
 mod allowed;
 mod answering;
 mod asking;

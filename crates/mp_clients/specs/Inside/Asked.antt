@@ -19,3 +19,8 @@ IsUnanswered (Err refusal) stop = stop ≡ NoMemory
 abbrev pub IsBefore : Stop → Type 0
 IsBefore Untold = ⊥
 IsBefore stop = Unit {0}
+
+-- the first if the change was made, and else the second
+abbrev pub if_made : {X : Type 0} → Result Reply Refusal → X → X → X
+if_made (Ok reply) x y = x
+if_made (Err refusal) x y = y
