@@ -11,7 +11,8 @@ use Rattle.mp_serve.specs.Request.{Request, respond}
 use Rattle.mp_serve.specs.Texts.{forgotten_text}
 use Rattle.mp_serve.specs.Talk.{Step, ask, with_names, names_to_go, forget}
 use Rattle.mp_clients.specs.declared.conversation.Conversation.{Conversation}
-use Rattle.mp_clients.specs.Client.{Client, served_at, alone_at}
+use Rattle.mp_clients.specs.Client.{Client, served_at}
+use Rattle.mp_clients.specs.Alone.{alone_at}
 use Rattle.mp_clients.specs.Answers.{with_client}
 use Rattle.mp_clients.specs.Inside.Steps.{Responds, IsToldAlone}
 

@@ -5,3 +5,4 @@ pub mod Clients
 pub mod Responses
 pub mod Ending
 pub mod Alone
+pub mod Answering

@@ -18,7 +18,8 @@ use Rattle.mp_serve.specs.Talk.{Step, take}
 use Rattle.mp_clients.specs.declared.conversation.Conversation.{Conversation}
 use Rattle.mp_clients.specs.declared.stop.Stop.{Stop}
 use Rattle.mp_clients.specs.declared.stop.Stop.TheVariants.{NoMemory, Untold, Foreign}
-use Rattle.mp_clients.specs.Client.{Client, alone_at}
+use Rattle.mp_clients.specs.Client.{Client}
+use Rattle.mp_clients.specs.Alone.{alone_at}
 use Rattle.mp_clients.specs.Asking.{may_do}
 use Rattle.mp_clients.specs.Answers.{IsAsked, HasLooked, IsAnsweredAlone, IsAnsweredBy, IsTaken, IsUnchanged, counting, with_client}
 use Rattle.mp_clients.specs.Inside.Asked.{IsUnanswered, IsBefore}

@@ -27,7 +27,8 @@ use Rattle.mp_serve.specs.Served.{IsBadLine}
 use Rattle.mp_serve.specs.Talk as alone
 use Rattle.mp_serve.specs.Texts.{no_memory_text, block_refused_text, back_refused_text}
 use Rattle.mp_clients.specs.declared.conversation.Conversation.{Conversation}
-use Rattle.mp_clients.specs.Client.{Client, served_at, alone_at}
+use Rattle.mp_clients.specs.Client.{Client}
+use Rattle.mp_clients.specs.Alone.{alone_at}
 use Rattle.mp_clients.specs.Asking.{asked_by}
 
 -- ---- what a change makes of a client, by its answer and the pass afterwards
@@ -52,6 +53,10 @@ gone_back k l count a pass = adopted k l (take (length k.former - count) k.forme
 -- a refusal is counted
 abbrev pub counting : Result Reply Refusal → Client → Client
 counting a k = record k { refused = counted_if k.refused (result_err a) }
+
+-- the names stay
+abbrev pub same_names : {N : Type 0} → Conversation N → Result Reply Refusal → Names
+same_names c a = c.names
 
 abbrev pub with_client : {N : Type 0} → Conversation N → Client → Conversation N
 with_client c k = record c { client = k }
@@ -91,10 +96,6 @@ module _ (accepts : Accepts) (callers : ℕ) where
       pub asked : IsAsked c.client command does answer (does answer pass)
       pub text_is : text ≡ answer_text c.names answer
       pub after : u ≡ record c { names = names answer; client = counting answer (does answer pass) }
-
-    -- the names stay
-    abbrev pub same_names : Conversation N → Result Reply Refusal → Names
-    same_names c a = c.names
 
     -- the ledger state after the block is adopted, if it has one
     abbrev pub IsExtended : Conversation N → List Transaction → Result LedgerState (ℕ × Invalid) → List ℕ → Conversation N → Type 0

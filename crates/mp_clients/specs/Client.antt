@@ -5,12 +5,9 @@ use Rattle.mp_rules.specs.Verifier.{Accepts}
 use Rattle.mp_signatures.specs.declared.scheme.Scheme.{Scheme}
 use Rattle.mp_history.specs.Log.{Log, state_after}
 use Rattle.mp_mempool.specs.Pass.{Pass}
-use Rattle.mp_session.specs.declared.session.Stage.TheVariants.{Open}
 use Rattle.mp_serve.specs.declared.refused.Counts.{Counts}
-use Rattle.mp_serve.specs.declared.conversation.Conversation as alone
 use Rattle.mp_serve.specs.Refused.{none_counted}
 use Rattle.mp_serve.specs.ServedPool.{ServedPool}
-use Rattle.mp_clients.specs.declared.conversation.Conversation.{Conversation}
 
 pub record Client : Type 0 where
   -- who it is, and what it has seen of the pool
@@ -47,11 +44,4 @@ module _ (accepts : Accepts) where
     former = k.former;
     refused = k.refused;
     cursor = k.cursor;
-  }
-
-  -- the conversation with the pool after a history, as it would be alone
-  abbrev pub alone_at : {N : Type 0} → Conversation N → Log → alone.Conversation
-  alone_at c log = record {
-    signatures = c.client.signatures;
-    session = record { names = c.names; settings = c.settings; stage = Open (served_at c.client log) };
   }

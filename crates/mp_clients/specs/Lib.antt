@@ -1,4 +1,5 @@
 pub mod Client
+pub mod Alone
 pub mod Asking
 pub mod Answers
 pub mod Told

@@ -2,7 +2,7 @@
 use Rattle.std.specs.Prelude.{ℕ, List, Option, IfSome}
 use Rattle.mp_rules.specs.Verifier.{Accepts}
 use Rattle.mp_history.specs.Log.{Log, Begins}
-use Rattle.mp_clients.specs.declared.service.Connected.{Connected}
+use Rattle.mp_clients.specs.declared.connected.Connected.{Connected}
 use Rattle.mp_clients.specs.declared.service.Finished.{Finished}
 use Rattle.mp_clients.specs.Answers.{IsAnswer, IsUntold}
 use Rattle.mp_clients.specs.Told.{Ended}

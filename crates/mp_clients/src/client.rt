@@ -120,7 +120,8 @@ impl<N: PoolName> Client<N> {
 
     /// The signatures that the pool accepts.
     pub(crate) fn signatures(&self) -> &Signatures
-        ensures { result.now ≡ self.now.signatures }
+        ensures same { result.now ≡ self.now.signatures }
+        ensures verifier { accepted_by result.now ≡ N.accepts }
     {
         &self.signatures
     }

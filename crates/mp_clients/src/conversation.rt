@@ -120,7 +120,6 @@ impl<N: PoolName> Conversation<N> {
     ghost use Rattle.mp_serve.specs.ServedPool.{state_back};
     ghost use Rattle.mp_serve.specs.Inside.Ask.{to_ask};
     ghost use Rattle.mp_serve.specs.Inside.Answer.{text_of};
-    ghost use Rattle.mp_clients.specs.Client.{alone_at};
     ghost use Rattle.mp_clients.specs.Asking.{may_do, may_ask};
     ghost use Rattle.mp_clients.specs.Inside.Notes.{is_note, is_change, is_alone};
     ghost use Rattle.mp_clients.specs.Answers.{IsAnsweredBy, IsExtendedBy, IsReturned, IsTaken, moved, gone_on, gone_back, same_names};

@@ -7,6 +7,7 @@ mod answering;
 mod asking;
 mod checking;
 mod client;
+mod connected;
 mod conversation;
 mod conversing;
 mod fault;
@@ -18,7 +19,8 @@ mod shared;
 mod stop;
 
 pub use client::Client;
+pub use connected::Connected;
 pub use conversation::Conversation;
 pub use fault::Fault;
-pub use service::{Connected, Finished, Service, converse, serve_all};
+pub use service::{Finished, Service, converse, serve_all};
 pub use shared::Shared;

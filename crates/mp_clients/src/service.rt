@@ -2,12 +2,12 @@
 
 ghost use Rattle.std.specs.Prelude.{◌≡◌, ◌<◌, ℕ, length, slice_index_or, All, IfOk};
 ghost use Rattle.mp_history.specs.Log.{Begins, IsLegalLog};
-ghost use Rattle.mp_serve.specs.declared.device.Turn.TheVariants.{Listens};
-ghost use Rattle.mp_clients.specs.declared.service.Connected.{Connected};
+ghost use Rattle.mp_clients.specs.declared.connected.Connected.{Connected};
 ghost use Rattle.mp_clients.specs.declared.service.Finished.{Finished};
 ghost use Rattle.mp_clients.specs.Service.{IsFinished, HasSeenOf};
 
 use crate::client::Client;
+use crate::connected::Connected;
 use crate::conversation::Conversation;
 use crate::conversing::answer_all;
 use crate::fault::Fault;
@@ -18,22 +18,6 @@ use mp_rules::Verifier;
 use mp_serve::Device;
 use std::sync::Wait;
 use std::thread::{Threads, map_vec};
-
-/// A conversation before its first line, and its device.
-pub struct Connected<N: PoolName, D: Device> {
-    pub conversation: Conversation<N>,
-    pub device: D,
-    ghost listens: { D.turn device ≡ Listens },
-}
-
-impl<N: PoolName, D: Device + Drop> Drop for Connected<N, D> {
-    fn drop(self) {
-        let Connected {
-            conversation: _,
-            device: _,
-        } = self;
-    }
-}
 
 /// A conversation that has ended.
 #[derive(Drop)]

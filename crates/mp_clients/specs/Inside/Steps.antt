@@ -10,7 +10,8 @@ use Rattle.mp_clients.specs.declared.fault.Fault.{Fault}
 use Rattle.mp_clients.specs.declared.fault.Fault.TheVariants as faults
 use Rattle.mp_clients.specs.declared.stop.Stop.{Stop}
 use Rattle.mp_clients.specs.declared.stop.Stop.TheVariants.{NoMemory, Untold, Foreign}
-use Rattle.mp_clients.specs.Client.{Client, served_at, alone_at}
+use Rattle.mp_clients.specs.Client.{Client, served_at}
+use Rattle.mp_clients.specs.Alone.{alone_at}
 use Rattle.mp_clients.specs.Answers.{IsUnchanged, IsUntold}
 
 -- the pool that the client has seen responds so, and the client has seen no more
@@ -27,16 +28,17 @@ pub record IsToldAlone {N : Type 0} (accepts : Accepts) (c : Conversation N) (do
   pub pass : u.client.pass ≡ c.client.pass
   pub ledger : u.client.ledger ≡ c.client.ledger
 
--- After an allocation failure nothing has changed but what the conversation has seen; or the change was made, but only its answer
--- and its name are lost. Else nothing has changed.
-abbrev pub IsStopped : {N : Type 0} → Accepts → ℕ → (List ℕ → Conversation N → Type 0) → Conversation N → Conversation N → Stop → Type 0
-IsStopped accepts callers Does c u NoMemory = IsUnchanged accepts callers c u
-IsStopped {N} accepts callers Does c u Untold =
-    (text : List ℕ) × (v : Conversation N) × Does text v × (u ≡ record v { names = c.names })
-IsStopped accepts callers Does c u Foreign = u ≡ c
+module _ {N : Type 0} (accepts : Accepts) (callers : ℕ) where
+  -- After an allocation failure nothing has changed but what the conversation has seen; or the change was made, and only its answer
+  -- and its name are lost. Else nothing has changed.
+  abbrev pub IsStopped : (List ℕ → Conversation N → Type 0) → Conversation N → Conversation N → Stop → Type 0
+  IsStopped Does c u NoMemory = IsUnchanged accepts callers c u
+  IsStopped Does c u Untold =
+      (text : List ℕ) × (v : Conversation N) × Does text v × (u ≡ record v { names = c.names })
+  IsStopped Does c u Foreign = u ≡ c
 
--- why the conversation ends without an answer
-abbrev pub IsEnded : {N : Type 0} → Accepts → ℕ → Conversation N → Conversation N → Fault → Type 0
-IsEnded accepts callers c u faults.Foreign = u ≡ c
-IsEnded accepts callers c u faults.Untold = IsUntold accepts callers c u
-IsEnded accepts callers c u fault = ⊥
+  -- why the conversation ends without an answer
+  abbrev pub IsEnded : Conversation N → Conversation N → Fault → Type 0
+  IsEnded c u faults.Foreign = u ≡ c
+  IsEnded c u faults.Untold = IsUntold accepts callers c u
+  IsEnded c u fault = ⊥

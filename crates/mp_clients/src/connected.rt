@@ -1,0 +1,24 @@
+//! A conversation and its device.
+
+ghost use Rattle.std.specs.Prelude.{◌≡◌};
+ghost use Rattle.mp_serve.specs.declared.device.Turn.TheVariants.{Listens};
+
+use crate::conversation::Conversation;
+use mp_history::PoolName;
+use mp_serve::Device;
+
+/// A conversation before its first line, and its device.
+pub struct Connected<N: PoolName, D: Device> {
+    pub conversation: Conversation<N>,
+    pub device: D,
+    ghost listens: { D.turn device ≡ Listens },
+}
+
+impl<N: PoolName, D: Device + Drop> Drop for Connected<N, D> {
+    fn drop(self) {
+        let Connected {
+            conversation: _,
+            device: _,
+        } = self;
+    }
+}
