@@ -6,3 +6,4 @@ pub mod Responses
 pub mod Ending
 pub mod Alone
 pub mod Answering
+pub mod Backs

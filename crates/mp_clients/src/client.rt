@@ -170,7 +170,8 @@ impl<N: PoolName> Client<N> {
         ensures err { OnErr result (self.new ≡ self.old) }
     {
         let shown = self.pass.shown();
-        let (text, cursor) = query_line(memory, names, self.cursor, shown, query)?;
+        let line = query_line(memory, names, self.cursor, shown, query)?;
+        let (text, cursor) = line;
         self.cursor = cursor;
         Ok(text)
     }

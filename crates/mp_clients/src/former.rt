@@ -1,6 +1,6 @@
 //! Former ledger states of a conversation.
 
-ghost use Rattle.std.specs.Prelude.{◌≡◌, ◌≤◌, length, option_copied, IfOk};
+ghost use Rattle.std.specs.Prelude.{◌≡◌, ◌≤◌, ◌++◌, ◌∷◌, [], length, slice_get, option_copied, IfOk};
 ghost use Rattle.mp_serve.specs.ServedPool.{latest, state_back};
 
 use mp_memory::{Memory, NoMemory};
@@ -15,10 +15,24 @@ const MAX_FORMER: usize = 2160;
 /// Removes the oldest if there is one too many.
 pub fn keep_latest(formers: &mut Formers)
     requires { length formers.old.items ≤ 2161 }
-    ensures { formers.new.items ≡ latest formers.old.items }
+    ensures latest { formers.new.items ≡ latest formers.old.items }
+    ensures few { length formers.new.items ≤ 2160 }
 {
     if formers.len() > MAX_FORMER {
         let _ = formers.remove(0);
+    }
+}
+
+// The ledger state at this place of all, of which the last is `now`.
+#[tactic(auto, using(crate::proofs::Backs::at_end, crate::proofs::Backs::at_before))]
+fn find_at<'a>(formers: &'a [Ledger], now: &'a Ledger, place: usize) -> Option<&'a Ledger>
+    requires { place ≤ length formers.now }
+    ensures { option_copied result ≡ slice_get (formers.now ++ now.now ∷ []) place }
+{
+    if place == formers.len() {
+        Some(now)
+    } else {
+        formers.get(place)
     }
 }
 
@@ -26,13 +40,11 @@ pub fn keep_latest(formers: &mut Formers)
 fn find_back<'a>(formers: &'a [Ledger], now: &'a Ledger, count: usize) -> Option<&'a Ledger>
     ensures { option_copied result ≡ state_back formers.now now.now count }
 {
-    if count == 0 {
-        return Some(now);
+    if count <= formers.len() {
+        find_at(formers, now, formers.len() - count)
+    } else {
+        None
     }
-    if count > formers.len() {
-        return None;
-    }
-    formers.get(formers.len() - count)
 }
 
 /// The ledger state this many steps ago, if it is kept.

@@ -9,11 +9,11 @@ use Rattle.mp_clients.proofs.client.Client.kept.Goals as goal
 
 pub keep_valid-requires-clause-signed : goal.keep_valid-requires-clause-signed
 keep_valid-requires-clause-signed g c =
-    signed_after g.N.PoolName.accepts (accepted_by c.self.inside.signatures) g.N.PoolName.callers c.shown.result.now c.version.result.now.pool c.self.invariant.verifier c.version.ensures.legal c.version.ensures.state
+    signed_after g.N.PoolName.accepts (accepted_by c.self.inside.signatures) g.N.PoolName.callers c.shown.result.now c.version-version.result.now.pool c.self.invariant.verifier c.version-version.ensures.legal c.version-version.ensures.state
 
 pub returns : goal.returns
 returns g c =
     let i = c.self.inside in
     let k : Client = client_of i.pass i.signatures i.ledger i.former.items i.refused i.cursor in
-    rw (← c.self.view_is) (tries_ok g.N.PoolName.accepts c.args.names.now k c.for_line.result c.args.ledger.now c.shown.result.now c.version.result.now.pool _ c.version.ensures.state c.shown.ensures
+    rw (← c.self.view_is) (tries_ok g.N.PoolName.accepts c.args.names.now k c.for_line.result c.args.ledger.now c.shown.result.now c.version-version.result.now.pool _ c.version-version.ensures.state c.shown.ensures
     (c.as_slice.ensures ∙ c.in_ok-kept.ensures.items ∙ ap (keep (accepted_by i.signatures) c.args.ledger.now) c.contents.ensures) c.for_line.ensures)

@@ -8,4 +8,4 @@ pub returns-clause-ok : goal.returns-clause-ok
 returns-clause-ok g c =
     let i = c.self.inside in
     let k : Client = client_of i.pass i.signatures i.ledger i.former.items i.refused i.cursor in
-    rw (← c.self.view_is) (reads g.N.PoolName.accepts c.args.names.now k c.args.query c.shown.result.now _ _ _ c.shown.ensures c.in_ok-query_line.ensures.text c.in_ok-query_line.ensures.cursor refl)
+    rw (← c.self.view_is) (reads g.N.PoolName.accepts c.args.names.now k c.args.query c.shown-shown.result.now _ _ _ c.shown-shown.ensures c.in_ok-line.ensures.text c.in_ok-line.ensures.cursor refl)
