@@ -1,11 +1,14 @@
 -- Parts of the answer to a line.
 use Rattle.std.proofs.Common.{◌≡◌, ℕ, true, false, List, inl, inr, refl, sym, ap, ap₂, subst, ◌∙◌}
-use Rattle.std.specs.Prelude.{Some, Result, Ok, Err, IfOk, IfErr, OnOk, OnErr}
+use Rattle.std.specs.Prelude.{Option, Some, Result, Ok, Err, IfOk, IfErr, OnOk, OnErr}
 use Rattle.std.specs.declared.vec.Vec.{Vec}
+use Rattle.mp_tx.specs.Transaction.{Transaction}
+use Rattle.mp_tx.specs.Ledger.{LedgerState}
+use Rattle.mp_rules.specs.declared.invalid.Invalid.{Invalid}
 use Rattle.mp_rules.specs.Verifier.{Accepts}
 use Rattle.mp_seqpool.specs.declared.refusal.Refusal.{Refusal}
 use Rattle.mp_seqpool.specs.declared.command.Reply.{Reply}
-use Rattle.mp_seqpool.specs.Command.{Command}
+use Rattle.mp_seqpool.specs.Command.{Command, Sync}
 use Rattle.mp_names.specs.Names.{Names}
 use Rattle.mp_mempool.specs.Pass.{Pass}
 use Rattle.mp_mempool.specs.Seen.{IsSeen}
@@ -21,7 +24,7 @@ use Rattle.mp_clients.specs.declared.stop.Stop.TheVariants.{NoMemory, Untold, Fo
 use Rattle.mp_clients.specs.Client.{Client}
 use Rattle.mp_clients.specs.Alone.{alone_at}
 use Rattle.mp_clients.specs.Asking.{may_do}
-use Rattle.mp_clients.specs.Answers.{IsAsked, HasLooked, IsAnsweredAlone, IsAnsweredBy, IsTaken, IsUnchanged, counting, with_client}
+use Rattle.mp_clients.specs.Answers.{IsAsked, HasLooked, IsAnsweredAlone, IsAnsweredBy, IsExtended, IsReturned, IsTaken, IsUnchanged, counting, gone_on, gone_back, same_names, with_client}
 use Rattle.mp_clients.specs.Inside.Asked.{IsUnanswered, IsBefore}
 use Rattle.mp_clients.specs.Inside.Notes.{is_note, is_change, is_alone}
 use Rattle.mp_clients.specs.Inside.Steps.{IsToldAlone, IsStopped}
@@ -84,6 +87,22 @@ module _ {N : Type 0} (accepts : Accepts) (callers : ℕ) where
       tt,
       stopped a k _ stop asked (ap₂ (λ m x. record c { names = m; client = x }) kept same) moves why,
     )
+
+  -- the ledger state after a block is adopted
+  pub extended : {A : Type 0} (c : Conversation N) (txs : List Transaction) (wanted : Result LedgerState (ℕ × Invalid)) (l : LedgerState) (r : Result (Vec ℕ A) Stop) (u : Conversation N) → wanted ≡ Ok l
+      → IfOk r (λ t. IsAnsweredBy accepts callers c (Sync l) (gone_on c.client l) (same_names c) t.items u)
+      → IfErr r (IsStopped accepts callers (IsAnsweredBy accepts callers c (Sync l) (gone_on c.client l) (same_names c)) c u)
+      → IfOk r (λ t. IsExtended accepts callers c txs wanted t.items u) × IfErr r (IsStopped accepts callers (IsExtended accepts callers c txs wanted) c u)
+  extended c txs wanted l r u e ok err =
+      subst (λ (w : Result LedgerState (ℕ × Invalid)). IfOk r (λ t. IsExtended accepts callers c txs w t.items u) × IfErr r (IsStopped accepts callers (IsExtended accepts callers c txs w) c u)) (sym e) (ok, err)
+
+  -- a former ledger state is adopted
+  pub returned : {A : Type 0} (c : Conversation N) (count : ℕ) (wanted : Option LedgerState) (l : LedgerState) (r : Result (Vec ℕ A) Stop) (u : Conversation N) → wanted ≡ Some l
+      → IfOk r (λ t. IsAnsweredBy accepts callers c (Sync l) (gone_back c.client l count) (same_names c) t.items u)
+      → IfErr r (IsStopped accepts callers (IsAnsweredBy accepts callers c (Sync l) (gone_back c.client l count) (same_names c)) c u)
+      → IfOk r (λ t. IsReturned accepts callers c count wanted t.items u) × IfErr r (IsStopped accepts callers (IsReturned accepts callers c count wanted) c u)
+  returned c count wanted l r u e ok err =
+      subst (λ (w : Option LedgerState). IfOk r (λ t. IsReturned accepts callers c count w t.items u) × IfErr r (IsStopped accepts callers (IsReturned accepts callers c count w) c u)) (sym e) (ok, err)
 
   -- before a change was made
   pub stopped_before : (Does : List ℕ → Conversation N → Type 0) (c u : Conversation N) (stop : Stop) → IsBefore stop → u ≡ c → IsStopped accepts callers Does c u stop
