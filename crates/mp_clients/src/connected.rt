@@ -22,3 +22,21 @@ impl<N: PoolName, D: Device + Drop> Drop for Connected<N, D> {
         } = self;
     }
 }
+
+impl<N: PoolName, D: Device> Connected<N, D> {
+    ghost use Rattle.std.specs.Prelude.{◌≡◌};
+    ghost use Rattle.mp_serve.specs.declared.device.Turn.TheVariants.{Listens};
+
+    /// The conversation and the device.
+    pub fn into_parts(self) -> (Conversation<N>, D)
+        ensures conversation { result.0 ≡ self.conversation }
+        ensures device { result.1 ≡ self.device }
+        ensures listens { D.turn result.1 ≡ Listens }
+    {
+        let Connected {
+            conversation,
+            device,
+        } = self;
+        (conversation, device)
+    }
+}

@@ -36,10 +36,7 @@ pub fn converse<N: PoolName, V: Verifier, D: Device>(
 ) -> Finished<N, D>
     ensures { IsFinished N.accepts N.callers D.input D.output connected result }
 {
-    let Connected {
-        mut conversation,
-        mut device,
-    } = connected;
+    let (mut conversation, mut device) = connected.into_parts();
     let mut line = Vec::new(memory);
     let ended = answer_all(
         rt,
