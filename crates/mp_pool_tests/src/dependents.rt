@@ -32,19 +32,36 @@ fn push_next(memory: Memory, commands: &mut Commands) -> Option<()> {
     )
 }
 
-// A chain of three, and a remove of the first.
+// Appends a submit of a transaction that spends only this opening, and reads the first output of the one that was pushed
+// last.
+fn push_reader(memory: Memory, commands: &mut Commands, index: u16) -> Option<()> {
+    let before = submitted(commands, commands.len().checked_sub(1)?)?;
+    let mut parts = parts(memory, &[opening(index)], &[100]).ok()?;
+    parts.references.push(output_of(&before, 0)).ok()?;
+    push_tx(memory, commands, parts)
+}
+
+// A chain of three.
 fn chain(memory: Memory) -> Option<Commands> {
     let mut commands = Vec::new(memory);
     push_alone(memory, &mut commands, 0)?;
     push_next(memory, &mut commands)?;
     push_next(memory, &mut commands)?;
-    push_remove(memory, &mut commands, &[0])?;
     Some(commands)
 }
 
-// Submits transactions that spend the other openings.
-fn fill(memory: Memory, pool: &mut SeqPool, count: u16) -> Option<()> {
-    for index in 1..count {
+// The chain, one that reads its last output, and a pair that stays, of which the second reads an output of the first.
+fn read_chain(memory: Memory) -> Option<Commands> {
+    let mut commands = chain(memory)?;
+    push_reader(memory, &mut commands, 1)?;
+    push_alone(memory, &mut commands, 2)?;
+    push_reader(memory, &mut commands, 3)?;
+    Some(commands)
+}
+
+// Submits transactions that spend the openings from the first index on.
+fn fill(memory: Memory, pool: &mut SeqPool, first: u16, count: u16) -> Option<()> {
+    for index in first..count {
         let mut commands = Vec::new(memory);
         push_alone(memory, &mut commands, index)?;
         if !answers(pool, commands.first()?) {
@@ -54,42 +71,55 @@ fn fill(memory: Memory, pool: &mut SeqPool, count: u16) -> Option<()> {
     Some(())
 }
 
-// A pool with the chain and this many transactions in all but two.
-fn filled(memory: Memory, commands: &Commands, count: u16) -> Option<SeqPool> {
+// A pool with what is submitted, and with transactions that spend the openings from the first index on.
+fn filled(memory: Memory, submits: &Commands, first: u16, count: u16) -> Option<SeqPool> {
     let ledger = ledger(memory, count, 1 << 30).ok()?;
     let mut pool = SeqPool::start(memory, CONFIG, &ledger).ok()?;
-    for command in commands.iter().take(3) {
+    for command in submits {
         if !answers(&mut pool, command) {
             return None;
         }
     }
-    fill(memory, &mut pool, count)?;
+    fill(memory, &mut pool, first, count)?;
     Some(pool)
 }
 
-// The number of allocations of the remove, and how many transactions stay.
-fn cost(memory: Memory, count: u16) -> Option<(u64, usize)> {
-    let commands = chain(memory)?;
-    let mut pool = filled(memory, &commands, count)?;
-    let made = growths(memory, &mut pool, commands.get(3)?)?;
+// The number of allocations of a remove of the first, and how many transactions stay.
+fn cost(memory: Memory, submits: &Commands, first: u16, count: u16) -> Option<(u64, usize)> {
+    let mut pool = filled(memory, submits, first, count)?;
+    let mut commands = Vec::new(memory);
+    push_tx(
+        memory,
+        &mut commands,
+        parts(memory, &[opening(0)], &[100]).ok()?,
+    )?;
+    push_remove(memory, &mut commands, &[0])?;
+    let made = growths(memory, &mut pool, commands.get(1)?)?;
     Some((made, pool.len()))
 }
 
 // How many allocations more the remove makes in the large pool, and how many transactions stay in each.
-fn costs(memory: Memory) -> Option<Seen> {
-    let small = cost(memory, SMALL)?;
-    let large = cost(memory, LARGE)?;
+fn costs(memory: Memory, submits: Option<Commands>, first: u16) -> Option<Seen> {
+    let submits = submits?;
+    let small = cost(memory, &submits, first, SMALL)?;
+    let large = cost(memory, &submits, first, LARGE)?;
     let more = large.0.wrapping_sub(small.0);
     Some([more, small.1 as u64, large.1 as u64, 0, 0, 0])
 }
 
 /// The number of cases that hold.
 pub fn held(rt: &impl Print, memory: Memory) -> io::Result<u64> {
-    let wanted = [0, 199, 19_999, 0, 0, 0];
-    count(
+    let alone = count(
         rt,
         "allocations of a remove with dependents",
-        costs(memory),
-        wanted,
-    )
+        costs(memory, chain(memory), 1),
+        [0, 199, 19_999, 0, 0, 0],
+    )?;
+    let read = count(
+        rt,
+        "allocations of a remove with dependents that read",
+        costs(memory, read_chain(memory), 4),
+        [0, 198, 19_998, 0, 0, 0],
+    )?;
+    Ok(alone.saturating_add(read))
 }

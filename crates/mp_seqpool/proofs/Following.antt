@@ -4,9 +4,10 @@ use Rattle.std.specs.Prelude.{Option, None, Some, IsSome, IfSome, IsSomeAnd, map
 use Rattle.std.specs.List.{AllByRecursion, filter}
 use Rattle.std.specs.FinMap.{get}
 use Rattle.std.specs.List.Sorted.{IsStrictlyIncreasing}
-use Rattle.std.proofs.lemmas.Bool.{true≢false, false_from_ne_true, eq-eqb}
+use Rattle.std.proofs.lemmas.Bool.{true≢false, false_from_ne_true, eq-eqb, eqb-true}
+use Rattle.std.proofs.lemmas.Option.{none-some, same_Some}
 use Rattle.std.proofs.lemmas.List.Folds.{list_any_at}
-use Rattle.std.proofs.lemmas.List.Elements.{All-head, All-tail, All-filter, All-map, All-weaker, filter_passes, recursion_from_All}
+use Rattle.std.proofs.lemmas.List.Elements.{All-head, All-tail, All-filter, All-map, All-weaker, All-from_recursion, filter_passes, recursion_from_All}
 use Rattle.std.proofs.lemmas.List.Kept.{AllPairs-filter, AllPairs-from_increasing}
 use Rattle.mp_tx.specs.declared.reference.OutRef.{OutRef}
 use Rattle.mp_tx.specs.Transaction.{Transaction, spends}
@@ -14,7 +15,7 @@ use Rattle.mp_tx.specs.Spelling.{id_of}
 use Rattle.mp_tx.specs.Ledger.{LedgerState}
 use Rattle.mp_utxo.specs.Apply.{Unspent, apply, after, output_made}
 use Rattle.mp_utxo.specs.Leaf.{IsFed, IsLeaf, IsOfOne, LooksPast, HasDependentsAmong, IsSpentAmong}
-use Rattle.mp_utxo.proofs.Makers.{apart-ids}
+use Rattle.mp_utxo.proofs.Makers.{Apart, apart-ids}
 use Rattle.mp_utxo.proofs.Places.{In, in-contains}
 use Rattle.mp_tickets.specs.Tickets.{IsRising, has_ticket, item_at}
 use Rattle.mp_tickets.proofs.Rising.{rising_after}
@@ -23,11 +24,11 @@ use Rattle.mp_seqpool.specs.Prepared.{apart, GoInTurn}
 use Rattle.mp_seqpool.proofs.Apart.{rising_filter}
 use Rattle.mp_seqpool.proofs.Dependents.{weaker}
 use Rattle.mp_seqpool.proofs.Keeping.{AllPairs-map, AllPairs-unmap, AllPairs-head, AllPairs-tail, All-unmap}
-use Rattle.mp_seqpool.proofs.LeafOut.{after-joined}
+use Rattle.mp_seqpool.proofs.LeafOut.{PastOne, after-joined}
 use Rattle.mp_seqpool.proofs.Leavers.{IsCut, cut, transactions-joined}
 use Rattle.mp_seqpool.proofs.LeavesOut.{still_at}
 use Rattle.mp_seqpool.proofs.SpentOnce.{Unspent_by, once, one_spender, spare_at, unspent_still, there_after, made_there}
-use Rattle.mp_seqpool.proofs.TicketsNamed.{Rise, has_none, has_later}
+use Rattle.mp_seqpool.proofs.TicketsNamed.{Rise, has_none, has_later, tickets_rise}
 
 abbrev Items : Type 0
 Items = List (ℕ × Transaction)
@@ -36,6 +37,10 @@ Items = List (ℕ × Transaction)
 
 pub contains_has : (ns : List ℕ) (n : ℕ) → Contains ns n → has_ticket ns n ≡ true
 contains_has ns n c = list_any_at (λ t. nat_eq t n) ns c.0 n c.1 (eq-eqb (get_or ns c.0 n) n c.2)
+
+unless : (b : Bool) → not b ≡ true → b ≡ false
+unless true e = absurd (true≢false (sym e))
+unless false e = refl
 
 -- what passes a test is one of all
 kept_in : (p : ℕ × Transaction → Bool) (xs : Items) → AllByRecursion (In xs) (filter p xs)
@@ -55,6 +60,29 @@ joined P Q R f (x ∷ xs) a b = (f x a.0 b.0, joined P Q R f xs a.1 b.1)
 of_items : (P : Transaction → Type 0) (items : Items) → AllByRecursion (λ i. P i.1) items → AllByRecursion P (transactions items)
 of_items P [] a = tt
 of_items P (i ∷ is) a = (a.0, of_items P is a.1)
+
+-- ---- one item
+
+pub at_item : (P : Transaction → Type 0) (items : Items) (j : ℕ × Transaction) → AllByRecursion P (transactions items) → In items j → P j.1
+at_item P [] j a h = absurd h
+at_item P (x ∷ xs) j a h = ⊎_elim (λ (e : x ≡ j). subst (λ (z : ℕ × Transaction). P z.1) e a.0) (λ (k : In xs j). at_item P xs j a.1 k) h
+
+-- the one with an id
+pub sole_item : (items : Items) (a b : ℕ × Transaction) → Apart (transactions items) → In items a → In items b → id_of a.1 ≡ id_of b.1 → a ≡ b
+sole_item [] a b apart h k e = absurd h
+sole_item (x ∷ xs) a b apart h k e = ⊎_elim
+    (λ (xa : x ≡ a). ⊎_elim (λ (xb : x ≡ b). sym xa ∙ xb)
+    (λ (l : In xs b). absurd (at_item (λ y. id_of x.1 ≢ id_of y) xs b apart.0 l (ap (λ (z : ℕ × Transaction). id_of z.1) xa ∙ e))) k)
+    (λ (l : In xs a). ⊎_elim
+    (λ (xb : x ≡ b). absurd (at_item (λ y. id_of x.1 ≢ id_of y) xs a apart.0 l (ap (λ (z : ℕ × Transaction). id_of z.1) xb ∙ sym e)))
+    (λ (j : In xs b). sole_item xs a b apart.1 l j e) k) h
+
+pub found_in : (items : Items) (n : ℕ) (t : Transaction) → item_at items n ≡ Some t → In items (n, t)
+found_in [] n t at = absurd (none-some t at)
+found_in (i ∷ is) n t at = elim (nat_eq i.0 n) as (λ (b : Bool). nat_eq i.0 n ≡ b → cond b (Some i.1) (item_at is n) ≡ Some t → In (i ∷ is) (n, t)) [
+  | true ↦ λ e h. let first : i.0 ≡ n = eqb-true i.0 n e in let one : i.1 ≡ t = same_Some i.1 t h in inl (λ k. (first k, one k))
+  | false ↦ λ e h. inr (found_in is n t h)
+] refl at
 
 -- ---- they can go in turn
 
@@ -101,7 +129,7 @@ module _ (ledger : LedgerState) (items : Items) (gone : List ℕ) (rising : IsRi
           let is : transactions left ≡ front ++ t ∷ back = ap transactions c.all ∙ transactions-joined c.front ((n, t) ∷ c.back) in
           let above : AllByRecursion (λ j. n < j.0) c.back = rising_after 0 c.front (n, t) c.back (subst IsRising c.all (rising_filter (λ i. not (has_ticket ns i.0)) 0 items rising)) in
           let passes : AllByRecursion (λ j. not (has_ticket ns j.0) ≡ true) left = recursion_from_All (λ j. not (has_ticket ns j.0) ≡ true) left (filter_passes (λ i. not (has_ticket ns i.0)) items) in
-          let stay : AllByRecursion (λ j. has_ticket ns j.0 ≡ false) left = weaker (λ j. not (has_ticket ns j.0) ≡ true) (λ j. has_ticket ns j.0 ≡ false) (λ j e. not_true (has_ticket ns j.0) e) left passes in
+          let stay : AllByRecursion (λ j. has_ticket ns j.0 ≡ false) left = weaker (λ j. not (has_ticket ns j.0) ≡ true) (λ j. has_ticket ns j.0 ≡ false) (λ j e. unless (has_ticket ns j.0) e) left passes in
           let ins : AllByRecursion (In items) left = kept_in (λ i. not (has_ticket ns i.0)) items in
           let rest : (P : ℕ × Transaction → Type 0) → AllByRecursion P left → AllByRecursion P c.back = λ P a. (behind P c.front ((n, t) ∷ c.back) (subst (AllByRecursion P) c.all a)).1 in
           let both : AllByRecursion (λ j. (has_ticket ns j.0 ≡ false) × In items j) c.back =
@@ -112,10 +140,22 @@ module _ (ledger : LedgerState) (items : Items) (gone : List ℕ) (rising : IsRi
           subst (λ l. IsSome (after u l r)) (sym is)
           (subst (λ (v : Unspent). IsSome (v r)) (sym (after-joined u front (t ∷ back)))
           (there_after back (apply t (after u front)) r spared (made_there t (after u front) r made)))
-        where
-          not_true : (b : Bool) → not b ≡ true → b ≡ false
-          not_true true e = absurd (true≢false (sym e))
-          not_true false e = refl
+
+    -- what reads an output of it goes too
+    past_left : AllPairs (λ a b. PastOne t a.1 b.1) left
+    past_left = λ j k d lt within same.
+        let stays : ℕ × Transaction → Bool = λ i. not (has_ticket ns i.0) in
+        let a : ℕ × Transaction = get_or left j d in
+        let b : ℕ × Transaction = get_or left k d in
+        let pairs = AllPairs-filter (λ x y. id_of x.1 ≡ id_of t → LooksPast x.1 y.1 ⊎ Contains gone y.0) stays items h.apart in
+        let rises = AllPairs-unmap (λ i. i.0) (λ x y. x < y) left (tickets_rise 0 left (rising_filter stays 0 items rising)) in
+        ⊎_elim
+        (λ (past : LooksPast a.1 b.1). past)
+        (λ (goes : Contains gone b.0).
+        let first : a ≡ (n, t) = sole_item items a (n, t) (apart-ids ts distinct) (All-from_recursion (In items) left (kept_in stays items) j d (omega arith)) (found_in items n t at) same in
+        let above : n < b.0 = subst (λ (m : ℕ). m < b.0) (ap (λ (e : ℕ × Transaction). e.0) first) (rises j k d lt within) in
+        absurd (true≢false (sym (upper b.0 (contains_has gone b.0 goes) above) ∙ unless (has_ticket ns b.0) (filter_passes stays items k d within))))
+        (pairs j k d lt within same)
 
     of_one_left : (r : OutRef) → IsOfOne u ts r → IsOfOne u (transactions left) r
     of_one_left r (inl none) =
@@ -127,7 +167,7 @@ module _ (ledger : LedgerState) (items : Items) (gone : List ℕ) (rising : IsRi
       has_output = h.has_output;
       new = h.new;
       unspent = λ r made. still_there r made (cut 0 left n t (rising_filter (λ i. not (has_ticket ns i.0)) 0 items rising) (still_at ns items n out ∙ at));
-      apart = AllPairs-map (λ i. i.1) LooksPast left (AllPairs-filter (λ a b. LooksPast a.1 b.1) (λ i. not (has_ticket ns i.0)) items (AllPairs-unmap (λ i. i.1) LooksPast items h.apart));
+      apart = AllPairs-map (λ i. i.1) (PastOne t) left past_left;
       inputs = All-weaker (λ i. IsOfOne u ts i.from) (λ i. IsOfOne u (transactions left) i.from) (λ i one. of_one_left i.from one) t.inputs h.inputs;
     }
 

@@ -132,6 +132,10 @@ cut_at x (y ∷ ys) (suc k) lt e =
     let more = cut_at x ys k (omega arith) e in
     record { front = y ∷ more.front; back = more.back; is = ap (λ l. y ∷ l) more.is }
 
+-- b reads nothing that a makes, if a has the transaction's id
+abbrev pub PastOne : Transaction → Transaction → Transaction → Type 0
+PastOne t a b = id_of a ≡ id_of t → LooksPast a b
+
 abbrev pub Differ : Transaction → Transaction → Type 0
 Differ a b = id_of a ≢ id_of b
 
@@ -253,7 +257,8 @@ module _ (accepts : Accepts) (tick : ℕ) (t : Transaction) (u : Unspent) (xs ys
       gone = λ r e. spent_gone t (after u xs) r (own_unmade r e) e;
       unmade = unmade_behind;
       alone = recursion_from_All (Differ t) ys (AllPairs-head Differ t ys (AllPairs-behind Differ xs (t ∷ ys) distinct));
-      apart = recursion_from_All (LooksPast t) ys (AllPairs-head LooksPast t ys (AllPairs-behind LooksPast xs (t ∷ ys) leaf.apart));
+      apart = recursion_from_All (LooksPast t) ys
+          (All-weaker (PastOne t t) (LooksPast t) (λ y past. past refl) ys (AllPairs-head (PastOne t) t ys (AllPairs-behind (PastOne t) xs (t ∷ ys) leaf.apart)));
       unspent = λ r there. subst (λ (v : Unspent). IsSome (v r)) (after-joined u xs (t ∷ ys)) (leaf.unspent r there);
     }
 
@@ -336,6 +341,6 @@ leaf_still accepts u tick ts t s leaf there distinct chain differs too =
       unspent = λ r made. subst (λ l. IsSome (after u l r)) joined
           (unspent_still accepts tick t u c.front c.back (subst (λ l. IsLeaf u l t) c.is leaf) differ
           (valid_at accepts tick t c.front c.back u (subst (Chain accepts u tick) c.is chain)) s differs (subst (λ l. IsLeaf u l s) c.is too) r made);
-      apart = AllPairs-filter LooksPast (λ y. not (pointwise nat_eq (id_of y) (id_of t))) ts too.apart;
+      apart = AllPairs-filter (PastOne s) (λ y. not (pointwise nat_eq (id_of y) (id_of t))) ts too.apart;
       inputs = All-weaker (λ i. IsOfOne u ts i.from) (λ i. IsOfOne u (others (id_of t) ts) i.from) (λ i one. of_one_still u (id_of t) ts i.from one) s.inputs too.inputs;
     }

@@ -1,10 +1,9 @@
 -- The step that takes out what is named with all its dependents.
 use Rattle.std.proofs.Common.{◌≡◌, ◌≢◌, ◌⊎◌, ℕ, ◌<◌, Bool, true, false, cond, ◌&&◌, not, inl, inr, List, [], ◌∷◌, refl, sym, ap, subst, ◌∙◌, ⊎_elim}
-use Rattle.std.specs.Prelude.{Option, None, Some, IsSome, IsSomeAnd, Ok, map, nat_eq, AllPairs, Any}
+use Rattle.std.specs.Prelude.{Option, None, Some, IsSome, IsSomeAnd, Ok, map, AllPairs, Any}
 use Rattle.std.specs.List.{AllByRecursion, filter}
 use Rattle.std.specs.FinMap.{get}
-use Rattle.std.proofs.lemmas.Bool.{true≢false, eqb-true}
-use Rattle.std.proofs.lemmas.Option.{none-some, same_Some}
+use Rattle.std.proofs.lemmas.Bool.{true≢false}
 use Rattle.std.proofs.lemmas.List.Elements.{All-contains}
 use Rattle.std.proofs.lemmas.List.Kept.{AllPairs-from_increasing}
 use Rattle.mp_tx.specs.declared.reference.OutRef.{OutRef}
@@ -13,7 +12,7 @@ use Rattle.mp_tx.specs.Transaction.{Transaction}
 use Rattle.mp_tx.specs.Spelling.{id_of}
 use Rattle.mp_utxo.specs.Apply.{Unspent, output_made}
 use Rattle.mp_utxo.specs.Leaf.{HasDependentsAmong}
-use Rattle.mp_utxo.proofs.Makers.{Apart, apart-ids}
+use Rattle.mp_utxo.proofs.Makers.{apart-ids}
 use Rattle.mp_utxo.proofs.Places.{In, in-contains, all-at}
 use Rattle.mp_rules.specs.Verifier.{Accepts}
 use Rattle.mp_rules.specs.Validity.{IsValid, InputsThere, ReferencesThere}
@@ -33,7 +32,7 @@ use Rattle.mp_seqpool.specs.Inside.Followed.{EndsAt, IsMadeAmong, DependsOn, Dep
 use Rattle.mp_seqpool.proofs.Apart.{rising_filter}
 use Rattle.mp_seqpool.proofs.Chained.{chain_signed, chain_fed}
 use Rattle.mp_seqpool.proofs.Dependents.{weaker}
-use Rattle.mp_seqpool.proofs.Following.{joined, in_turn}
+use Rattle.mp_seqpool.proofs.Following.{joined, in_turn, sole_item, found_in}
 use Rattle.mp_seqpool.proofs.FollowedOut.{at_ticket, items_here, has_tested, has_from, two_apart, Falls, Stands, follow}
 use Rattle.mp_seqpool.proofs.InTurn.{sound_out}
 use Rattle.mp_seqpool.proofs.LeafOut.{none_from, made_id}
@@ -52,27 +51,6 @@ members (x ∷ xs) = (inl refl, weaker (In xs) (In (x ∷ xs)) (λ y k. inr k) x
 every : (P : ℕ × Transaction → Type 0) → ((i : ℕ × Transaction) → P i) → (xs : Items) → AllByRecursion P xs
 every P f [] = tt
 every P f (x ∷ xs) = (f x, every P f xs)
-
-at_item : (P : Transaction → Type 0) (items : Items) (j : ℕ × Transaction) → AllByRecursion P (transactions items) → In items j → P j.1
-at_item P [] j a h = absurd h
-at_item P (x ∷ xs) j a h = ⊎_elim (λ (e : x ≡ j). subst (λ (z : ℕ × Transaction). P z.1) e a.0) (λ (k : In xs j). at_item P xs j a.1 k) h
-
--- the one with an id
-sole_item : (items : Items) (a b : ℕ × Transaction) → Apart (transactions items) → In items a → In items b → id_of a.1 ≡ id_of b.1 → a ≡ b
-sole_item [] a b apart h k e = absurd h
-sole_item (x ∷ xs) a b apart h k e = ⊎_elim
-    (λ (xa : x ≡ a). ⊎_elim (λ (xb : x ≡ b). sym xa ∙ xb)
-    (λ (l : In xs b). absurd (at_item (λ y. id_of x.1 ≢ id_of y) xs b apart.0 l (ap (λ (z : ℕ × Transaction). id_of z.1) xa ∙ e))) k)
-    (λ (l : In xs a). ⊎_elim
-    (λ (xb : x ≡ b). absurd (at_item (λ y. id_of x.1 ≢ id_of y) xs a apart.0 l (ap (λ (z : ℕ × Transaction). id_of z.1) xb ∙ sym e)))
-    (λ (j : In xs b). sole_item xs a b apart.1 l j e) k) h
-
-found_in : (items : Items) (n : ℕ) (t : Transaction) → item_at items n ≡ Some t → In items (n, t)
-found_in [] n t at = absurd (none-some t at)
-found_in (i ∷ is) n t at = elim (nat_eq i.0 n) as (λ (b : Bool). nat_eq i.0 n ≡ b → cond b (Some i.1) (item_at is n) ≡ Some t → In (i ∷ is) (n, t)) [
-  | true ↦ λ e h. let first : i.0 ≡ n = eqb-true i.0 n e in let one : i.1 ≡ t = same_Some i.1 t h in inl (λ k. (first k, one k))
-  | false ↦ λ e h. inr (found_in is n t h)
-] refl at
 
 -- ---- what is to go
 

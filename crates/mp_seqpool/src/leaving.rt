@@ -12,9 +12,10 @@ use crate::validated_tx::ValidatedTx;
 use mp_tickets::{TicketList, Tickets};
 use mp_utxo::Overlay;
 
-/// How many of `count` items are few: to take out more of them one by one costs more than to check all items again.
-pub fn few_of(count: usize) -> usize {
-    (count / 16).max(16)
+/// How many of `count` items are few: to take out more of them one by one costs more than to check all items again. To
+/// take one out, the overlay goes through its `reads`.
+pub fn few_of(count: usize, reads: usize) -> usize {
+    count.max(256) / (16 + reads / 16)
 }
 
 // Takes out the item of the ticket. Returns the number of bytes of its transaction, or 0 if there is none.

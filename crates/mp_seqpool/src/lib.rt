@@ -4,6 +4,7 @@
 
 mod command;
 mod config;
+mod finding;
 mod going;
 mod id_set;
 mod ids;

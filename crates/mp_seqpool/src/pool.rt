@@ -2,7 +2,8 @@
 
 use crate::command::{Answer, Command, Reply};
 use crate::config::Config;
-use crate::going::{are_among, as_tickets, in_order, insert_in_order};
+use crate::finding::follow;
+use crate::going::{are_among, as_tickets};
 use crate::ids::Ids;
 use crate::kept::Kept;
 use crate::leaving::{few_of, take_in_turn, take_leaves, take_told};
@@ -247,43 +248,6 @@ impl SeqPool {
         as_tickets(self.memory, &found)
     }
 
-    // Adds the tickets of the transactions that spend an output of the one with the ticket.
-    fn add_spenders(&self, ticket: u64, found: &mut Vec<u64, Memory>) -> Result<(), NoMemory> {
-        let Some(tx) = self.get(ticket) else {
-            return Ok(());
-        };
-        let count = tx.outputs().len() as u16;
-        for index in 0..count {
-            let own = OutRef {
-                id: *tx.id(),
-                index,
-            };
-            if let Some(spender) = self.overlay.spender_of(&own) {
-                insert_in_order(found, spender)?;
-            }
-        }
-        Ok(())
-    }
-
-    // The named tickets and those of all that spend an output of one that goes, in order, if these are at most `most`.
-    // Nothing depends on that: `are_followed` checks the result.
-    fn follow(&self, named: &Tickets, most: usize) -> Result<Option<Tickets>, NoMemory> {
-        let mut found = Vec::from_slice(self.memory, named.as_slice())?;
-        for index in 0..most {
-            let Some(ticket) = found.get(index).copied() else {
-                break;
-            };
-            self.add_spenders(ticket, &mut found)?;
-            if found.len() > most {
-                break;
-            }
-        }
-        if found.len() > most {
-            return Ok(None);
-        }
-        Ok(Some(in_order(self.memory, found)?))
-    }
-
     // Whether the pool has a transaction with the ticket, and all its dependents are among those with these tickets.
     // `false` may be returned although they are.
     fn ends_at(&self, ticket: u64, gone: &Tickets) -> bool
@@ -361,8 +325,12 @@ impl SeqPool {
         ensures { IfOk result (λ step. IfSome step (TakesFollowed self.now.pool (arc_value ids.now))) }
     {
         let named = self.named(ids.as_slice())?;
-        let most = few_of(self.items.len()).max(named.as_slice().len());
-        let Some(gone) = self.follow(&named, most)? else {
+        let count = self
+            .items
+            .len()
+            .max(named.as_slice().len().saturating_mul(16));
+        let most = few_of(count, self.overlay.read_count());
+        let Some(gone) = follow(self.memory, &self.overlay, &self.items, &named, most)? else {
             return Ok(None);
         };
         if !self.are_followed(&named, &gone) {
@@ -416,7 +384,7 @@ impl SeqPool {
     fn prepare_adoption(&self, ledger: &Ledger) -> Result<Option<Prepared>, NoMemory>
         ensures { IfOk result (λ step. IfSome step (AdoptsParted self.now.pool ledger.now)) }
     {
-        let most = few_of(self.items.len());
+        let most = few_of(self.items.len(), self.overlay.read_count());
         match part(self.memory, &self.overlay, ledger, &self.items, most)? {
             Some(parted) => Ok(Some(adopt_step(ledger, parted)?)),
             None => Ok(None),

@@ -1,12 +1,13 @@
 -- Which transactions depend on one, and which one made an output.
 use Rattle.std.proofs.Common.{◌≡◌, ◌⊎◌, ℕ, true, List, get_or, sym, subst, inl, inr}
-use Rattle.std.specs.Prelude.{Option, None, Some, IsSome, IfSome, AllPairs, option_map, slice_get}
+use Rattle.std.specs.Prelude.{Option, None, Some, IsSome, IfSome, AllPairs, Contains, option_map, slice_get}
 use Rattle.std.specs.List.{list_all}
 use Rattle.std.proofs.lemmas.List.Sums.{AllPass-from_list_all}
 use Rattle.mp_tx.specs.declared.reference.OutRef.{OutRef}
 use Rattle.mp_tx.specs.declared.input.Input.{Input}
 use Rattle.mp_tx.specs.declared.output.Output.{Output}
 use Rattle.mp_tx.specs.Transaction.{Transaction}
+use Rattle.mp_tx.specs.Spelling.{id_of}
 use Rattle.mp_utxo.specs.declared.applied.Applied.{Applied}
 use Rattle.mp_utxo.specs.declared.changes.Change.{Change}
 use Rattle.mp_utxo.specs.declared.changes.Change.TheVariants.{Spent, Made, MadeThenSpent}
@@ -83,7 +84,7 @@ ended applied u gone r (Some Spent) ends made = absurd ends
 ended applied u gone r (Some (Made place)) ends made = inl (subst (λ (o : Option Output). IsSome o) (sym (made-is (places applied) r place made)) made.makes)
 ended applied u gone r (Some (MadeThenSpent place by)) ends made = inr (spent_among applied gone r by made.1 ends)
 
-pub has_dependents : (applied : List Applied) (u : Unspent) (noted : Noted) (gone : List ℕ) (t : Transaction) → AreKept (places applied) u noted → AllPairs LooksPast (transactions applied) → HasNewEnds noted u applied gone t
+pub has_dependents : (applied : List Applied) (u : Unspent) (noted : Noted) (gone : List ℕ) (t : Transaction) → AreKept (places applied) u noted → AllPairs (λ a b. id_of a.1 ≡ id_of t → LooksPast a.1 b.1 ⊎ Contains gone b.0) (items applied) → HasNewEnds noted u applied gone t
     → list_all (λ i. is_of_one noted u i.from) t.inputs ≡ true → HasDependentsAmong u (transactions applied) (items applied) gone t
 has_dependents applied u noted gone t kept apart own ins =
     let new_end = λ (r : OutRef) (h : IsSome (output_made t r)). let at = own-at t r h in subst (λ (q : OutRef). IsNewEnd noted u applied gone q) at.1 (own.each r.index at.0) in

@@ -38,7 +38,7 @@ Slots = List (Option (ℕ × Transaction))
 abbrev given : Slots → Items
 given ss = filter_map (λ s. s) ss
 
-abbrev txs : Items → List Transaction
+abbrev pub txs : Items → List Transaction
 txs es = map (λ e. e.1) es
 
 -- ---- members of a list
@@ -57,7 +57,7 @@ in-last : {X : Type 0} (xs : List X) (x : X) → In (xs ++ x ∷ []) x
 in-last [] x = inl refl
 in-last (y ∷ xs) x = inr (in-last xs x)
 
-in-filter : {X : Type 0} (p : X → Bool) (xs : List X) (x : X) → p x ≡ true → In xs x → In (filter p xs) x
+pub in-filter : {X : Type 0} (p : X → Bool) (xs : List X) (x : X) → p x ≡ true → In xs x → In (filter p xs) x
 in-filter p [] x pass h = absurd h
 in-filter p (y ∷ ys) x pass h = ⊎_elim
     (λ (e : y ≡ x). subst (λ (b : Bool). In (cond b (y ∷ filter p ys) (filter p ys)) x) (sym (ap p e ∙ pass)) (inl e))
@@ -169,7 +169,7 @@ others_pass : (id : List ℕ) (es : Items) → AllByRecursion (λ y. id_of y ≢
 others_pass id [] a = tt
 others_pass id (e ∷ es) a = (ap not (other_bytes (id_of e.1) id a.0), others_pass id es a.1)
 
-turned : (id : List ℕ) (ts : List Transaction) → AllByRecursion (λ y. id ≢ id_of y) ts → AllByRecursion (λ y. id_of y ≢ id) ts
+pub turned : (id : List ℕ) (ts : List Transaction) → AllByRecursion (λ y. id ≢ id_of y) ts → AllByRecursion (λ y. id_of y ≢ id) ts
 turned id [] a = tt
 turned id (t ∷ ts) a = let ne = a.0 in ((λ e. ne (sym e)), turned id ts a.1)
 

@@ -1,14 +1,13 @@
 -- What an overlay preserves when one more transaction is applied.
-use Rattle.std.proofs.Common.{◌≡◌, ℕ, Bool, true, false, ◌||◌, List, [], ◌∷◌, ◌++◌, length, get_or, if◌then◌else◌, refl, sym, ap, subst, ◌∙◌}
-use Rattle.std.specs.Prelude.{Option, Some, None, IsSome, All, AllPairs, slice_get}
+use Rattle.std.proofs.Common.{◌≡◌, ℕ, Bool, true, false, ◌||◌, List, [], ◌∷◌, ◌++◌, length, if◌then◌else◌, refl, sym, ap, subst, ◌∙◌}
+use Rattle.std.specs.Prelude.{Option, Some, None, IsSome, slice_get}
 use Rattle.std.specs.List.{list_any}
 use Rattle.std.specs.Option.{option_or, option_map, option_and_then}
 use Rattle.std.specs.Arc.{arc_value}
 use Rattle.std.proofs.lemmas.Bool.{false≢true}
 use Rattle.std.proofs.lemmas.List.{length-map, map-append}
 use Rattle.std.proofs.lemmas.List.Folds.{list_any-append}
-use Rattle.std.proofs.lemmas.List.Elements.{All-push, All-nil, All-cons}
-use Rattle.std.proofs.lemmas.List.Quantifiers.{all_pairs_push}
+use Rattle.std.proofs.lemmas.List.Elements.{All-push}
 use Rattle.mp_tx.specs.declared.reference.OutRef.{OutRef}
 use Rattle.mp_tx.specs.declared.output.Output.{Output}
 use Rattle.mp_tx.specs.Transaction.{Transaction, spends}
@@ -17,7 +16,7 @@ use Rattle.mp_utxo.specs.declared.changes.Change.{Change}
 use Rattle.mp_utxo.specs.declared.changes.Change.TheVariants.{Spent, Made, MadeThenSpent}
 use Rattle.mp_utxo.specs.declared.applied.Applied.{Applied}
 use Rattle.mp_utxo.specs.Apply.{Unspent, apply, after, output_made}
-use Rattle.mp_utxo.specs.Leaf.{NoneMakes, LooksPast}
+use Rattle.mp_utxo.specs.Leaf.{NoneMakes}
 use Rattle.mp_utxo.specs.Inside.Changes.{Noted, last_change, spent, is_made, is_own, Spends, Makes}
 use Rattle.mp_utxo.specs.Inside.Applied.{Places, places, those, transactions}
 use Rattle.mp_utxo.specs.Inside.Overlay.{changed, SomeSpends, SpendsAt, IsMadeSo, MakesAt, AreKept}
@@ -119,29 +118,13 @@ keeps ps t u old mid new spent made kept = record {
       (made-both ps t r (is_own (id_of t) (length t.outputs) r) (spends t.inputs r) (last_change old r) refl refl (kept.made r));
 }
 
--- ---- what it reads
+-- ---- what none makes
 
-unmade : (ps : Places) (r : OutRef) (o : Option Change) → is_made o ≡ false → IsMadeSo ps r o → NoneMakes (those ps) r
+pub unmade : (ps : Places) (r : OutRef) (o : Option Change) → is_made o ≡ false → IsMadeSo ps r o → NoneMakes (those ps) r
 unmade ps r None e made = made
 unmade ps r (Some Spent) e made = made.0
 unmade ps r (Some (Made place)) e made = absurd (false≢true (sym e))
 unmade ps r (Some (MadeThenSpent place by)) e made = absurd (false≢true (sym e))
-
-or_false : (a b : Bool) → a || b ≡ false → (a ≡ false) × (b ≡ false)
-or_false true b e = absurd (false≢true (sym e))
-or_false false b e = (refl, e)
-
-none-any : {X : Type 0} (test : X → Bool) (xs : List X) → list_any test xs ≡ false → All (λ x. test x ≡ false) xs
-none-any test [] e = All-nil (λ x. test x ≡ false)
-none-any test (x ∷ xs) e = let h = or_false (test x) (list_any test xs) e in All-cons (λ x. test x ≡ false) x xs h.0 (none-any test xs h.1)
-
--- if the last transaction doesn't read what one before it made, then none does
-pub looks-past : (ps : Places) (t : Transaction) (u : Unspent) (noted : Noted) → AreKept ps u noted → list_any (λ r. is_made (last_change noted r)) t.references ≡ false → AllPairs LooksPast (those ps)
-    → AllPairs LooksPast (those (ps ++ Some t ∷ []))
-looks-past ps t u noted kept none apart =
-    subst (λ ts. AllPairs LooksPast ts) (sym (those-append ps (Some t ∷ [])))
-    (all_pairs_push LooksPast (those ps) t apart (λ k d lt j e within.
-    unmade ps (get_or t.references j e) (last_change noted (get_or t.references j e)) (none-any (λ r. is_made (last_change noted r)) t.references none j e within) (kept.made (get_or t.references j e)) k d lt))
 
 -- ---- as they are stored
 
@@ -155,11 +138,6 @@ keeps-push applied pushed more t u place old mid new is held at spent made kept 
     subst (λ ps. AreKept ps u new) (sym (pushed-places applied pushed more t is held))
     (let same : place ≡ length (places applied) = at ∙ sym (length-map applied (λ (a : Applied). option_map arc_value a.tx)) in
     keeps (places applied) t u old mid new (subst (λ p. Spends old p t.inputs mid) same spent) (subst (λ p. Makes mid t p new) same made) kept)
-
-pub looks-push : (applied pushed : List Applied) (more : Applied) (t : Transaction) (u : Unspent) (noted : Noted) → pushed ≡ applied ++ more ∷ [] → option_map arc_value more.tx ≡ Some t
-    → AreKept (places applied) u noted → list_any (λ r. is_made (last_change noted r)) t.references ≡ false → AllPairs LooksPast (transactions applied) → AllPairs LooksPast (transactions pushed)
-looks-push applied pushed more t u noted is held kept none apart =
-    subst (λ ps. AllPairs LooksPast (those ps)) (sym (pushed-places applied pushed more t is held)) (looks-past (places applied) t u noted kept none apart)
 
 pub those-push : (applied pushed : List Applied) (more : Applied) (t : Transaction) → pushed ≡ applied ++ more ∷ [] → option_map arc_value more.tx ≡ Some t → transactions pushed ≡ transactions applied ++ t ∷ []
 those-push applied pushed more t is held = ap those (pushed-places applied pushed more t is held) ∙ those-append (places applied) (Some t ∷ [])

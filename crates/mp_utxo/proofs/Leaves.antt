@@ -10,6 +10,7 @@ use Rattle.mp_tx.specs.declared.reference.OutRef.{OutRef}
 use Rattle.mp_tx.specs.declared.input.Input.{Input}
 use Rattle.mp_tx.specs.declared.output.Output.{Output}
 use Rattle.mp_tx.specs.Transaction.{Transaction}
+use Rattle.mp_tx.specs.Spelling.{id_of}
 use Rattle.mp_utxo.specs.declared.changes.Change.{Change}
 use Rattle.mp_utxo.specs.declared.changes.Change.TheVariants.{Spent, Made, MadeThenSpent}
 use Rattle.mp_utxo.specs.Apply.{Unspent, own_ref, output_made}
@@ -51,7 +52,7 @@ told_by_one ps u r (Some Spent) e made = inl made.0
 told_by_one ps u r (Some (Made place)) e made = absurd (false≢true e)
 told_by_one ps u r (Some (MadeThenSpent place by)) e made = inr (is_none-none (u r) e)
 
-pub leaf : (ps : Places) (u : Unspent) (noted : Noted) (t : Transaction) → AreKept ps u noted → AllPairs LooksPast (those ps) → HasNewUnspent noted u t → list_all (λ i. is_of_one noted u i.from) t.inputs ≡ true → IsLeaf u (those ps) t
+pub leaf : (ps : Places) (u : Unspent) (noted : Noted) (t : Transaction) → AreKept ps u noted → AllPairs (λ a b. id_of a ≡ id_of t → LooksPast a b) (those ps) → HasNewUnspent noted u t → list_all (λ i. is_of_one noted u i.from) t.inputs ≡ true → IsLeaf u (those ps) t
 leaf ps u noted t kept apart own ins =
     let new_unspent = λ (r : OutRef) (h : IsSome (output_made t r)).
     let at = own-at t r h in

@@ -9,3 +9,4 @@ pub mod Rebased
 pub mod ById
 pub mod Items
 pub mod Ends
+pub mod Recorded

@@ -1,5 +1,5 @@
 -- Places, and the transactions at them.
-use Rattle.std.proofs.Common.{◌≡◌, ◌⊎◌, ℕ, zero, suc, ◌<◌, List, [], ◌∷◌, ◌++◌, length, set, get_or, refl, ap, subst, inl, inr, ⊎_elim, arith}
+use Rattle.std.proofs.Common.{◌≡◌, ◌≢◌, ◌⊎◌, ℕ, zero, suc, ◌<◌, List, [], ◌∷◌, ◌++◌, length, set, get_or, refl, ap, subst, inl, inr, ⊎_elim, arith}
 use Rattle.std.specs.Prelude.{Option, None, Some, Contains, slice_get}
 use Rattle.std.specs.Option.{option_and_then}
 use Rattle.std.specs.List.{AllByRecursion}
@@ -8,17 +8,17 @@ use Rattle.std.proofs.lemmas.List.Elements.{filter_map-append}
 use Rattle.mp_tx.specs.Transaction.{Transaction}
 use Rattle.mp_utxo.specs.Inside.Applied.{Places, those, standing}
 
-pub those-append : (ps qs : Places) → those (ps ++ qs) ≡ those ps ++ those qs
-those-append ps qs = filter_map-append (λ (p : Option Transaction). p) ps qs
+pub those-append : {X : Type 0} (ps qs : List (Option X)) → those (ps ++ qs) ≡ those ps ++ those qs
+those-append {X} ps qs = filter_map-append (λ (p : Option X). p) ps qs
 
 -- ---- one more place
 
-pub standing-push : (ps : Places) (x : Option Transaction) (k : ℕ) (m : Transaction) → standing ps k ≡ Some m → standing (ps ++ x ∷ []) k ≡ Some m
+pub standing-push : {X : Type 0} (ps : List (Option X)) (x : Option X) (k : ℕ) (m : X) → standing ps k ≡ Some m → standing (ps ++ x ∷ []) k ≡ Some m
 standing-push [] x k m e = absurd (none-some m e)
 standing-push (p ∷ ps) x zero m e = e
 standing-push (p ∷ ps) x (suc k) m e = standing-push ps x k m e
 
-pub standing-last : (ps : Places) (t : Transaction) → standing (ps ++ Some t ∷ []) (length ps) ≡ Some t
+pub standing-last : {X : Type 0} (ps : List (Option X)) (t : X) → standing (ps ++ Some t ∷ []) (length ps) ≡ Some t
 standing-last [] t = refl
 standing-last (p ∷ ps) t = standing-last ps t
 
@@ -69,6 +69,14 @@ pub cut : {X : Type 0} (ps : List (Option X)) (k : ℕ) (t : X) → option_and_t
 cut [] k t e = absurd (none-some t e)
 cut (p ∷ ps) zero t e = record { front = []; back = ps; is = ap (λ q. q ∷ ps) e; vacated = refl }
 cut (p ∷ ps) (suc k) t e = cut_more p ps k t (cut ps k t e)
+
+-- the other places stay the same
+pub standing-set : {X : Type 0} (ps : List (Option X)) (x : Option X) (place k : ℕ) → k ≢ place → standing (set ps place x) k ≡ standing ps k
+standing-set [] x place k other = refl
+standing-set (p ∷ ps) x zero zero other = absurd (other refl)
+standing-set (p ∷ ps) x zero (suc k) other = refl
+standing-set (p ∷ ps) x (suc place) zero other = refl
+standing-set (p ∷ ps) x (suc place) (suc k) other = standing-set ps x place k (λ e. other (ap suc e))
 
 -- the transaction at a place is the one that is taken out, or it is another and stays there
 pub record Stays (front back : Places) (k : ℕ) (m : Transaction) : Type 0 where

@@ -6,10 +6,8 @@ use Rattle.std.specs.FinMap.{get}
 use Rattle.std.specs.Cmp.Lexicographic.{bytes_decides}
 use Rattle.std.proofs.lemmas.Bool.{false≢true}
 use Rattle.std.proofs.lemmas.List.Elements.{recursion_from_All, All-from_recursion, All-head, All-tail}
-use Rattle.std.proofs.lemmas.List.{length-append}
 use Rattle.std.proofs.lemmas.List.Folds.{list_any-append}
 use Rattle.std.proofs.lemmas.List.Edits.{remove-append_right}
-use Rattle.std.proofs.lemmas.List.Quantifiers.{all_pairs_remove}
 use Rattle.std.proofs.lemmas.Option.{none-some, same_Some}
 use Rattle.mp_tx.specs.declared.reference.OutRef.{OutRef}
 use Rattle.mp_tx.specs.declared.input.Input.{Input}
@@ -21,7 +19,7 @@ use Rattle.mp_utxo.specs.declared.changes.Change.{Change}
 use Rattle.mp_utxo.specs.declared.changes.Change.TheVariants.{Spent, Made, MadeThenSpent}
 use Rattle.mp_utxo.specs.Overlay.{Overlay}
 use Rattle.mp_utxo.specs.Apply.{Unspent, apply, after, own_ref, output_made}
-use Rattle.mp_utxo.specs.Leaf.{IsLeaf, IsOfOne, IsFed, NoneMakes, LooksPast, others}
+use Rattle.mp_utxo.specs.Leaf.{IsLeaf, IsOfOne, IsFed, NoneMakes, others}
 use Rattle.mp_utxo.specs.Inside.Changes.{Noted, last_change, restored, unspent_of, is_own, Restores, Forgets}
 use Rattle.mp_utxo.specs.Inside.Applied.{Places, those, standing, made_at}
 use Rattle.mp_utxo.specs.Inside.Overlay.{changed, SomeSpends, SpendsAt, IsMadeSo, MakesAt, AreKept}
@@ -230,13 +228,8 @@ keeps u fore t aft old mid new g restored forgot kept =
 none_over : (n : ℕ) → n - n ≡ 0
 none_over n = omega arith
 
-remove-at : {X : Type 0} (xs : List X) (x : X) (ys : List X) → remove (xs ++ x ∷ ys) (length xs) ≡ xs ++ ys
+pub remove-at : {X : Type 0} (xs : List X) (x : X) (ys : List X) → remove (xs ++ x ∷ ys) (length xs) ≡ xs ++ ys
 remove-at xs x ys = remove-append_right xs (x ∷ ys) (length xs) (length xs) refl (omega arith) ∙ ap (λ (n : ℕ). xs ++ remove (x ∷ ys) n) (none_over (length xs))
-
-looks-past : (fore : Places) (t : Transaction) (aft : Places) → AllPairs LooksPast (those (with fore t aft)) → AllPairs LooksPast (those (without fore aft))
-looks-past fore t aft apart =
-    subst (λ ts. AllPairs LooksPast ts) (remove-at (those fore) t (those aft) ∙ sym (those-without fore aft))
-    (all_pairs_remove LooksPast (those fore ++ t ∷ those aft) (length (those fore)) (simp length-append (omega arith)) (subst (λ ts. AllPairs LooksPast ts) (those-with fore t aft) apart))
 
 -- a transaction that may be taken out
 pub record IsGoing (u : Unspent) (ts : List Transaction) (t : Transaction) : Type 0 where
@@ -305,7 +298,6 @@ any-input r (i ∷ inputs) P all s = one-input r i inputs P all (same_ref r i.fr
 
 pub record Leaves (ps rest : Places) (u : Unspent) (t : Transaction) (new : Noted) : Type 0 where
   pub kept : AreKept rest u new
-  pub apart : AllPairs LooksPast (those rest)
   pub others : those rest ≡ others (id_of t) (those ps)
 
 going : (u : Unspent) (fore : Places) (t : Transaction) (aft : Places) → IsGoing u (those (with fore t aft)) t → Going u fore t aft
@@ -324,7 +316,6 @@ leaves-at u fore t aft old mid new g restored forgot kept =
     let round = going u fore t aft g in
     record {
       kept = keeps u fore t aft old mid new round restored forgot kept;
-      apart = looks-past fore t aft g.leaf.apart;
       others = those-without fore aft ∙ sym (ap (others (id_of t)) (those-with fore t aft) ∙ others-one (those fore) t (those aft) round.apart);
     }
 

@@ -2,5 +2,6 @@
 pub mod Changes
 pub mod Applied
 pub mod Bare
+pub mod Reads
 pub mod Overlay
 pub mod Leaf

@@ -1,5 +1,5 @@
 -- Transactions without dependents: they can be taken out of the middle, without a check of anything else.
-use Rattle.std.specs.Prelude.{◌≡◌, ◌⊎◌, ℕ, ◌<◌, nat_eq, true, not, List, [], ◌∷◌, length, filter, All, AllPairs, Contains, None, IsSome}
+use Rattle.std.specs.Prelude.{◌≡◌, ◌⊎◌, ℕ, ◌<◌, nat_eq, true, not, List, [], ◌∷◌, length, filter, All, AllPairs, Any, Contains, None, IsSome}
 use Rattle.std.specs.Cmp.Lexicographic.{pointwise}
 use Rattle.mp_tx.specs.declared.reference.OutRef.{OutRef}
 use Rattle.mp_tx.specs.Transaction.{Transaction, spends}
@@ -31,8 +31,8 @@ pub record IsLeaf (u : Unspent) (ts : List Transaction) (t : Transaction) : Type
   pub new : (r : OutRef) → IsSome (output_made t r) → u r ≡ None
   -- none of its outputs was spent
   pub unspent : (r : OutRef) → IsSome (output_made t r) → IsSome (after u ts r)
-  -- no transaction reads what one before it makes
-  pub apart : AllPairs LooksPast ts
+  -- no later transaction reads what it makes
+  pub apart : AllPairs (λ a b. id_of a ≡ id_of t → LooksPast a b) ts
   pub inputs : All (λ i. IsOfOne u ts i.from) t.inputs
 
 -- one of the transactions, with this ticket, makes an output at the reference
@@ -47,6 +47,12 @@ pub record IsSpentBy (items : List (ℕ × Transaction)) (r : OutRef) (ticket : 
   pub there : Contains items (ticket, spender)
   pub does : spends spender.inputs r ≡ true
 
+-- one of the transactions, with this ticket, reads an output at the id
+pub record IsReadBy (items : List (ℕ × Transaction)) (id : List ℕ) (ticket : ℕ) : Type 0 where
+  pub reader : Transaction
+  pub there : Contains items (ticket, reader)
+  pub does : Any (λ r. r.id ≡ id) reader.references
+
 -- a transaction with one of these tickets spends the reference
 pub record IsSpentAmong (items : List (ℕ × Transaction)) (gone : List ℕ) (r : OutRef) : Type 0 where
   pub ticket : ℕ
@@ -60,7 +66,8 @@ pub record HasDependentsAmong (u : Unspent) (ts : List Transaction) (items : Lis
   pub new : (r : OutRef) → IsSome (output_made t r) → u r ≡ None
   -- each of its outputs is unspent, or one of those spends it
   pub ended : (r : OutRef) → IsSome (output_made t r) → IsSome (after u ts r) ⊎ IsSpentAmong items gone r
-  pub apart : AllPairs LooksPast ts
+  -- each later one reads nothing that it makes, or is one of those
+  pub apart : AllPairs (λ a b. id_of a.1 ≡ id_of t → LooksPast a.1 b.1 ⊎ Contains gone b.0) items
   pub inputs : All (λ i. IsOfOne u ts i.from) t.inputs
 
 -- the transactions with other ids

@@ -14,6 +14,8 @@ pub record Room : Type 0 where
   pub transactions : ℕ
   -- transactions without outputs
   pub bare : ℕ
+  -- references of transactions to what those before them made
+  pub reads : ℕ
 
 pub record Overlay : Type 0 where
   pub ledger : LedgerState
@@ -41,6 +43,7 @@ pub record HasRoomFor (room : Room) (t : Transaction) : Type 0 where
   pub references : length t.inputs + length t.outputs ≤ room.references
   pub transaction : 0 < room.transactions
   pub bare : length t.outputs ≡ 0 → 0 < room.bare
+  pub reads : length t.references ≤ room.reads
 
 -- they differ only in room
 pub record IsSame (old new : Overlay) : Type 0 where

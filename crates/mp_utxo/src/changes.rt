@@ -1,7 +1,6 @@
 //! The last changes of references.
 
 ghost use Rattle.std.specs.Prelude.{◌≡◌, ◌+◌, ◌<◌, ◌≤◌, length, IsSome};
-ghost use Rattle.std.specs.List.{list_any};
 ghost use Rattle.indexmap.specs.IndexMap.{spare, hasher_of};
 ghost use Rattle.mp_utxo.specs.Inside.Changes.{last_change, spent, unspent_of, place_of, is_made, Notes, SpendsOne, Spends, Makes};
 
@@ -113,19 +112,12 @@ pub fn place_of(changes: &Changes, reference: &OutRef) -> Option<usize>
     }
 }
 
-// Whether one of the applied transactions made it.
-fn is_made(changes: &Changes, reference: &OutRef) -> bool
+/// Whether one of the applied transactions made it.
+pub fn is_made(changes: &Changes, reference: &OutRef) -> bool
     ensures { result ≡ is_made (last_change changes.now.entries reference.now) }
 {
     match changes.get(reference) {
         None | Some(Change::Spent) => false,
         Some(Change::Made(_) | Change::MadeThenSpent(_, _)) => true,
     }
-}
-
-/// Whether the applied transactions made one of these.
-pub fn are_any_made(changes: &Changes, references: &[OutRef]) -> bool
-    ensures { result ≡ list_any (λ r. is_made (last_change changes.now.entries r)) references.now }
-{
-    references.iter().any(|r| is_made(changes, r))
 }

@@ -69,8 +69,8 @@ fn is_among(gone: &[u64], ticket: u64) -> bool
     gone.binary_search(&ticket).is_ok()
 }
 
-// Whether the ticket at the place is one of these.
-fn is_at_among(applied: &[Applied], place: usize, gone: &[u64]) -> bool
+/// Whether the ticket at the place is one of these.
+pub fn is_at_among(applied: &[Applied], place: usize, gone: &[u64]) -> bool
     ensures { IsTrue result
         → IsAmong gone.now (option_map (λ a. a.ticket) (slice_get applied.now place)) }
 {

@@ -8,6 +8,7 @@ mod by_id;
 mod changes;
 mod leaf;
 mod overlay;
+mod reads;
 mod undo;
 mod utxo;
 

@@ -3,8 +3,9 @@
 use crate::applied::{Applied, is_sparse, output_at, ticket_at, vacate};
 use crate::bare::{Bare, note_bare, ticket_of_bare};
 use crate::by_id::key_of;
-use crate::changes::{Change, Changes, are_any_made, make, place_of, spend, unspent_of};
+use crate::changes::{Change, Changes, make, place_of, spend, unspent_of};
 use crate::leaf::{are_of_one, has_new_ends, has_new_unspent, spender_of};
+use crate::reads::{Read, forget_reads, is_read, is_read_among, note_reads, readers_of};
 use crate::undo::{forget_made, restore};
 use indexmap::IndexMap;
 use mp_memory::{Memory, NoMemory};
@@ -23,8 +24,8 @@ pub struct Overlay {
     applied: Vec<Applied, Memory>,
     changes: Changes,
     bare: Bare,
-    // If it is false, no transaction reads an output that one before it made.
-    looks_inside: bool,
+    // What the transactions read of those before them.
+    reads: Vec<Read, Memory>,
     // The number of vacant places.
     vacant: usize,
 }
@@ -36,7 +37,7 @@ impl Drop for Overlay {
             applied: _,
             changes: _,
             bare: _,
-            looks_inside: _,
+            reads: _,
             vacant: _,
         } = self;
     }
@@ -59,11 +60,11 @@ impl Model for Overlay {
 }
 
 impl Overlay {
-    ghost use Rattle.std.specs.Prelude.{◌≡◌, ◌≢◌, IfOk, IfSome, IfNone, OnOk, IsTrue, option_copied, map, AllPairs, Contains};
+    ghost use Rattle.std.specs.Prelude.{◌≡◌, ◌≢◌, ◌⊎◌, IfOk, IfSome, IfNone, OnOk, IsTrue, option_copied, map, All, AllPairs, Contains};
     ghost use Rattle.std.specs.Arc.{arc_value};
     ghost use Rattle.std.specs.FinMap as finite;
     ghost use Rattle.mp_tx.specs.Spelling.{id_of};
-    ghost use Rattle.mp_utxo.specs.Leaf.{IsLeaf, IsFed, HasDependentsAmong, IsMadeBy, IsSpentBy, LacksOne};
+    ghost use Rattle.mp_utxo.specs.Leaf.{IsLeaf, IsFed, HasDependentsAmong, IsMadeBy, IsSpentBy, IsReadBy, LooksPast, LacksOne};
     ghost use Rattle.mp_utxo.specs.Overlay.{unspent, IsOver, HasRoomFor, IsSame, Applies, IsUnder, HasNone};
 
     /// The ledger state without applied transactions. It shares the ledger's outputs.
@@ -78,7 +79,7 @@ impl Overlay {
             applied: Vec::new(memory),
             changes,
             bare,
-            looks_inside: false,
+            reads: Vec::new(memory),
             vacant: 0,
         })
     }
@@ -113,6 +114,7 @@ impl Overlay {
         self.changes
             .reserve(tx.inputs().len() + tx.outputs().len())?;
         self.applied.reserve(1)?;
+        self.reads.reserve(tx.references().len())?;
         if tx.outputs().is_empty() {
             self.bare.reserve(1)?;
         }
@@ -126,8 +128,8 @@ impl Overlay {
         requires { HasRoomFor self.old.room (arc_value tx) }
         ensures { Applies self.old ticket (arc_value tx) self.new }
     {
-        let looks_inside = self.looks_inside || are_any_made(&self.changes, tx.references());
         let place = self.applied.len();
+        note_reads(&mut self.reads, &self.changes, tx.references(), place);
         note_bare(&mut self.bare, ticket, &tx);
         spend(&mut self.changes, tx.inputs(), place);
         make(&mut self.changes, &tx, place);
@@ -135,7 +137,6 @@ impl Overlay {
             ticket,
             tx: Some(tx),
         });
-        self.looks_inside = looks_inside;
     }
 
     /// Puts another ledger state below the same transactions. On the old one, everything that a transaction spends has
@@ -167,7 +168,7 @@ impl Overlay {
     pub fn is_leaf(&self, tx: &Tx) -> bool
         ensures { IsTrue result → IsLeaf (finite.get self.now.ledger.utxo) self.now.applied tx.now }
     {
-        if self.looks_inside || is_sparse(self.vacant, self.applied.len()) {
+        if is_read(&self.reads, tx.id()) || is_sparse(self.vacant, self.applied.len()) {
             return false;
         }
         has_new_unspent(&self.changes, &self.ledger, tx)
@@ -180,7 +181,10 @@ impl Overlay {
         ensures { IsTrue result → HasDependentsAmong (finite.get self.now.ledger.utxo)
             self.now.applied self.now.items gone.now tx.now }
     {
-        if self.looks_inside || is_sparse(self.vacant, self.applied.len()) {
+        if is_sparse(self.vacant, self.applied.len()) {
+            return false;
+        }
+        if !is_read_among(&self.reads, &self.applied, gone, tx.id()) {
             return false;
         }
         has_new_ends(&self.changes, &self.ledger, &self.applied, gone, tx)
@@ -204,6 +208,20 @@ impl Overlay {
         spender_of(&self.changes, &self.applied, reference)
     }
 
+    /// The tickets of the applied transactions that read an output at this id.
+    pub fn readers_of(&self, memory: Memory, id: &TxId) -> Result<Vec<u64, Memory>, NoMemory>
+        ensures real { IfOk result (λ found. All (IsReadBy self.now.items id.now) found.items) }
+        ensures all { IfOk result (λ found. AllPairs (λ a b. id_of a.1 ≡ id.now
+            → LooksPast a.1 b.1 ⊎ Contains found.items b.0) self.now.items) }
+    {
+        readers_of(memory, &self.reads, &self.applied, id)
+    }
+
+    /// The number of recorded reads. `is_leaf`, `has_dependents_among`, `readers_of` and `take_out` look at each.
+    pub fn read_count(&self) -> usize {
+        self.reads.len()
+    }
+
     /// Takes the transaction out. What it spent can be spent again, and what it made is gone. The call takes no memory
     /// and can't fail.
     pub fn take_out(&mut self, tx: &Tx)
@@ -222,6 +240,7 @@ impl Overlay {
         };
         restore(&mut self.changes, tx.inputs());
         forget_made(&mut self.changes, tx);
+        forget_reads(&mut self.reads, place);
         vacate(&mut self.applied, place);
         self.vacant = self.vacant.saturating_add(1);
     }

@@ -13,8 +13,8 @@ Places = List (Option Transaction)
 abbrev pub places : List Applied → Places
 places applied = map (λ a. option_map arc_value a.tx) applied
 
--- the transactions that are there, in order
-abbrev pub those : Places → List Transaction
+-- what is there, in order
+abbrev pub those : {X : Type 0} → List (Option X) → List X
 those ps = filter_map (λ p. p) ps
 
 abbrev pub transactions : List Applied → List Transaction
@@ -28,10 +28,10 @@ abbrev pub slots : List Applied → List (Option (ℕ × Transaction))
 slots applied = map item applied
 
 abbrev pub items : List Applied → List (ℕ × Transaction)
-items applied = filter_map (λ s. s) (slots applied)
+items applied = those (slots applied)
 
--- the transaction at the place
-abbrev pub standing : Places → ℕ → Option Transaction
+-- what is at the place
+abbrev pub standing : {X : Type 0} → List (Option X) → ℕ → Option X
 standing ps place = option_and_then (λ p. p) (slice_get ps place)
 
 -- the output with this index of the transaction at the place

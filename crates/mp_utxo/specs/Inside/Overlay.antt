@@ -1,5 +1,5 @@
 -- What an overlay stores: the last change of each reference that was spent or made.
-use Rattle.std.specs.Prelude.{◌≡◌, ◌-◌, ℕ, true, false, List, Option, Some, None, IsSome, IsTrue, AllPairs}
+use Rattle.std.specs.Prelude.{◌≡◌, ◌-◌, ℕ, true, List, Option, Some, None, IsSome, IsTrue}
 use Rattle.std.specs.List.{list_any}
 use Rattle.std.specs.FinMap.{get}
 use Rattle.std.specs.Vec.{vec_len, vec_capacity}
@@ -11,10 +11,11 @@ use Rattle.mp_utxo.specs.declared.changes.Change.{Change}
 use Rattle.mp_utxo.specs.declared.changes.Change.TheVariants.{Spent, Made, MadeThenSpent}
 use Rattle.mp_utxo.specs.declared.overlay.Overlay.TheInside.{Inside}
 use Rattle.mp_utxo.specs.Apply.{Unspent, after, output_made}
-use Rattle.mp_utxo.specs.Leaf.{NoneMakes, LooksPast}
+use Rattle.mp_utxo.specs.Leaf.{NoneMakes}
 use Rattle.mp_utxo.specs.Inside.Changes.{Noted, last_change}
-use Rattle.mp_utxo.specs.Inside.Applied.{Places, places, those, transactions, items, standing, made_at}
+use Rattle.mp_utxo.specs.Inside.Applied.{Places, places, those, transactions, slots, items, standing, made_at}
 use Rattle.mp_utxo.specs.Inside.Bare.{AreNoted}
+use Rattle.mp_utxo.specs.Inside.Reads.{AreRecorded}
 use Rattle.mp_utxo.specs.Overlay as told
 
 abbrev pub overlay : Inside → told.Overlay
@@ -26,6 +27,7 @@ overlay o = record {
     references = spare o.changes;
     transactions = vec_capacity o.applied - vec_len o.applied;
     bare = spare o.bare;
+    reads = vec_capacity o.reads - vec_len o.reads;
   };
   salt = hasher_of o.changes;
 }
@@ -68,8 +70,7 @@ pub record AreKept (ps : Places) (u : Unspent) (noted : Noted) : Type 0 where
 
 pub record IsKept (o : Inside) : Type 0 where
   pub changes : AreKept (places o.applied.items) (get o.ledger.utxo) o.changes.entries
-  -- if it is false, no transaction reads what one before it made
-  pub apart : o.looks_inside ≡ false → AllPairs LooksPast (transactions o.applied.items)
+  pub reads : AreRecorded (slots o.applied.items) o.reads.items
   pub bare : AreNoted (items o.applied.items) o.bare.entries
   -- both tables have the same salt
   pub salt : hasher_of o.bare ≡ hasher_of o.changes

@@ -1,18 +1,17 @@
-use Rattle.std.proofs.Common.{rules, ◌≡◌, length, subst, ap, ◌∙◌, refl, sym, false}
+use Rattle.std.proofs.Common.{rules, ◌≡◌, length, subst, ap, ◌∙◌, refl, sym}
 use Rattle.std.specs.Prelude.{List, [], ◌∷◌, ◌++◌}
 use Rattle.std.specs.Arc.{arc_value}
 use Rattle.std.specs.FinMap.{get}
-use Rattle.std.specs.List.{list_any}
-use Rattle.std.proofs.lemmas.Bool.{false≢true}
 use Rattle.mp_tx.specs.declared.reference.OutRef.{OutRef}
 use Rattle.mp_utxo.specs.Overlay.{Overlay}
-use Rattle.mp_utxo.specs.Inside.Applied.{items}
+use Rattle.mp_utxo.specs.Inside.Applied.{slots, items}
 use Rattle.mp_utxo.specs.Inside.Bare.{NotesBare, AreNoted}
-use Rattle.mp_utxo.specs.Inside.Changes.{is_made, last_change, Spends, Makes}
-use Rattle.mp_utxo.proofs.Kept.{keeps-push, looks-push, those-push}
+use Rattle.mp_utxo.specs.Inside.Changes.{Spends, Makes}
+use Rattle.mp_utxo.specs.Inside.Reads.{reads_made, AreRecorded}
+use Rattle.mp_utxo.proofs.Kept.{keeps-push, those-push}
 use Rattle.mp_utxo.proofs.Items.{items-push, noted-push}
+use Rattle.mp_utxo.proofs.Recorded.{reads-push}
 use Rattle.mp_utxo.proofs.overlay.Overlay.apply.Goals as goal
-use Rattle.mp_utxo.proofs.overlay.Overlay.apply.Goals.{then-self, else-self}
 
 pub invariant_of-self : goal.invariant_of-self
 invariant_of-self c =
@@ -23,12 +22,9 @@ invariant_of-self c =
           (subst (λ inputs. Spends c.self.inside.changes.entries c.len-place.result inputs c.spend.new.changes.entries) (c.inputs.ensures.inputs ∙ ap (λ t. t.inputs) c.deref-3.ensures) c.spend.ensures.spends)
           (subst (λ t. Makes c.spend.new.changes.entries t c.len-place.result c.make.new.changes.entries) c.deref-4.ensures c.make.ensures.makes)
           c.self.invariant.changes;
-      apart = λ past. elim c.if-self.branch [
-        | then-self w ↦ absurd (false≢true (sym past ∙ w.looks_inside-is ∙ w.if-self.true))
-        | else-self w ↦ looks-push c.self.inside.applied.items _ _ (arc_value c.args.tx) (get c.self.inside.ledger.utxo) c.self.inside.changes.entries c.push_reserved.ensures.items refl c.self.invariant.changes
-            (subst (λ (rs : List OutRef). list_any (λ r. is_made (last_change c.self.inside.changes.entries r)) rs ≡ false) (w.references.ensures.references ∙ ap (λ t. t.references) w.deref.ensures) (sym w.are_any_made-looks_inside.ensures ∙ sym w.looks_inside-is ∙ past))
-            (c.self.invariant.apart w.if-self.false)
-      ];
+      reads = subst (λ l. AreRecorded (slots c.push_reserved.new.self.items) l) (sym c.note_reads.ensures)
+          (subst (λ (rs : List OutRef). AreRecorded (slots c.push_reserved.new.self.items) (c.self.inside.reads.items ++ reads_made c.self.inside.changes.entries rs c.len-place.result)) (sym (c.references.ensures.references ∙ ap (λ t. t.references) c.deref.ensures))
+          (reads-push c.self.inside.applied.items _ _ (c.args.ticket, arc_value c.args.tx) (get c.self.inside.ledger.utxo) c.self.inside.changes.entries c.self.inside.reads.items c.len-place.result c.push_reserved.ensures.items refl at c.self.invariant.changes c.self.invariant.reads));
       bare = subst (λ es. AreNoted es c.note_bare.new.bare.entries) (sym (items-push c.self.inside.applied.items _ _ (c.args.ticket, arc_value c.args.tx) c.push_reserved.ensures.items refl))
           (noted-push (items c.self.inside.applied.items) c.args.ticket (arc_value c.args.tx) c.self.inside.bare.entries c.note_bare.new.bare.entries
           (subst (λ t. NotesBare c.self.inside.bare.entries c.args.ticket t c.note_bare.new.bare.entries) c.deref-2.ensures c.note_bare.ensures.notes) c.self.invariant.bare);

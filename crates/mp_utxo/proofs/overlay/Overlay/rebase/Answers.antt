@@ -10,7 +10,7 @@ pub invariant_of-self : goal.invariant_of-self
 invariant_of-self c = record {
   changes = rebased (places c.self.inside.applied.items) (get c.self.inside.ledger.utxo) (get c.args.ledger.utxo) c.self.inside.changes.entries
       (subst (λ (o : Overlay). IsFed (get o.ledger.utxo) o.applied) (sym c.self.view_is) c.requires.fed) c.self.invariant.changes;
-  apart = c.self.invariant.apart;
+  reads = c.self.invariant.reads;
   bare = c.self.invariant.bare;
   salt = c.self.invariant.salt;
 }

@@ -8,12 +8,14 @@ use Rattle.mp_tx.specs.Spelling.{id_of}
 use Rattle.mp_utxo.specs.declared.applied.Applied.{Applied}
 use Rattle.mp_utxo.specs.Overlay.{Overlay}
 use Rattle.mp_utxo.specs.Leaf.{others, other_items}
-use Rattle.mp_utxo.specs.Inside.Applied.{places, transactions, items, standing}
+use Rattle.mp_utxo.specs.Inside.Applied.{places, transactions, slots, items, standing}
 use Rattle.mp_utxo.specs.Inside.Bare.{AreNoted}
 use Rattle.mp_utxo.specs.Inside.Changes.{Restores}
+use Rattle.mp_utxo.specs.Inside.Reads.{AreRecorded}
 use Rattle.mp_utxo.proofs.Items.{items-less, items-txs, noted-less}
 use Rattle.mp_utxo.proofs.Makers.{Apart, apart-ids}
 use Rattle.mp_utxo.proofs.Places.{In, in-those}
+use Rattle.mp_utxo.proofs.Recorded.{reads-less}
 use Rattle.mp_utxo.proofs.Taken.{Leaves, goes, leaves, first-at, stands-somewhere, stands-there, standing-within}
 use Rattle.mp_utxo.proofs.overlay.Overlay.take_out.Goals as goal
 
@@ -62,7 +64,8 @@ invariant_of-self c =
     let same = items-txs c.self.inside.applied.items in
     record {
       changes = left.kept;
-      apart = λ past. left.apart;
+      reads = subst (λ l. AreRecorded (slots c.vacate.new.applied.items) l) (sym c.forget_reads.ensures)
+          (reads-less c.self.inside.applied.items c.vacate.new.applied.items c.in-Some.place c.args.tx.now c.self.inside.reads.items (stands c) c.vacate.ensures.slots (apart c) c.self.invariant.reads);
       bare = subst (λ es. AreNoted es c.self.inside.bare.entries) (sym (left_items c))
           (noted-less (items c.self.inside.applied.items) c.args.tx.now c.self.inside.bare.entries (subst Apart (sym same) (apart c))
           (subst (λ ts. In ts c.args.tx.now) (sym same) (in-those (places c.self.inside.applied.items) c.in-Some.place c.args.tx.now (stands c)))
