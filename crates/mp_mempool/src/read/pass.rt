@@ -57,7 +57,7 @@ impl<N: PoolName> Pass<N> {
     ghost use Rattle.mp_mempool.specs.Seen.{IsSeen};
 
     /// The pass of a caller that hasn't committed an entry yet.
-    pub fn of(caller: Caller<N>, shown: Shown<N>, subscriber: Subscriber<N>) -> Pass<N>
+    pub(crate) fn of(caller: Caller<N>, shown: Shown<N>, subscriber: Subscriber<N>) -> Pass<N>
         requires { caller.last ≡ None }
         ensures { result ≡ pass_of shown caller }
     {
@@ -70,7 +70,7 @@ impl<N: PoolName> Pass<N> {
 
     /// Commits the caller's entry. The caller has then seen this version, which is the one after it. Nothing else commits an
     /// entry, so the pass knows the place of each. It allocates nothing.
-    pub fn commit(
+    pub(crate) fn commit(
         &mut self,
         history: &History<N>,
         right: &mut CommitRight<N>,
@@ -92,7 +92,7 @@ impl<N: PoolName> Pass<N> {
     }
 
     /// The caller has then seen the version, which extends what it had seen.
-    pub fn see(&mut self, shown: Shown<N>)
+    pub(crate) fn see(&mut self, shown: Shown<N>)
         requires { Begins self.old.front shown }
         ensures { self.new ≡ record self.old { front = shown } }
     {
@@ -115,7 +115,7 @@ impl<N: PoolName> Pass<N> {
     }
 
     /// The token of the caller.
-    pub fn token(&self) -> &Caller<N>
+    pub(crate) fn token(&self) -> &Caller<N>
         ensures { result.now.number ≡ self.now.caller }
     {
         &self.caller

@@ -52,7 +52,7 @@ fn see<N: PoolName>(pass: &mut Pass<N>, shown: Shown<N>)
 
 impl<N: PoolName, V: Verifier> Reader<N, V> {
     /// A reader of these boards.
-    pub fn of(memory: Memory, verifier: Arc<V, Memory>, boards: Boards<N>) -> Reader<N, V>
+    pub(crate) fn of(memory: Memory, verifier: Arc<V, Memory>, boards: Boards<N>) -> Reader<N, V>
         requires { V.accepts (arc_value verifier) ≡ N.accepts }
     {
         Reader {
@@ -75,14 +75,14 @@ impl<N: PoolName, V: Verifier> Reader<N, V> {
     }
 
     /// A share of the verifier, for a successor's reader.
-    pub fn share_verifier(&self) -> Result<Arc<V, Memory>, NoMemory>
+    pub(crate) fn share_verifier(&self) -> Result<Arc<V, Memory>, NoMemory>
         ensures { IfOk result (λ verifier. V.accepts (arc_value verifier) ≡ N.accepts) }
     {
         Ok(Arc::try_clone(&self.verifier)?)
     }
 
     /// Where versions are published.
-    pub fn boards(&self) -> &Boards<N> {
+    pub(crate) fn boards(&self) -> &Boards<N> {
         &self.boards
     }
 
