@@ -70,7 +70,7 @@ impl Model for SeqPool {
 }
 
 impl SeqPool {
-    ghost use Rattle.std.specs.Prelude.{◌≡◌, ◌≢◌, ◌⊎◌, ◌+◌, ◌<◌, ◌≤◌, ◌^◌, ◌==◌, true, List, [], ◌∷◌, length, All, None, IfNone, IfSome, IfOk, IfErr, OnOk, OnErr, Ok, IsTrue};
+    ghost use Rattle.std.specs.Prelude.{◌≡◌, ◌≢◌, ◌⊎◌, ◌+◌, ◌*◌, ◌<◌, ◌≤◌, ◌^◌, ◌==◌, true, List, [], ◌∷◌, length, option_map, All, None, IfNone, IfSome, IfOk, IfErr, OnOk, OnErr, Ok, IsTrue};
     ghost use Rattle.std.specs.Arc.{arc_value};
     ghost use Rattle.std.specs.List.{filter_map};
     ghost use Rattle.std.specs.List.Sorted.{IsStrictlyIncreasing};
@@ -79,8 +79,8 @@ impl SeqPool {
     ghost use Rattle.mp_rules.specs.Validity.{IsValid};
     ghost use Rattle.mp_rules.specs.FirstFault.{first_fault};
     ghost use Rattle.mp_rules.specs.Checked.{IsChecked, WasValid};
-    ghost use Rattle.mp_tickets.specs.Tickets.{IsRising, has_ticket, shown};
-    ghost use Rattle.mp_seqpool.specs.ValidatedTx as resync;
+    ghost use Rattle.mp_tickets.specs.Tickets.{IsRising, has_ticket, item_at, after, shown};
+    ghost use Rattle.mp_seqpool.specs.ValidatedTx as validated;
     ghost use Rattle.mp_seqpool.specs.ValidatedTx.{ticketed};
     ghost use Rattle.mp_seqpool.specs.Keep.{transactions, tickets, dropped};
     ghost use Rattle.mp_seqpool.specs.Kept.{IsKeptOf};
@@ -92,7 +92,7 @@ impl SeqPool {
     ghost use Rattle.mp_seqpool.specs.Inside.Rules.{IsBrokenRule};
     ghost use Rattle.mp_seqpool.specs.Command.{Submit, Remove, Sync};
     ghost use Rattle.mp_seqpool.specs.Config.{fresh_pool, renewed};
-    ghost use Rattle.mp_seqpool.specs.SlowPool.{answer, next, IsRefused, AreSigned, bytes_held, unspent, ticket_of, HasPlace, pool_with, pool_upon};
+    ghost use Rattle.mp_seqpool.specs.SlowPool.{answer, next, IsRefused, AreSigned, bytes_held, free_bytes, unspent, ticket_of, HasPlace, pool_with, pool_upon};
     ghost use Rattle.mp_seqpool.specs.Prepared.{Append, Keep, CanAppend, HasApplied, IsLeafAt, GoInTurn, HasRoom, Prepares, IsPrepared, apart, left_by, leads_to};
     ghost use Rattle.mp_seqpool.specs.declared.command.Reply.TheVariants.{Accepted};
     ghost use Rattle.mp_seqpool.specs.Inside.Command.{command_of};
@@ -335,15 +335,14 @@ impl SeqPool {
 
     // Whether each of these tickets is named or of a transaction that depends on one that goes.
     fn all_depend(&self, named: &Tickets, gone: &Tickets) -> bool
-        ensures { IsTrue result
-            → All (λ n. (has_ticket named.now n ≡ true) ⊎ DependsAt self.now.pool gone.now n) gone.now }
+        ensures { IsTrue result → All (λ n.
+            (has_ticket named.now n ≡ true) ⊎ DependsAt self.now.pool gone.now n) gone.now }
     {
         gone.as_slice().iter().all(|ticket| named.contains(*ticket)
             || self.depends_at(*ticket, gone))
     }
 
-    // Whether those with these tickets are the named ones and all that depend on one that goes. `false` may be returned
-    // although they are.
+    // Whether these tickets are the named ones and those of all that depend on one that goes. `false` says nothing.
     fn are_followed(&self, named: &Tickets, gone: &Tickets) -> bool
         ensures { IsTrue result → AreFollowed self.now.pool named.now gone.now }
     {
@@ -358,7 +357,8 @@ impl SeqPool {
 
     // The step that takes out the transactions with these ids and their dependents, if these are few.
     fn prepare_followed(&self, ids: &Arc<Ids, Memory>) -> Result<Option<Prepared>, NoMemory>
-        ensures { IfOk result (λ step. IfSome step (TakesFollowed self.now.pool (arc_value ids.now))) }
+        ensures { IfOk result (λ step.
+            IfSome step (TakesFollowed self.now.pool (arc_value ids.now))) }
     {
         let named = self.named(ids.as_slice())?;
         let most = few_of(self.items.len()).max(named.as_slice().len());
@@ -451,8 +451,7 @@ impl SeqPool {
         Ok(sync_step(self.memory, adopted, left)?)
     }
 
-    /// The tickets of the transactions that a sync to the ledger state would drop. The pool doesn't change. The number
-    /// of changes may have reached its limit.
+    /// The tickets that a sync to the ledger state would drop, even at the limit of changes. The pool doesn't change.
     ///
     /// # Errors
     /// `NoMemory`.
@@ -557,8 +556,7 @@ impl SeqPool {
         self.changes += 1;
     }
 
-    /// Executes the step that the last `prepare_` call on this pool returned, and returns its reply. It takes no memory
-    /// and can't fail.
+    /// Executes the step of the last `prepare_` call on this pool, and returns its reply. It takes no memory, and can't fail.
     pub fn finish(&mut self, prepared: Prepared) -> Reply
         requires { IsPrepared self.old prepared }
         ensures pool { self.new.pool ≡ leads_to self.old.pool prepared }
@@ -696,7 +694,7 @@ impl SeqPool {
     pub fn contents(&self) -> Iter<'_, ValidatedTx>
         ensures all { ticketed result ≡ self.now.pool.items }
         ensures rising { IsRising self.now.pool.items }
-        ensures runs { ShowsInOrder (shown {T = resync.ValidatedTx}) }
+        ensures runs { ShowsInOrder (shown {T = validated.ValidatedTx}) }
     {
         self.items.iter()
     }
@@ -753,16 +751,6 @@ impl SeqPool {
     {
         self.config
     }
-}
-
-impl SeqPool {
-    ghost use Rattle.std.specs.Prelude.{◌≡◌, ◌+◌, ◌*◌, ◌≤◌, ◌^◌, option_map};
-    ghost use Rattle.std.specs.Arc.{arc_value};
-    ghost use Rattle.std.specs.Map.Iter.{ShowsInOrder};
-    ghost use Rattle.mp_tickets.specs.Tickets.{item_at, after, shown};
-    ghost use Rattle.mp_seqpool.specs.ValidatedTx as resync;
-    ghost use Rattle.mp_seqpool.specs.ValidatedTx.{ticketed};
-    ghost use Rattle.mp_seqpool.specs.SlowPool.{bytes_held, free_bytes, ticket_of};
 
     /// The capacity in bytes: twice the block bytes of the adopted ledger state. A submit can't exceed it. After a
     /// sync, the transactions may have more bytes.
@@ -791,13 +779,12 @@ impl SeqPool {
         }
     }
 
-    /// The transactions with greater tickets than this one, oldest first. It begins with a look-up of the ticket. If
-    /// the ticket is between those of the pool and no transaction has it, the number of steps has two bounds. One is
-    /// the difference to the next smaller ticket in the pool, and the other is the number of transactions with greater
-    /// tickets.
+    /// The transactions with greater tickets than this one, oldest first. It begins with a look-up of the ticket. If no
+    /// transaction has it, the number of steps has two bounds: the difference to the next smaller ticket in the pool,
+    /// and the number of transactions with greater tickets.
     pub fn contents_after(&self, ticket: u64) -> Iter<'_, ValidatedTx>
         ensures all { ticketed result ≡ after self.now.pool.items ticket }
-        ensures runs { ShowsInOrder (shown {T = resync.ValidatedTx}) }
+        ensures runs { ShowsInOrder (shown {T = validated.ValidatedTx}) }
     {
         self.items.iter_after(ticket)
     }

@@ -1,7 +1,7 @@
 use Rattle.std.proofs.Common.{◌≡◌, ap, map, sym, subst, ◌∙◌, ◌++◌, [], ◌∷◌}
 use Rattle.std.proofs.lemmas.Map.Iter.{iter_end}
 use Rattle.mp_tickets.specs.Tickets.{IsRising, shown}
-use Rattle.mp_seqpool.specs.ValidatedTx as resync
+use Rattle.mp_seqpool.specs.ValidatedTx as validated
 use Rattle.mp_seqpool.specs.ValidatedTx.{ticketed}
 use Rattle.mp_seqpool.proofs.Turns.{ticketed-last}
 use Rattle.mp_versions.specs.Inside.Built.{IsBuilt}
@@ -15,7 +15,7 @@ loop-ticket-init c = (tt, tt, none_built _ c.new.ensures.items c.new-2.ensures.i
 pub loop-ticket-preserved : goal.loop-ticket-preserved
 loop-ticket-preserved c =
     let seen = ticketed (map shown c.loop-ticket.yielded) in
-    let same = c.in_ok-tx.ensures ∙ ap (λ (i : resync.ValidatedTx). i.tx) c.item.view_is in (
+    let same = c.in_ok-tx.ensures ∙ ap (λ (i : validated.ValidatedTx). i.tx) c.item.view_is in (
       tt,
       tt,
       subst (λ l. IsBuilt l c.put.new.built) (ap (λ t. seen ++ (c.in-Some.ticket, t) ∷ []) same ∙ sym (ticketed-last c.loop-ticket.yielded (c.in-Some.ticket, c.in-Some.item)))
