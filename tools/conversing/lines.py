@@ -46,9 +46,9 @@ class RandomTalk:
         self.answers.append(self.talk.hear(octets))
         return self.answers[-1]
 
-    def hold(self, length: int | None = None) -> None:
+    def hold(self) -> None:
         """Says what is declared first, and then line after line."""
-        length = length or self.rng.randint(10, 120)
+        length = self.rng.randint(10, 120)
         self.set_up()
         if self.chance(0.006):
             self.adopt_often()

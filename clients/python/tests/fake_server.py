@@ -11,12 +11,10 @@
     long N        answers with so many letters
     error TEXT    writes the text to standard error
     die S         ends with this status
-    leave         ends this conversation
     deaf          closes its input, and goes on
     stay          goes on when its input ends or it is asked to end
 
-A `lookup N` is answered with a name made of N, and any other line with `ok`. Each `--client IN OUT`
-is a conversation too.
+A `lookup N` is answered with a name made of N, and any other line with `ok`.
 """
 
 from __future__ import annotations
@@ -24,22 +22,19 @@ from __future__ import annotations
 import os
 import signal
 import sys
-import threading
 import time
-from typing import TextIO
-
-stays = threading.Event()
 
 
-def talk(lines: TextIO, answers: TextIO) -> None:
+def write(text: str) -> None:
+    sys.stdout.write(text)
+    sys.stdout.flush()
+
+
+def main() -> None:
     planned: list[str] = []
     heard = ""
-
-    def write(text: str) -> None:
-        answers.write(text)
-        answers.flush()
-
-    for line in lines:
+    stays = False
+    for line in sys.stdin:
         line = line.removesuffix("\n")
         word, _, rest = line.partition(" ")
         if word == "next":
@@ -65,35 +60,20 @@ def talk(lines: TextIO, answers: TextIO) -> None:
             sys.stderr.flush()
             write("ok\n")
         elif word == "die":
-            os._exit(int(rest))
-        elif word == "leave":
-            return
+            sys.exit(int(rest))
         elif word == "deaf":
             os.close(0)
             write("ok\n")
             time.sleep(600)
         elif word == "stay":
-            stays.set()
+            stays = True
             signal.signal(signal.SIGTERM, signal.SIG_IGN)
             write("ok\n")
         else:
             heard = line
             answer = f"lookup n{rest}" if word == "lookup" else "ok"
             write(f"{planned.pop(0) if planned else answer}\n")
-
-
-def talk_over(pipes: list[str]) -> None:
-    with open(pipes[0], encoding="ascii") as lines, open(pipes[1], "w", encoding="ascii") as answers:
-        talk(lines, answers)
-
-
-def main() -> None:
-    places = [place for place, word in enumerate(sys.argv) if word == "--client"]
-    for place in places:
-        pipes = sys.argv[place + 1 : place + 3]
-        threading.Thread(target=talk_over, args=(pipes,), daemon=True).start()
-    talk(sys.stdin, sys.stdout)
-    while stays.is_set():
+    while stays:
         time.sleep(600)
 
 
