@@ -10,8 +10,8 @@ ghost use Rattle.std.specs.declared.io.ErrorKind.TheVariants as kinds;
 ghost use Rattle.mp_signatures.specs.declared.scheme.Scheme.TheVariants.{Trial};
 ghost use Rattle.mp_run.specs.Status.{status_of, EndsAs};
 
-use mp_session::{Fault, run};
 use mp_memory::{Memory, NoMemory};
+use mp_session::{Fault, run};
 use mp_signatures::{Scheme, Signatures};
 use std::io::{Read, Write};
 use std::process::ExitCode;
