@@ -42,7 +42,12 @@ pub enum Reason<'a> {
     SetBefore(&'a [u8]),
     LateOutput,
     ManyOutputs,
+    EarlyReset,
     NotInRace,
+    /// Only the conversation of the operator may ask this.
+    NotOperator,
+    /// The conversation has this many names, and may not have more.
+    ManyNames(u64),
 }
 
 const NOTHING: &[u8] = b"";
@@ -95,7 +100,10 @@ impl<'a> Reason<'a> {
             Reason::SetBefore(word) => ("'", word, "' was set before"),
             Reason::LateOutput => ("an output stands above the first command", NOTHING, ""),
             Reason::ManyOutputs => ("there are at most 65536 outputs", NOTHING, ""),
+            Reason::EarlyReset => ("a reset stands below the first command", NOTHING, ""),
             Reason::NotInRace => (RACE, NOTHING, ""),
+            Reason::NotOperator => ("only the operator may ask this", NOTHING, ""),
+            Reason::ManyNames(_) => ("there are at most ", NOTHING, ""),
             Reason::Byte(_) => ("it has the byte ", NOTHING, ""),
         }
     }
@@ -108,6 +116,7 @@ impl<'a> Reason<'a> {
             Reason::ScriptBytes(_, fault) => write!(f, "{fault}"),
             Reason::DataBytes(_, fault) => write!(f, "{fault}"),
             Reason::NotHeld(id) => put_not_held(f, &id),
+            Reason::ManyNames(most) => write!(f, "{most} names"),
             Reason::Repeats { earlier, .. } => put_told(f, ("", earlier, "'")),
             _ => Ok(()),
         }

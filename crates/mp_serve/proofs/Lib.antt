@@ -1,6 +1,6 @@
 pub mod Pools
 pub mod Formers
-pub mod Counts
+pub mod CountTexts
 pub mod Lines
 pub mod Answers
 pub mod Progress

@@ -37,7 +37,8 @@ module _ (accepts : Accepts) where
   limit-done p (Remove ids) = refl
   limit-done p (Sync l) = refl
 
-  limit-next : (p : Pool) (c : Command) → (next accepts p c).limit ≡ p.limit
+  -- the limit of changes stays
+  pub limit-next : (p : Pool) (c : Command) → (next accepts p c).limit ≡ p.limit
   unfolding next
   limit-next p c = by (is_ok (answer accepts p c))
     where

@@ -294,7 +294,7 @@ impl Conversation {
             stage,
         } = &mut self.session;
         match stage {
-            Stage::Before(_) => Err(LineFault::Bad(Reason::FirstWord(b"reset"))),
+            Stage::Before(_) => Err(LineFault::Bad(Reason::EarlyReset)),
             Stage::Open(pool) => {
                 *names = Names::new(memory, settings.salt())?;
                 pool.offer_again();

@@ -23,9 +23,18 @@ mod texts;
 mod tx_word;
 
 pub use answer::Answer;
-pub use ask::MAX_LINE_BYTES;
+pub use answering::tell;
+pub use ask::{Ask, MAX_LINE_BYTES};
+pub use block::{Block, NewBlock, Txs};
 pub use conversation::Conversation;
 pub use device::{Device, Streams, Turn};
+pub use extending::{Extended, extend};
 pub use fault::Fault;
 pub use laws::answers_as_a_run;
+pub use obeying::report_under;
+pub use refused::{Counts, count_if_refused, count_one, none_counted, put_counts};
 pub use serving::serve;
+pub use texts::{
+    Text, back_refused_line, bad_line, forgotten_line, read_line, show_line, undecodable_line,
+};
+pub use tx_word::TxWord;

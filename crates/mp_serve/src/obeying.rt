@@ -119,8 +119,8 @@ pub fn obey(
     carry_out(memory, names, signatures, pool, command)
 }
 
-// From now on the transaction is reported under the name.
-fn report_under(names: &mut Names, name: &Name, tx: &Tx) -> Result<(), NoMemory>
+/// From now on the transaction is reported under the name. After an `Err` nothing has changed.
+pub fn report_under(names: &mut Names, name: &Name, tx: &Tx) -> Result<(), NoMemory>
     ensures ok { OnOk result (names.new ≡ reported_as names.old name.now tx.now) }
     ensures err { OnErr result (names.new ≡ names.old) }
 {

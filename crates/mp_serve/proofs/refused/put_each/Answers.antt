@@ -1,4 +1,4 @@
-use Rattle.mp_serve.proofs.Counts.{text-more}
+use Rattle.mp_serve.proofs.CountTexts.{text-more}
 use Rattle.mp_serve.proofs.refused.put_each.Goals as goal
 
 pub loop-place-preserved : goal.loop-place-preserved
