@@ -6,6 +6,9 @@ pub const SIZES: [u64; 3] = [1_000, 10_000, 100_000];
 /// The number of steps, whatever the size of the ledger state or the pool.
 pub const STEPS: u64 = 1_000;
 
+/// The number of snapshots of a pool that nobody changes.
+pub const LOOKS: u64 = 1_000_000;
+
 /// How often 1,000 transactions come and go while others read.
 pub const CHURNS: u64 = 20;
 
@@ -28,6 +31,8 @@ pub enum Work {
     Watch(usize),
     /// Each of 1,000 callers that haven't seen any of the transactions takes a snapshot.
     Newer,
+    /// One caller takes a million snapshots of a pool that nobody changes.
+    Still,
 }
 
 /// The commands.
@@ -58,7 +63,7 @@ pub enum Asked {
 pub type Measurement = (&'static str, Work, bool, Asked, u64);
 
 /// All measurements, in the order in which they are taken.
-pub static MEASUREMENTS: [Measurement; 17] = [
+pub static MEASUREMENTS: [Measurement; 18] = [
     ("decode", Work::Decode, false, Asked::First, STEPS),
     ("check", Work::Check, false, Asked::First, STEPS),
     ("ledger-block", Work::Blocks, false, Asked::Nothing, STEPS),
@@ -89,6 +94,13 @@ pub static MEASUREMENTS: [Measurement; 17] = [
         true,
         Asked::Signed,
         STEPS,
+    ),
+    (
+        "mempool-snapshot-same",
+        Work::Still,
+        true,
+        Asked::Nothing,
+        LOOKS,
     ),
     ("mempool-snapshot", Work::Watch(1), true, Asked::Next, STEPS),
     (

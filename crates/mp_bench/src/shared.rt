@@ -3,7 +3,7 @@ ghost use Rattle.std.specs.Prelude.{◌≡◌};
 ghost use Rattle.mp_history.specs.PoolName.{head_of};
 ghost use Rattle.mp_bench.specs.Signatures.{any};
 
-use crate::measurement::{Asked, STEPS, Work};
+use crate::measurement::{Asked, LOOKS, STEPS, Work};
 use crate::round::{Round, Tally};
 use crate::samples::submit_of;
 use crate::verifier::Spinning;
@@ -139,6 +139,17 @@ pub fn count_seen<N: PoolName>(
     seen
 }
 
+// How many of these snapshots show this many entries.
+fn look_on<N: PoolName>(reader: &Reader<N, Spinning>, pass: &mut Pass<N>, entries: u64) -> u64 {
+    let mut seen: u64 = 0;
+    for _ in 0..LOOKS {
+        if number_of(reader, pass) == entries {
+            seen = seen.saturating_add(1);
+        }
+    }
+    seen
+}
+
 // The commands of the caller, in a thread of its own.
 fn part_of<'a>(round: &Round<'a>, caller: usize) -> &'a [Command] {
     let (from, to) = match round.work {
@@ -192,6 +203,10 @@ fn take_steps<N: PoolName + Send + Sync, R: Threads + Wait + Sync>(
             let seen = count_seen(reader, others, round.size);
             round.tally.answered.store(seen, Ordering::SeqCst);
         }
+        Work::Still => {
+            let seen = look_on(reader, first, round.size);
+            round.tally.answered.store(seen, Ordering::SeqCst);
+        }
         Work::FourThreads | Work::Watch(_) => {
             let threads = count_threads(round.work).max(1);
             for_each_mut(
@@ -207,10 +222,10 @@ fn take_steps<N: PoolName + Send + Sync, R: Threads + Wait + Sync>(
 }
 
 fn reset(tally: &Tally, work: Work) {
-    let looks = if matches!(work, Work::Watch(_)) {
-        0
-    } else {
-        STEPS
+    let looks = match work {
+        Work::Watch(_) => 0,
+        Work::Still => LOOKS,
+        _ => STEPS,
     };
     tally.answered.store(0, Ordering::SeqCst);
     tally.looks.store(looks, Ordering::SeqCst);
