@@ -49,7 +49,13 @@ fn main(rt: HostRuntime) -> ExitCode {
                     explains,
                 },
             ) => audit_files(&rt, scenario, history, signatures, explains),
-            Ok(Asked::Serve { signatures, salt }) => converse(&rt, signatures, salt),
+            Ok(
+                Asked::Serve {
+                    signatures,
+                    salt,
+                    clients,
+                },
+            ) => converse(&rt, signatures, salt),
             Err(error) => end_unparsed(&rt, error),
         },
         Err(error) => end_unworded(&rt, error),
