@@ -1,4 +1,5 @@
 pub mod Status
+pub mod Channel
 pub mod Legal
 pub mod Told
 pub mod Picture

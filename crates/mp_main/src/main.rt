@@ -8,6 +8,7 @@
 #![tactic(auto)]
 
 mod audits;
+mod channel;
 mod command_line;
 mod conversation;
 mod ending;
