@@ -2,6 +2,7 @@ pub mod Ends
 pub mod Running
 pub mod Auditing
 pub mod Racing
+pub mod Clients
 pub mod Commands
 pub mod GivenValues
 pub mod KeptByParsing

@@ -190,7 +190,7 @@ abbrev pub values_of : Text → Option (Text × List Row) → List Text
 values_of id command = unwrap_or (option_and_then (all_of id) (option_map (λ c. c.1) command)) []
 
 -- the first and the second, the third and the fourth, and so on
-pub pairs_of : {X : Type 0} → List X → List (X × X)
+unfoldable pub pairs_of : {X : Type 0} → List X → List (X × X)
 pairs_of [] = []
 pairs_of (x ∷ []) = []
 pairs_of (x ∷ y ∷ rest) = (x, y) ∷ pairs_of rest

@@ -4,6 +4,7 @@ ghost use Rattle.std.specs.Prelude.{◌≡◌, ◌≤◌, [], IfErr, IfOk, IfSom
 ghost use Rattle.std.specs.Prelude.{is_some, length, map, option_map, true, unwrap_or};
 ghost use Rattle.clap.specs.Values.{IsUnsignedIn};
 ghost use Rattle.clap.specs.Kinds.{FailsBy};
+ghost use Rattle.clap.specs.Walk.{texts};
 ghost use Rattle.clap.specs.Words.{all_of, first_of, found_of, kind_of, one_of, rows_of};
 ghost use Rattle.clap.specs.Words.{subcommand_rows_of, takes};
 ghost use Rattle.mp_main.specs.CommandLine as spec;
@@ -163,7 +164,7 @@ fn clients_of<'a>(alloc: Global, given: &ArgMatches<'a>) -> Result<Vec<ClientFil
 // Clients with the first and the second of these files, the third and the fourth, and so on.
 fn pair_up<'a>(alloc: Global, names: &[&'a str]) -> Result<Vec<ClientFiles<'a>>, AllocError>
     ensures { IfOk result (λ clients. map spec.files_of clients.items
-        ≡ spec.pairs_of (map (λ name. name.now) names.now)) }
+        ≡ spec.pairs_of (texts names.now)) }
 {
     let mut clients = Vec::new(alloc);
     for client in 0..names.len() / 2 {
@@ -180,7 +181,7 @@ fn read_matches<'a>(matches: &ArgMatches<'a>, clients: Vec<ClientFiles<'a>>) -> 
     requires taken { IsTaken (subcommand_rows_of matches.now) }
     requires clients { map spec.files_of clients.items
         ≡ spec.clients_of (subcommand_rows_of matches.now) }
-    requires most { length clients.items ≤ 63 }
+    requires most { length (spec.clients_of (subcommand_rows_of matches.now)) ≤ 63 }
     ensures command { option_map (λ c. c.0) (subcommand_rows_of matches.now)
         ≡ Some (spec.name_of result) }
     ensures file { spec.scenario_of result ≡ spec.file_of (subcommand_rows_of matches.now) }

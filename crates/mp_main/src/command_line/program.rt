@@ -144,7 +144,8 @@ fn serve_command<'a>(alloc: Global, names: &'a [&'a str]) -> Result<Command<'a>,
     let about =
         "Hold a conversation with a pool: answer each line of standard input on standard output";
     let command = new_command(alloc, "serve", about).arg(signatures_option(alloc, names));
-    add_arg(add_arg(command, salt_option(alloc)), client_option(alloc))
+    let salted = add_arg(command, salt_option(alloc));
+    add_arg(salted, client_option(alloc))
 }
 
 /// That more clients are named than a conversation may have.
