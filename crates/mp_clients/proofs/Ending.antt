@@ -1,23 +1,27 @@
 -- How a conversation ends without an answer.
-use Rattle.std.proofs.Common.{◌≡◌, ℕ, List, sym, subst}
-use Rattle.std.specs.Prelude.{Option, IfSome, Err}
+use Rattle.std.proofs.Common.{◌≡◌, ℕ, List, [], ◌∷◌, refl}
+use Rattle.std.specs.Prelude.{Option, Err}
 use Rattle.mp_rules.specs.Verifier.{Accepts}
+use Rattle.mp_answers.proofs.Appending.{Appends-nothing}
 use Rattle.mp_clients.specs.declared.conversation.Conversation.{Conversation}
 use Rattle.mp_clients.specs.declared.fault.Fault.{Fault}
-use Rattle.mp_clients.specs.declared.fault.Fault.TheVariants.{ReadFault, WriteFault, ManyLines, Foreign, Untold}
-use Rattle.mp_clients.specs.Answers.{IsAnswer, IsUntold}
-use Rattle.mp_clients.specs.Told.{Ended}
-use Rattle.mp_clients.specs.Inside.Steps.{IsEnded}
-use Rattle.mp_clients.proofs.Progress.{Stands, breaks, loses}
+use Rattle.mp_clients.specs.declared.fault.Fault.TheVariants.{NoMemory, ReadFault, WriteFault, ManyLines, Foreign, Untold}
+use Rattle.mp_clients.specs.Answers.{IsTurn, IsBroken}
+use Rattle.mp_clients.specs.Inside.Before.{IsFirst}
+use Rattle.mp_clients.proofs.Progress.{broken}
 
-module _ {N : Type 0} (accepts : Accepts) (callers : ℕ) (g : Conversation N) (old now : Option (List ℕ)) (s : Conversation N) (n : ℕ) where
-  pub without_answer : (u : Conversation N) (fault : Fault) → IsEnded accepts callers s u fault → (all left : Option (List ℕ))
-      → Stands (IsAnswer accepts callers) g all left old now s n
-      → IfSome all (λ bytes. Ended (IsAnswer accepts callers) (IsUntold accepts callers) g bytes old now (Err fault) u)
-  without_answer u Foreign same all left st =
-      subst (λ v. IfSome all (λ bytes. Ended (IsAnswer accepts callers) (IsUntold accepts callers) g bytes old now (Err Foreign) v)) (sym same)
-      (breaks (IsAnswer accepts callers) (IsUntold accepts callers) g old now s n all left st)
-  without_answer u Untold lost all left st = loses (IsAnswer accepts callers) (IsUntold accepts callers) g old now s n u lost all left st
-  without_answer u ReadFault no_way all left st = absurd no_way
-  without_answer u WriteFault no_way all left st = absurd no_way
-  without_answer u ManyLines no_way all left st = absurd no_way
+module _ {N : Type 0} (accepts : Accepts) (callers : ℕ) (s u : Conversation N) where
+  -- there are two ways
+  pub only_two : (f : Fault) → IsBroken accepts callers s u f → (f ≡ Foreign → ⊥) → f ≡ Untold
+  only_two Foreign b other = absurd (other refl)
+  only_two Untold b other = refl
+  only_two NoMemory b other = absurd b
+  only_two ReadFault b other = absurd b
+  only_two WriteFault b other = absurd b
+  only_two ManyLines b other = absurd b
+
+  -- at the first line
+  pub broken_first : (line : List ℕ) (rest : List (List ℕ)) (old : Option (List ℕ)) (fault : Fault) → IsBroken accepts callers s u fault
+      → IsFirst (IsTurn accepts callers) (IsBroken accepts callers) s line rest old old (Err fault) u
+  broken_first line rest old fault b =
+      broken (IsTurn accepts callers) (IsBroken accepts callers) s (line ∷ rest) old old 0 s u fault only_two ([], (refl, refl), Appends-nothing old) b

@@ -39,6 +39,7 @@ module _ (accepts : Accepts) (names : Names) (k : Client) where
         ∙ ap (λ (a : Client). (served_at accepts a k.pass.front, text)) (sym is);
     pass = ap (λ (a : Client). a.pass) is;
     ledger = ap (λ (a : Client). a.ledger) is;
+    signatures = ap (λ (a : Client). a.signatures) is;
   }
 
   pub tries : (ledger : LedgerState) (log : Log) (p : Pool) (text : List ℕ) (after : Client) → p ≡ state_after accepts log → log ≡ k.pass.front
@@ -48,6 +49,7 @@ module _ (accepts : Accepts) (names : Names) (k : Client) where
         ∙ ap (λ (a : Client). (served_at accepts a k.pass.front, text)) (sym is);
     pass = ap (λ (a : Client). a.pass) is;
     ledger = ap (λ (a : Client). a.ledger) is;
+    signatures = ap (λ (a : Client). a.signatures) is;
   }
 
   pub checks : (t : Transaction) (log : Log) (p : Pool) (a : Result Reply Refusal) (text : List ℕ) (after : Client) → p ≡ state_after accepts log → log ≡ k.pass.front
@@ -57,6 +59,7 @@ module _ (accepts : Accepts) (names : Names) (k : Client) where
         ∙ ap (λ (b : Client). (served_at accepts b k.pass.front, text)) (sym is);
     pass = ap (λ (b : Client). b.pass) is;
     ledger = ap (λ (b : Client). b.ledger) is;
+    signatures = ap (λ (b : Client). b.signatures) is;
   }
 
   pub counts : (log : Log) (p : Pool) (text : List ℕ) (after : Client) → p ≡ state_after accepts log → log ≡ k.pass.front
@@ -66,6 +69,7 @@ module _ (accepts : Accepts) (names : Names) (k : Client) where
         ∙ ap (λ (a : Client). (served_at accepts a k.pass.front, text)) (sym is);
     pass = ap (λ (a : Client). a.pass) is;
     ledger = ap (λ (a : Client). a.ledger) is;
+    signatures = ap (λ (a : Client). a.signatures) is;
   }
 
   -- unless an allocation fails

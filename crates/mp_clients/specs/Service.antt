@@ -22,14 +22,14 @@ abbrev pub line_in : {A : Type 0} → Option (Vec ℕ A) → Option (List ℕ)
 line_in line = option_map (λ v. v.items) line
 
 -- what a device has to do next, by whether a line was read already
-abbrev pub turn_after : Option (List ℕ) → Turn
-turn_after None = Listens
-turn_after (Some line) = Owes
+abbrev pub turn_with : Option (List ℕ) → Turn
+turn_with None = Listens
+turn_with (Some line) = Owes
 
 -- the lines of a conversation: one that was read already, if there is one, and those of the input
-abbrev pub lines_after : Option (List ℕ) → List ℕ → List (List ℕ)
-lines_after None bytes = lines_of bytes
-lines_after (Some line) bytes = line ∷ lines_of bytes
+abbrev pub lines_with : Option (List ℕ) → List ℕ → List (List ℕ)
+lines_with None bytes = lines_of bytes
+lines_with (Some line) bytes = line ∷ lines_of bytes
 
 -- A conversation with these names, settings, seat and line number.
 pub record IsWith {N : Type 0} (names : Names) (settings : Settings) (seat : Seat N) (line : ℕ) (c : Conversation N) : Type 0 where
@@ -48,7 +48,7 @@ module _ {N D : Type 0} (accepts : Accepts) (callers : ℕ) (input output : D �
   abbrev pub IsFinishedFrom : Conversation N → Option (List ℕ) → D → Finished N D → Type 0
   IsFinishedFrom c line device f =
       IfSome (input device) (λ bytes. Ended (IsTurn accepts callers) (IsBroken accepts callers) c
-      (lines_after line bytes) (output device) (output f.device) f.ended f.conversation)
+      (lines_with line bytes) (output device) (output f.device) f.ended f.conversation)
 
   abbrev pub IsFinished : Connected N D → Finished N D → Type 0
   IsFinished c f = IsFinishedFrom c.conversation (line_in c.line) c.device f

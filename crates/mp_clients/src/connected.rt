@@ -1,7 +1,7 @@
 //! A conversation and its device.
 
 ghost use Rattle.std.specs.Prelude.{◌≡◌};
-ghost use Rattle.mp_clients.specs.Service.{turn_after, line_in};
+ghost use Rattle.mp_clients.specs.Service.{turn_with, line_in};
 
 use crate::conversation::Conversation;
 use mp_history::PoolName;
@@ -13,7 +13,7 @@ pub struct Connected<N: PoolName, D: Device> {
     pub conversation: Conversation<N>,
     pub device: D,
     pub line: Option<Vec<u8, Memory>>,
-    ghost ready: { D.turn device ≡ turn_after (line_in line) },
+    ghost ready: { D.turn device ≡ turn_with (line_in line) },
 }
 
 impl<N: PoolName, D: Device + Drop> Drop for Connected<N, D> {
@@ -28,14 +28,14 @@ impl<N: PoolName, D: Device + Drop> Drop for Connected<N, D> {
 
 impl<N: PoolName, D: Device> Connected<N, D> {
     ghost use Rattle.std.specs.Prelude.{◌≡◌};
-    ghost use Rattle.mp_clients.specs.Service.{turn_after, line_in};
+    ghost use Rattle.mp_clients.specs.Service.{turn_with, line_in};
 
     /// The conversation, the device and the line.
     pub fn into_parts(self) -> (Conversation<N>, D, Option<Vec<u8, Memory>>)
         ensures conversation { result.0 ≡ self.conversation }
         ensures device { result.1 ≡ self.device }
         ensures line { result.2 ≡ self.line }
-        ensures ready { D.turn result.1 ≡ turn_after (line_in result.2) }
+        ensures ready { D.turn result.1 ≡ turn_with (line_in result.2) }
     {
         let Connected {
             conversation,

@@ -4,7 +4,7 @@ ghost use Rattle.std.specs.Prelude.{◌≡◌, ◌∷◌, List, ℕ, IfSome, OnO
 ghost use Rattle.mp_text.specs.Lines.{lines_of};
 ghost use Rattle.mp_clients.specs.Answers.{IsTurn, IsBroken};
 ghost use Rattle.mp_clients.specs.Told.{Ended};
-ghost use Rattle.mp_clients.specs.Service.{turn_after, lines_after, line_in};
+ghost use Rattle.mp_clients.specs.Service.{turn_with, lines_with, line_in};
 ghost use Rattle.mp_clients.specs.Inside.Before.{IsFirst};
 
 use crate::answering::{answer, answer_line};
@@ -112,10 +112,10 @@ pub fn answer_from<N: PoolName, V: Verifier, D: Device>(
     line: Option<Vec<u8, Memory>>,
     device: &mut D,
 ) -> Result<(), Fault>
-    requires { D.turn device.old ≡ turn_after (line_in line) }
+    requires { D.turn device.old ≡ turn_with (line_in line) }
     ensures answers { IfSome (D.input device.old) (λ bytes.
         Ended (IsTurn N.accepts N.callers) (IsBroken N.accepts N.callers) conversation.old
-        (lines_after (line_in line) bytes) (D.output device.old) (D.output device.new)
+        (lines_with (line_in line) bytes) (D.output device.old) (D.output device.new)
         result conversation.new) }
 {
     match line {

@@ -22,6 +22,7 @@ pub record Responds (accepts : Accepts) (names : Names) (k : Client) (request : 
   pub said : respond names (served_at accepts k k.pass.front) request ≡ (served_at accepts after k.pass.front, text)
   pub pass : after.pass ≡ k.pass
   pub ledger : after.ledger ≡ k.ledger
+  pub signatures : after.signatures ≡ k.signatures
 
 -- With the pool that the conversation has seen, the step leads to this text and this state, and the conversation has seen no more.
 pub record IsToldAlone {N : Type 0} (accepts : Accepts) (c : Conversation N) (does : alone.Conversation → Step) (text : List ℕ)

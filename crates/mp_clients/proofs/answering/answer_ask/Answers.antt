@@ -8,15 +8,15 @@ use Rattle.mp_clients.proofs.answering.answer_ask.Goals as goal
 
 pub returns-in-Some-clause-ok : goal.returns-in-Some-clause-ok
 returns-in-Some-clause-ok g c =
-    heard_forbidden g.N.PoolName.accepts g.N.PoolName.callers c.args.number c.args.conversation.now (to_ask c.args.ask) _
+    heard_forbidden g.N.PoolName.accepts g.N.PoolName.callers c.args.conversation.now (to_ask c.args.ask) _
     (subst (λ k. may_ask k (to_ask c.args.ask) ≡ false) c.caller.ensures c.in-Some.ensures.some) c.answer_forbidden.ensures
 
 pub returns-in-Ok-clause-ok : goal.returns-in-Ok-clause-ok
 returns-in-Ok-clause-ok g c =
-    heard g.N.PoolName.accepts g.N.PoolName.callers c.args.number c.args.conversation.now (to_ask c.args.ask) _ c.take.new.self
+    heard g.N.PoolName.accepts g.N.PoolName.callers c.args.conversation.now (to_ask c.args.ask) _ c.take.new.self
     (subst (λ k. may_ask k (to_ask c.args.ask) ≡ true) c.caller.ensures c.in_default.ensures.none) c.in-Ok.ensures.ok
 
 pub returns-in-NoMemory-clause-ok : goal.returns-in-NoMemory-clause-ok
 returns-in-NoMemory-clause-ok g c =
-    heard_nothing g.N.PoolName.accepts g.N.PoolName.callers c.args.number c.args.conversation.now (to_ask c.args.ask) _ c.take.new.self
+    heard_nothing g.N.PoolName.accepts g.N.PoolName.callers c.args.conversation.now (to_ask c.args.ask) _ c.take.new.self
     (subst (λ k. may_ask k (to_ask c.args.ask) ≡ true) c.caller.ensures c.in_default.ensures.none) refl c.in-NoMemory.ensures.err
