@@ -10,3 +10,4 @@ pub mod Answering
 pub mod Backs
 pub mod Before
 pub mod Connecting
+pub mod Fresh

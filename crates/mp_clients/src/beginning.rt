@@ -21,6 +21,7 @@ use mp_serve::{Answer, Ask, Conversation, Device, Fault, MAX_LINE_BYTES, Turn, t
 use mp_text::LineRead;
 
 // The answer to what doesn't open the pool.
+#[tactic(auto, using(crate::proofs::Before::still_before))]
 fn answer_ask(conversation: &mut Conversation, memory: Memory, ask: Ask) -> Answer
     requires { opens (to_ask ask) ≡ false }
     ensures answer { IsStepTold conversation.old.line conversation.old
@@ -36,6 +37,7 @@ fn answer_ask(conversation: &mut Conversation, memory: Memory, ask: Ask) -> Answ
 }
 
 // The answer to the line, unless it opens the pool.
+#[tactic(auto, unfolding(mp_serve::specs::Talk::line_step))]
 fn answer_line(conversation: &mut Conversation, memory: Memory, line: &[u8]) -> Option<Answer>
     ensures some { IfSome result (λ answer. IsAnswer conversation.old.line
         conversation.old line.now (text_of answer) conversation.new) }
@@ -58,6 +60,7 @@ fn answer_line(conversation: &mut Conversation, memory: Memory, line: &[u8]) -> 
 }
 
 // The answer to a line that is too long.
+#[tactic(auto, unfolding(mp_serve::specs::Talk::line_step, mp_serve::specs::Ask::ask_of))]
 fn answer_long(conversation: &Conversation, memory: Memory) -> Answer
     ensures { (line : List ℕ) → longest < length line → IsAnswer conversation.now.line
         conversation.now line (text_of result) conversation.now }
