@@ -3,6 +3,7 @@ pub mod Running
 pub mod Auditing
 pub mod Racing
 pub mod Clients
+pub mod Holding
 pub mod Commands
 pub mod GivenValues
 pub mod KeptByParsing

@@ -226,7 +226,8 @@ fn client_option<'a>(alloc: Global) -> Arg<'a>
     ensures rule { rule_of result ≡ spec.client_rule }
     ensures local { result.global ≡ false }
 {
-    let help = "Answer the lines of IN in OUT too, at the same time and by the same pool; up to 63 times";
+    let help =
+        "Answer the lines of IN in OUT too, at the same time and by the same pool; up to 63 times";
     Arg::new(alloc, "client")
         .long("client")
         .value_names(CLIENT_FILES)
