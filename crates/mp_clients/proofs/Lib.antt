@@ -1,0 +1,13 @@
+pub mod Progress
+pub mod Checks
+pub mod Steps
+pub mod Heard
+pub mod Clients
+pub mod Responses
+pub mod Ending
+pub mod Alone
+pub mod Answering
+pub mod Backs
+pub mod Before
+pub mod Connecting
+pub mod Fresh
