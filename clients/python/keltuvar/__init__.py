@@ -10,6 +10,7 @@ docs/SERVE.md has the conversation, and docs/FORMATS.md the lines and their answ
 
 from .answers import error_in
 from .channel import Stream
+from .clients import Clients
 from .errors import (
     BadLine,
     Broken,
@@ -43,6 +44,7 @@ __all__ = [
     "Block",
     "Broken",
     "Bundle",
+    "Clients",
     "Closed",
     "Declared",
     "Given",
