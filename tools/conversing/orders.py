@@ -150,6 +150,7 @@ class Bounds:
     def __init__(self, heard: list[Heard], last: int) -> None:
         """Reads the answers. The pool opened with the last ticket."""
         self.heard, self.last = heard, last
+        self._check_clients()
         self.submits = self._order_submits()
         operator = heard[0]
         self.kept = set(changes_of(operator, ("sync", "adopt", "back"), "kept"))
@@ -162,6 +163,18 @@ class Bounds:
         self._bound_by_stats()
         self._bound_by_each_other()
 
+    def _check_clients(self) -> None:
+        """Only the operator's lines may be answered as what only it may ask."""
+        for number, heard in enumerate(self.heard[1:], 1):
+            for place, answer in enumerate(heard.answers):
+                if answer.startswith(("removed ", "kept ")):
+                    raise Contradiction(f"{self._tell(Entry(number, place))}, though only the operator may ask it")
+
+    def _tell(self, entry: Entry) -> str:
+        heard = self.heard[entry.conversation]
+        line, answer = heard.lines[entry.line].decode("latin-1"), heard.answers[entry.line]
+        return f"conversation {entry.conversation}, line {entry.line + 1}: {tell(line)} was answered {tell(answer)}"
+
     def _order_submits(self) -> list[Entry]:
         """Gives the accepted submits by their tickets. Each ticket was given once, and later ones later."""
         by_ticket: dict[int, Entry] = {}
@@ -170,9 +183,10 @@ class Bounds:
             for line in changes_of(heard, ("submit", "give"), "accepted"):
                 ticket = ticket_in(heard.answers[line])
                 if ticket in by_ticket:
-                    raise Contradiction(f"ticket {ticket} was given to {by_ticket[ticket]} and to {Entry(number, line)}")
+                    first, second = self._tell(by_ticket[ticket]), self._tell(Entry(number, line))
+                    raise Contradiction(f"ticket {ticket} was given twice:\n{first}\n{second}")
                 if ticket < before:
-                    raise Contradiction(f"{Entry(number, line)} was given ticket {ticket}, after ticket {before}")
+                    raise Contradiction(f"{self._tell(Entry(number, line))}, after ticket {before}")
                 by_ticket[ticket], before = Entry(number, line), ticket
         for place, ticket in enumerate(sorted(by_ticket), self.last + 1):
             if ticket != place:
@@ -186,14 +200,14 @@ class Bounds:
         """Gives how many submits there were up to the newest transaction in an answer of the operator's."""
         count = max(tickets_in(self.heard[0].answers[line]), default=self.last) - self.last
         if count > len(self.submits):
-            raise Contradiction(f"{self.heard[0].answers[line]!r} has a ticket that was never given")
+            raise Contradiction(f"{self._tell(Entry(0, line))}, with a ticket that was never given")
         return count
 
     def _bound_by_rounds(self) -> None:
         rounds = [self._round_of(entry) for entry in self.submits]
         for one, other, entry in zip(rounds, rounds[1:], self.submits):
             if one > other:
-                raise Contradiction(f"{entry} came before a submit that was answered before it was asked")
+                raise Contradiction(f"{self._tell(entry)}, before a submit that was answered before this one was asked")
         for place, line in enumerate(self.others):
             own = self.heard[0].rounds[line]
             self._bound(place, bisect_left(rounds, own), bisect_right(rounds, own))
@@ -234,7 +248,8 @@ class Bounds:
             self.most[place - 1] = min(self.most[place - 1 : place + 1])
         for line, least, most in zip(self.others, self.least, self.most):
             if least > most:
-                raise Contradiction(f"line {line + 1} of the operator comes after {least} submits and before {most}")
+                told = f"by other answers it comes after {least} accepted submits, and when there are no more than {most}"
+                raise Contradiction(f"{self._tell(Entry(0, line))}\n{told}")
 
     def may_come(self, place: int, submits: int) -> bool:
         """Says whether this other change may come after so many submits."""

@@ -9,7 +9,7 @@ from random import Random
 
 from .clients import OF_OPERATOR, ClientTalk, OperatorTalk
 from .orders import Heard, first_word
-from .pool import Item, Pool, size_of
+from .pool import Item, Pool
 from .rules import Verifier
 from .talk import Talk
 
@@ -31,6 +31,8 @@ class Simulation:
         self.pools = deque([copy(self.talks[0].pool)], MOST_STALE)
         self.newest = 0  # How many pools there were before the newest.
         self.seen = [0] * len(lines)
+        # What each has seen by its last `stats` or change: their answers have the number of changes, or a place among them.
+        self.known = [0] * len(lines)
 
     def _let_operator_open(self) -> None:
         """Answers the operator's lines up to the one that opens the pool."""
@@ -67,6 +69,8 @@ class Simulation:
             self.newest += 1
             self.pools.append(talk.pool)
             self.seen[number] = self.newest
+        if first == "stats" or at != self.seen[number]:
+            self.known[number] = self.seen[number]
 
     def point_of_read(self, number: int) -> int:
         """Gives the number of changes at which a conversation reads: not before one that it has seen."""
@@ -79,12 +83,12 @@ class Simulation:
 
 
 class Faulty(Simulation):
-    """A program that makes one mistake, about so many lines before the end."""
+    """A program that makes one mistake, as soon as it can in the second half of the lines."""
 
     def __init__(self, rng: Random, verifier: Verifier, lines: list[list[bytes]], rounds: list[list[int]], fault: str) -> None:
         super().__init__(rng, verifier, lines, rounds)
         self.fault = fault
-        self.wait = rng.randrange(sum(map(len, lines)) // 2)
+        self.wait = sum(map(len, lines)) // 2
         self.is_made = False
 
     def is_due(self) -> bool:
@@ -92,7 +96,7 @@ class Faulty(Simulation):
 
     def point_of_read(self, number: int) -> int:
         point = super().point_of_read(number)
-        before = self.seen[number] - 1
+        before = self.known[number] - 1
         line = self.lines[number][len(self.answers[number])]
         oldest = self.newest - len(self.pools) + 1
         if self.fault == "goes back" and self.is_due() and line == b"stats" and before >= oldest:
@@ -155,22 +159,25 @@ class Faulty(Simulation):
 
     def _go_on_counting(self, talk: Talk, line: bytes) -> str:
         """Doesn't number the lines from 1 after a reset."""
-        before = talk.lines
         answer = talk.hear(line)
-        if line.split() == [b"reset"]:
-            talk.lines = before + 1
-            self.is_made = True
-        return answer
+        number = len(self.answers[self.talks.index(talk)]) + 1
+        return self._made(f"bad {number}: ") if answer.startswith("bad ") and number != talk.lines else answer
 
     def _forget_offers(self, talk: Talk, line: bytes) -> str:
         """Offers again what was offered."""
-        if first_word(line) == "offer" and talk.offered and self._pool_of(talk).items:
-            talk.offered = 0
-            return self._made(talk.hear(line))
-        return talk.hear(line)
+        before = copy(talk)
+        answer = talk.hear(line)
+        if first_word(line) != "offer" or not before.offered:
+            return answer
+        before.offered = 0
+        again = before.hear(line)
+        if again == answer:
+            return answer
+        talk.offered = before.offered
+        return self._made(again)
 
     def _miscount(self, talk: Talk, line: bytes) -> str:
-        """Reports another number than there is."""
+        """Reports a number that is greater by one."""
         answer = talk.hear(line)
         words = answer.split(" ")
         places = {"snapshot": 2, "tx": 1, "bad": 1, "accepted": 1, "refused full": 2, "block": 2, "take": 2, "forgotten": 1}
@@ -191,6 +198,3 @@ class Faulty(Simulation):
     }
     NAMES = ("goes back", *FAULTS)
 
-
-def spare_bytes(pool: Pool) -> int:
-    return pool.free() - size_of(pool.items)
