@@ -12,11 +12,12 @@
     error TEXT    writes the text to standard error
     die S         ends with this status
     leave         ends this conversation
+    late          clients begin only at the end of this conversation
     deaf          closes its input, and goes on
     stay          goes on when its input ends or it is asked to end
 
-A `lookup N` is answered with a name made of N, and any other line with `ok`. Each `--client IN OUT`
-is a conversation too.
+A `lookup N` is answered with a name made of N, and any other line with `ok`. Each
+`--client LINES ANSWERS` is a conversation too. It begins after the first line of standard input.
 """
 
 from __future__ import annotations
@@ -29,6 +30,7 @@ import time
 from typing import TextIO
 
 stays = threading.Event()
+is_open = threading.Event()
 
 
 def talk(lines: TextIO, answers: TextIO) -> None:
@@ -68,6 +70,9 @@ def talk(lines: TextIO, answers: TextIO) -> None:
             os._exit(int(rest))
         elif word == "leave":
             return
+        elif word == "late":
+            write("ok\n")
+            continue
         elif word == "deaf":
             os.close(0)
             write("ok\n")
@@ -80,19 +85,25 @@ def talk(lines: TextIO, answers: TextIO) -> None:
             heard = line
             answer = f"lookup n{rest}" if word == "lookup" else "ok"
             write(f"{planned.pop(0) if planned else answer}\n")
+        is_open.set()
 
 
 def talk_over(pipes: list[str]) -> None:
+    is_open.wait()
     with open(pipes[0], encoding="ascii") as lines, open(pipes[1], "w", encoding="ascii") as answers:
         talk(lines, answers)
 
 
 def main() -> None:
     places = [place for place, word in enumerate(sys.argv) if word == "--client"]
-    for place in places:
-        pipes = sys.argv[place + 1 : place + 3]
-        threading.Thread(target=talk_over, args=(pipes,), daemon=True).start()
+    pipes = [sys.argv[place + 1 : place + 3] for place in places]
+    threads = [threading.Thread(target=talk_over, args=(pair,), daemon=True) for pair in pipes]
+    for thread in threads:
+        thread.start()
     talk(sys.stdin, sys.stdout)
+    is_open.set()
+    for thread in threads:
+        thread.join()
     while stays.is_set():
         time.sleep(600)
 
