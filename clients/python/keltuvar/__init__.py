@@ -5,7 +5,8 @@
         pool.tx("a", inputs=["g0"], outputs=[100])
         print(pool.submit("a"))
 
-`Clients` holds several conversations with one pool. docs/SERVE.md has the conversation, and docs/FORMATS.md the lines and their answers.
+`Clients` holds several conversations with one pool. docs/SERVE.md has the conversation, and
+docs/FORMATS.md the lines and their answers.
 """
 
 from .answers import error_in
