@@ -164,7 +164,7 @@ class Conversations(Backend):
 
     async def open_session(self) -> Session:
         program = self._live()
-        if self._clients < 2:
+        if not self._clients:
             return SharedSession(self)
         if len(self._free) < 2:
             # One stays for requests.
@@ -331,7 +331,7 @@ class Conversations(Backend):
         read: Callable[[list[str]], list[int]],
         finish: Callable[[list[int]], T],
     ) -> T:
-        """Sends lines to the operator's conversation, and raises the error of an answer if one has it.
+        """Sends lines to the operator's conversation. Raises the error of an answer if one has it.
 
         Otherwise the tickets in the answers are read, and the rest is done once they are known.
         """
@@ -364,7 +364,7 @@ class Conversations(Backend):
         hear: Callable[[str], Iterable[int]],
         finish: Callable[[str], T],
     ) -> asyncio.Future[T]:
-        """Sends lines to the operator's conversation, and then one more, with no other line between.
+        """Sends lines to the operator's conversation, and one more, with no other line between.
 
         The answers of the former are given to `take`. Of the last one `hear` returns the tickets.
         The future gets what is made of it once these are known, after that of the lines before.

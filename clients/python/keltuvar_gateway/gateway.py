@@ -28,7 +28,7 @@ from .web import Site
 
 _LOG = logging.getLogger(__name__)
 # File descriptors that aren't connections.
-_OTHER_FILES = 64
+_OTHER_FILES = 320
 # How many seconds the requests under way have at the end.
 _PATIENCE = 1.0
 

@@ -47,7 +47,8 @@ def _count(text: str) -> int:
 
 def _clients(text: str) -> int:
     number = int(text)
-    if not 0 <= number <= MOST_CLIENTS:
+    # One would be for requests, and none for the client socket.
+    if number == 1 or not 0 <= number <= MOST_CLIENTS:
         raise ValueError
     return number
 
@@ -92,7 +93,8 @@ def _make_parser() -> argparse.ArgumentParser:
         "--save-seconds", metavar="N", type=_rate, default=0.0, help="saves so often; 0: at the end"
     )
     add("--waiting", metavar="N", type=_count, default=1024, help="submits that wait for the pool")
-    add("--clients", metavar="N", type=_clients, default=8, help="conversations that submit at once; 0: the operator's does")
+    clients = "conversations for submits and the client socket, 2 to 63; 0: only the operator's"
+    add("--clients", metavar="N", type=_clients, default=8, help=clients)
     limits = {
         "connections": (_count, "N", "connections of each listener"),
         "rate": (_rate, "N", "requests a second of one address; 0: no limit"),

@@ -9,7 +9,8 @@ import subprocess
 import tempfile
 from collections import deque
 from collections.abc import Callable, Sequence
-from typing import Any, cast
+from itertools import chain
+from typing import Any, BinaryIO, cast
 
 from keltuvar.clients import make_pipes
 
@@ -26,7 +27,7 @@ class Down(Exception):
 
 
 class Conversation:
-    """Any number of lines under way to the pool's process, which answers each with one, in order."""
+    """Any number of lines under way to the pool's process, which answers each in order."""
 
     def __init__(self, kill: Callable[[str], None]) -> None:
         """The call ends the process, and says why."""
@@ -152,6 +153,7 @@ class _Pipes:
         self.pairs = [make_pipes(name, place) for place in range(count)]
         # With these the pipes can be opened before the process opens them.
         self._kept = [os.open(path, os.O_RDWR) for pair in self.pairs for path in pair]
+        self.ends = [_open_ends(*pair) for pair in self.pairs]
 
     def close(self) -> None:
         """Leaves the pipes to those who have opened them."""
@@ -159,6 +161,12 @@ class _Pipes:
             os.close(self._kept.pop())
         if self._folder:
             self._folder.cleanup()
+
+
+def _open_ends(lines: str, answers: str) -> tuple[BinaryIO, BinaryIO]:
+    """Opens a client's pipes, to write lines and to read answers."""
+    writer = open(os.open(lines, os.O_WRONLY | os.O_NONBLOCK), "wb", buffering=0)
+    return writer, open(os.open(answers, os.O_RDONLY | os.O_NONBLOCK), "rb", buffering=0)
 
 
 class Program(asyncio.SubprocessProtocol):
@@ -190,25 +198,25 @@ class Program(asyncio.SubprocessProtocol):
             _, program = await loop.subprocess_exec(cls, *command, *words, start_new_session=True)
         except BaseException:
             pipes.close()
+            for end in chain.from_iterable(pipes.ends):
+                end.close()
             raise
         program._pipes = pipes
         try:
-            for lines, answers in pipes.pairs:
-                await program._connect(lines, answers)
+            for writer, reader in pipes.ends:
+                await program._connect(writer, reader)
         except BaseException:
             program.kill()
             raise
         return program
 
-    async def _connect(self, lines: str, answers: str) -> None:
+    async def _connect(self, writer: BinaryIO, reader: BinaryIO) -> None:
         """Begins a client's conversation."""
         loop = asyncio.get_running_loop()
         conversation = Conversation(self.kill)
-        reader = open(os.open(answers, os.O_RDONLY | os.O_NONBLOCK), "rb", buffering=0)
         client, _ = await loop.connect_read_pipe(
             lambda: _Client(conversation, self._lose_client), reader
         )
-        writer = open(os.open(lines, os.O_WRONLY | os.O_NONBLOCK), "wb", buffering=0)
         transport, _ = await loop.connect_write_pipe(asyncio.BaseProtocol, writer)
         conversation.connect(transport)
         self._readers.append((conversation, client))
@@ -236,6 +244,7 @@ class Program(asyncio.SubprocessProtocol):
     async def end(self, patience: float) -> None:
         """Closes the process's inputs, waits this long for its end, and then kills it."""
         self._is_ending = True
+        self._pipes.close()
         for one in (self.operator, *self.clients):
             one.end()
         await asyncio.wait([self.ended], timeout=patience)

@@ -18,7 +18,10 @@ _HASH_ID = re.compile("#[0-9a-fA-F]{64}")
 _HEX = re.compile("([0-9a-fA-F]{2})+")
 _ALL = 2**32
 # The first words of lines that declare nothing, so that no client makes the pool's process grow.
-_FIRST_WORDS = ("give", "show", "check", "has", "snapshot", "after", "lookup", "take", "offer", "stats")
+_FIRST_WORDS = (
+    *("give", "show", "check", "has"),
+    *("snapshot", "after", "lookup", "take", "offer", "stats"),
+)
 
 
 def _format_items(transactions: tuple[Held, ...]) -> str:
