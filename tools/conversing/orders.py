@@ -72,7 +72,7 @@ class Follower:
     def __init__(self, number: int, heard: Heard, talk: Talk, start: int) -> None:
         self.number, self.heard, self.talk = number, heard, talk
         self.next = start
-        self.anchor = 0  # The number of changes at its last line of which that is known.
+        self.anchor = 0  # So many changes there are at least at the last line, in whatever order, that says so.
         self.changes: set[int] = set()
         self.bounds = self._find_bounds()
         self.expected = ""  # The model's answer that the next line didn't have.
@@ -337,16 +337,17 @@ class Search:
                 end = self.bounds.most[place] + place + 1
                 self.choices.append(Choice(submits, place, self.pool, [one.save() for one in self.followers], end))
             self.others += 1
-            self._place(Entry(0, self.bounds.others[place]))
+            self._place(Entry(0, self.bounds.others[place]), place + 1 + self.bounds.least[place])
         else:
             self._place_submit()
 
     def _place_submit(self) -> None:
         self.submits += 1
-        self._place(self.bounds.submits[self.submits - 1])
+        others_before = bisect_left(self.bounds.most, self.submits)
+        self._place(self.bounds.submits[self.submits - 1], self.submits + others_before)
 
-    def _place(self, entry: Entry) -> None:
-        """Makes a change, and lets all look at the pool after it."""
+    def _place(self, entry: Entry, least: int) -> None:
+        """Makes a change, and lets all look at the pool after it. In any order there are at least so many changes then."""
         one = self.followers[entry.conversation]
         if one.next != entry.line:
             raise one.contradiction(self.pool)
@@ -354,7 +355,7 @@ class Search:
         if after is None or after.changes != self.pool.changes + 1:
             raise one.contradiction(self.pool)
         after.unspent()
-        self.pool, one.anchor = after, after.changes
+        self.pool, one.anchor = after, least
         self._advance_all()
 
     def _advance_all(self) -> None:
