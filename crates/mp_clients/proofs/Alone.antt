@@ -4,6 +4,7 @@ use Rattle.std.specs.Prelude.{length, [], Option, None, Some, option_map, Result
 use Rattle.std.specs.declared.vec.Vec.{Vec}
 use Rattle.std.specs.Arc.{arc_value}
 use Rattle.mp_tx.specs.Transaction.{Transaction}
+use Rattle.mp_tx.specs.declared.fault.TxFault.{TxFault}
 use Rattle.mp_rules.specs.Verifier.{Accepts}
 use Rattle.mp_names.specs.Names.{Names, first_names, without_bindings}
 use Rattle.mp_session.specs.declared.session.Stage.TheVariants.{Open}
@@ -13,8 +14,8 @@ use Rattle.mp_serve.specs.ServedPool.{ServedPool}
 use Rattle.mp_serve.specs.Ask.{NewBlock}
 use Rattle.mp_serve.specs.TxWord.{TxWord, tx_meant, put_meant}
 use Rattle.mp_serve.specs.Request.{Request, Check, Extend, respond}
-use Rattle.mp_serve.specs.Texts.{ok_text, show_text, forgotten_text}
-use Rattle.mp_serve.specs.Talk.{Step, ask, with_names, names_to_go, forget, show, check, extend, block_at, reset_at}
+use Rattle.mp_serve.specs.Texts.{ok_text, bytes_text, show_text, forgotten_text}
+use Rattle.mp_serve.specs.Talk.{Step, ask, read, with_read, with_names, names_to_go, forget, show, check, extend, block_at, reset_at}
 use Rattle.mp_clients.specs.declared.conversation.Conversation.{Conversation}
 use Rattle.mp_clients.specs.Client.{Client, served_at}
 use Rattle.mp_clients.specs.Alone.{alone_at, stage_of}
@@ -111,3 +112,14 @@ module _ {N : Type 0} (accepts : Accepts) (c : Conversation N) where
 
   pub bad_extend : (b : NewBlock) → put_meant (stage_of accepts c.client) [] b.txs ≡ None → IsBadAlone accepts c (λ x. extend x b)
   bad_extend b none = ap (option_map (λ txs. ask now (Extend (block_at (arc_value c.settings) b txs)))) none
+
+  -- a transaction was read
+  pub told_read : (name : List ℕ) (found : Result Transaction TxFault) (t : Transaction) (names : Names) (text : List ℕ) (u : Conversation N) → found ≡ Ok t
+      → names ≡ with_read c.names name (Ok t) → text ≡ bytes_text (Ok t) → u ≡ record c { names = names } → IsToldAlone accepts c (λ x. Some (read x name found)) text u
+  told_read name found t names text u is bound said same = record {
+    said = ap (λ (f : Result Transaction TxFault). Some (read now name f)) is
+        ∙ ap₂ (λ (n : Names) y. Some (with_names now n, y)) (sym bound) (sym said)
+        ∙ ap (λ (v : Conversation N). Some (alone_at accepts v c.client.pass.front, text)) (sym same);
+    pass = ap (λ (v : Conversation N). v.client.pass) same;
+    ledger = ap (λ (v : Conversation N). v.client.ledger) same;
+  }

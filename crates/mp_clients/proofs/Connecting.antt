@@ -1,6 +1,6 @@
 -- Conversations that go on, one for each seat and device.
 use Rattle.std.proofs.Common.{◌≡◌, ℕ, suc, zero, ◌+◌, ◌<◌, List, [], ◌∷◌, ◌++◌, length, slice_index_or, refl, sym, ap, subst, ◌∙◌, arith, append_assoc}
-use Rattle.std.specs.Prelude.{Option, None, Some, IfSome}
+use Rattle.std.specs.Prelude.{Option, None, Some, IfSome, Result, Ok, Err, IfOk}
 use Rattle.mp_rules.specs.Verifier.{Accepts}
 use Rattle.mp_session.specs.declared.settings.Settings.{Settings}
 use Rattle.mp_serve.specs.declared.conversation.Conversation as alone
@@ -8,6 +8,7 @@ use Rattle.mp_clients.specs.declared.connected.Connected.{Connected}
 use Rattle.mp_clients.specs.declared.conversation.Conversation.{Conversation}
 use Rattle.mp_clients.specs.declared.opening.Seat.{Seat}
 use Rattle.mp_clients.specs.declared.service.Finished.{Finished}
+use Rattle.mp_clients.specs.declared.service.Service.{Service}
 use Rattle.mp_clients.specs.Service.{line_in, IsFinishedFrom, IsFinished, IsServed, AreClientsServed, AreServed}
 use Rattle.mp_clients.specs.Inside.Connecting.{IsOperator, IsClientOf, AreClientsOf, AreConnected}
 
@@ -48,8 +49,19 @@ module _ {N D : Type 0} where
     connects-all sl dl e c = ended_at sl dl c (subst (λ (l : List D). AreClientsOf {N} {D} g sl l []) (sym e) (no_devices g sl))
 
     -- no seat is left
-    pub connects-most : (seats_left : List (Seat N)) (d : D) (ds devices_left : List D) → seats_left ≡ [] → Connects g old seats devices now seats_left devices_left → (more : List (Connected N D)) × (now ≡ old ++ more) × AreClientsOf g seats devices more
-    connects-most sl d ds dl e c = ended_at sl dl c (subst (λ (l : List (Seat N)). AreClientsOf {N} {D} g l dl []) (sym e) refl)
+    pub connects-most : (seats_left : List (Seat N)) (devices_left : List D) → seats_left ≡ [] → Connects g old seats devices now seats_left devices_left → (more : List (Connected N D)) × (now ≡ old ++ more) × AreClientsOf g seats devices more
+    connects-most sl dl e c = ended_at sl dl c (subst (λ (l : List (Seat N)). AreClientsOf {N} {D} g l dl []) (sym e) refl)
+
+  -- the operator's conversation and those of the clients
+  pub connected : (operator : alone.Conversation) (line : List ℕ) (d : D) (seats : List (Seat N)) (s : Seat N) (ss : List (Seat N)) (devices : List D) (k : Connected N D) (all : List (Connected N D)) → seats ≡ s ∷ ss
+      → IsOperator operator.session.names operator.session.settings s operator.line line d k → (more : List (Connected N D)) × (all ≡ k ∷ more) × AreClientsOf operator.session.settings ss devices more
+      → AreConnected operator line d seats devices all
+  connected operator line d seats s ss devices k all e is (more, at, are) =
+      subst (λ (l : List (Seat N)). AreConnected operator line d l devices all) (sym e) (subst (λ (l : List (Connected N D)). AreConnected operator line d (s ∷ ss) devices l) (sym at) (is, are))
+
+  -- without a seat
+  pub no_seats : (operator : alone.Conversation) (line : List ℕ) (d : D) (seats : List (Seat N)) (devices : List D) (all : List (Connected N D)) → seats ≡ [] → all ≡ [] → AreConnected operator line d seats devices all
+  no_seats operator line d seats devices all e none = subst (λ (l : List (Seat N)). AreConnected operator line d l devices all) (sym e) none
 
   -- ---- all of them are served
 
@@ -89,3 +101,8 @@ module _ {N D : Type 0} where
     served operator line d (s ∷ ss) devices [] fs are len each = absurd are
     served operator line d [] devices ks [] are len each = refl
     served operator line d [] devices ks (f ∷ fs) are len each = absurd (let n = ap length are in omega (arith, len, n))
+
+    pub served_ok : {E : Type 0} (r : Result (Service N D) E) (operator : alone.Conversation) (line : List ℕ) (d : D) (seats : List (Seat N)) (devices : List D) (ks : List (Connected N D)) → AreConnected operator line d seats devices ks
+        → IfOk r (λ s. length s.finished.items ≡ length ks) → IfOk r (λ s. Each ks s.finished.items) → IfOk r (λ s. AreServed accepts callers input output operator line d seats devices s.finished.items)
+    served_ok (Ok s) operator line d seats devices ks are len each = served operator line d seats devices ks s.finished.items are len each
+    served_ok (Err e) operator line d seats devices ks are len each = tt

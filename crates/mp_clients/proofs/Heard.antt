@@ -9,19 +9,21 @@ use Rattle.mp_serve.specs.declared.answer.Answer.{Answer}
 use Rattle.mp_serve.specs.Inside.Answer.{text_of}
 use Rattle.mp_serve.specs.declared.conversation.Conversation as alone
 use Rattle.mp_serve.specs.Ask as asks
-use Rattle.mp_serve.specs.Ask.{Ask, Does}
+use Rattle.mp_serve.specs.Ask.{Ask, NewBlock, Does}
+use Rattle.mp_serve.specs.Request.{Block}
 use Rattle.mp_serve.specs.Served.{IsBadLine}
 use Rattle.mp_serve.specs.Talk.{take}
 use Rattle.mp_serve.specs.Texts.{no_memory_text}
 use Rattle.mp_clients.specs.declared.conversation.Conversation.{Conversation}
 use Rattle.mp_clients.specs.declared.stop.Stop.{Stop}
+use Rattle.mp_clients.specs.declared.stop.Stop.TheVariants.{NoMemory, Untold, Foreign}
 use Rattle.mp_clients.specs.Client.{Client}
 use Rattle.mp_clients.specs.Alone.{alone_at}
 use Rattle.mp_clients.specs.Asking.{may_do}
-use Rattle.mp_clients.specs.Answers.{HasLooked, IsAnsweredAlone, IsTaken, IsMeaningless, IsHeard, with_client}
+use Rattle.mp_clients.specs.Answers.{HasLooked, IsAnsweredAlone, IsExtendedBy, IsTaken, IsMeaningless, IsHeard, with_client}
 use Rattle.mp_clients.specs.Inside.Notes.{is_note, is_change, is_alone}
-use Rattle.mp_clients.specs.Inside.Steps.{IsToldAlone, IsBadAlone}
-use Rattle.mp_clients.proofs.Steps.{looked_only}
+use Rattle.mp_clients.specs.Inside.Steps.{IsToldAlone, IsBadAlone, IsMeantBlock, IsStopped}
+use Rattle.mp_clients.proofs.Steps.{looked_only, unchanged_more}
 
 module _ {N : Type 0} (accepts : Accepts) (callers : ℕ) (c : Conversation N) where
   pub taken_note : (line : lines.Line) (text : List ℕ) (u : Conversation N) → is_note line ≡ true → IsAnsweredAlone accepts callers c (Does line) text u → IsTaken accepts callers c (Does line) text u
@@ -85,6 +87,22 @@ module _ {N : Type 0} (accepts : Accepts) (callers : ℕ) (c : Conversation N) w
 
     pub noted : (line : lines.Line) (text : List ℕ) (u : Conversation N) → is_note line ≡ true → IsToldAlone accepts (with_client c k) (λ x. take x (Does line)) text u → IsTaken accepts callers c (Does line) text u
     noted line text u e told = taken_note line text u e (answered_alone (Does line) text u told)
+
+    -- the words of a block mean transactions
+    pub extended_there : (b : NewBlock) (block : Block) (r : Result Answer Stop) (u : Conversation N) → IsMeantBlock accepts (with_client c k) b block
+        → IfOk r (λ a. IsExtendedBy accepts callers (with_client c k) block (text_of a) u)
+        → IfErr r (IsStopped accepts callers (IsExtendedBy accepts callers (with_client c k) block) (with_client c k) u)
+        → IfOk r (λ a. IsHeard accepts callers c (Some (asks.Extends b)) (text_of a) u) × IfErr r (IsStopped accepts callers (IsTaken accepts callers c (asks.Extends b)) c u)
+    extended_there b block (Ok a) u (txs, meant, is) ok err = (
+      inl (record { client = k; txs = txs; looked = looked; meant = meant; extended = subst (λ (x : Block). IsExtendedBy accepts callers (with_client c k) x (text_of a) u) is ok }),
+      tt,
+    )
+    extended_there b block (Err NoMemory) u meant ok err = (tt, unchanged_more accepts callers c k u looked err)
+    extended_there b block (Err Foreign) u meant ok err = (tt, unchanged_more accepts callers c k u looked err)
+    extended_there b block (Err Untold) u (txs, meant, is) ok (text, v, does, same) = (
+      tt,
+      (text, v, record { client = k; txs = txs; looked = looked; meant = meant; extended = subst (λ (x : Block). IsExtendedBy accepts callers (with_client c k) x text v) is does }, same),
+    )
 
 -- a line that may be done either only notes something or makes a change
 pub must_change : (caller : ℕ) (line : lines.Line) → may_do caller line ≡ true → is_note line ≡ false → is_change line ≡ true

@@ -22,10 +22,8 @@ use mp_rules::Verifier;
 use mp_serve as alone;
 use mp_serve::{Device, Turn};
 use mp_session::{Session, Settings};
-use std::snapshot::Snapshot;
 use std::sync::{Arc, Wait};
-use std::thread;
-use std::thread::{Promise, Threads, join_promised};
+use std::thread::{Threads, map_vec};
 
 /// A conversation that has ended.
 #[derive(Drop)]
@@ -53,19 +51,7 @@ fn converse<N: PoolName, V: Verifier, D: Device>(
     }
 }
 
-// What the thread of a conversation promises.
-#[derive(Drop)]
-struct Ends<N: PoolName, D: Device> {
-    from: Snapshot<Connected<N, D>>,
-}
-
-impl<N: PoolName, D: Device + Drop> Promise<Finished<N, D>> for Ends<N, D> {
-    ghost use Rattle.mp_clients.specs.Service.{IsFinished};
-
-    ghost kept_by = { λ p f. IsFinished N.accepts N.callers D.input D.output p.from.value f };
-}
-
-// All conversations, each on a thread of its own.
+// All conversations, each on a thread of its own if one can be made.
 fn converse_all<
     N: PoolName + Send + Sync,
     V: Verifier + Send + Sync,
@@ -82,28 +68,13 @@ fn converse_all<
         → i < length all.items → IsFinished N.accepts N.callers D.input D.output
         (slice_index_or all.items i c) (slice_index_or done.items i f)) }
 {
-    thread::scope(
-        thread::scope_env(),
+    Ok(map_vec(
         rt,
-        |scope| -> Result<Vec<Finished<N, D>, Memory>, NoMemory>
-            ensures len { IfOk result (λ done. length done.items ≡ length all.entry.items) }
-            ensures each { IfOk result (λ done. (i : ℕ) (c : Connected N D) (f : Finished N D)
-                → i < length all.entry.items → IsFinished N.accepts N.callers D.input D.output
-                (slice_index_or all.entry.items i c) (slice_index_or done.items i f)) }
-        {
-            let mut children = Vec::new(memory);
-            for connected in all {
-                let promise = Ends {
-                    from: Snapshot::of(&connected),
-                };
-                match scope.spawn_with(promise, move || converse(rt, shared, memory, connected)) {
-                    Ok(child) => children.push(child)?,
-                    Err(_) => return Err(NoMemory),
-                }
-            }
-            Ok(join_promised(rt, children)?)
-        },
-    )
+        all,
+        &|connected: Connected<N, D>| -> Finished<N, D>
+            ensures { IsFinished N.accepts N.callers D.input D.output connected result }
+        { converse(rt, shared, memory, connected) },
+    )?)
 }
 
 // The longer of the two fronts. The other is a prefix of it.

@@ -2,7 +2,7 @@ pub mod Ends
 pub mod Running
 pub mod Auditing
 pub mod Racing
-pub mod Clients
+pub mod NamedFiles
 pub mod Holding
 pub mod Commands
 pub mod GivenValues

@@ -8,27 +8,27 @@ use mp_memory::Memory;
 use mp_serve::{Device, Streams, Turn};
 use mp_text::{LineRead, ReadFault, WriteFault, read_line, write_all};
 use std::fs::{File, OpenOptions};
-use std::io::{BufRead, BufReader, Write};
-use std::rt::Files;
+use std::io::{BufReader, Write};
+use std::rt::{Stdin, Stdout};
 
 /// The files of a client. The first read opens them: a named pipe opens when its other end does.
 #[derive(Drop)]
-pub struct Pipes<'a, F: Files> {
-    files: &'a F,
+pub struct Pipes<'a> {
+    rt: &'a HostRuntime,
     memory: Memory,
     names: ClientFiles<'a>,
-    reader: Option<BufReader<F::File, Memory>>,
-    writer: Option<F::File>,
+    reader: Option<BufReader<File, Memory>>,
+    writer: Option<File>,
     turn: Turn,
 }
 
-impl<'a, F: Files> Pipes<'a, F> {
+impl<'a> Pipes<'a> {
     /// The files of these names, before the first line.
-    pub fn new(files: &'a F, memory: Memory, names: ClientFiles<'a>) -> Pipes<'a, F>
+    pub fn new(rt: &'a HostRuntime, memory: Memory, names: ClientFiles<'a>) -> Pipes<'a>
         ensures { result.turn ≡ Listens }
     {
         Pipes {
-            files,
+            rt,
             memory,
             names,
             reader: None,
@@ -44,17 +44,17 @@ impl<'a, F: Files> Pipes<'a, F> {
         if self.reader.is_some() {
             return;
         }
-        if let Ok(file) = File::open(self.files, self.names.input) {
+        if let Ok(file) = File::open(self.rt, self.names.input) {
             self.reader = BufReader::new(self.memory, file).ok();
             self.writer = OpenOptions::new()
                 .write(true)
-                .open(self.files, self.names.output)
+                .open(self.rt, self.names.output)
                 .ok();
         }
     }
 }
 
-impl<F: Files> Device for Pipes<'_, F> {
+impl Device for Pipes<'_> {
     ghost use Rattle.std.specs.Prelude.{None};
 
     ghost input = { λ _. None };
@@ -119,19 +119,20 @@ impl<F: Files> Device for Pipes<'_, F> {
     }
 }
 
-/// The two ends of a conversation: the operator's streams, or a client's files.
+/// The two ends of a conversation: standard input and output, or a client's files. What they do isn't known.
 #[derive(Drop)]
-pub enum Channel<'a, R, W, F: Files> {
-    Operator(Streams<R, W>),
-    Client(Pipes<'a, F>),
+pub enum Channel<'a> {
+    Operator(Streams<BufReader<Stdin, Memory>, Stdout>),
+    Client(Pipes<'a>),
 }
 
-impl<R: BufRead, W: Write, F: Files> Device for Channel<'_, R, W, F> {
-    ghost use Rattle.mp_main.specs.Channel.{input_of, output_of, turn_of};
+impl Device for Channel<'_> {
+    ghost use Rattle.std.specs.Prelude.{None};
+    ghost use Rattle.mp_main.specs.Channel.{turn_of};
 
-    ghost input = { input_of R.remaining };
+    ghost input = { λ _. None };
 
-    ghost output = { output_of W.contents };
+    ghost output = { λ _. None };
 
     ghost turn = { turn_of };
 

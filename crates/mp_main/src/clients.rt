@@ -80,36 +80,47 @@ fn converse_from<R: Threads + Wait + Sync, D: Device + Send + Drop>(
     rt: &HostRuntime,
     threads: &R,
     memory: Memory,
-    start: Waiting<D>,
+    start: Conversation,
+    device: D,
+    clients: Vec<D, Memory>,
     callers: u32,
 ) -> ExitCode
-    requires before { IsBefore start.operator.session.stage }
-    requires listens { D.turn start.device ≡ Turn.Listens }
-    requires listen { All (λ d. D.turn d ≡ Turn.Listens) start.clients.items }
+    requires before { IsBefore start.session.stage }
+    requires listens { D.turn device ≡ Turn.Listens }
+    requires listen { All (λ d. D.turn d ≡ Turn.Listens) clients.items }
     requires some { 1 ≤ callers }
     requires most { callers ≤ 64 }
-    ensures { IfSome (D.input start.entry.device) (λ bytes. EndsShared {Brand} callers
-        D.input D.output start.entry.operator bytes start.entry.device start.entry.clients.items
+    ensures { IfSome (D.input device.entry) (λ bytes. EndsShared {Brand} callers
+        D.input D.output start.entry bytes device.entry clients.entry.items
         (exit_status result)) }
 {
-    let mut waiting = start;
+    let mut operator = start;
+    let mut line = Vec::new(memory);
+    let mut device = device;
+    let mut clients = clients;
     for _count in 1..u64::MAX {
-        match begin(
-            memory,
-            &mut waiting.operator,
-            &mut waiting.line,
-            &mut waiting.device,
-        ) {
+        match begin(memory, &mut operator, &mut line, &mut device) {
             Ok(true) => {}
             Ok(false) => return ExitCode::SUCCESS,
             Err(fault) => return end_fault(rt, fault),
         }
         let name = NewName::new();
-        waiting = match open_and_serve::<Brand, D, R>(rt, threads, memory, name, waiting, callers) {
-            Ok(code) => return code,
-            Err(back) => back,
+        let waiting = Waiting {
+            operator,
+            line,
+            device,
+            clients,
         };
-        if let Err(fault) = refuse(&mut waiting.operator, &mut waiting.device) {
+        match open_and_serve::<Brand, D, R>(rt, threads, memory, name, waiting, callers) {
+            Ok(code) => return code,
+            Err(back) => {
+                operator = back.operator;
+                line = back.line;
+                device = back.device;
+                clients = back.clients;
+            }
+        }
+        if let Err(fault) = refuse(&mut operator, &mut device) {
             return end_fault(rt, fault);
         }
     }
@@ -137,15 +148,7 @@ pub fn converse_over_all<R: Threads + Wait + Sync, D: Device + Send + Drop>(
 {
     let callers = clients.len() as u32 + 1;
     match Conversation::new(memory, signatures, salt) {
-        Ok(operator) => {
-            let waiting = Waiting {
-                operator,
-                line: Vec::new(memory),
-                device,
-                clients,
-            };
-            converse_from(rt, threads, memory, waiting, callers)
-        }
+        Ok(operator) => converse_from(rt, threads, memory, operator, device, clients, callers),
         Err(NoMemory) => end_fault(rt, Fault::NoMemory),
     }
 }

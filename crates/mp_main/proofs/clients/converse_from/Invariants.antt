@@ -17,8 +17,8 @@ ghosts-open_and_serve g a = record {
 -- the lines so far were answered, the pool isn't open, and the clients wait
 abbrev pub invariant-loop-count : goal.invariant-loop-count
 invariant-loop-count g l =
-    StandsFrom l.fn.start.operator (g.D.Device.input l.fn.start.device) (g.D.Device.input l.waiting.device)
-    (g.D.Device.output l.fn.start.device) (g.D.Device.output l.waiting.device) l.waiting.operator l._count
-    × (g.D.Device.turn l.waiting.device ≡ Listens)
-    × IsBefore l.waiting.operator.session.stage
-    × (l.waiting.clients ≡ l.fn.start.clients)
+    StandsFrom l.fn.start (g.D.Device.input l.fn.device) (g.D.Device.input l.device)
+    (g.D.Device.output l.fn.device) (g.D.Device.output l.device) l.operator l._count
+    × (g.D.Device.turn l.device ≡ Listens)
+    × IsBefore l.operator.session.stage
+    × (l.clients ≡ l.fn.clients)

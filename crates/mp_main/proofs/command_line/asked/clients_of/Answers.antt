@@ -1,7 +1,7 @@
 use Rattle.std.proofs.Common.{◌≡◌, ◌∙◌, ◌<◌, ◌≤◌, ap, codes, length, map, rules, sym, subst, vec_len}
 use Rattle.clap.specs.Matches.{found_of}
 use Rattle.mp_main.specs.CommandLine as spec
-use Rattle.mp_main.proofs.Clients.{given_names, no_names, not_many, too_many}
+use Rattle.mp_main.proofs.NamedFiles.{given_names, no_names, not_many, too_many}
 use Rattle.mp_main.proofs.command_line.asked.clients_of.Goals as goal
 
 pub returns-then-len-gt-MAX_CLIENTS-clause-taken :

@@ -1,7 +1,7 @@
 use Rattle.std.proofs.Common.{◌*◌, ◌+◌, ◌/◌, ◌<◌, ◌≤◌, ◌≡◌, arith, length, refl}
 use Rattle.mp_main.specs.CommandLine.{pairs_of}
 use Rattle.clap.specs.Walk.{texts}
-use Rattle.mp_main.proofs.Clients.{all_clients, client_more}
+use Rattle.mp_main.proofs.NamedFiles.{all_clients, client_more}
 use Rattle.mp_main.proofs.command_line.asked.pair_up.Goals as goal
 
 pub loop-client-init : goal.loop-client-init

@@ -2,7 +2,7 @@ use Rattle.std.proofs.Common.{◌∙◌, ◌≤◌, length, map, sym, subst}
 use Rattle.clap.specs.Kinds.{HasKind}
 use Rattle.mp_main.specs.CommandLine as spec
 use Rattle.mp_main.specs.Inside.Taken.{IsTaken}
-use Rattle.mp_main.proofs.Clients.{are_few, of_memory, of_words}
+use Rattle.mp_main.proofs.NamedFiles.{are_few, of_memory, of_words}
 use Rattle.mp_main.proofs.Taken.{taken}
 use Rattle.mp_main.proofs.command_line.asked.parse_words.Goals as goal
 
