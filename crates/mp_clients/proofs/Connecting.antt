@@ -9,7 +9,8 @@ use Rattle.mp_clients.specs.declared.conversation.Conversation.{Conversation}
 use Rattle.mp_clients.specs.declared.opening.Seat.{Seat}
 use Rattle.mp_clients.specs.declared.service.Finished.{Finished}
 use Rattle.mp_clients.specs.declared.service.Service.{Service}
-use Rattle.mp_clients.specs.Service.{line_in, IsFinishedFrom, IsFinished, IsServed, AreClientsServed, AreServed}
+use Rattle.mp_clients.specs.Waiting.{line_in}
+use Rattle.mp_clients.specs.Service.{IsFinishedFrom, IsFinished, IsServed, AreClientsServed, AreServed}
 use Rattle.mp_clients.specs.Inside.Connecting.{IsOperator, IsClientOf, AreClientsOf, AreConnected}
 
 module _ {N D : Type 0} where

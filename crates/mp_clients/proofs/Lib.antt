@@ -11,3 +11,4 @@ pub mod Backs
 pub mod Before
 pub mod Connecting
 pub mod Fresh
+pub mod Asks

@@ -1,7 +1,7 @@
 //! A conversation and its device.
 
 ghost use Rattle.std.specs.Prelude.{◌≡◌};
-ghost use Rattle.mp_clients.specs.Service.{turn_with, line_in};
+ghost use Rattle.mp_clients.specs.Waiting.{turn_with, line_in};
 
 use crate::conversation::Conversation;
 use mp_history::PoolName;
@@ -28,7 +28,7 @@ impl<N: PoolName, D: Device + Drop> Drop for Connected<N, D> {
 
 impl<N: PoolName, D: Device> Connected<N, D> {
     ghost use Rattle.std.specs.Prelude.{◌≡◌};
-    ghost use Rattle.mp_clients.specs.Service.{turn_with, line_in};
+    ghost use Rattle.mp_clients.specs.Waiting.{turn_with, line_in};
 
     /// The conversation, the device and the line.
     pub fn into_parts(self) -> (Conversation<N>, D, Option<Vec<u8, Memory>>)

@@ -5,7 +5,8 @@ use Rattle.mp_session.specs.declared.settings.Settings.{Settings}
 use Rattle.mp_serve.specs.declared.conversation.Conversation as alone
 use Rattle.mp_clients.specs.declared.connected.Connected.{Connected}
 use Rattle.mp_clients.specs.declared.opening.Seat.{Seat}
-use Rattle.mp_clients.specs.Service.{IsWith, line_in}
+use Rattle.mp_clients.specs.Service.{IsWith}
+use Rattle.mp_clients.specs.Waiting.{line_in}
 
 module _ {N D : Type 0} where
   -- the operator's conversation, with the line that opened the pool
