@@ -13,3 +13,4 @@ pub mod Connecting
 pub mod Fresh
 pub mod Asks
 pub mod Seen
+pub mod Seats
