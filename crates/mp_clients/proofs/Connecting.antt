@@ -16,12 +16,12 @@ use Rattle.mp_clients.specs.Waiting.{line_in, turn_with}
 use Rattle.mp_clients.specs.Service.{IsFinishedFrom, IsFinished, IsServed, AreClientsServed, AreServed}
 use Rattle.mp_clients.specs.Inside.Connecting.{IsReady, IsOperator, IsClientOf, AreClientsOf, AreConnected}
 
-module _ {N D : Type 0} where
-  -- without devices
-  pub no_devices : (g : Settings) (seats : List (Seat N)) → AreClientsOf {N = N} {D = D} g seats [] []
-  no_devices g [] = refl
-  no_devices g (s ∷ ss) = refl
+-- without devices
+no_devices : (N D : Type 0) (g : Settings) (seats : List (Seat N)) → AreClientsOf {N = N} {D = D} g seats [] []
+no_devices N D g [] = refl
+no_devices N D g (s ∷ ss) = refl
 
+module _ {N D : Type 0} where
   -- The clients so far have these seats and devices, and the others those that are left.
   pub record Connects (g : Settings) (old : List (Connected N D)) (seats : List (Seat N)) (devices : List D) (now : List (Connected N D)) (seats_left : List (Seat N)) (devices_left : List D) : Type 0 where
     pub done : List (Connected N D)
@@ -61,7 +61,7 @@ module _ {N D : Type 0} where
 
     -- no device is left
     pub connects-all : (seats_left : List (Seat N)) (devices_left : List D) → devices_left ≡ [] → Connects g old seats devices now seats_left devices_left → (more : List (Connected N D)) × (now ≡ old ++ more) × AreClientsOf g seats devices more
-    connects-all sl dl e c = ended_at sl dl c (subst (λ (l : List D). AreClientsOf {N = N} {D = D} g sl l []) (sym e) (no_devices g sl))
+    connects-all sl dl e c = ended_at sl dl c (subst (λ (l : List D). AreClientsOf {N = N} {D = D} g sl l []) (sym e) (no_devices N D g sl))
 
     -- no seat is left
     pub connects-most : (seats_left : List (Seat N)) (devices_left : List D) → seats_left ≡ [] → Connects g old seats devices now seats_left devices_left → (more : List (Connected N D)) × (now ≡ old ++ more) × AreClientsOf g seats devices more
@@ -73,6 +73,14 @@ module _ {N D : Type 0} where
       → AreConnected operator line d seats devices all
   connected operator line d seats s ss devices k all e is (more, at, are) =
       subst (λ (l : List (Seat N)). AreConnected operator line d l devices all) (sym e) (subst (λ (l : List (Connected N D)). AreConnected operator line d (s ∷ ss) devices l) (sym at) (is, are))
+
+  -- by the settings that they share
+  pub connected_all : (operator : alone.Conversation) (line : List ℕ) (d : D) (seats ss : List (Seat N)) (s : Seat N) (devices : List D) (k : Connected N D) (pushed all : List (Connected N D)) (own shared : Settings) → seats ≡ s ∷ ss
+      → shared ≡ operator.session.settings → own ≡ operator.session.settings → IsOperator operator.session.names own s operator.line line d k → pushed ≡ k ∷ []
+      → (more : List (Connected N D)) × (all ≡ pushed ++ more) × AreClientsOf shared ss devices more → AreConnected operator line d seats devices all
+  connected_all operator line d seats ss s devices k pushed all own shared e same mine is p (more, at, are) =
+      connected operator line d seats s ss devices k all e (subst (λ (g : Settings). IsOperator operator.session.names g s operator.line line d k) mine is)
+      (more, at ∙ ap (λ l. l ++ more) p, subst (λ (g : Settings). AreClientsOf g ss devices more) same are)
 
   -- without a seat
   pub no_seats : (operator : alone.Conversation) (line : List ℕ) (d : D) (seats : List (Seat N)) (devices : List D) (all : List (Connected N D)) → seats ≡ [] → all ≡ [] → AreConnected operator line d seats devices all

@@ -1,5 +1,5 @@
 -- Seats for the passes of a pool.
-use Rattle.std.proofs.Common.{◌≡◌, ℕ, List, [], ◌∷◌, ◌++◌, length, map, refl, sym, ap, ap₂, ◌∙◌, append_assoc}
+use Rattle.std.proofs.Common.{◌≡◌, ℕ, List, [], ◌∷◌, ◌++◌, ◌<◌, length, map, refl, sym, ap, ap₂, ◌∙◌, append_assoc, arith, slice_index_or, drop}
 use Rattle.std.specs.Prelude.{Option, None, Some}
 use Rattle.std.specs.Vec.Iter.{into_iter_items, into_iter_steps}
 use Rattle.std.specs.declared.vec.IntoIter.{IntoIter}
@@ -34,3 +34,8 @@ opened_on accepts callers n signatures ledger limit last l k front seats passes 
   seats_are = ss
       ∙ ap (map (seat_of signatures ledger)) (ps ∙ ap (λ x. fresh_passes x (new_log (empty_pool limit last ledger))) m ∙ ap₂ (λ x y. fresh_passes callers (new_log (empty_pool x y ledger))) e f);
 }
+
+-- the first element and those that are left
+pub first_of : {X : Type 0} (xs ys : List X) (x : X) → 0 < length xs → x ≡ slice_index_or xs 0 x → ys ≡ drop 1 xs → xs ≡ x ∷ ys
+first_of [] ys x lt e r = absurd (omega (arith, lt))
+first_of (z ∷ zs) ys x lt e r = ap₂ (λ a l. a ∷ l) (sym e) (sym r)

@@ -39,7 +39,7 @@ returns-in-None-clause-begun g c =
     let old : Option (List ℕ) = g.D.Device.output c.args.device.now in
     let none = c.in-None.ensures.none in
     let line = subst (λ k. IfSome left (λ bytes. IsLine _ bytes c.in-Ok.found k)) (sym c.deref.ensures.value) c.in-Ok.ensures.line in
-    subst (λ (u : Conversation). IfSome all (λ bytes. HasCome start bytes old (g.D.Device.output c.read_line.new.self) c.read_line.new.line.items u after)) (sym none.1.1)
+    subst (λ (u : Conversation). IfSome all (λ bytes. HasCome start bytes old (g.D.Device.output c.read_line.new.self) c.read_line.new.line.items u after)) (sym none.2)
     (subst (λ (l : List ℕ). IfSome all (λ bytes. HasCome start bytes old (g.D.Device.output c.read_line.new.self) l c.loop-count.conversation after)) c.deref.ensures.value
     (subst (λ (o : Option (List ℕ)). IfSome all (λ bytes. HasCome start bytes old o c.deref.result.now c.loop-count.conversation after)) (sym c.in-Ok.ensures.output)
     (has_come start old (g.D.Device.output c.loop-count.device) c.loop-count.conversation c.loop-count._count left after c.deref.result.now c.in-Ok.ensures.rest
