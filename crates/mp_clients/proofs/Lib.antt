@@ -12,3 +12,5 @@ pub mod Before
 pub mod Connecting
 pub mod Fresh
 pub mod Asks
+pub mod Seen
+pub mod Seats
