@@ -9,7 +9,7 @@ use Rattle.mp_mempool.specs.declared.refusal.Refusal.TheVariants.{Pool}
 use Rattle.mp_mempool.specs.Answers.{IsRefused, IsRefusedAt}
 
 -- a refusal of the sequential pool, unless an allocation failed
-pub refused_there : {N : Type 0} (accepts : Accepts) (callers : ℕ) (before : Pass) (command : Command) (r : pool.Refusal) (after : Pass) → (r ≡ NoMemory → ⊥) → IsRefused accepts callers {N} before command (Pool r) after
+pub refused_there : {N : Type 0} (accepts : Accepts) (callers : ℕ) (before : Pass) (command : Command) (r : pool.Refusal) (after : Pass) → (r ≡ NoMemory → ⊥) → IsRefused accepts callers {N = N} before command (Pool r) after
     → IsRefusedAt accepts callers before command r after
 refused_there accepts callers before command NoMemory after other is = absurd (other refl)
 refused_there accepts callers before command HistoryFull after other is = is
