@@ -109,8 +109,8 @@ module _ {N : Type 0} (accepts : Accepts) (callers : ℕ) (c : Conversation N) w
     )
 
 -- the line is bad
-pub is_bad : {X : Type 0} (f : LineFault) (reason : Reason) → f ≡ Bad reason → IsBad {X} (Err f)
-is_bad {X} f reason e = subst (λ (x : LineFault). IsBad {X} (Err x)) (sym e) tt
+pub is_bad : (X : Type 0) (f : LineFault) (reason : Reason) → f ≡ Bad reason → IsBad {X = X} (Err f)
+is_bad X f reason e = subst (λ (x : LineFault). IsBad {X = X} (Err x)) (sym e) tt
 
 -- a line that may be done either only notes something or makes a change
 pub must_change : (caller : ℕ) (line : lines.Line) → may_do caller line ≡ true → is_note line ≡ false → is_change line ≡ true

@@ -127,6 +127,12 @@ module _ {N : Type 0} (accepts : Accepts) (callers : ℕ) where
   returned c count wanted l r u e ok err =
       subst (λ (w : Option LedgerState). IfOk r (λ t. IsReturned accepts callers c count w (text_of t) u) × IfErr r (IsStopped accepts callers (IsReturned accepts callers c count w) c u)) (sym e) (ok, err)
 
+  -- no ledger state is that far back
+  pub none_back : (c : Conversation N) (count : ℕ) (wanted : Option LedgerState) (r : Result Answer Stop) (u : Conversation N) → wanted ≡ None
+      → IfOk r (λ t. (n : ℕ) → IsReturned accepts callers c n None (text_of t) u) → IfOk r (λ t. IsReturned accepts callers c count wanted (text_of t) u)
+  none_back c count wanted (Ok t) u e is = subst (λ (w : Option LedgerState). IsReturned accepts callers c count w (text_of t) u) (sym e) (is count)
+  none_back c count wanted (Err stop) u e is = tt
+
   -- before a change was made
   pub stopped_before : (Does : List ℕ → Conversation N → Type 0) (c u : Conversation N) (stop : Stop) → IsBefore stop → u ≡ c → IsStopped accepts callers Does c u stop
   stopped_before Does c u NoMemory before same = inl same

@@ -12,4 +12,4 @@ returns-in-Err-NoMemory-clause-err g c = looked_only g.N.PoolName.accepts g.N.Po
 
 pub returns-in-Err-Bad-clause-ok : goal.returns-in-Err-Bad-clause-ok
 returns-in-Err-Bad-clause-ok g c =
-    heard_bad g.N.PoolName.accepts g.N.PoolName.callers c.args.self.now c.look.new.self c.look.ensures (to_ask c.args.ask) _ c.tell.new.self (c.in-Err-Bad.ensures.bad (is_bad _ _ c.in-Err-Bad.field-0-is)) c.in-Err-Bad.ensures.err c.answer_bad.ensures
+    heard_bad g.N.PoolName.accepts g.N.PoolName.callers c.args.self.now c.look.new.self c.look.ensures (to_ask c.args.ask) _ c.tell.new.self (c.in-Err-Bad.ensures.bad (is_bad _ _ _ c.in-Err-Bad.field-0-is)) c.in-Err-Bad.ensures.err c.answer_bad.ensures

@@ -23,8 +23,8 @@ returns-in-Ok-clause-err g c =
     let callers = g.N.PoolName.callers in
     let s = c.args.self.now in
     let same : arc_value c.in-Ok.ids ≡ c.in-Remove.ids.items = search rules in
-    let made = subst (λ (ids : List (List ℕ)). IfErr c.change.result (IsStopped accepts callers (IsDone accepts callers s (Remove ids) (moved s.client)) s c.change.new.self)) same c.change.ensures.err in
-    subst (λ (l : code.Line). IfErr c.change.result (IsStopped accepts callers (IsTaken accepts callers s (Does (to_line l))) s c.change.new.self)) (sym c.in-Remove.is) made
+    let made = subst (λ (ids : List (List ℕ)). IfErr c.change-in-Remove.result (IsStopped accepts callers (IsDone accepts callers s (Remove ids) (moved s.client)) s c.change-in-Remove.new.self)) same c.change-in-Remove.ensures.err in
+    subst (λ (l : code.Line). IfErr c.change-in-Remove.result (IsStopped accepts callers (IsTaken accepts callers s (Does (to_line l))) s c.change-in-Remove.new.self)) (sym c.in-Remove.is) made
 
 pub returns-in-Ok-ledger_at-clause-err : goal.returns-in-Ok-ledger_at-clause-err
 returns-in-Ok-ledger_at-clause-err g c =

@@ -21,8 +21,3 @@ returns-in-Ok-change g c =
     let both = finished g.N.PoolName.accepts g.N.PoolName.callers s (Submit (arc_value c.args.tx)) (moved s.client) (reported_if s.names c.args.name.now (arc_value c.args.tx)) (answer_text s.names) (answer_in c.in-Ok-change.asked) c.change.new.self c.finish_submit.new.client c.finish_submit.new.names c.finish_submit.result
     c.in-Ok-change.ensures.ok (λ f p. refl) c.finish_submit.ensures.ok c.finish_submit.ensures.client named c.finish_submit.ensures.err c.finish_submit.ensures.same c.finish_submit.ensures.kept in
     record { ok = both.0; err = both.1 }
-
-pub returns-in-Err : goal.returns-in-Err
-returns-in-Err g c =
-    let s = c.args.self.now in
-    record { ok = tt; err = stopped_before g.N.PoolName.accepts g.N.PoolName.callers _ s _ c.in-Err.stop c.in-Err.ensures.before (ap (λ (k : Client). record s { client = k }) c.in-Err.ensures.err) }
