@@ -149,7 +149,7 @@ module _ (g : Conversation) (old now : Option (List ℕ)) (s : Conversation) (n 
       lines = p.lines;
       rest = drop_through 10 (x ∷ xs);
       text = p.text;
-      whole = p.whole ∙ ap (λ l. p.lines ++ l) (first_through x xs) ∙ ap (λ l. p.lines ++ l ∷ lines_of (drop_through 10 (x ∷ xs))) (sym is.1.1);
+      whole = p.whole ∙ ap (λ l. p.lines ++ l) (first_through x xs) ∙ ap (λ l. p.lines ++ l ∷ lines_of (drop_through 10 (x ∷ xs))) (sym is.2);
       told = p.told;
       wrote = p.wrote;
       opens_it = opens_it;

@@ -16,12 +16,12 @@ use Rattle.mp_clients.specs.Waiting.{line_in, turn_with}
 use Rattle.mp_clients.specs.Service.{IsFinishedFrom, IsFinished, IsServed, AreClientsServed, AreServed}
 use Rattle.mp_clients.specs.Inside.Connecting.{IsReady, IsOperator, IsClientOf, AreClientsOf, AreConnected}
 
-module _ {N D : Type 0} where
-  -- without devices
-  pub no_devices : (g : Settings) (seats : List (Seat N)) → AreClientsOf {N} {D} g seats [] []
-  no_devices g [] = refl
-  no_devices g (s ∷ ss) = refl
+-- without devices
+no_devices : (N D : Type 0) (g : Settings) (seats : List (Seat N)) → AreClientsOf {N = N} {D = D} g seats [] []
+no_devices N D g [] = refl
+no_devices N D g (s ∷ ss) = refl
 
+module _ {N D : Type 0} where
   -- The clients so far have these seats and devices, and the others those that are left.
   pub record Connects (g : Settings) (old : List (Connected N D)) (seats : List (Seat N)) (devices : List D) (now : List (Connected N D)) (seats_left : List (Seat N)) (devices_left : List D) : Type 0 where
     pub done : List (Connected N D)
@@ -30,6 +30,11 @@ module _ {N D : Type 0} where
 
   pub connects-first : (g : Settings) (old : List (Connected N D)) (seats : List (Seat N)) (devices : List D) → old ≡ old ++ [] → Connects g old seats devices old seats devices
   connects-first g old seats devices e = record { done = []; is = e; rest = λ more are. are }
+
+  pub connects-start : (g : Settings) (old : List (Connected N D)) (seats sl : List (Seat N)) (devices dl : List D) → old ≡ old ++ [] → sl ≡ seats → dl ≡ devices → Connects g old seats devices old sl dl
+  connects-start g old seats sl devices dl e same other =
+      subst (λ (l : List (Seat N)). Connects g old seats devices old l dl) (sym same)
+      (subst (λ (l : List D). Connects g old seats devices old seats l) (sym other) (connects-first g old seats devices e))
 
   module _ (g : Settings) (old : List (Connected N D)) (seats : List (Seat N)) (devices : List D) (now : List (Connected N D)) where
     pub connects-more : (s : Seat N) (ss : List (Seat N)) (d : D) (ds : List D) (k : Connected N D) (new : List (Connected N D)) → Connects g old seats devices now (s ∷ ss) (d ∷ ds) → IsClientOf g s d k
@@ -40,7 +45,13 @@ module _ {N D : Type 0} where
       rest = λ more are. subst (AreClientsOf g seats devices) (sym (append_assoc c.done (k ∷ []) more)) (c.rest (k ∷ more) (is, are));
     }
 
-    ended_at : (seats_left : List (Seat N)) (devices_left : List D) → Connects g old seats devices now seats_left devices_left → AreClientsOf {N} {D} g seats_left devices_left []
+    -- one more device and one more seat
+    pub connects-next : (sl : List (Seat N)) (dl : List D) (s : Seat N) (ss : List (Seat N)) (d : D) (ds : List D) (k : Connected N D) (new : List (Connected N D)) → Connects g old seats devices now sl dl → sl ≡ s ∷ ss → dl ≡ d ∷ ds
+        → IsClientOf g s d k → new ≡ now ++ k ∷ [] → Connects g old seats devices new ss ds
+    connects-next sl dl s ss d ds k new c first next is e =
+        connects-more s ss d ds k new (subst (λ (l : List (Seat N)). Connects g old seats devices now l (d ∷ ds)) first (subst (λ (l : List D). Connects g old seats devices now sl l) next c)) is e
+
+    ended_at : (seats_left : List (Seat N)) (devices_left : List D) → Connects g old seats devices now seats_left devices_left → AreClientsOf {N = N} {D = D} g seats_left devices_left []
         → (more : List (Connected N D)) × (now ≡ old ++ more) × AreClientsOf g seats devices more
     ended_at sl dl c none = (c.done ++ [], c.is ∙ ap (λ l. old ++ l) (sym (nil_behind c.done)), c.rest [] none)
       where
@@ -50,11 +61,11 @@ module _ {N D : Type 0} where
 
     -- no device is left
     pub connects-all : (seats_left : List (Seat N)) (devices_left : List D) → devices_left ≡ [] → Connects g old seats devices now seats_left devices_left → (more : List (Connected N D)) × (now ≡ old ++ more) × AreClientsOf g seats devices more
-    connects-all sl dl e c = ended_at sl dl c (subst (λ (l : List D). AreClientsOf {N} {D} g sl l []) (sym e) (no_devices g sl))
+    connects-all sl dl e c = ended_at sl dl c (subst (λ (l : List D). AreClientsOf {N = N} {D = D} g sl l []) (sym e) (no_devices N D g sl))
 
     -- no seat is left
     pub connects-most : (seats_left : List (Seat N)) (devices_left : List D) → seats_left ≡ [] → Connects g old seats devices now seats_left devices_left → (more : List (Connected N D)) × (now ≡ old ++ more) × AreClientsOf g seats devices more
-    connects-most sl dl e c = ended_at sl dl c (subst (λ (l : List (Seat N)). AreClientsOf {N} {D} g l dl []) (sym e) refl)
+    connects-most sl dl e c = ended_at sl dl c (subst (λ (l : List (Seat N)). AreClientsOf {N = N} {D = D} g l dl []) (sym e) refl)
 
   -- the operator's conversation and those of the clients
   pub connected : (operator : alone.Conversation) (line : List ℕ) (d : D) (seats : List (Seat N)) (s : Seat N) (ss : List (Seat N)) (devices : List D) (k : Connected N D) (all : List (Connected N D)) → seats ≡ s ∷ ss
@@ -62,6 +73,14 @@ module _ {N D : Type 0} where
       → AreConnected operator line d seats devices all
   connected operator line d seats s ss devices k all e is (more, at, are) =
       subst (λ (l : List (Seat N)). AreConnected operator line d l devices all) (sym e) (subst (λ (l : List (Connected N D)). AreConnected operator line d (s ∷ ss) devices l) (sym at) (is, are))
+
+  -- by the settings that they share
+  pub connected_all : (operator : alone.Conversation) (line : List ℕ) (d : D) (seats ss : List (Seat N)) (s : Seat N) (devices : List D) (k : Connected N D) (pushed all : List (Connected N D)) (own shared : Settings) → seats ≡ s ∷ ss
+      → shared ≡ operator.session.settings → own ≡ operator.session.settings → IsOperator operator.session.names own s operator.line line d k → pushed ≡ k ∷ []
+      → (more : List (Connected N D)) × (all ≡ pushed ++ more) × AreClientsOf shared ss devices more → AreConnected operator line d seats devices all
+  connected_all operator line d seats ss s devices k pushed all own shared e same mine is p (more, at, are) =
+      connected operator line d seats s ss devices k all e (subst (λ (g : Settings). IsOperator operator.session.names g s operator.line line d k) mine is)
+      (more, at ∙ ap (λ l. l ++ more) p, subst (λ (g : Settings). AreClientsOf g ss devices more) same are)
 
   -- without a seat
   pub no_seats : (operator : alone.Conversation) (line : List ℕ) (d : D) (seats : List (Seat N)) (devices : List D) (all : List (Connected N D)) → seats ≡ [] → all ≡ [] → AreConnected operator line d seats devices all
@@ -74,8 +93,8 @@ module _ {N D : Type 0} where
       All-cons (IsReady turn) k ks (ap turn are.0.device_is ∙ All-head (λ (x : D). turn x ≡ Listens) d ds listen ∙ sym (ap turn_with are.0.line_is))
       (ready_clients turn g ss ds ks are.1 (All-tail (λ (x : D). turn x ≡ Listens) d ds listen))
   ready_clients turn g (s ∷ ss) (d ∷ ds) [] are listen = absurd are
-  ready_clients turn g (s ∷ ss) [] ks are listen = subst (All (IsReady turn)) (sym are) (All-nil (IsReady {N} {D} turn))
-  ready_clients turn g [] devices ks are listen = subst (All (IsReady turn)) (sym are) (All-nil (IsReady {N} {D} turn))
+  ready_clients turn g (s ∷ ss) [] ks are listen = subst (All (IsReady turn)) (sym are) (All-nil (IsReady {N = N} {D = D} turn))
+  ready_clients turn g [] devices ks are listen = subst (All (IsReady turn)) (sym are) (All-nil (IsReady {N = N} {D = D} turn))
 
   -- each is ready
   pub all_ready : (turn : D → Turn) (operator : alone.Conversation) (line : List ℕ) (d : D) (seats : List (Seat N)) (devices : List D) (ks : List (Connected N D)) → AreConnected operator line d seats devices ks → turn d ≡ Owes
@@ -83,7 +102,7 @@ module _ {N D : Type 0} where
   all_ready turn operator line d (s ∷ ss) devices (k ∷ ks) are owes listen =
       All-cons (IsReady turn) k ks (ap turn are.0.device_is ∙ owes ∙ sym (ap turn_with are.0.line_is)) (ready_clients turn operator.session.settings ss devices ks are.1 listen)
   all_ready turn operator line d (s ∷ ss) devices [] are owes listen = absurd are
-  all_ready turn operator line d [] devices ks are owes listen = subst (All (IsReady turn)) (sym are) (All-nil (IsReady {N} {D} turn))
+  all_ready turn operator line d [] devices ks are owes listen = subst (All (IsReady turn)) (sym are) (All-nil (IsReady {N = N} {D = D} turn))
 
   -- ---- all of them are served
 

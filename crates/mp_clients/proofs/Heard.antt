@@ -4,6 +4,10 @@ use Rattle.std.specs.Prelude.{Some, None, Result, Ok, Err, IfOk, IfErr}
 use Rattle.mp_rules.specs.Verifier.{Accepts}
 use Rattle.mp_mempool.specs.Pass.{Pass}
 use Rattle.mp_mempool.specs.Seen.{IsSeen}
+use Rattle.mp_names.specs.declared.fault.LineFault.{LineFault}
+use Rattle.mp_names.specs.declared.fault.LineFault.TheVariants.{Bad}
+use Rattle.mp_names.specs.declared.reason.Reason.{Reason}
+use Rattle.mp_names.specs.Fault.{IsBad}
 use Rattle.mp_lines.specs.Lines as lines
 use Rattle.mp_serve.specs.declared.answer.Answer.{Answer}
 use Rattle.mp_serve.specs.Inside.Answer.{text_of}
@@ -103,6 +107,10 @@ module _ {N : Type 0} (accepts : Accepts) (callers : ℕ) (c : Conversation N) w
       tt,
       (text, v, record { client = k; txs = txs; looked = looked; meant = meant; extended = subst (λ (x : Block). IsExtendedBy accepts callers (with_client c k) x text v) is does }, same),
     )
+
+-- the line is bad
+pub is_bad : (X : Type 0) (f : LineFault) (reason : Reason) → f ≡ Bad reason → IsBad {X = X} (Err f)
+is_bad X f reason e = subst (λ (x : LineFault). IsBad {X = X} (Err x)) (sym e) tt
 
 -- a line that may be done either only notes something or makes a change
 pub must_change : (caller : ℕ) (line : lines.Line) → may_do caller line ≡ true → is_note line ≡ false → is_change line ≡ true

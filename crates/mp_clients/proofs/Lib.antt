@@ -11,4 +11,5 @@ pub mod Backs
 pub mod Before
 pub mod Connecting
 pub mod Fresh
-pub mod Asks
+pub mod Seen
+pub mod Seats

@@ -138,9 +138,10 @@ module _ {S : Type 0} (Step : S → List ℕ → List ℕ → S → Type 0) wher
     pub first_then : (s v u : S) (line : List ℕ) (old now new all left : Option (List ℕ)) (r : Result (Unit {0}) Fault) → left ≡ all → ((rest : List (List ℕ)) → IsFirst Step Breaks s line rest old now (Ok tt) v)
         → IfSome left (λ bytes. Ended Step Breaks v (lines_of bytes) now new r u) → IfSome all (λ bytes. Ended Step Breaks s (line ∷ lines_of bytes) old new r u)
     first_then s v u line old now new None left r e first later = tt
-    first_then s v u line old now new (Some bytes) left r e first later =
-        let one = first [] in
-        after_first s v u line one.0 (lines_of bytes) old now new one.1.0 one.1.1 r (subst (λ o. IfSome o (λ bytes. Ended Step Breaks v (lines_of bytes) now new r u)) e later)
+    first_then s v u line old now new (Some bytes) left r e first later = by (first [])
+      where
+        by : IsFirst Step Breaks s line [] old now (Ok tt) v → Ended Step Breaks s (line ∷ lines_of bytes) old new r u
+        by (text, is, w) = after_first s v u line text (lines_of bytes) old now new is w r (subst (λ o. IfSome o (λ bytes. Ended Step Breaks v (lines_of bytes) now new r u)) e later)
 
     -- or not
     pub first_only : (s v : S) (line : List ℕ) (old now all : Option (List ℕ)) (fault : Fault) → ((rest : List (List ℕ)) → IsFirst Step Breaks s line rest old now (Err fault) v)

@@ -24,7 +24,7 @@ use Rattle.mp_clients.specs.Answers.{IsAsked, HasLooked, IsAnsweredBy, IsSynced,
 use Rattle.mp_clients.specs.Inside.Asked.{IsUnanswered, IsBefore}
 use Rattle.mp_clients.specs.Inside.Steps.{IsStopped}
 
-module _ {N : Type 0} (accepts : Accepts) (callers : ℕ) where
+module _ (accepts : Accepts) (callers : ℕ) where
   -- ---- what was seen
 
   seen_more : (p q r : Pass) → IsSeen accepts callers p q → IsSeen accepts callers q r → IsSeen accepts callers p r
@@ -41,6 +41,7 @@ module _ {N : Type 0} (accepts : Accepts) (callers : ℕ) where
     same = two.same ∙ ap (λ (x : Client). record x { pass = l.pass }) one.same;
   }
 
+module _ {N : Type 0} (accepts : Accepts) (callers : ℕ) where
   -- the conversation has looked at the pool, and nothing else has changed
   pub looked_only : (c : Conversation N) (k : Client) (u : Conversation N) → HasLooked accepts callers c.client k → u ≡ with_client c k → IsUnchanged accepts callers c u
   looked_only c k u looked is = inr (
@@ -50,7 +51,7 @@ module _ {N : Type 0} (accepts : Accepts) (callers : ℕ) where
 
   pub unchanged_more : (c : Conversation N) (k : Client) (u : Conversation N) → HasLooked accepts callers c.client k → IsUnchanged accepts callers (with_client c k) u → IsUnchanged accepts callers c u
   unchanged_more c k u looked (inl same) = looked_only c k u looked same
-  unchanged_more c k u looked (inr (more, is)) = inr (looked_more c.client k u.client looked more, is)
+  unchanged_more c k u looked (inr (more, is)) = inr (looked_more accepts callers c.client k u.client looked more, is)
 
   -- ---- changes
 
@@ -125,6 +126,12 @@ module _ {N : Type 0} (accepts : Accepts) (callers : ℕ) where
       → IfOk r (λ t. IsReturned accepts callers c count wanted (text_of t) u) × IfErr r (IsStopped accepts callers (IsReturned accepts callers c count wanted) c u)
   returned c count wanted l r u e ok err =
       subst (λ (w : Option LedgerState). IfOk r (λ t. IsReturned accepts callers c count w (text_of t) u) × IfErr r (IsStopped accepts callers (IsReturned accepts callers c count w) c u)) (sym e) (ok, err)
+
+  -- no ledger state is that far back
+  pub none_back : (c : Conversation N) (count : ℕ) (wanted : Option LedgerState) (r : Result Answer Stop) (u : Conversation N) → wanted ≡ None
+      → IfOk r (λ t. (n : ℕ) → IsReturned accepts callers c n None (text_of t) u) → IfOk r (λ t. IsReturned accepts callers c count wanted (text_of t) u)
+  none_back c count wanted (Ok t) u e is = subst (λ (w : Option LedgerState). IsReturned accepts callers c count w (text_of t) u) (sym e) (is count)
+  none_back c count wanted (Err stop) u e is = tt
 
   -- before a change was made
   pub stopped_before : (Does : List ℕ → Conversation N → Type 0) (c u : Conversation N) (stop : Stop) → IsBefore stop → u ≡ c → IsStopped accepts callers Does c u stop

@@ -26,7 +26,6 @@ use std::sync::Wait;
 pub type Asked = Result<Receipt, mp_seqpool::Refusal>;
 
 /// Asks for the change. After an `Err` the pass is as it was.
-#[tactic(auto, using(crate::proofs::Asks::refused_there))]
 pub fn ask_pool<N: PoolName, V: Verifier>(
     rt: &impl Wait,
     pool: &Mempool<N, V>,

@@ -3,7 +3,7 @@
 use crate::adopting::{go_back, go_on};
 use crate::asking::{Asked, ask_pool, count_refusal};
 use crate::checking::{answer_of, share_held};
-use crate::former::Formers;
+use crate::former::{Formers, state_back};
 use crate::reading::{for_line, query_line, stats_line};
 use crate::stop::Stop;
 use mp_answers::answer_line;
@@ -139,6 +139,16 @@ impl<N: PoolName> Client<N> {
         ensures { result.now ≡ self.now.former }
     {
         &self.former
+    }
+
+    /// The ledger state this many steps ago, if it is kept.
+    ///
+    /// # Errors
+    /// `NoMemory`.
+    pub(crate) fn state_back(&self, count: usize) -> Result<Option<Ledger>, NoMemory>
+        ensures { IfOk result (λ l. l ≡ state_back self.now.former self.now.ledger count) }
+    {
+        state_back(&self.former, &self.ledger, count)
     }
 
     /// Looks at the newest version.

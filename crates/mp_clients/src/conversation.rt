@@ -13,7 +13,6 @@ use crate::asking::{Asked, asked_line, given_line, make_given_room, make_room};
 use crate::bad::answer_bad;
 use crate::client::Client;
 use crate::forgetting::names_to_go;
-use crate::former::state_back;
 use crate::meaning::{tx_meant, txs_meant};
 use crate::shared::Shared;
 use crate::stop::Stop;
@@ -397,6 +396,7 @@ impl<N: PoolName> Conversation<N> {
     }
 
     // Adopts the ledger state this many steps ago, or answers how many are kept.
+    #[tactic(auto, using(crate::proofs::Backs::kept_within))]
     fn return_by<V: Verifier>(
         &mut self,
         rt: &impl Wait,
@@ -412,7 +412,7 @@ impl<N: PoolName> Conversation<N> {
             self.old self.new) }
     {
         let count = count as usize;
-        match state_back(self.client.former(), self.client.ledger(), count) {
+        match self.client.state_back(count) {
             Ok(Some(ledger)) => self.go_back(rt, shared, memory, count, ledger),
             Ok(None) => self.refuse_back(memory),
             Err(_) => Err(Stop::NoMemory),

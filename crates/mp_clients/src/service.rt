@@ -228,8 +228,16 @@ fn connect_all<N: PoolName, D: Device + Drop>(
     ensures { IfOk result (λ all.
         AreConnected operator line.items device seats.items clients.items all.items) }
 {
-    let alone::Conversation { session, line: number, .. } = operator;
-    let Session { names, settings, .. } = session;
+    let alone::Conversation {
+        session,
+        line: number,
+        ..
+    } = operator;
+    let Session {
+        names,
+        settings,
+        ..
+    } = session;
     let settings = Arc::new(memory, settings)?;
     let mut all = Vec::new(memory);
     let mut seats = seats;
@@ -251,11 +259,7 @@ fn connect_all<N: PoolName, D: Device + Drop>(
 ///
 /// # Errors
 /// `NoMemory`. Then some conversations may not have gone on.
-pub fn serve<
-    N: PoolName + Send + Sync,
-    D: Device + Send + Drop,
-    R: Threads + Wait + Sync,
->(
+pub fn serve<N: PoolName + Send + Sync, D: Device + Send + Drop, R: Threads + Wait + Sync>(
     rt: &R,
     memory: Memory,
     opened: Opened<N>,

@@ -32,12 +32,18 @@ returns-in-Ok-End-clause-begun g c =
 
 pub returns-in-None-clause-begun : goal.returns-in-None-clause-begun
 returns-in-None-clause-begun g c =
+    let all : Option (List ℕ) = g.D.Device.input c.args.device.now in
     let left : Option (List ℕ) = g.D.Device.input c.loop-count.device in
+    let after : Option (List ℕ) = g.D.Device.input c.read_line.new.self in
+    let start : Conversation = c.args.conversation.now in
+    let old : Option (List ℕ) = g.D.Device.output c.args.device.now in
     let none = c.in-None.ensures.none in
     let line = subst (λ k. IfSome left (λ bytes. IsLine _ bytes c.in-Ok.found k)) (sym c.deref.ensures.value) c.in-Ok.ensures.line in
-    subst (λ o. IfSome (g.D.Device.input c.args.device.now) (λ bytes. HasCome c.args.conversation.now bytes (g.D.Device.output c.args.device.now) o _ _ (g.D.Device.input c.read_line.new.self))) (sym c.in-Ok.ensures.output)
-    (has_come c.args.conversation.now (g.D.Device.output c.args.device.now) (g.D.Device.output c.loop-count.device) c.loop-count.conversation c.loop-count._count left (g.D.Device.input c.read_line.new.self) c.deref.result.now c.in-Ok.ensures.rest
-    (subst (λ (f : LineRead). IfSome left (λ bytes. IsLine _ bytes f c.deref.result.now)) none.0 line) none.1.0 (g.D.Device.input c.args.device.now) c.loop-count.invariant.0)
+    subst (λ (u : Conversation). IfSome all (λ bytes. HasCome start bytes old (g.D.Device.output c.read_line.new.self) c.read_line.new.line.items u after)) (sym none.2)
+    (subst (λ (l : List ℕ). IfSome all (λ bytes. HasCome start bytes old (g.D.Device.output c.read_line.new.self) l c.loop-count.conversation after)) c.deref.ensures.value
+    (subst (λ (o : Option (List ℕ)). IfSome all (λ bytes. HasCome start bytes old o c.deref.result.now c.loop-count.conversation after)) (sym c.in-Ok.ensures.output)
+    (has_come start old (g.D.Device.output c.loop-count.device) c.loop-count.conversation c.loop-count._count left after c.deref.result.now c.in-Ok.ensures.rest
+    (subst (λ (f : LineRead). IfSome left (λ bytes. IsLine _ bytes f c.deref.result.now)) none.0 line) none.1 all c.loop-count.invariant.0)))
 
 pub returns-in-Err-tell : goal.returns-in-Err-tell
 returns-in-Err-tell g c =
@@ -50,7 +56,7 @@ returns-in-Err-tell g c =
           (subst (λ k. IfSome left (λ bytes. IsLine _ bytes c.in-Ok.found k)) (sym c.deref.ensures.value) c.in-Ok.ensures.line) c.in-Some.ensures.some (g.D.Device.input c.args.device.now) c.loop-count.invariant.0
           (subst (λ o. AppendsUpTo o (g.D.Device.output c.tell.new.device) answer) c.in-Ok.ensures.output c.in-Err-tell.ensures.err);
       turn = tt;
-      before = c.answer_found.ensures.before c.loop-count.invariant.1.1;
+      before = c.answer_found.ensures.before c.loop-count.invariant.2;
     }
 
 pub loop-count-preserved : goal.loop-count-preserved
@@ -66,5 +72,5 @@ loop-count-preserved g c =
           (subst (λ k. IfSome left (λ bytes. IsLine _ bytes c.in-Ok.found k)) (sym c.deref.ensures.value) c.in-Ok.ensures.line) c.in-Some.ensures.some (g.D.Device.input c.args.device.now) c.loop-count.invariant.0
           (subst (λ o. Appends o (g.D.Device.output c.tell.new.device) answer) c.in-Ok.ensures.output c.in-Ok-tell.ensures.ok)),
       c.in-Ok-tell.ensures.turn,
-      subst (λ (v : Conversation). IsBefore v.session.stage) (sym c.count_line.ensures) (c.answer_found.ensures.before c.loop-count.invariant.1.1),
+      subst (λ (v : Conversation). IsBefore v.session.stage) (sym c.count_line.ensures) (c.answer_found.ensures.before c.loop-count.invariant.2),
     )

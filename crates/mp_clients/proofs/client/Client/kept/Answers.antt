@@ -1,5 +1,7 @@
-use Rattle.std.proofs.Common.{ap, ◌∙◌}
-use Rattle.mp_seqpool.specs.Keep.{keep}
+use Rattle.std.proofs.Common.{sym, ap, subst, ◌∙◌}
+use Rattle.std.specs.Prelude.{All}
+use Rattle.mp_rules.specs.Checked.{IsSigned}
+use Rattle.mp_seqpool.specs.Keep.{keep, transactions}
 use Rattle.mp_signatures.specs.Scheme.{accepted_by}
 use Rattle.mp_mempool.proofs.Signed.{signed_after}
 use Rattle.mp_clients.specs.Client.{Client}
@@ -9,7 +11,8 @@ use Rattle.mp_clients.proofs.client.Client.kept.Goals as goal
 
 pub keep_valid-requires-clause-signed : goal.keep_valid-requires-clause-signed
 keep_valid-requires-clause-signed g c =
-    signed_after g.N.PoolName.accepts (accepted_by c.self.inside.signatures) g.N.PoolName.callers c.shown.result.now c.version-version.result.now.pool c.self.invariant.verifier c.version-version.ensures.legal c.version-version.ensures.state
+    subst (λ items. All (IsSigned (accepted_by c.self.inside.signatures)) (transactions items)) (sym c.contents.ensures)
+    (signed_after g.N.PoolName.accepts (accepted_by c.self.inside.signatures) g.N.PoolName.callers c.shown.result.now c.version-version.result.now.pool c.self.invariant.verifier c.version-version.ensures.legal c.version-version.ensures.state)
 
 pub returns : goal.returns
 returns g c =

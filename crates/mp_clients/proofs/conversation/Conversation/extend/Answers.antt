@@ -1,7 +1,8 @@
+use Rattle.std.proofs.Common.{refl}
 use Rattle.mp_serve.specs.Ask.{Extends}
 use Rattle.mp_serve.specs.Inside.Ask.{to_block}
 use Rattle.mp_clients.proofs.Steps.{looked_only}
-use Rattle.mp_clients.proofs.Heard.{extended_there, heard_bad}
+use Rattle.mp_clients.proofs.Heard.{extended_there, heard_bad, is_bad}
 use Rattle.mp_clients.proofs.conversation.Conversation.extend.Goals as goal
 
 pub returns-in-Ok : goal.returns-in-Ok
@@ -10,9 +11,9 @@ returns-in-Ok g c =
     c.in-Ok.ensures.ok c.adopt_block.ensures.ok c.adopt_block.ensures.err in
     record { ok = both.0; err = both.1 }
 
-pub returns-in-NoMemory-clause-err : goal.returns-in-NoMemory-clause-err
-returns-in-NoMemory-clause-err g c = looked_only g.N.PoolName.accepts g.N.PoolName.callers c.args.self.now c.look.new.self _ c.look.ensures _
+pub returns-in-Err-NoMemory-clause-err : goal.returns-in-Err-NoMemory-clause-err
+returns-in-Err-NoMemory-clause-err g c = looked_only g.N.PoolName.accepts g.N.PoolName.callers c.args.self.now c.look.new.self _ c.look.ensures refl
 
-pub returns-in-Bad-clause-ok : goal.returns-in-Bad-clause-ok
-returns-in-Bad-clause-ok g c =
-    heard_bad g.N.PoolName.accepts g.N.PoolName.callers c.args.self.now c.look.new.self c.look.ensures (Extends (to_block c.args.block)) _ _ (c.in-Bad.ensures.bad tt) _ c.answer_bad.ensures
+pub returns-in-Err-Bad-clause-ok : goal.returns-in-Err-Bad-clause-ok
+returns-in-Err-Bad-clause-ok g c =
+    heard_bad g.N.PoolName.accepts g.N.PoolName.callers c.args.self.now c.look.new.self c.look.ensures (Extends (to_block c.args.block)) _ _ (c.in-Err-Bad.ensures.bad (is_bad _ _ _ c.in-Err-Bad.field-0-is)) refl c.answer_bad.ensures

@@ -16,7 +16,7 @@ returns-in-Ok-go_on g c =
     c.in-Ok-go_on.ensures.ok (λ f p. refl) c.finish.ensures.ok c.finish.ensures.client (on_ok c.finish.result _ refl) c.finish.ensures.err c.finish.ensures.same (on_err c.finish.result _ refl) in
     record { ok = both.0; err = both.1 }
 
-pub returns-in-Err-go_on : goal.returns-in-Err-go_on
-returns-in-Err-go_on g c =
+pub returns-in-Err : goal.returns-in-Err
+returns-in-Err g c =
     let s = c.args.self.now in
-    record { ok = tt; err = stopped_before g.N.PoolName.accepts g.N.PoolName.callers _ s _ c.in-Err-go_on.stop c.in-Err-go_on.ensures.before (ap (λ (k : Client). record s { client = k }) c.in-Err-go_on.ensures.err) }
+    record { ok = tt; err = stopped_before g.N.PoolName.accepts g.N.PoolName.callers _ s _ c.in-Err.stop c.in-Err.ensures.before (ap (λ (k : Client). record s { client = k }) c.in-Err.ensures.err) }

@@ -1,15 +1,15 @@
 use Rattle.mp_serve.specs.Inside.Ask.{to_ask}
 use Rattle.mp_clients.proofs.Steps.{looked_only}
-use Rattle.mp_clients.proofs.Heard.{heard_alone, heard_bad}
+use Rattle.mp_clients.proofs.Heard.{heard_alone, heard_bad, is_bad}
 use Rattle.mp_clients.proofs.conversation.Conversation.look_and_tell.Goals as goal
 
 pub returns-in-Ok-clause-ok : goal.returns-in-Ok-clause-ok
 returns-in-Ok-clause-ok g c =
     heard_alone g.N.PoolName.accepts g.N.PoolName.callers c.args.self.now c.look.new.self c.look.ensures (to_ask c.args.ask) _ c.tell.new.self c.requires c.in-Ok.ensures.ok
 
-pub returns-in-NoMemory-clause-err : goal.returns-in-NoMemory-clause-err
-returns-in-NoMemory-clause-err g c = looked_only g.N.PoolName.accepts g.N.PoolName.callers c.args.self.now c.look.new.self c.tell.new.self c.look.ensures c.in-NoMemory.ensures.err
+pub returns-in-Err-NoMemory-clause-err : goal.returns-in-Err-NoMemory-clause-err
+returns-in-Err-NoMemory-clause-err g c = looked_only g.N.PoolName.accepts g.N.PoolName.callers c.args.self.now c.look.new.self c.tell.new.self c.look.ensures c.in-Err-NoMemory.ensures.err
 
-pub returns-in-Bad-clause-ok : goal.returns-in-Bad-clause-ok
-returns-in-Bad-clause-ok g c =
-    heard_bad g.N.PoolName.accepts g.N.PoolName.callers c.args.self.now c.look.new.self c.look.ensures (to_ask c.args.ask) _ c.tell.new.self (c.in-Bad.ensures.bad tt) c.in-Bad.ensures.err c.answer_bad.ensures
+pub returns-in-Err-Bad-clause-ok : goal.returns-in-Err-Bad-clause-ok
+returns-in-Err-Bad-clause-ok g c =
+    heard_bad g.N.PoolName.accepts g.N.PoolName.callers c.args.self.now c.look.new.self c.look.ensures (to_ask c.args.ask) _ c.tell.new.self (c.in-Err-Bad.ensures.bad (is_bad _ _ _ c.in-Err-Bad.field-0-is)) c.in-Err-Bad.ensures.err c.answer_bad.ensures

@@ -1,6 +1,9 @@
-use Rattle.std.proofs.Common.{refl, ap}
+use Rattle.std.proofs.Common.{◌≡◌, refl, ap, subst, rules}
+use Rattle.std.specs.Prelude.{OnOk}
+use Rattle.mp_tx.specs.Transaction.{Transaction}
 use Rattle.std.specs.Arc.{arc_value}
 use Rattle.mp_seqpool.specs.Command.{Submit}
+use Rattle.mp_answers.specs.AnswerText.{answer_text}
 use Rattle.mp_serve.specs.Request.{reported_if}
 use Rattle.mp_serve.proofs.Answers.{on_ok, on_err}
 use Rattle.mp_clients.specs.declared.conversation.Conversation.{Conversation}
@@ -13,11 +16,8 @@ use Rattle.mp_clients.proofs.conversation.Conversation.submit.Goals as goal
 pub returns-in-Ok-change : goal.returns-in-Ok-change
 returns-in-Ok-change g c =
     let s = c.args.self.now in
-    let both = finished g.N.PoolName.accepts g.N.PoolName.callers s (Submit (arc_value c.args.tx)) (moved s.client) (reported_if s.names c.args.name.now (arc_value c.args.tx)) (answer_in c.in-Ok-change.asked) c.change.new.self c.finish_submit.new.client c.finish_submit.new.names c.finish_submit.result
-    c.in-Ok-change.ensures.ok (λ f p. refl) c.finish_submit.ensures.ok c.finish_submit.ensures.client c.finish_submit.ensures.names c.finish_submit.ensures.err c.finish_submit.ensures.same c.finish_submit.ensures.kept in
+    let same : c.deref.result.now ≡ arc_value c.args.tx = search rules in
+    let named = subst (λ (t : Transaction). OnOk c.finish_submit.result (c.finish_submit.new.names ≡ reported_if s.names c.args.name.now t (answer_in c.in-Ok-change.asked))) same c.finish_submit.ensures.names in
+    let both = finished g.N.PoolName.accepts g.N.PoolName.callers s (Submit (arc_value c.args.tx)) (moved s.client) (reported_if s.names c.args.name.now (arc_value c.args.tx)) (answer_text s.names) (answer_in c.in-Ok-change.asked) c.change.new.self c.finish_submit.new.client c.finish_submit.new.names c.finish_submit.result
+    c.in-Ok-change.ensures.ok (λ f p. refl) c.finish_submit.ensures.ok c.finish_submit.ensures.client named c.finish_submit.ensures.err c.finish_submit.ensures.same c.finish_submit.ensures.kept in
     record { ok = both.0; err = both.1 }
-
-pub returns-in-Err-change : goal.returns-in-Err-change
-returns-in-Err-change g c =
-    let s = c.args.self.now in
-    record { ok = tt; err = stopped_before g.N.PoolName.accepts g.N.PoolName.callers _ s _ c.in-Err-change.stop c.in-Err-change.ensures.before (ap (λ (k : Client). record s { client = k }) c.in-Err-change.ensures.err) }
