@@ -208,6 +208,8 @@ class Program(asyncio.SubprocessProtocol):
         except BaseException:
             program.kill()
             raise
+        if program.ended.done():
+            program._fail_all(program.ended.result())
         return program
 
     async def _connect(self, writer: BinaryIO, reader: BinaryIO) -> None:
@@ -298,14 +300,18 @@ class Program(asyncio.SubprocessProtocol):
         status = self._transport.get_returncode()
         self._transport.close()
         self._pipes.close()
-        for conversation, answers in self._readers:
-            _drain(conversation, answers)
         details = [self._fault, self._error_end.decode("utf-8", "backslashreplace").strip()]
         reason = ": ".join(
             [f"the pool's process ended with status {status}", *filter(None, details)]
         )
         if not self.ended.done():
             self.ended.set_result(reason)
+        self._fail_all(reason)
+
+    def _fail_all(self, reason: str) -> None:
+        """Takes what the process has written, and fails what still waits."""
+        for conversation, answers in self._readers:
+            _drain(conversation, answers)
         for one in (self.operator, *self.clients):
             one.close()
             one.fail(reason)
