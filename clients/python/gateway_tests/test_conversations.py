@@ -111,6 +111,19 @@ class Sessions(GatewayCase):
         await self.accept(spend(first, 0, 60))
         self.assertEqual(await self.held(), [id_of(pay(1)), id_of(spend(first, 0, 60))])
 
+    async def test_the_limit_of_changes(self) -> None:
+        with open(self.ledger, "a", encoding="ascii") as file:
+            file.write("limit 3\n")
+        gateway = await self.start()
+        await self.accept(pay(0), pay(1), pay(2))
+        status, answer = await self.post(pay(3))
+        self.assertEqual(status, 503)
+        self.assertIn("as many changes as it may", answer["message"])
+        async with asyncio.timeout(LONG):
+            while gateway._keeper.counts["starts"] < 2:
+                await asyncio.sleep(0.05)
+        self.assertEqual(await self.held(), [id_of(pay(place)) for place in range(3)])
+
     async def test_one_conversation(self) -> None:
         older = f"{self.folder}/older"
         with open(older, "w", encoding="ascii") as file:

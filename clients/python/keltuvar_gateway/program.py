@@ -55,8 +55,8 @@ class Conversation:
     ) -> None:
         """Sends a line. Its answer is given to `take`, in the order of the lines.
 
-        If `take` raises a ValueError, the answer has no known form, and the process is ended. If
-        the answer doesn't come, the future gets `Down`.
+        If `take` raises a ValueError, the answer is one after which the process is ended. Then, and
+        if the answer doesn't come, the future gets `Down`.
         """
         if self._is_lost:
             raise Down("the pool's process has ended")
@@ -113,22 +113,29 @@ class Conversation:
         if not self._waiting:
             self._kill("it wrote an answer without a line")
             return
-        take, _ = self._waiting.popleft()
+        take, future = self._waiting.popleft()
         text = answer.decode("ascii", "backslashreplace")
         try:
             take(text)
         except ValueError as error:
-            self._kill(f"{text!r:.80}: {error}")
+            reason = f"{text!r:.80}: {error}"
+            self._kill(reason)
+            _fail(future, reason)
 
     def fail(self, reason: str) -> None:
         """Fails what still waits for an answer."""
         self._is_lost = True
         for _, future in self._waiting:
-            if future is not None and not future.done():
-                future.set_exception(Down(reason))
-                # Not everybody who asked waits for it to the end.
-                future.exception()
+            _fail(future, reason)
         self._waiting.clear()
+
+
+def _fail(future: asyncio.Future[Any] | None, reason: str) -> None:
+    """Fails what waits for an answer."""
+    if future is not None and not future.done():
+        future.set_exception(Down(reason))
+        # Not everybody who asked waits for it to the end.
+        future.exception()
 
 
 class _Client(asyncio.Protocol):
