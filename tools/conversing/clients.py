@@ -5,9 +5,9 @@ from __future__ import annotations
 from copy import copy
 from random import Random
 
+from . import data
 from .lines import RandomTalk
 from .plans import Known
-from . import data
 from .pool import Pool, SharedPool, size_of
 from .rules import Unspent, Verifier, is_key_then_id
 from .scripts import NO, YES
@@ -24,8 +24,10 @@ FEW_OUTPUTS = 20
 MOST_IDS, MOST_DECLARED = 60, 12
 # A conversation forgets its names after so many lines. Otherwise there would be more and more to choose from.
 MOST_LINES_OF_NAMES = 250
-# So many lines more than the others have on average a conversation may have.
+# A conversation that has so many lines more than the average waits for the others.
 MOST_AHEAD = 12
+# How many lines of each conversation a round has; without a number the only round has all.
+LINES_IN_ROUND = (2, 4, 10, 30, None)
 
 
 class OperatorTalk(Talk):
@@ -153,8 +155,10 @@ class Speaker(RandomTalk):
 
 
 class Gathering:
-    """Lines of an operator, conversation 0, and of clients. Each line has a round, which begins once all lines of the one before are
-    answered."""
+    """Lines of an operator, conversation 0, and of clients, and the round of each.
+
+    A round begins once all lines of the one before are answered.
+    """
 
     def __init__(self, rng: Random, clients: int, length: int) -> None:
         """Makes about so many lines together."""
@@ -169,7 +173,10 @@ class Gathering:
         self.speakers += [Speaker(rng, ClientTalk(is_key_then_id, pool), known, makers) for _ in range(clients)]
         self.rounds: list[list[int]] = [[] for _ in self.speakers]
         self._note_round(0)
-        in_round = (clients + 1) * rng.choice([2, 4, 10, 30, length])
+        self._let_all_speak(length)
+
+    def _let_all_speak(self, length: int) -> None:
+        in_round = len(self.speakers) * (self.rng.choice(LINES_IN_ROUND) or length)
         while (said := sum(len(one.lines) for one in self.speakers)) < length:
             self._next_speaker(said).speak()
             self._note_round(said // in_round)

@@ -33,6 +33,13 @@ class Line:
         answer = await asyncio.wait_for(self.reader.readline(), LONG)
         return answer.decode("ascii").removesuffix("\n")
 
+    async def ask_until_free(self, line: str) -> str:
+        """Asks until there is a conversation for it."""
+        async with asyncio.timeout(LONG):
+            while (answer := await self.ask(line)) == "busy":
+                await asyncio.sleep(0.05)
+        return answer
+
 
 class Sessions(GatewayCase):
     async def connect(self) -> Line:
@@ -58,7 +65,7 @@ class Sessions(GatewayCase):
         both = f"offer 11:{id_of(pay(0))} 12:{id_of(pay(1))}"
         for _ in range(12):
             line = await self.connect()
-            self.assertEqual(await line.ask("offer 9 100000"), both)
+            self.assertEqual(await line.ask_until_free("offer 9 100000"), both)
             self.assertEqual(await line.ask("offer 9 100000"), "offer")
             line.writer.close()
 
@@ -67,20 +74,13 @@ class Sessions(GatewayCase):
         await self.accept(pay(0))
         for _ in range(3):
             line = await self.connect()
-            self.assertEqual(await line.ask("stats"), "stats 1 181 39819 11 1")
+            self.assertEqual(await line.ask_until_free("stats"), "stats 1 181 39819 11 1")
             for count in (1, 2):
                 already = f"refused already 11 {id_of(pay(0))}"
                 self.assertEqual(await line.ask(f"give {pay(0).hex()}"), already)
                 told = f"stats 1 181 39819 11 1 already {count}"
                 self.assertEqual(await line.ask("stats"), told)
             line.writer.close()
-            await self.until_free()
-
-    async def until_free(self) -> None:
-        """Waits until a connection could get a conversation."""
-        async with asyncio.timeout(LONG):
-            while await self.talk(self.client_socket, "stats") == ["busy"]:
-                await asyncio.sleep(0.05)
 
     async def test_too_many_connections(self) -> None:
         await self.start("--clients", "3")
@@ -90,9 +90,7 @@ class Sessions(GatewayCase):
         self.assertEqual(await third.ask("lookup 1"), "busy")
         await self.accept(pay(0))
         first.writer.close()
-        async with asyncio.timeout(LONG):
-            while await third.ask("lookup 1") == "busy":
-                await asyncio.sleep(0.05)
+        self.assertEqual(await third.ask_until_free("lookup 1"), "lookup none")
         self.assertEqual((await third.ask("what"))[:4], "bad ")
         self.assertEqual(await third.ask("lookup 11"), f"lookup {id_of(pay(0))}")
 
@@ -112,6 +110,19 @@ class Sessions(GatewayCase):
         self.assertEqual(await line.ask(f"has #{id_of(first)}"), "has no")
         await self.accept(spend(first, 0, 60))
         self.assertEqual(await self.held(), [id_of(pay(1)), id_of(spend(first, 0, 60))])
+
+    async def test_the_limit_of_changes(self) -> None:
+        with open(self.ledger, "a", encoding="ascii") as file:
+            file.write("limit 3\n")
+        gateway = await self.start()
+        await self.accept(pay(0), pay(1), pay(2))
+        status, answer = await self.post(pay(3))
+        self.assertEqual(status, 503)
+        self.assertIn("as many changes as it may", answer["message"])
+        async with asyncio.timeout(LONG):
+            while gateway._keeper.counts["starts"] < 2:
+                await asyncio.sleep(0.05)
+        self.assertEqual(await self.held(), [id_of(pay(place)) for place in range(3)])
 
     async def test_one_conversation(self) -> None:
         older = f"{self.folder}/older"

@@ -16,8 +16,9 @@ from .process import Process
 MOST_CLIENTS = 63
 """How many clients a program takes."""
 
-# How often, in seconds, the end looks for a client whose pipe the program opens only then.
+# How often, in seconds, the end looks for what the program waits for.
 _OFTEN = 0.05
+_CHUNK = 1 << 16
 
 
 class Clients:
@@ -107,7 +108,7 @@ class Clients:
             with contextlib.suppress(NoTurn):
                 self.operator._in_turn(left(), self._process.channel.end_lines)
             while not self._process.has_ended(min(left(), _OFTEN)) and time.monotonic() < until:
-                pipes.end_late_ones()
+                pipes.let_go()
             self.operator.close(left())
 
 
@@ -122,7 +123,7 @@ class Pipes:
         self._kept: list[int] = []
 
     def __enter__(self) -> Pipes:
-        """Keeps the pipes for answers open, so that the program doesn't wait for them."""
+        """Keeps the pipes for answers open, so that the program doesn't wait for a reader."""
         for _, answers in self._pipes:
             with contextlib.suppress(OSError):
                 self._kept.append(os.open(answers, os.O_RDONLY | os.O_NONBLOCK))
@@ -132,11 +133,15 @@ class Pipes:
         for descriptor in self._kept:
             os.close(descriptor)
 
-    def end_late_ones(self) -> None:
-        """Opens and closes the pipes for lines that the program reads or waits for."""
+    def let_go(self) -> None:
+        """Ends the program's waits for a writer of lines, and for room for answers."""
         for lines, _ in self._pipes:
             with contextlib.suppress(OSError):
                 os.close(os.open(lines, os.O_WRONLY | os.O_NONBLOCK))
+        for descriptor in self._kept:
+            with contextlib.suppress(OSError):
+                while os.read(descriptor, _CHUNK):
+                    continue
 
 
 class _Client(Pool):

@@ -26,6 +26,8 @@ T = TypeVar("T")
 _LOG = logging.getLogger(__name__)
 # How many lines of a start are sent at once.
 _BATCH = 1000
+# A pool of many conversations refuses all changes after its limit.
+_MOST_CHANGES = 2**32
 
 
 class _Event(NamedTuple):
@@ -79,6 +81,8 @@ class Conversations(Backend):
         try:
             # The last line opens the pool.
             last = ["ids", "stats"]
+            if self._clients and state.limit is None:
+                state.limit = _MOST_CHANGES
             lines = chain(state.settings(), state.utxo_lines(), last)
             await self._ask_each(program.operator, lines)
             await self._give_missing(program)
@@ -150,7 +154,7 @@ class Conversations(Backend):
         return _send(conversation, [], str, f"give {data.hex()}", read)
 
     def _read_receipt(self, data: bytes, answer: str, counts: Counter[str]) -> Receipt:
-        error = error_in(answer)
+        error = _read_error(answer)
         if error is not None:
             receipt = Receipt(error.id if isinstance(error, Refused) else None, None, error)
         else:
@@ -172,15 +176,14 @@ class Conversations(Backend):
         conversation = min(self._free, key=lambda one: one.waiting)
         self._free.remove(conversation)
         try:
-            stats = await conversation.ask("stats")
+            return OwnSession(
+                lambda line: self._ask_own(program, conversation, line),
+                lambda: self._give_back(program, conversation),
+                await conversation.ask("stats"),
+            )
         except BaseException:
             self._give_back(program, conversation)
             raise
-        return OwnSession(
-            lambda line: self._ask_own(program, conversation, line),
-            lambda: self._give_back(program, conversation),
-            stats,
-        )
 
     async def _ask_own(self, program: Program, conversation: Conversation, line: str) -> str:
         """Sends a line of a session's own conversation."""
@@ -289,7 +292,7 @@ class Conversations(Backend):
 
     def _hear_operation(self, operation: Operation, answer: str) -> Iterable[int]:
         """Adds what a line of the operator's submits, and returns the tickets in its answer."""
-        if error_in(answer) is not None:
+        if _read_error(answer) is not None:
             return []
         match operation.words:
             case ["submit", _]:
@@ -423,6 +426,14 @@ class Conversations(Backend):
         """Wakes those who wait for a change."""
         self._changed.set()
         self._changed = asyncio.Event()
+
+
+def _read_error(answer: str) -> KeltuvarError | None:
+    """Returns the error in an answer. Raises a ValueError if the process can't go on after it."""
+    error = error_in(answer)
+    if isinstance(error, Refused) and error.word == "history":
+        raise ValueError("it has made as many changes as it may")
+    return error
 
 
 def _send(

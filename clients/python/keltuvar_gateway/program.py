@@ -55,8 +55,8 @@ class Conversation:
     ) -> None:
         """Sends a line. Its answer is given to `take`, in the order of the lines.
 
-        If `take` raises a ValueError, the answer has no known form, and the process is ended. If
-        the answer doesn't come, the future gets `Down`.
+        If `take` raises a ValueError, the answer is one after which the process is ended. Then, and
+        if the answer doesn't come, the future gets `Down`.
         """
         if self._is_lost:
             raise Down("the pool's process has ended")
@@ -113,22 +113,29 @@ class Conversation:
         if not self._waiting:
             self._kill("it wrote an answer without a line")
             return
-        take, _ = self._waiting.popleft()
+        take, future = self._waiting.popleft()
         text = answer.decode("ascii", "backslashreplace")
         try:
             take(text)
         except ValueError as error:
-            self._kill(f"{text!r:.80}: {error}")
+            reason = f"{text!r:.80}: {error}"
+            self._kill(reason)
+            _fail(future, reason)
 
     def fail(self, reason: str) -> None:
         """Fails what still waits for an answer."""
         self._is_lost = True
         for _, future in self._waiting:
-            if future is not None and not future.done():
-                future.set_exception(Down(reason))
-                # Not everybody who asked waits for it to the end.
-                future.exception()
+            _fail(future, reason)
         self._waiting.clear()
+
+
+def _fail(future: asyncio.Future[Any] | None, reason: str) -> None:
+    """Fails what waits for an answer."""
+    if future is not None and not future.done():
+        future.set_exception(Down(reason))
+        # Not everybody who asked waits for it to the end.
+        future.exception()
 
 
 class _Client(asyncio.Protocol):
@@ -208,6 +215,8 @@ class Program(asyncio.SubprocessProtocol):
         except BaseException:
             program.kill()
             raise
+        if program.ended.done():
+            program._fail_all(program.ended.result())
         return program
 
     async def _connect(self, writer: BinaryIO, reader: BinaryIO) -> None:
@@ -298,14 +307,18 @@ class Program(asyncio.SubprocessProtocol):
         status = self._transport.get_returncode()
         self._transport.close()
         self._pipes.close()
-        for conversation, answers in self._readers:
-            _drain(conversation, answers)
         details = [self._fault, self._error_end.decode("utf-8", "backslashreplace").strip()]
         reason = ": ".join(
             [f"the pool's process ended with status {status}", *filter(None, details)]
         )
         if not self.ended.done():
             self.ended.set_result(reason)
+        self._fail_all(reason)
+
+    def _fail_all(self, reason: str) -> None:
+        """Takes what the process has written, and fails what still waits."""
+        for conversation, answers in self._readers:
+            _drain(conversation, answers)
         for one in (self.operator, *self.clients):
             one.close()
             one.fail(reason)

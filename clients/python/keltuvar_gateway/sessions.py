@@ -7,7 +7,7 @@ from collections import Counter
 from collections.abc import Awaitable, Callable
 from dataclasses import replace
 
-from keltuvar import Refused, Stats, Undecodable, answers, words
+from keltuvar import Refused, Stats, Undecodable, answers, error_in, words
 
 from .backend import Backend, Session
 from .holdings import Held
@@ -111,6 +111,9 @@ class OwnSession(Session):
     ) -> None:
         """The calls send a line and give the conversation back. Its `stats` were these before."""
         self._ask, self._end = ask, end
+        error = error_in(stats)
+        if error is not None:
+            raise error
         self._before = Counter(answers.read_stats(stats).refusals)
 
     async def ask(self, line: str) -> str:

@@ -135,6 +135,13 @@ class Fake(unittest.TestCase):
             pools.close(LONG)
             self.assertEqual(pools.status, 0)
 
+    def test_a_program_that_writes_what_nobody_reads(self) -> None:
+        client = self.pools.clients[0]
+        client.lookup(1)
+        os.write(client._channel._lines_fd, b"long 1000000\n")
+        self.pools.close(LONG)
+        self.assertEqual(self.pools.status, 0)
+
     def test_a_program_that_will_not_end(self) -> None:
         pid = self.pools.pid
         self.pools.operator.ask("stay")
