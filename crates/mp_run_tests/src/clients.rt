@@ -26,106 +26,97 @@ struct Row {
 const ROWS: [Row; 4] = [
     Row {
         name: "an operator before and after the pool opens",
-        lines: b"block 400\nlimit 1000\nreset\nblock 5\nout g0 100\nout g1 7\ntx a in=g0 out=100\n\
-            tx b in=a.0 out=60 out=40\ntx c in=g1 out=7 sign=5\nremove\nsubmit nobody\nforget nobody\n\n\
-            # stats\nshow a\nbytes x 03\nstats\nout g2 5\ntick 3\n\
-            utxo 1111111111111111111111111111111111111111111111111111111111111111#0 4bf5122f344554c53bde\
-            2ebb8cd2b7e3d1600ad631c385a5d7cce23c7785459a3e4479e6b5a0a3bed1440325ca4bb09327a1dfb39c28bdd5\
-            9de53a687ade01050001000000000000000000000000000000000000000000000000000000000000000000000000\
-            0000000009\nsubmit a\nsubmit a\ncheck b\nsubmit b\nsubmit c\nstats\nsnapshot\nafter 1\n\
-            lookup 2\nlookup 4\nhas b\ntake 500\nforge 468\noffer 2 1000\noffer 9 277\noffer 9 1000\n\
-            for 0 a.0\nfor 0 g0 g1\nremove b b\nsync 1 a.0 g1\nsubmit a\nsubmit b\nback 1\nsubmit a\n\
-            back 0\nadopt 2 a\nadopt 3 a\nback 3\nstats\nforget a c g0 nobody\nshow a\nreset\nshow c\n\
-            bytes a 010001000000000000000000000000000000000000000000000000000000000000000000000001010003\
-            030000000303000000014bf5122f344554c53bde2ebb8cd2b7e3d1600ad631c385a5d7cce23c7785459a3e4479e6\
-            b5a0a3bed1440325ca4bb09327a1dfb39c28bdd59de53a687ade0105000100000000000000000000000000000000\
-            000000000000000000000000000000000000000000000000640000000000000000ffffffffffffffff0000000000\
-            00\ncheck a\nback 1\nsubmit a\nids\nlookup 6\nnames\nlookup 6\nstats\n",
-        answers: b"ok\nok\nbad 3: a reset stands below the first command\nbad 4: 'block' was set before\nok\n\
-            ok\nok\nok\nok\nbad 10: too few words, expected 'remove TX ..'\n\
-            bad 11: no transaction 'nobody'\nforgotten 0\nok\nok\n\
-            tx 181 f8f11283a19134b80b18f90f8ab47ef21a315808b705b442408dadb4fffe20b1 01000100000000000000\
-            0000000000000000000000000000000000000000000000000000000001010003030000000303000000014bf5122f\
-            344554c53bde2ebb8cd2b7e3d1600ad631c385a5d7cce23c7785459a3e4479e6b5a0a3bed1440325ca4bb09327a1\
-            dfb39c28bdd59de53a687ade01050001000000000000000000000000000000000000000000000000000000000000\
-            00000000000000000000640000000000000000ffffffffffffffff000000000000\nundecodable version\n\
-            stats 0 0 800 0 0\nbad 18: an output stands above the first command\n\
-            bad 19: a setting stands above the first command\n\
-            bad 20: an output stands above the first command\naccepted 1\nrefused already 1\n\
-            accepted 2\naccepted 2\naccepted 3\nstats 3 746 54 3 3 already 1\n\
-            snapshot 3 746 3 1:a 2:b 3:c\nafter 2:b 3:c\nlookup b\nlookup none\nhas yes\n\
-            take 2 469 1:a 2:b\nblock 1 181 1:a\noffer 1:a 2:b\noffer 3:c\noffer\nfor 2:b\n\
-            for 1:a 2:b 3:c\nremoved 2 dropped\nkept 3 dropped 1\nrefused missing 0\naccepted 4\n\
-            kept 3 dropped 4\naccepted 5\nkept 3 5 dropped\nkept 3 dropped 5\n\
-            refused adopt a missing 0\nrefused back 1\n\
-            stats 1 277 523 5 10 already 1 missing 1 adopt 1 back 1\nforgotten 2\n\
-            bad 51: no transaction 'a'\nok\nbad 1: no transaction 'c'\n\
-            tx 181 f8f11283a19134b80b18f90f8ab47ef21a315808b705b442408dadb4fffe20b1\nrefused missing 0\n\
-            kept 3 dropped\naccepted 6\nok\n\
+        lines: b"block 400\nlimit 1000\nreset\nblock 5\nout g0 100\nout g1 7\ntx a in=g0 out=100\ntx b in=a.0 out=60 out=40\n\
+            tx c in=g1 out=7 sign=5\nremove\nsubmit nobody\nforget nobody\n\n# stats\nshow a\nbytes x 03\nstats\n\
+            out g2 5\ntick 3\n\
+            utxo 1111111111111111111111111111111111111111111111111111111111111111#0 4bf5122f344554c53bde2ebb8cd2b7e3d160\
+            0ad631c385a5d7cce23c7785459a3e4479e6b5a0a3bed1440325ca4bb09327a1dfb39c28bdd59de53a687ade01050001000000000000\
+            0000000000000000000000000000000000000000000000000000000000000000000009\n\
+            submit a\nsubmit a\ncheck b\nsubmit b\nsubmit c\nstats\nsnapshot\nafter 1\nlookup 2\nlookup 4\nhas b\n\
+            take 500\nforge 468\noffer 2 1000\noffer 9 277\noffer 9 1000\nfor 0 a.0\nfor 0 g0 g1\nremove b b\n\
+            sync 1 a.0 g1\nsubmit a\nsubmit b\nback 1\nsubmit a\nback 0\nadopt 2 a\nadopt 3 a\nback 3\nstats\n\
+            forget a c g0 nobody\nshow a\nreset\nshow c\n\
+            bytes a 0100010000000000000000000000000000000000000000000000000000000000000000000000010100030300000003030000\
+            00014bf5122f344554c53bde2ebb8cd2b7e3d1600ad631c385a5d7cce23c7785459a3e4479e6b5a0a3bed1440325ca4bb09327a1dfb3\
+            9c28bdd59de53a687ade0105000100000000000000000000000000000000000000000000000000000000000000000000000000000000\
+            640000000000000000ffffffffffffffff000000000000\n\
+            check a\nback 1\nsubmit a\nids\nlookup 6\nnames\nlookup 6\nstats\n",
+        answers: b"ok\nok\nbad 3: a reset stands below the first command\nbad 4: 'block' was set before\nok\nok\nok\nok\nok\n\
+            bad 10: too few words, expected 'remove TX ..'\nbad 11: no transaction 'nobody'\nforgotten 0\nok\nok\n\
+            tx 181 f8f11283a19134b80b18f90f8ab47ef21a315808b705b442408dadb4fffe20b1 010001000000000000000000000000000000\
+            000000000000000000000000000000000000000001010003030000000303000000014bf5122f344554c53bde2ebb8cd2b7e3d1600ad6\
+            31c385a5d7cce23c7785459a3e4479e6b5a0a3bed1440325ca4bb09327a1dfb39c28bdd59de53a687ade010500010000000000000000\
+            0000000000000000000000000000000000000000000000000000000000000000640000000000000000ffffffffffffffff0000000000\
+            00\n\
+            undecodable version\nstats 0 0 800 0 0\nbad 18: an output stands above the first command\n\
+            bad 19: a setting stands above the first command\nbad 20: an output stands above the first command\n\
+            accepted 1\nrefused already 1\naccepted 2\naccepted 2\naccepted 3\nstats 3 746 54 3 3 already 1\n\
+            snapshot 3 746 3 1:a 2:b 3:c\nafter 2:b 3:c\nlookup b\nlookup none\nhas yes\ntake 2 469 1:a 2:b\n\
+            block 1 181 1:a\noffer 1:a 2:b\noffer 3:c\noffer\nfor 2:b\nfor 1:a 2:b 3:c\nremoved 2 dropped\n\
+            kept 3 dropped 1\nrefused missing 0\naccepted 4\nkept 3 dropped 4\naccepted 5\nkept 3 5 dropped\n\
+            kept 3 dropped 5\nrefused adopt a missing 0\nrefused back 1\n\
+            stats 1 277 523 5 10 already 1 missing 1 adopt 1 back 1\nforgotten 2\nbad 51: no transaction 'a'\nok\n\
+            bad 1: no transaction 'c'\ntx 181 f8f11283a19134b80b18f90f8ab47ef21a315808b705b442408dadb4fffe20b1\n\
+            refused missing 0\nkept 3 dropped\naccepted 6\nok\n\
             lookup f8f11283a19134b80b18f90f8ab47ef21a315808b705b442408dadb4fffe20b1\nok\nlookup a\n\
             stats 2 458 342 6 12 already 1 missing 1 adopt 1 back 1\n",
     },
     Row {
         name: "an operator's bytes and ids",
-        lines: b"out g0 100\ngive 00\nout g1 7\n\
-            show #f8f11283a19134b80b18f90f8ab47ef21a315808b705b442408dadb4fffe20b1\n\
-            give 010001000000000000000000000000000000000000000000000000000000000000000000000001010003030\
-            000000303000000014bf5122f344554c53bde2ebb8cd2b7e3d1600ad631c385a5d7cce23c7785459a3e4479e6b5a\
-            0a3bed1440325ca4bb09327a1dfb39c28bdd59de53a687ade0105000100000000000000000000000000000000000\
-            000000000000000000000000000000000000000000000640000000000000000ffffffffffffffff000000000000\
-            \n\
-            give 010001000000000000000000000000000000000000000000000000000000000000000000000001010003030\
-            000000303000000014bf5122f344554c53bde2ebb8cd2b7e3d1600ad631c385a5d7cce23c7785459a3e4479e6b5a\
-            0a3bed1440325ca4bb09327a1dfb39c28bdd59de53a687ade0105000100000000000000000000000000000000000\
-            000000000000000000000000000000000000000000000640000000000000000ffffffffffffffff000000000000\
-            \nsnapshot\noffer 9 1000\noffer 9 1000\n\
+        lines: b"out g0 100\ngive 00\nout g1 7\nshow #f8f11283a19134b80b18f90f8ab47ef21a315808b705b442408dadb4fffe20b1\n\
+            give 0100010000000000000000000000000000000000000000000000000000000000000000000000010100030300000003030000000\
+            14bf5122f344554c53bde2ebb8cd2b7e3d1600ad631c385a5d7cce23c7785459a3e4479e6b5a0a3bed1440325ca4bb09327a1dfb39c2\
+            8bdd59de53a687ade0105000100000000000000000000000000000000000000000000000000000000000000000000000000000000640\
+            000000000000000ffffffffffffffff000000000000\n\
+            give 0100010000000000000000000000000000000000000000000000000000000000000000000000010100030300000003030000000\
+            14bf5122f344554c53bde2ebb8cd2b7e3d1600ad631c385a5d7cce23c7785459a3e4479e6b5a0a3bed1440325ca4bb09327a1dfb39c2\
+            8bdd59de53a687ade0105000100000000000000000000000000000000000000000000000000000000000000000000000000000000640\
+            000000000000000ffffffffffffffff000000000000\n\
+            snapshot\noffer 9 1000\noffer 9 1000\n\
             show #f8f11283a19134b80b18f90f8ab47ef21a315808b705b442408dadb4fffe20b1\n\
             check #f8f11283a19134b80b18f90f8ab47ef21a315808b705b442408dadb4fffe20b1\n\
             has #f8f11283a19134b80b18f90f8ab47ef21a315808b705b442408dadb4fffe20b1\n\
             adopt 1 #f8f11283a19134b80b18f90f8ab47ef21a315808b705b442408dadb4fffe20b1\n\
             adopt 1 #f8f11283a19134b80b18f90f8ab47ef21a315808b705b442408dadb4fffe20b1\n\
-            give 010001000000000000000000000000000000000000000000000000000000000000000000000001010003030\
-            000000303000000014bf5122f344554c53bde2ebb8cd2b7e3d1600ad631c385a5d7cce23c7785459a3e4479e6b5a\
-            0a3bed1440325ca4bb09327a1dfb39c28bdd59de53a687ade0105000100000000000000000000000000000000000\
-            000000000000000000000000000000000000000000000640000000000000000ffffffffffffffff000000000000\
-            \nback 1\n\
-            bytes a 010001000000000000000000000000000000000000000000000000000000000000000000000001010003\
-            030000000303000000014bf5122f344554c53bde2ebb8cd2b7e3d1600ad631c385a5d7cce23c7785459a3e4479e6\
-            b5a0a3bed1440325ca4bb09327a1dfb39c28bdd59de53a687ade0105000100000000000000000000000000000000\
-            000000000000000000000000000000000000000000000000640000000000000000ffffffffffffffff0000000000\
-            00\nsubmit a\nlookup 2\noffer 9 1000\nreset\noffer 9 1000\n\
+            give 0100010000000000000000000000000000000000000000000000000000000000000000000000010100030300000003030000000\
+            14bf5122f344554c53bde2ebb8cd2b7e3d1600ad631c385a5d7cce23c7785459a3e4479e6b5a0a3bed1440325ca4bb09327a1dfb39c2\
+            8bdd59de53a687ade0105000100000000000000000000000000000000000000000000000000000000000000000000000000000000640\
+            000000000000000ffffffffffffffff000000000000\n\
+            back 1\n\
+            bytes a 0100010000000000000000000000000000000000000000000000000000000000000000000000010100030300000003030000\
+            00014bf5122f344554c53bde2ebb8cd2b7e3d1600ad631c385a5d7cce23c7785459a3e4479e6b5a0a3bed1440325ca4bb09327a1dfb3\
+            9c28bdd59de53a687ade0105000100000000000000000000000000000000000000000000000000000000000000000000000000000000\
+            640000000000000000ffffffffffffffff000000000000\n\
+            submit a\nlookup 2\noffer 9 1000\nreset\noffer 9 1000\n\
             remove #f8f11283a19134b80b18f90f8ab47ef21a315808b705b442408dadb4fffe20b1\n\
             remove #f8f11283a19134b80b18f90f8ab47ef21a315808b705b442408dadb4fffe20b1\n\
             has #f8f11283a19134b80b18f90f8ab47ef21a315808b705b442408dadb4fffe20b1\nbytes\nstats\n",
         answers: b"ok\nundecodable version\nbad 3: an output stands above the first command\n\
-            bad 4: no transaction #f8f11283a19134b80b18f90f8ab47ef21a315808b705b442408dadb4fffe20b1 in t\
-            he pool\naccepted 1 f8f11283a19134b80b18f90f8ab47ef21a315808b705b442408dadb4fffe20b1\n\
+            bad 4: no transaction #f8f11283a19134b80b18f90f8ab47ef21a315808b705b442408dadb4fffe20b1 in the pool\n\
+            accepted 1 f8f11283a19134b80b18f90f8ab47ef21a315808b705b442408dadb4fffe20b1\n\
             refused already 1 f8f11283a19134b80b18f90f8ab47ef21a315808b705b442408dadb4fffe20b1\n\
             snapshot 1 181 1 1:f8f11283a19134b80b18f90f8ab47ef21a315808b705b442408dadb4fffe20b1\n\
             offer 1:f8f11283a19134b80b18f90f8ab47ef21a315808b705b442408dadb4fffe20b1\noffer\n\
-            tx 181 f8f11283a19134b80b18f90f8ab47ef21a315808b705b442408dadb4fffe20b1 01000100000000000000\
-            0000000000000000000000000000000000000000000000000000000001010003030000000303000000014bf5122f\
-            344554c53bde2ebb8cd2b7e3d1600ad631c385a5d7cce23c7785459a3e4479e6b5a0a3bed1440325ca4bb09327a1\
-            dfb39c28bdd59de53a687ade01050001000000000000000000000000000000000000000000000000000000000000\
-            00000000000000000000640000000000000000ffffffffffffffff000000000000\nrefused already 1\n\
-            has yes\nkept dropped 1\n\
-            bad 14: no transaction #f8f11283a19134b80b18f90f8ab47ef21a315808b705b442408dadb4fffe20b1 in \
-            the pool\n\
-            refused missing 0 f8f11283a19134b80b18f90f8ab47ef21a315808b705b442408dadb4fffe20b1\n\
-            kept dropped\ntx 181 f8f11283a19134b80b18f90f8ab47ef21a315808b705b442408dadb4fffe20b1\n\
-            accepted 2\nlookup a\noffer 2:a\nok\n\
-            offer 2:f8f11283a19134b80b18f90f8ab47ef21a315808b705b442408dadb4fffe20b1\n\
-            removed 2 dropped\nremoved dropped\nhas no\n\
-            bad 5: too few words, expected 'bytes NAME HEX'\nstats 0 0 1000000 2 6 already 1 missing 1\n",
+            tx 181 f8f11283a19134b80b18f90f8ab47ef21a315808b705b442408dadb4fffe20b1 010001000000000000000000000000000000\
+            000000000000000000000000000000000000000001010003030000000303000000014bf5122f344554c53bde2ebb8cd2b7e3d1600ad6\
+            31c385a5d7cce23c7785459a3e4479e6b5a0a3bed1440325ca4bb09327a1dfb39c28bdd59de53a687ade010500010000000000000000\
+            0000000000000000000000000000000000000000000000000000000000000000640000000000000000ffffffffffffffff0000000000\
+            00\n\
+            refused already 1\nhas yes\nkept dropped 1\n\
+            bad 14: no transaction #f8f11283a19134b80b18f90f8ab47ef21a315808b705b442408dadb4fffe20b1 in the pool\n\
+            refused missing 0 f8f11283a19134b80b18f90f8ab47ef21a315808b705b442408dadb4fffe20b1\nkept dropped\n\
+            tx 181 f8f11283a19134b80b18f90f8ab47ef21a315808b705b442408dadb4fffe20b1\naccepted 2\nlookup a\noffer 2:a\n\
+            ok\noffer 2:f8f11283a19134b80b18f90f8ab47ef21a315808b705b442408dadb4fffe20b1\nremoved 2 dropped\n\
+            removed dropped\nhas no\nbad 5: too few words, expected 'bytes NAME HEX'\n\
+            stats 0 0 1000000 2 6 already 1 missing 1\n",
     },
     Row {
         name: "an operator at the limit of changes",
-        lines: b"limit 2\nout g0 100\nout g1 7\ntx a in=g0 out=100\ntx b in=g1 out=7\nsubmit a\ncheck b\n\
-            submit b\ncheck b\nsubmit a\nremove a\nsync 0\nadopt 0\nadopt 1 a\nback 0\nback 1\nhas a\n\
-            stats\n",
-        answers: b"ok\nok\nok\nok\nok\naccepted 1\naccepted 2\naccepted 2\nrefused history\nrefused history\n\
-            refused history\nrefused history\nrefused history\nrefused history\nrefused history\n\
-            refused back 0\nhas yes\nstats 2 362 999638 2 2 history 6 back 1\n",
+        lines: b"limit 2\nout g0 100\nout g1 7\ntx a in=g0 out=100\ntx b in=g1 out=7\nsubmit a\ncheck b\nsubmit b\ncheck b\n\
+            submit a\nremove a\nsync 0\nadopt 0\nadopt 1 a\nback 0\nback 1\nhas a\nstats\n",
+        answers: b"ok\nok\nok\nok\nok\naccepted 1\naccepted 2\naccepted 2\nrefused history\nrefused history\nrefused history\n\
+            refused history\nrefused history\nrefused history\nrefused history\nrefused back 0\nhas yes\n\
+            stats 2 362 999638 2 2 history 6 back 1\n",
     },
     Row {
         name: "an operator whose pool doesn't open",
@@ -290,9 +281,8 @@ const CHANGES: Talk = Talk {
         b"stats",
         b"snapshot",
     ],
-    answers: b"ok\nok\nok\nok\nok\nok\nok\naccepted 1\naccepted 1\nrefused already 1\naccepted 2\n\
-        removed 2 dropped\nkept 1 dropped\naccepted 3\nstats 2 379 221 3 5 already 1\n\
-        snapshot 2 379 3 1:a 3:b\n",
+    answers: b"ok\nok\nok\nok\nok\nok\nok\naccepted 1\naccepted 1\nrefused already 1\naccepted 2\nremoved 2 dropped\n\
+        kept 1 dropped\naccepted 3\nstats 2 379 221 3 5 already 1\nsnapshot 2 379 3 1:a 3:b\n",
 };
 
 // Four of the answers with changes have more than 32 bytes.
@@ -319,8 +309,8 @@ const LONG: Talk = Talk {
     answers: b"ok\nok\nok\nok\nok\naccepted 1000000001\naccepted 1000000002\naccepted 1000000003\n\
         removed 1000000001 dropped 1000000002 1000000003\naccepted 1000000004\naccepted 1000000005\n\
         accepted 1000000006\nkept 1000000004 1000000005 1000000006 dropped\n\
-        kept 1000000004 1000000005 1000000006 dropped\n\
-        kept 1000000005 1000000006 dropped 1000000004\nstats 2 362 999638 1000000006 10\n",
+        kept 1000000004 1000000005 1000000006 dropped\nkept 1000000005 1000000006 dropped 1000000004\n\
+        stats 2 362 999638 1000000006 10\n",
 };
 
 // Conversations, and at how many of their lines an answer may be lost. A submit under another name than the first of its id
@@ -457,86 +447,82 @@ fn held_growths<R: Print + Threads + Wait + Sync>(
 
 // The operator's lines. Only its first read opens the pool. It makes no change.
 const OPERATOR: &[u8] =
-    b"block 400\nout g0 100\nout g1 7\ntx a in=g0 out=100\ntx b in=a.0 out=100\n\
-    tx s in=g1 out=7 badsign=7\nlookup 2\nout late 5\nadopt 1 b\nback 1\nsubmit s\ntake 0\n\
-    show a\nsubmit nobody\nreset\nshow a\nids\noffer 0 1000\n";
+    b"block 400\nout g0 100\nout g1 7\ntx a in=g0 out=100\ntx b in=a.0 out=100\ntx s in=g1 out=7 badsign=7\n\
+    lookup 2\nout late 5\nadopt 1 b\nback 1\nsubmit s\ntake 0\nshow a\nsubmit nobody\nreset\nshow a\nids\n\
+    offer 0 1000\n";
 
 const OPERATOR_ANSWERS: &[u8] =
     b"ok\nok\nok\nok\nok\nok\nlookup none\nbad 8: an output stands above the first command\n\
     refused adopt b missing 0\nrefused back 0\nrefused signature 7\ntake 0 0\n\
-    tx 181 f8f11283a19134b80b18f90f8ab47ef21a315808b705b442408dadb4fffe20b1 01000100000000000000\
-    0000000000000000000000000000000000000000000000000000000001010003030000000303000000014bf5122f\
-    344554c53bde2ebb8cd2b7e3d1600ad631c385a5d7cce23c7785459a3e4479e6b5a0a3bed1440325ca4bb09327a1\
-    dfb39c28bdd59de53a687ade01050001000000000000000000000000000000000000000000000000000000000000\
-    00000000000000000000640000000000000000ffffffffffffffff000000000000\n\
+    tx 181 f8f11283a19134b80b18f90f8ab47ef21a315808b705b442408dadb4fffe20b1 010001000000000000000000000000000000\
+    000000000000000000000000000000000000000001010003030000000303000000014bf5122f344554c53bde2ebb8cd2b7e3d1600ad6\
+    31c385a5d7cce23c7785459a3e4479e6b5a0a3bed1440325ca4bb09327a1dfb39c28bdd59de53a687ade010500010000000000000000\
+    0000000000000000000000000000000000000000000000000000000000000000640000000000000000ffffffffffffffff0000000000\
+    00\n\
     bad 14: no transaction 'nobody'\nok\nbad 1: no transaction 'a'\nok\noffer\n";
 
 // The lines of a client that makes the only change.
 const WRITER: &[u8] =
-    b"bytes a 010001000000000000000000000000000000000000000000000000000000000000000000000001010003\
-    030000000303000000014bf5122f344554c53bde2ebb8cd2b7e3d1600ad631c385a5d7cce23c7785459a3e4479e6\
-    b5a0a3bed1440325ca4bb09327a1dfb39c28bdd59de53a687ade0105000100000000000000000000000000000000\
-    000000000000000000000000000000000000000000000000640000000000000000ffffffffffffffff0000000000\
-    00\nsubmit a\nsubmit a\nstats\nsnapshot\noffer 9 1000\noffer 9 1000\nremove a\nadopt 1 a\n\
-    give 010001000000000000000000000000000000000000000000000000000000000000000000000001010003030\
-    000000303000000014bf5122f344554c53bde2ebb8cd2b7e3d1600ad631c385a5d7cce23c7785459a3e4479e6b5a\
-    0a3bed1440325ca4bb09327a1dfb39c28bdd59de53a687ade0105000100000000000000000000000000000000000\
-    000000000000000000000000000000000000000000000640000000000000000ffffffffffffffff000000000000\
-    \ncheck a\nids\nlookup 1\nnames\nforget a\n\
-    show #f8f11283a19134b80b18f90f8ab47ef21a315808b705b442408dadb4fffe20b1\nreset\n\
-    offer 9 1000\nback 0\nstats\nblock 9\n";
+    b"bytes a 0100010000000000000000000000000000000000000000000000000000000000000000000000010100030300000003030000\
+    00014bf5122f344554c53bde2ebb8cd2b7e3d1600ad631c385a5d7cce23c7785459a3e4479e6b5a0a3bed1440325ca4bb09327a1dfb3\
+    9c28bdd59de53a687ade0105000100000000000000000000000000000000000000000000000000000000000000000000000000000000\
+    640000000000000000ffffffffffffffff000000000000\n\
+    submit a\nsubmit a\nstats\nsnapshot\noffer 9 1000\noffer 9 1000\nremove a\nadopt 1 a\n\
+    give 0100010000000000000000000000000000000000000000000000000000000000000000000000010100030300000003030000000\
+    14bf5122f344554c53bde2ebb8cd2b7e3d1600ad631c385a5d7cce23c7785459a3e4479e6b5a0a3bed1440325ca4bb09327a1dfb39c2\
+    8bdd59de53a687ade0105000100000000000000000000000000000000000000000000000000000000000000000000000000000000640\
+    000000000000000ffffffffffffffff000000000000\n\
+    check a\nids\nlookup 1\nnames\nforget a\n\
+    show #f8f11283a19134b80b18f90f8ab47ef21a315808b705b442408dadb4fffe20b1\nreset\noffer 9 1000\nback 0\nstats\n\
+    block 9\n";
 
 const WRITER_ANSWERS: &[u8] =
-    b"tx 181 f8f11283a19134b80b18f90f8ab47ef21a315808b705b442408dadb4fffe20b1\naccepted 1\n\
-    refused already 1\nstats 1 181 619 1 1 already 1\nsnapshot 1 181 1 1:a\noffer 1:a\noffer\n\
+    b"tx 181 f8f11283a19134b80b18f90f8ab47ef21a315808b705b442408dadb4fffe20b1\naccepted 1\nrefused already 1\n\
+    stats 1 181 619 1 1 already 1\nsnapshot 1 181 1 1:a\noffer 1:a\noffer\n\
     bad 8: only the operator may ask this\nbad 9: only the operator may ask this\n\
-    refused already 1 f8f11283a19134b80b18f90f8ab47ef21a315808b705b442408dadb4fffe20b1\n\
-    refused already 1\nok\n\
+    refused already 1 f8f11283a19134b80b18f90f8ab47ef21a315808b705b442408dadb4fffe20b1\nrefused already 1\nok\n\
     lookup f8f11283a19134b80b18f90f8ab47ef21a315808b705b442408dadb4fffe20b1\nok\nforgotten 0\n\
-    tx 181 f8f11283a19134b80b18f90f8ab47ef21a315808b705b442408dadb4fffe20b1 01000100000000000000\
-    0000000000000000000000000000000000000000000000000000000001010003030000000303000000014bf5122f\
-    344554c53bde2ebb8cd2b7e3d1600ad631c385a5d7cce23c7785459a3e4479e6b5a0a3bed1440325ca4bb09327a1\
-    dfb39c28bdd59de53a687ade01050001000000000000000000000000000000000000000000000000000000000000\
-    00000000000000000000640000000000000000ffffffffffffffff000000000000\nok\n\
-    offer 1:f8f11283a19134b80b18f90f8ab47ef21a315808b705b442408dadb4fffe20b1\n\
+    tx 181 f8f11283a19134b80b18f90f8ab47ef21a315808b705b442408dadb4fffe20b1 010001000000000000000000000000000000\
+    000000000000000000000000000000000000000001010003030000000303000000014bf5122f344554c53bde2ebb8cd2b7e3d1600ad6\
+    31c385a5d7cce23c7785459a3e4479e6b5a0a3bed1440325ca4bb09327a1dfb39c28bdd59de53a687ade010500010000000000000000\
+    0000000000000000000000000000000000000000000000000000000000000000640000000000000000ffffffffffffffff0000000000\
+    00\n\
+    ok\noffer 1:f8f11283a19134b80b18f90f8ab47ef21a315808b705b442408dadb4fffe20b1\n\
     bad 2: only the operator may ask this\nstats 1 181 619 1 1 already 2\n\
     bad 4: a setting stands above the first command\n";
 
 // The lines of a client that changes nothing.
 const READER: &[u8] = b"block 300\nout g2 5\n\
-    utxo 1111111111111111111111111111111111111111111111111111111111111111#0 4bf5122f344554c53bde\
-    2ebb8cd2b7e3d1600ad631c385a5d7cce23c7785459a3e4479e6b5a0a3bed1440325ca4bb09327a1dfb39c28bdd5\
-    9de53a687ade01050001000000000000000000000000000000000000000000000000000000000000000000000000\
-    0000000009\nremove #f8f11283a19134b80b18f90f8ab47ef21a315808b705b442408dadb4fffe20b1\n\
-    sync 1\nadopt 1\nback 0\nscript five 054002000000000000000520\n\
-    data five 010000000000000005\ntx z in=g0 out=5\nbytes c 03\ngive 00\nsubmit c\n\
-    bytes k 010001000000000000000000000000000000000000000000000000000000000000000000070001010003\
-    030000000303000000014bf5122f344554c53bde2ebb8cd2b7e3d1600ad631c385a5d7cce23c7785459a3e4479e6\
-    b5a0a3bed1440325ca4bb09327a1dfb39c28bdd59de53a687ade0105000100000000000000000000000000000000\
-    000000000000000000000000000000000000000000000000050000000000000000ffffffffffffffff0000000000\
-    00\ncheck k\nsubmit k\n\
-    give 010001000000000000000000000000000000000000000000000000000000000000000000070001010003030\
-    000000303000000014bf5122f344554c53bde2ebb8cd2b7e3d1600ad631c385a5d7cce23c7785459a3e4479e6b5a\
-    0a3bed1440325ca4bb09327a1dfb39c28bdd59de53a687ade0105000100000000000000000000000000000000000\
-    000000000000000000000000000000000000000000000050000000000000000ffffffffffffffff000000000000\
-    \nlookup 9\nhas #6e6d73443f323fcd8eecdb8632983802ced21dc9fa1bbc6cfb1ff671626b3ad2\n\
-    offer 0 0\ntake 0\nforge 0\nafter 9\n\
-    show #6e6d73443f323fcd8eecdb8632983802ced21dc9fa1bbc6cfb1ff671626b3ad2\nforget k\nreset\n\
+    utxo 1111111111111111111111111111111111111111111111111111111111111111#0 4bf5122f344554c53bde2ebb8cd2b7e3d160\
+    0ad631c385a5d7cce23c7785459a3e4479e6b5a0a3bed1440325ca4bb09327a1dfb39c28bdd59de53a687ade01050001000000000000\
+    0000000000000000000000000000000000000000000000000000000000000000000009\n\
+    remove #f8f11283a19134b80b18f90f8ab47ef21a315808b705b442408dadb4fffe20b1\nsync 1\nadopt 1\nback 0\n\
+    script five 054002000000000000000520\ndata five 010000000000000005\ntx z in=g0 out=5\nbytes c 03\ngive 00\n\
+    submit c\n\
+    bytes k 0100010000000000000000000000000000000000000000000000000000000000000000000700010100030300000003030000\
+    00014bf5122f344554c53bde2ebb8cd2b7e3d1600ad631c385a5d7cce23c7785459a3e4479e6b5a0a3bed1440325ca4bb09327a1dfb3\
+    9c28bdd59de53a687ade0105000100000000000000000000000000000000000000000000000000000000000000000000000000000000\
+    050000000000000000ffffffffffffffff000000000000\n\
+    check k\nsubmit k\n\
+    give 0100010000000000000000000000000000000000000000000000000000000000000000000700010100030300000003030000000\
+    14bf5122f344554c53bde2ebb8cd2b7e3d1600ad631c385a5d7cce23c7785459a3e4479e6b5a0a3bed1440325ca4bb09327a1dfb39c2\
+    8bdd59de53a687ade0105000100000000000000000000000000000000000000000000000000000000000000000000000000000000050\
+    000000000000000ffffffffffffffff000000000000\n\
+    lookup 9\nhas #6e6d73443f323fcd8eecdb8632983802ced21dc9fa1bbc6cfb1ff671626b3ad2\noffer 0 0\ntake 0\n\
+    forge 0\nafter 9\nshow #6e6d73443f323fcd8eecdb8632983802ced21dc9fa1bbc6cfb1ff671626b3ad2\nforget k\nreset\n\
     nonsense\nshow k\nids\nnames\n";
 
-const READER_ANSWERS: &[u8] = b"bad 1: a setting stands above the first command\n\
-    bad 2: an output stands above the first command\n\
+const READER_ANSWERS: &[u8] =
+    b"bad 1: a setting stands above the first command\nbad 2: an output stands above the first command\n\
     bad 3: an output stands above the first command\nbad 4: only the operator may ask this\n\
     bad 5: only the operator may ask this\nbad 6: only the operator may ask this\n\
     bad 7: only the operator may ask this\nok\nok\nbad 10: no output 'g0'\nundecodable version\n\
     undecodable version\nbad 13: no transaction 'c'\n\
     tx 181 6e6d73443f323fcd8eecdb8632983802ced21dc9fa1bbc6cfb1ff671626b3ad2\nrefused missing 0\n\
-    refused missing 0\n\
-    refused missing 0 6e6d73443f323fcd8eecdb8632983802ced21dc9fa1bbc6cfb1ff671626b3ad2\n\
+    refused missing 0\nrefused missing 0 6e6d73443f323fcd8eecdb8632983802ced21dc9fa1bbc6cfb1ff671626b3ad2\n\
     lookup none\nhas no\noffer\ntake 0 0\nblock 0 0\nafter\n\
-    bad 24: no transaction #6e6d73443f323fcd8eecdb8632983802ced21dc9fa1bbc6cfb1ff671626b3ad2 in \
-    the pool\nforgotten 1\nok\nbad 1: no line begins with 'nonsense'\n\
-    bad 2: no transaction 'k'\nok\nok\n";
+    bad 24: no transaction #6e6d73443f323fcd8eecdb8632983802ced21dc9fa1bbc6cfb1ff671626b3ad2 in the pool\n\
+    forgotten 1\nok\nbad 1: no line begins with 'nonsense'\nbad 2: no transaction 'k'\nok\nok\n";
 
 // The answers to the first two of these lines, which have 19 bytes.
 const TWO_ANSWERS: &[u8] = b"bad 1: a setting stands above the first command\n\
