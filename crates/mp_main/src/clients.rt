@@ -9,7 +9,7 @@ ghost use Rattle.mp_signatures.specs.Scheme.{accepted_by};
 ghost use Rattle.mp_clients.specs.Beginning.{IsBefore};
 ghost use Rattle.mp_main.specs.Held.{EndsHeld, EndsShared};
 
-use crate::channel::{Channel, Pipes};
+use crate::channel::{Channel, channels_of};
 use crate::command_line::{ClientFiles, SchemeName};
 use crate::conversation::prepare;
 use crate::ending::{end_conversations, end_fault};
@@ -22,7 +22,6 @@ use mp_tx::Salt;
 use std::io::BufReader;
 use std::marker::Brand;
 use std::process::ExitCode;
-use std::rt::Files;
 use std::sync::Wait;
 use std::thread::Threads;
 
@@ -171,14 +170,10 @@ pub fn converse_with<R: Threads + Wait + Sync>(
         return end_fault(rt, Fault::NoMemory);
     };
     let device = Channel::Operator(Streams::new(reader, rt.stdout()));
-    let mut devices = Vec::new(memory);
-    for names in clients {
-        if devices
-            .push(Channel::Client(Pipes::new(rt, memory, *names)))
-            .is_err()
-        {
-            return end_fault(rt, Fault::NoMemory);
+    match channels_of(rt, memory, clients) {
+        Ok(channels) => {
+            converse_over_all(rt, threads, memory, signatures, salt, device, channels)
         }
+        Err(NoMemory) => end_fault(rt, Fault::NoMemory),
     }
-    converse_over_all(rt, threads, memory, signatures, salt, device, devices)
 }
