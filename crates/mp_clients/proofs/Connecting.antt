@@ -1,16 +1,20 @@
 -- Conversations that go on, one for each seat and device.
 use Rattle.std.proofs.Common.{◌≡◌, ℕ, suc, zero, ◌+◌, ◌<◌, List, [], ◌∷◌, ◌++◌, length, slice_index_or, refl, sym, ap, subst, ◌∙◌, arith, append_assoc}
-use Rattle.std.specs.Prelude.{Option, None, Some, IfSome, Result, Ok, Err, IfOk}
+use Rattle.std.specs.Prelude.{Option, None, Some, All, Result, Ok, Err, IfOk}
+use Rattle.std.proofs.lemmas.List.Elements.{All-nil, All-cons, All-head, All-tail}
 use Rattle.mp_rules.specs.Verifier.{Accepts}
 use Rattle.mp_session.specs.declared.settings.Settings.{Settings}
+use Rattle.mp_serve.specs.declared.device.Turn.{Turn}
+use Rattle.mp_serve.specs.declared.device.Turn.TheVariants.{Listens, Owes}
 use Rattle.mp_serve.specs.declared.conversation.Conversation as alone
 use Rattle.mp_clients.specs.declared.connected.Connected.{Connected}
 use Rattle.mp_clients.specs.declared.conversation.Conversation.{Conversation}
 use Rattle.mp_clients.specs.declared.opening.Seat.{Seat}
 use Rattle.mp_clients.specs.declared.service.Finished.{Finished}
 use Rattle.mp_clients.specs.declared.service.Service.{Service}
-use Rattle.mp_clients.specs.Service.{line_in, IsFinishedFrom, IsFinished, IsServed, AreClientsServed, AreServed}
-use Rattle.mp_clients.specs.Inside.Connecting.{IsOperator, IsClientOf, AreClientsOf, AreConnected}
+use Rattle.mp_clients.specs.Waiting.{line_in, turn_with}
+use Rattle.mp_clients.specs.Service.{IsFinishedFrom, IsFinished, IsServed, AreClientsServed, AreServed}
+use Rattle.mp_clients.specs.Inside.Connecting.{IsReady, IsOperator, IsClientOf, AreClientsOf, AreConnected}
 
 module _ {N D : Type 0} where
   -- without devices
@@ -62,6 +66,24 @@ module _ {N D : Type 0} where
   -- without a seat
   pub no_seats : (operator : alone.Conversation) (line : List ℕ) (d : D) (seats : List (Seat N)) (devices : List D) (all : List (Connected N D)) → seats ≡ [] → all ≡ [] → AreConnected operator line d seats devices all
   no_seats operator line d seats devices all e none = subst (λ (l : List (Seat N)). AreConnected operator line d l devices all) (sym e) none
+
+  -- ---- their devices
+
+  ready_clients : (turn : D → Turn) (g : Settings) (seats : List (Seat N)) (devices : List D) (ks : List (Connected N D)) → AreClientsOf g seats devices ks → All (λ d. turn d ≡ Listens) devices → All (IsReady turn) ks
+  ready_clients turn g (s ∷ ss) (d ∷ ds) (k ∷ ks) are listen =
+      All-cons (IsReady turn) k ks (ap turn are.0.device_is ∙ All-head (λ (x : D). turn x ≡ Listens) d ds listen ∙ sym (ap turn_with are.0.line_is))
+      (ready_clients turn g ss ds ks are.1 (All-tail (λ (x : D). turn x ≡ Listens) d ds listen))
+  ready_clients turn g (s ∷ ss) (d ∷ ds) [] are listen = absurd are
+  ready_clients turn g (s ∷ ss) [] ks are listen = subst (All (IsReady turn)) (sym are) (All-nil (IsReady {N} {D} turn))
+  ready_clients turn g [] devices ks are listen = subst (All (IsReady turn)) (sym are) (All-nil (IsReady {N} {D} turn))
+
+  -- each is ready
+  pub all_ready : (turn : D → Turn) (operator : alone.Conversation) (line : List ℕ) (d : D) (seats : List (Seat N)) (devices : List D) (ks : List (Connected N D)) → AreConnected operator line d seats devices ks → turn d ≡ Owes
+      → All (λ d. turn d ≡ Listens) devices → All (IsReady turn) ks
+  all_ready turn operator line d (s ∷ ss) devices (k ∷ ks) are owes listen =
+      All-cons (IsReady turn) k ks (ap turn are.0.device_is ∙ owes ∙ sym (ap turn_with are.0.line_is)) (ready_clients turn operator.session.settings ss devices ks are.1 listen)
+  all_ready turn operator line d (s ∷ ss) devices [] are owes listen = absurd are
+  all_ready turn operator line d [] devices ks are owes listen = subst (All (IsReady turn)) (sym are) (All-nil (IsReady {N} {D} turn))
 
   -- ---- all of them are served
 

@@ -6,8 +6,9 @@ pub mod Clients
 pub mod Responses
 pub mod Ending
 pub mod Alone
-pub mod Answering
+pub mod Hearing
 pub mod Backs
 pub mod Before
 pub mod Connecting
 pub mod Fresh
+pub mod Asks

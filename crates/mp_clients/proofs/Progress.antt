@@ -134,6 +134,20 @@ module _ {S : Type 0} (Step : S → List ℕ → List ℕ → S → Type 0) wher
         → IsFirst Step Breaks s line rest old new (Err WriteFault) v
     cut_first s v line first rest old new is w = (1, first, (first, [], v, sym (append-nil first), is, (refl, refl)), w)
 
+    -- and then those of the input are answered
+    pub first_then : (s v u : S) (line : List ℕ) (old now new all left : Option (List ℕ)) (r : Result (Unit {0}) Fault) → left ≡ all → ((rest : List (List ℕ)) → IsFirst Step Breaks s line rest old now (Ok tt) v)
+        → IfSome left (λ bytes. Ended Step Breaks v (lines_of bytes) now new r u) → IfSome all (λ bytes. Ended Step Breaks s (line ∷ lines_of bytes) old new r u)
+    first_then s v u line old now new None left r e first later = tt
+    first_then s v u line old now new (Some bytes) left r e first later =
+        let one = first [] in
+        after_first s v u line one.0 (lines_of bytes) old now new one.1.0 one.1.1 r (subst (λ o. IfSome o (λ bytes. Ended Step Breaks v (lines_of bytes) now new r u)) e later)
+
+    -- or not
+    pub first_only : (s v : S) (line : List ℕ) (old now all : Option (List ℕ)) (fault : Fault) → ((rest : List (List ℕ)) → IsFirst Step Breaks s line rest old now (Err fault) v)
+        → IfSome all (λ bytes. Ended Step Breaks s (line ∷ lines_of bytes) old now (Err fault) v)
+    first_only s v line old now None fault first = tt
+    first_only s v line old now (Some bytes) fault first = first (lines_of bytes)
+
     module _ (g : S) (old now : Option (List ℕ)) (s : S) (n : ℕ) where
       -- at the end of the input
       pub ends : (all left : Option (List ℕ)) → Stands g all left old now s n → IsAtEnd left → IfSome all (λ bytes. Ended Step Breaks g (lines_of bytes) old now (Ok tt) s)

@@ -3,6 +3,7 @@ pub mod Alone
 pub mod Asking
 pub mod Answers
 pub mod Told
+pub mod Waiting
 pub mod Beginning
 pub mod Opening
 pub mod Service

@@ -11,7 +11,6 @@ use Rattle.mp_names.specs.Names.{first_names}
 use Rattle.mp_serve.specs.declared.conversation.Conversation as alone
 use Rattle.mp_serve.specs.Talk.{served_in}
 use Rattle.mp_clients.specs.declared.opening.Seat.{Seat}
-use Rattle.mp_clients.specs.declared.opening.Opened.{Opened}
 use Rattle.mp_clients.specs.Client.{new_client}
 
 -- a history without an entry
@@ -23,12 +22,12 @@ abbrev pub seat_of : {N : Type 0} → Scheme → LedgerState → Pass → Seat N
 seat_of signatures ledger pass = record { names = first_names; client = new_client pass signatures ledger }
 
 module _ {N : Type 0} (accepts : Accepts) (callers : ℕ) where
-  -- The pool opened as this one, with a seat for each caller.
-  pub record HasOpenedOn (signatures : Scheme) (opening : Pool) (o : Opened N) : Type 0 where
-    pub front : o.front ≡ new_log opening
-    pub legal : IsLegalLog accepts callers o.front
-    pub seats : o.seats.items ≡ map (seat_of signatures opening.ledger) (fresh_passes callers (new_log opening))
+  -- The pool opened as this one: its first history, and a seat for each caller.
+  pub record HasOpenedOn (signatures : Scheme) (opening : Pool) (front : Log) (seats : List (Seat N)) : Type 0 where
+    pub front_is : front ≡ new_log opening
+    pub legal : IsLegalLog accepts callers front
+    pub seats_are : seats ≡ map (seat_of signatures opening.ledger) (fresh_passes callers (new_log opening))
 
   -- It opened as it would in this conversation alone.
-  abbrev pub HasOpened : alone.Conversation → Opened N → Type 0
-  HasOpened c o = HasOpenedOn c.signatures (served_in c).pool o
+  abbrev pub HasOpened : alone.Conversation → Log → List (Seat N) → Type 0
+  HasOpened c front seats = HasOpenedOn c.signatures (served_in c).pool front seats

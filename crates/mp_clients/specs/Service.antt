@@ -1,14 +1,10 @@
 -- Conversations at once.
-use Rattle.std.specs.Prelude.{◌≡◌, ℕ, List, [], ◌∷◌, Option, None, Some, option_map, IfSome}
-use Rattle.std.specs.declared.vec.Vec.{Vec}
+use Rattle.std.specs.Prelude.{◌≡◌, ℕ, List, [], ◌∷◌, Option, None, Some, IfSome}
 use Rattle.std.specs.Arc.{arc_value}
-use Rattle.mp_text.specs.Lines.{lines_of}
 use Rattle.mp_rules.specs.Verifier.{Accepts}
 use Rattle.mp_history.specs.Log.{Log, Begins}
 use Rattle.mp_names.specs.Names.{Names}
 use Rattle.mp_session.specs.declared.settings.Settings.{Settings}
-use Rattle.mp_serve.specs.declared.device.Turn.{Turn}
-use Rattle.mp_serve.specs.declared.device.Turn.TheVariants.{Listens, Owes}
 use Rattle.mp_serve.specs.declared.conversation.Conversation as alone
 use Rattle.mp_clients.specs.declared.connected.Connected.{Connected}
 use Rattle.mp_clients.specs.declared.conversation.Conversation.{Conversation}
@@ -16,20 +12,7 @@ use Rattle.mp_clients.specs.declared.opening.Seat.{Seat}
 use Rattle.mp_clients.specs.declared.service.Finished.{Finished}
 use Rattle.mp_clients.specs.Answers.{IsTurn, IsBroken}
 use Rattle.mp_clients.specs.Told.{Ended}
-
--- the bytes of a line that was read already
-abbrev pub line_in : {A : Type 0} → Option (Vec ℕ A) → Option (List ℕ)
-line_in line = option_map (λ v. v.items) line
-
--- what a device has to do next, by whether a line was read already
-abbrev pub turn_with : Option (List ℕ) → Turn
-turn_with None = Listens
-turn_with (Some line) = Owes
-
--- the lines of a conversation: one that was read already, if there is one, and those of the input
-abbrev pub lines_with : Option (List ℕ) → List ℕ → List (List ℕ)
-lines_with None bytes = lines_of bytes
-lines_with (Some line) bytes = line ∷ lines_of bytes
+use Rattle.mp_clients.specs.Waiting.{line_in, lines_with}
 
 -- A conversation with these names, settings, seat and line number.
 pub record IsWith {N : Type 0} (names : Names) (settings : Settings) (seat : Seat N) (line : ℕ) (c : Conversation N) : Type 0 where

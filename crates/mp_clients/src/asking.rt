@@ -26,6 +26,7 @@ use std::sync::Wait;
 pub type Asked = Result<Receipt, mp_seqpool::Refusal>;
 
 /// Asks for the change. After an `Err` the pass is as it was.
+#[tactic(auto, using(crate::proofs::Asks::refused_there))]
 pub fn ask_pool<N: PoolName, V: Verifier>(
     rt: &impl Wait,
     pool: &Mempool<N, V>,
@@ -39,9 +40,11 @@ pub fn ask_pool<N: PoolName, V: Verifier>(
 {
     match pool.ask(rt, pass, command) {
         Ok(receipt) => Ok(Ok(receipt)),
-        Err(Refusal::Foreign(_)) => Err(Stop::Foreign),
-        Err(Refusal::Pool(mp_seqpool::Refusal::NoMemory)) => Err(Stop::NoMemory),
-        Err(Refusal::Pool(refusal)) => Ok(Err(refusal)),
+        Err(refusal) => match &refusal {
+            Refusal::Foreign(_) => Err(Stop::Foreign),
+            Refusal::Pool(mp_seqpool::Refusal::NoMemory) => Err(Stop::NoMemory),
+            Refusal::Pool(other) => Ok(Err(*other)),
+        },
     }
 }
 

@@ -4,7 +4,7 @@ ghost use Rattle.std.specs.Prelude.{◌≡◌, ◌∷◌, List, ℕ, IfSome, OnO
 ghost use Rattle.mp_text.specs.Lines.{lines_of};
 ghost use Rattle.mp_clients.specs.Answers.{IsTurn, IsBroken};
 ghost use Rattle.mp_clients.specs.Told.{Ended};
-ghost use Rattle.mp_clients.specs.Service.{turn_with, lines_with, line_in};
+ghost use Rattle.mp_clients.specs.Waiting.{turn_with, lines_with, line_in};
 ghost use Rattle.mp_clients.specs.Inside.Before.{IsFirst};
 
 use crate::answering::{answer, answer_line};

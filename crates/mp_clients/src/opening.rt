@@ -4,13 +4,11 @@ ghost use Rattle.std.specs.Prelude.{◌≡◌, ◌≤◌, ◌<◌, length, map, 
 ghost use Rattle.mp_seqpool.specs.SlowPool.{empty_pool};
 ghost use Rattle.mp_history.specs.Log.{Log, IsLegalLog};
 ghost use Rattle.mp_history.specs.PoolName.{head_of};
-ghost use Rattle.mp_mempool.specs.Opening.{fresh_passes};
-ghost use Rattle.mp_names.specs.Names.{first_names};
 ghost use Rattle.mp_session.specs.Settings.{limit_of, last_of};
 ghost use Rattle.mp_session.specs.Beginning.{opening_ledger};
 ghost use Rattle.mp_signatures.specs.Scheme.{accepted_by};
 ghost use Rattle.mp_clients.specs.Beginning.{IsBefore};
-ghost use Rattle.mp_clients.specs.Opening.{seat_of, new_log, HasOpened, HasOpenedOn};
+ghost use Rattle.mp_clients.specs.Opening.{seat_of, HasOpened, HasOpenedOn};
 
 use crate::client::Client;
 use crate::shared::Shared;
@@ -108,8 +106,9 @@ fn open_on<N: PoolName>(
     requires accepts { N.accepts ≡ accepted_by signatures.now }
     requires some { 1 ≤ callers }
     requires most { callers ≤ 64 }
-    ensures { IfOk result (HasOpenedOn N.accepts N.callers signatures.now
-        (empty_pool (limit_of settings.now) (last_of settings.now) ledger.now)) }
+    ensures { IfOk result (λ o. HasOpenedOn N.accepts N.callers signatures.now
+        (empty_pool (limit_of settings.now) (last_of settings.now) ledger.now)
+        o.front o.seats.items) }
 {
     let verifier = Arc::new(memory, signatures.share()?)?;
     let limit = settings.limit();
@@ -152,9 +151,9 @@ fn open_with<N: PoolName>(
     requires accepts { N.accepts ≡ accepted_by signatures.now }
     requires some { 1 ≤ callers }
     requires most { callers ≤ 64 }
-    ensures { IfOk result (HasOpenedOn N.accepts N.callers signatures.now
+    ensures { IfOk result (λ o. HasOpenedOn N.accepts N.callers signatures.now
         (empty_pool (limit_of settings.now) (last_of settings.now)
-        (opening_ledger settings.now beginning.now))) }
+        (opening_ledger settings.now beginning.now)) o.front o.seats.items) }
 {
     let ledger = beginning.open(memory, settings)?;
     open_on(rt, memory, name, signatures, settings, &ledger, callers)
@@ -177,7 +176,8 @@ pub fn open<N: PoolName>(
     requires before { IsBefore operator.now.session.stage }
     requires some { 1 ≤ callers }
     requires most { callers ≤ 64 }
-    ensures { IfOk result (HasOpened N.accepts N.callers operator.now) }
+    ensures { IfOk result (λ o. HasOpened N.accepts N.callers operator.now
+        o.front o.seats.items) }
 {
     let settings = &operator.session.settings;
     match &operator.session.stage {

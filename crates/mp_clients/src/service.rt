@@ -6,7 +6,7 @@ ghost use Rattle.mp_history.specs.Log.{Begins, IsLegalLog};
 ghost use Rattle.mp_clients.specs.declared.connected.Connected.{Connected};
 ghost use Rattle.mp_clients.specs.declared.service.Finished.{Finished};
 ghost use Rattle.mp_clients.specs.Service.{IsFinished, HasSeenOf, AreServed};
-ghost use Rattle.mp_clients.specs.Inside.Connecting.{IsOperator, IsClientOf, AreClientsOf, AreConnected};
+ghost use Rattle.mp_clients.specs.Inside.Connecting.{IsReady, IsOperator, IsClientOf, AreClientsOf, AreConnected};
 
 use crate::client::Client;
 use crate::connected::Connected;
@@ -40,9 +40,14 @@ fn converse<N: PoolName, V: Verifier, D: Device>(
     memory: Memory,
     connected: Connected<N, D>,
 ) -> Finished<N, D>
+    requires { IsReady D.turn connected }
     ensures { IsFinished N.accepts N.callers D.input D.output connected result }
 {
-    let (mut conversation, mut device, line) = connected.into_parts();
+    let Connected {
+        mut conversation,
+        mut device,
+        line,
+    } = connected;
     let ended = answer_from(rt, shared, memory, &mut conversation, line, &mut device);
     Finished {
         conversation,
@@ -63,6 +68,7 @@ fn converse_all<
     memory: Memory,
     all: Vec<Connected<N, D>, Memory>,
 ) -> Result<Vec<Finished<N, D>, Memory>, NoMemory>
+    requires { All (IsReady D.turn) all.items }
     ensures len { IfOk result (λ done. length done.items ≡ length all.items) }
     ensures each { IfOk result (λ done. (i : ℕ) (c : Connected N D) (f : Finished N D)
         → i < length all.items → IsFinished N.accepts N.callers D.input D.output
@@ -72,6 +78,7 @@ fn converse_all<
         rt,
         all,
         &|connected: Connected<N, D>| -> Finished<N, D>
+            requires { IsReady D.turn connected }
             ensures { IsFinished N.accepts N.callers D.input D.output connected result }
         { converse(rt, shared, memory, connected) },
     )?)
@@ -96,6 +103,7 @@ fn longer<N: PoolName>(front: Front<N>, client: &Client<N>) -> Front<N>
 fn longest<N: PoolName, D: Device>(front: Front<N>, done: &[Finished<N, D>]) -> Front<N>
     requires { IsLegalLog N.accepts N.callers front }
     ensures legal { IsLegalLog N.accepts N.callers result }
+    ensures begins { Begins front result }
     ensures seen { All (HasSeenOf result) done.now }
 {
     let mut longest = front;
@@ -126,7 +134,8 @@ fn serve_all<
     front: Front<N>,
     all: Vec<Connected<N, D>, Memory>,
 ) -> Result<Service<N, D>, NoMemory>
-    requires { IsLegalLog N.accepts N.callers front }
+    requires legal { IsLegalLog N.accepts N.callers front }
+    requires ready { All (IsReady D.turn) all.items }
     ensures legal { IfOk result (λ s. IsLegalLog N.accepts N.callers s.front) }
     ensures begins { IfOk result (λ s. Begins front s.front) }
     ensures seen { IfOk result (λ s. All (HasSeenOf s.front) s.finished.items) }
@@ -149,7 +158,6 @@ fn connect_operator<N: PoolName, D: Device>(
     line: Vec<u8, Memory>,
     device: D,
 ) -> Connected<N, D>
-    requires { D.turn device ≡ Turn.Owes }
     ensures { IsOperator names (arc_value settings) seat number line.items device result }
 {
     let Seat { names: _, client } = seat;
@@ -172,7 +180,6 @@ fn connect_client<N: PoolName, D: Device>(
     settings: Arc<Settings, Memory>,
     device: D,
 ) -> Connected<N, D>
-    requires { D.turn device ≡ Turn.Listens }
     ensures { IsClientOf (arc_value settings) seat device result }
 {
     let Seat { names, client } = seat;
@@ -196,7 +203,6 @@ fn connect_clients<N: PoolName, D: Device + Drop>(
     settings: &Arc<Settings, Memory>,
     devices: Vec<D, Memory>,
 ) -> Result<(), NoMemory>
-    requires { All (λ d. D.turn d ≡ Turn.Listens) devices.items }
     ensures { OnOk result ((more : List (Connected N D)) × (all.new.items ≡ all.old.items ++ more)
         × AreClientsOf (arc_value settings.now) seats.items devices.items more) }
 {
@@ -219,8 +225,6 @@ fn connect_all<N: PoolName, D: Device + Drop>(
     device: D,
     clients: Vec<D, Memory>,
 ) -> Result<Vec<Connected<N, D>, Memory>, NoMemory>
-    requires owes { D.turn device ≡ Turn.Owes }
-    requires listen { All (λ d. D.turn d ≡ Turn.Listens) clients.items }
     ensures { IfOk result (λ all.
         AreConnected operator line.items device seats.items clients.items all.items) }
 {

@@ -2,12 +2,18 @@
 use Rattle.std.specs.Prelude.{◌≡◌, ℕ, List, [], ◌∷◌, None, Some}
 use Rattle.mp_names.specs.Names.{Names}
 use Rattle.mp_session.specs.declared.settings.Settings.{Settings}
+use Rattle.mp_serve.specs.declared.device.Turn.{Turn}
 use Rattle.mp_serve.specs.declared.conversation.Conversation as alone
 use Rattle.mp_clients.specs.declared.connected.Connected.{Connected}
 use Rattle.mp_clients.specs.declared.opening.Seat.{Seat}
-use Rattle.mp_clients.specs.Service.{IsWith, line_in}
+use Rattle.mp_clients.specs.Service.{IsWith}
+use Rattle.mp_clients.specs.Waiting.{line_in, turn_with}
 
 module _ {N D : Type 0} where
+  -- the device owes the answer to the line that was read already, or listens
+  abbrev pub IsReady : (D → Turn) → Connected N D → Type 0
+  IsReady turn k = turn k.device ≡ turn_with (line_in k.line)
+
   -- the operator's conversation, with the line that opened the pool
   pub record IsOperator (names : Names) (settings : Settings) (seat : Seat N) (number : ℕ) (line : List ℕ) (device : D)
       (k : Connected N D) : Type 0 where

@@ -3,7 +3,7 @@ use Rattle.std.specs.Prelude.{false, true}
 use Rattle.std.proofs.Common.{◌≡◌}
 use Rattle.mp_serve.specs.Inside.Ask.{to_ask}
 use Rattle.mp_clients.specs.Asking.{may_ask}
-use Rattle.mp_clients.proofs.Answering.{heard_forbidden, heard, heard_nothing}
+use Rattle.mp_clients.proofs.Hearing.{heard_forbidden, heard, heard_nothing}
 use Rattle.mp_clients.proofs.answering.answer_ask.Goals as goal
 
 pub returns-in-Some-clause-ok : goal.returns-in-Some-clause-ok

@@ -1,5 +1,5 @@
 use Rattle.std.proofs.Common.{refl, sym}
-use Rattle.mp_clients.proofs.Answering.{bad_line, asked_lines, no_answer}
+use Rattle.mp_clients.proofs.Hearing.{bad_line, asked_lines, no_answer}
 use Rattle.mp_clients.proofs.answering.answer_line.Goals as goal
 
 pub returns-in-Bad-clause-ok : goal.returns-in-Bad-clause-ok

@@ -1,4 +1,4 @@
-use Rattle.mp_clients.proofs.Answering.{too_long}
+use Rattle.mp_clients.proofs.Hearing.{too_long}
 use Rattle.mp_clients.proofs.answering.answer_long.Goals as goal
 
 pub returns : goal.returns

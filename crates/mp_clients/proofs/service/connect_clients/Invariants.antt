@@ -1,8 +1,5 @@
-use Rattle.std.proofs.Common.{◌≡◌}
-use Rattle.std.specs.Prelude.{All}
 use Rattle.std.specs.Arc.{arc_value}
 use Rattle.std.specs.Vec.Iter.{into_iter_items}
-use Rattle.mp_serve.specs.declared.device.Turn.TheVariants.{Listens}
 use Rattle.mp_clients.proofs.Connecting.{Connects}
 use Rattle.mp_clients.proofs.service.connect_clients.Given as goal
 
@@ -10,4 +7,3 @@ use Rattle.mp_clients.proofs.service.connect_clients.Given as goal
 abbrev pub invariant-loop-device : goal.invariant-loop-device
 invariant-loop-device g l =
     Connects (arc_value l.settings) l.fn.all.items l.fn.seats.items l.fn.devices.items l.all.items (into_iter_items l.seats) (into_iter_items l.device-iterator)
-    × All (λ d. g.D.Device.turn d ≡ Listens) (into_iter_items l.device-iterator)
