@@ -77,13 +77,9 @@ module _ (g : Conversation) (old mid now : Option (List ℕ)) (bytes rest : List
   faulty ReadFault (k, told) = (length p.lines + k, more_answered k told)
   faulty WriteFault cut = more_cut cut
   faulty ManyLines (k, last, told) = (length p.lines + k, omega (arith, last), more_answered k told)
-  faulty NoMemory kept = (
-    length p.lines,
-    (stopped g old mid (lines_of bytes) (lines_of rest) s n p).0,
-    (stopped g old mid (lines_of bytes) (lines_of rest) s n p).1,
-    (stopped g old mid (lines_of bytes) (lines_of rest) s n p).2,
-    appends-kept old mid now p.text (stopped g old mid (lines_of bytes) (lines_of rest) s n p).3 kept,
-  )
+  faulty NoMemory kept =
+      let done = stopped g old mid (lines_of bytes) (lines_of rest) s n p in
+      (length p.lines, (done.0, done.1, done.2, appends-kept old mid now done.0 done.3 kept))
 
 -- A line opens the pool. The lines before it were answered, and are at least n - 1.
 pub record Comes (g : Conversation) (bytes : List ℕ) (old now : Option (List ℕ)) (line : List ℕ) (u : Conversation) (after : Option (List ℕ))
@@ -159,7 +155,14 @@ module _ (g : Conversation) (old mid now : Option (List ℕ)) (s : Conversation)
   stand_comes None at h = tt
   stand_comes (Some bytes) (n, most, (rest, is, p)) h =
       let c = comes g old mid now bytes rest s n line u after p (here bytes rest is _ h) in
-      record c { most = omega (arith, most, c.most) }
+      record {
+        rest = c.rest;
+        left = c.left;
+        m = c.m;
+        most = let more = c.most in omega (arith, most, more);
+        opens_it = c.opens_it;
+        progress = c.progress;
+      }
 
   pub stand_ends : (all : Option (List ℕ)) → StandsFrom g all left old mid s k
       → IfSome left (λ rest. HasBegun s rest mid now (Ok false) line u after) → IfSome all (λ bytes. EndedEarly g bytes old now (Ok tt))
@@ -200,20 +203,20 @@ none_answered g (Some bytes) old = (0, ([], g, (refl, refl), Appends-nothing old
 
 -- ---- the status
 
-module _ {N D : Type 0} (callers : ℕ) (input output : D → Option (List ℕ)) (g : Conversation) (device now : D) (clients : List D)
+module _ (N : Type 0) {D : Type 0} (callers : ℕ) (input output : D → Option (List ℕ)) (g : Conversation) (device now : D) (clients : List D)
     (status : ℕ) where
   -- the operator's conversation ended before
   pub ends_early : (ended : Result (Unit {0}) Fault) (all : Option (List ℕ))
       → IfSome all (λ bytes. EndedEarly g bytes (output device) (output now) ended) → status ≡ status_of ended
-      → IfSome all (λ bytes. EndsShared {N} callers input output g bytes device clients status)
+      → IfSome all (λ bytes. EndsShared N callers input output g bytes device clients status)
   ends_early ended None h is = tt
   ends_early ended (Some bytes) h is = inl (now, ended, h, is)
 
   -- the pool was opened
   pub ends_held : (line : List ℕ) (u : Conversation) (k : ℕ) (all : Option (List ℕ))
       → ComesIf g all (output device) (output now) line u (input now) k
-      → EndsHeld {N} (accepted_by u.signatures) callers input output u line now clients status
-      → IfSome all (λ bytes. EndsShared {N} callers input output g bytes device clients status)
+      → EndsHeld N (accepted_by u.signatures) callers input output u line now clients status
+      → IfSome all (λ bytes. EndsShared N callers input output g bytes device clients status)
   ends_held line u k None c h = tt
   ends_held line u k (Some bytes) c h =
       inr (now, line, u, has_come g (output device) (output now) bytes line u (input now) k c, h)

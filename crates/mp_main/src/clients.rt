@@ -52,10 +52,10 @@ fn open_and_serve<N: PoolName + Send + Sync, D: Device + Send + Drop, R: Threads
     requires most { callers ≤ 64 }
     requires owes { D.turn waiting.device ≡ Turn.Owes }
     requires listen { All (λ d. D.turn d ≡ Turn.Listens) waiting.clients.items }
-    ensures ok { IfOk result (λ code. EndsHeld {N} N.accepts N.callers D.input D.output
-        waiting.entry.operator waiting.entry.line.items waiting.entry.device
-        waiting.entry.clients.items (exit_status code)) }
-    ensures err { IfErr result (λ back. back ≡ waiting.entry) }
+    ensures ok { IfOk result (λ code. EndsHeld N N.accepts N.callers D.input D.output
+        waiting.operator waiting.line.items waiting.device waiting.clients.items
+        (exit_status code)) }
+    ensures err { IfErr result (λ back. back ≡ waiting) }
 {
     match open::<N>(threads, memory, name, &waiting.operator, callers) {
         Ok(opened) => {
@@ -89,8 +89,8 @@ fn converse_from<R: Threads + Wait + Sync, D: Device + Send + Drop>(
     requires listen { All (λ d. D.turn d ≡ Turn.Listens) clients.items }
     requires some { 1 ≤ callers }
     requires most { callers ≤ 64 }
-    ensures { IfSome (D.input device.entry) (λ bytes. EndsShared {Brand} callers
-        D.input D.output start.entry bytes device.entry clients.entry.items
+    ensures { IfSome (D.input device) (λ bytes. EndsShared Brand callers
+        D.input D.output start bytes device clients.items
         (exit_status result)) }
 {
     let mut operator = start;
@@ -140,9 +140,9 @@ pub fn converse_over_all<R: Threads + Wait + Sync, D: Device + Send + Drop>(
     requires listens { D.turn device ≡ Turn.Listens }
     requires listen { All (λ d. D.turn d ≡ Turn.Listens) clients.items }
     requires most { length clients.items ≤ 63 }
-    ensures { IfSome (D.input device.entry) (λ bytes. EndsShared {Brand}
-        (length clients.entry.items + 1) D.input D.output
-        (new_conversation signatures salt) bytes device.entry clients.entry.items
+    ensures { IfSome (D.input device) (λ bytes. EndsShared Brand
+        (length clients.items + 1) D.input D.output
+        (new_conversation signatures salt) bytes device clients.items
         (exit_status result)) }
 {
     let callers = clients.len() as u32 + 1;
