@@ -16,7 +16,7 @@ use Rattle.mp_serve.specs.Texts.{no_memory_text}
 use Rattle.mp_serve.specs.Served.{AreAnswers, AppendsUpTo, Ended, WasCut, WereAnswered}
 use Rattle.mp_serve.proofs.Answers.{appends-kept}
 use Rattle.mp_serve.proofs.Progress.{Progress, Stands, goes_on, is_cut, stopped}
-use Rattle.mp_clients.specs.Beginning.{HasBegun, HasCome, AreAll, Opens}
+use Rattle.mp_clients.specs.Beginning.{HasBegun, HasCome, AreAll, IsBefore, Opens}
 use Rattle.mp_main.specs.Status.{status_of}
 use Rattle.mp_main.specs.Held.{EndedEarly, EndsHeld, EndsShared}
 
@@ -220,3 +220,34 @@ module _ (N : Type 0) {D : Type 0} (callers : ℕ) (input output : D → Option 
   ends_held line u k None c h = tt
   ends_held line u k (Some bytes) c h =
       inr (now, line, u, has_come g (output device) (output now) bytes line u (input now) k c, h)
+
+-- the same from an equal state, for as many callers
+pub same_start : (N : Type 0) {D : Type 0} (callers other : ℕ) (input output : D → Option (List ℕ)) (g h : Conversation) (device : D)
+    (clients : List D) (status : ℕ) (all : Option (List ℕ)) → callers ≡ other → g ≡ h
+    → IfSome all (λ bytes. EndsShared N callers input output g bytes device clients status)
+    → IfSome all (λ bytes. EndsShared N other input output h bytes device clients status)
+same_start N callers other input output g h device clients status all many same ends =
+    subst (λ n. IfSome all (λ bytes. EndsShared N n input output h bytes device clients status)) many
+    (subst (λ c. IfSome all (λ bytes. EndsShared N callers input output c bytes device clients status)) same ends)
+
+-- ---- after the pool couldn't be opened, the device and the state are the same
+
+module _ {D : Type 0} (input output : D → Option (List ℕ)) (g : Conversation) (first now back new : D) (line : List ℕ)
+    (u v w : Conversation) (k : ℕ) (device_is : back ≡ now) (state_is : v ≡ u)
+    (c : ComesIf g (input first) (output first) (output now) line u (input now) k) where
+  pub refused_on : Appends (output back) (output new) no_memory_text → input new ≡ input back → w ≡ counted v
+      → StandsFrom g (input first) (input new) (output first) (output new) w (k + 1)
+  refused_on wrote left is =
+      let stands = come_refused g (output first) (output now) line u (input now) k (output new) (input first) c
+      (subst (λ d. Appends (output d) (output new) no_memory_text) device_is wrote) in
+      subst (λ o. StandsFrom g (input first) o (output first) (output new) w (k + 1)) (sym (left ∙ ap input device_is))
+      (subst (λ s. StandsFrom g (input first) (input now) (output first) (output new) s (k + 1)) (sym (is ∙ ap counted state_is)) stands)
+
+  pub cut_on : AppendsUpTo (output back) (output new) no_memory_text
+      → IfSome (input first) (λ bytes. EndedEarly g bytes (output first) (output new) (Err WriteFault))
+  cut_on wrote = come_cut g (output first) (output now) line u (input now) k (output new) (input first) c
+      (subst (λ d. AppendsUpTo (output d) (output new) no_memory_text) device_is wrote)
+
+pub before_on : (u v w : Conversation) → v ≡ u → w ≡ counted v → IsBefore u.session.stage → IsBefore w.session.stage
+before_on u v w state_is is before =
+    subst (λ (s : Conversation). IsBefore s.session.stage) (sym (is ∙ ap counted state_is)) before

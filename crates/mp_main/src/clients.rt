@@ -126,6 +126,14 @@ fn converse_from<R: Threads + Wait + Sync, D: Device + Send + Drop>(
     end_fault(rt, Fault::ManyLines)
 }
 
+// The operator and the clients.
+fn callers_of<D>(clients: &[D]) -> u32
+    requires { length clients.now ≤ 63 }
+    ensures { result ≡ length clients.now + 1 }
+{
+    clients.len() as u32 + 1
+}
+
 /// Answers the lines of the operator's device and of those of the clients, until all inputs have ended. The pool opens at the
 /// operator's first request, and the clients' lines wait for that.
 pub fn converse_over_all<R: Threads + Wait + Sync, D: Device + Send + Drop>(
@@ -145,7 +153,7 @@ pub fn converse_over_all<R: Threads + Wait + Sync, D: Device + Send + Drop>(
         (new_conversation signatures salt) bytes device clients.items
         (exit_status result)) }
 {
-    let callers = clients.len() as u32 + 1;
+    let callers = callers_of(&clients);
     match Conversation::new(memory, signatures, salt) {
         Ok(operator) => converse_from(rt, threads, memory, operator, device, clients, callers),
         Err(NoMemory) => end_fault(rt, Fault::NoMemory),
