@@ -1,6 +1,6 @@
 -- The operator's conversation until the pool is open, and how the program ends.
 use Rattle.std.proofs.Common.{◌≡◌, ◌≤◌, ◌⊎◌, ℕ, ◌+◌, ◌-◌, ◌^◌, List, [], ◌∷◌, ◌++◌, length, take, refl, sym, ap, subst, ◌∙◌, inl, inr, arith}
-use Rattle.std.proofs.Common.{true, false}
+use Rattle.std.proofs.Common.{Bool, true, false, true≢false}
 use Rattle.std.proofs.lemmas.List.{append_assoc, length-append}
 use Rattle.std.specs.Prelude.{Option, None, Some, IfSome, Result, Ok, Err}
 use Rattle.std.specs.Io.KnownBytes.{Appends, Keeps}
@@ -150,10 +150,11 @@ module _ (g : Conversation) (old mid now : Option (List ℕ)) (s : Conversation)
     here : (Holds : List ℕ → Type 0) → IfSome left Holds → Holds rest
     here Holds h = subst (λ o. IfSome o Holds) is h
 
-  pub stand_comes : (all : Option (List ℕ)) → StandsFrom g all left old mid s k
-      → IfSome left (λ rest. HasBegun s rest mid now (Ok true) line u after) → ComesIf g all old now line u after k
-  stand_comes None at h = tt
-  stand_comes (Some bytes) (n, most, (rest, is, p)) h =
+  pub stand_comes : (b : Bool) → b ≡ true → (all : Option (List ℕ)) → StandsFrom g all left old mid s k
+      → IfSome left (λ rest. HasBegun s rest mid now (Ok b) line u after) → ComesIf g all old now line u after k
+  stand_comes false no all at h = absurd (true≢false (sym no))
+  stand_comes true yes None at h = tt
+  stand_comes true yes (Some bytes) (n, most, (rest, is, p)) h =
       let c = comes g old mid now bytes rest s n line u after p (here bytes rest is _ h) in
       record {
         rest = c.rest;
@@ -164,10 +165,11 @@ module _ (g : Conversation) (old mid now : Option (List ℕ)) (s : Conversation)
         progress = c.progress;
       }
 
-  pub stand_ends : (all : Option (List ℕ)) → StandsFrom g all left old mid s k
-      → IfSome left (λ rest. HasBegun s rest mid now (Ok false) line u after) → IfSome all (λ bytes. EndedEarly g bytes old now (Ok tt))
-  stand_ends None at h = tt
-  stand_ends (Some bytes) (n, most, (rest, is, p)) h = all_answered g old mid now bytes rest s n p u (here bytes rest is _ h)
+  pub stand_ends : (b : Bool) → b ≡ false → (all : Option (List ℕ)) → StandsFrom g all left old mid s k
+      → IfSome left (λ rest. HasBegun s rest mid now (Ok b) line u after) → IfSome all (λ bytes. EndedEarly g bytes old now (Ok tt))
+  stand_ends true no all at h = absurd (true≢false no)
+  stand_ends false yes None at h = tt
+  stand_ends false yes (Some bytes) (n, most, (rest, is, p)) h = all_answered g old mid now bytes rest s n p u (here bytes rest is _ h)
 
   pub stand_fails : (fault : Fault) (all : Option (List ℕ)) → StandsFrom g all left old mid s k
       → IfSome left (λ rest. HasBegun s rest mid now (Err fault) line u after) → IfSome all (λ bytes. EndedEarly g bytes old now (Err fault))

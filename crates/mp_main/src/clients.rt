@@ -119,8 +119,9 @@ fn converse_from<R: Threads + Wait + Sync, D: Device + Send + Drop>(
                 clients = back.clients;
             }
         }
-        if let Err(fault) = refuse(&mut operator, &mut device) {
-            return end_fault(rt, fault);
+        match refuse(&mut operator, &mut device) {
+            Ok(()) => {}
+            Err(fault) => return end_fault(rt, fault),
         }
     }
     end_fault(rt, Fault::ManyLines)

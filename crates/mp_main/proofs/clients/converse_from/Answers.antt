@@ -16,7 +16,8 @@ returns-in-Ok-false g c =
     let at = c.loop-count in
     ends_early Brand c.args.callers input output c.args.start c.args.device now c.args.clients.items _ (Ok tt) (input c.args.device)
     (stand_ends c.args.start (output c.args.device) (output at.device) (output now) at.operator at._count (input at.device)
-    c.begin.new.line.items c.begin.new.conversation (input now) (input c.args.device) at.invariant.0 c.in-Ok-false.ensures.begun) refl
+    c.begin.new.line.items c.begin.new.conversation (input now) c.in-Ok-false.field-0 c.in-Ok-false.field-0-is (input c.args.device)
+    at.invariant.0 c.in-Ok-false.ensures.begun) refl
 
 pub returns-in-Err : goal.returns-in-Err
 returns-in-Err g c =
@@ -30,20 +31,21 @@ returns-in-Err g c =
     c.begin.new.line.items c.begin.new.conversation (input now) c.in-Err.fault (input c.args.device) at.invariant.0 c.in-Err.ensures.begun)
     c.end_fault.ensures
 
-pub returns-in-Ok-open_and_serve : goal.returns-in-Ok-open_and_serve
-returns-in-Ok-open_and_serve g c =
+pub returns-in-Ok : goal.returns-in-Ok
+returns-in-Ok g c =
     let input = g.D.Device.input in
     let output = g.D.Device.output in
     let now = c.begin.new.device in
     let u = c.begin.new.conversation in
     let at = c.loop-count in
-    let status = exit_status c.in-Ok-open_and_serve.code in
+    let status = exit_status c.in-Ok.code in
     ends_held Brand c.args.callers input output c.args.start c.args.device now c.args.clients.items status c.begin.new.line.items u at._count
     (input c.args.device)
     (stand_comes c.args.start (output c.args.device) (output at.device) (output now) at.operator at._count (input at.device)
-    c.begin.new.line.items u (input now) (input c.args.device) at.invariant.0 c.in-Ok-true.ensures.begun)
+    c.begin.new.line.items u (input now) c.in-Ok-true.field-0 c.in-Ok-true.field-0-is (input c.args.device)
+    at.invariant.0 c.in-Ok-true.ensures.begun)
     (subst (λ clients. EndsHeld Brand (accepted_by u.signatures) c.args.callers input output u c.begin.new.line.items now clients.items status)
-    at.invariant.1.1.1 c.in-Ok-open_and_serve.ensures.ok)
+    at.invariant.3 c.in-Ok.ensures.ok)
 
 pub returns-in-Err-refuse : goal.returns-in-Err-refuse
 returns-in-Err-refuse g c =
@@ -59,7 +61,8 @@ returns-in-Err-refuse g c =
     (cut_on input output c.args.start c.args.device now back.device c.refuse.new.device c.begin.new.line.items u back.operator
     c.refuse.new.conversation at._count (ap (λ w. w.device) same) (ap (λ w. w.operator) same)
     (stand_comes c.args.start (output c.args.device) (output at.device) (output now) at.operator at._count (input at.device)
-    c.begin.new.line.items u (input now) (input c.args.device) at.invariant.0 c.in-Ok-true.ensures.begun)
+    c.begin.new.line.items u (input now) c.in-Ok-true.field-0 c.in-Ok-true.field-0-is (input c.args.device)
+    at.invariant.0 c.in-Ok-true.ensures.begun)
     c.in-Err-refuse.ensures.err) c.end_fault-in-Err-refuse.ensures
 
 pub loop-count-preserved : goal.loop-count-preserved
@@ -74,11 +77,12 @@ loop-count-preserved g c =
       refused_on input output c.args.start c.args.device now back.device c.refuse.new.device c.begin.new.line.items u back.operator
           c.refuse.new.conversation at._count (ap (λ w. w.device) same) (ap (λ w. w.operator) same)
           (stand_comes c.args.start (output c.args.device) (output at.device) (output now) at.operator at._count (input at.device)
-          c.begin.new.line.items u (input now) (input c.args.device) at.invariant.0 c.in-Ok-true.ensures.begun)
+          c.begin.new.line.items u (input now) c.in-Ok-true.field-0 c.in-Ok-true.field-0-is (input c.args.device)
+    at.invariant.0 c.in-Ok-true.ensures.begun)
           c.in-Ok-refuse.ensures.ok c.in-Ok-refuse.ensures.input c.in-Ok-refuse.ensures.counted,
       c.in-Ok-refuse.ensures.turn,
       before_on u back.operator c.refuse.new.conversation (ap (λ w. w.operator) same) c.in-Ok-refuse.ensures.counted c.begin.ensures.before,
-      ap (λ w. w.clients) same ∙ at.invariant.1.1.1,
+      ap (λ w. w.clients) same ∙ at.invariant.3,
     )
 
 pub returns : goal.returns
@@ -88,4 +92,4 @@ returns g c =
     let at = c.loop-count in
     ends_early Brand c.args.callers input output c.args.start c.args.device at.device c.args.clients.items _ (Err ManyLines) (input c.args.device)
     (stand_many c.args.start (input c.args.device) (input at.device) (output c.args.device) (output at.device) at.operator at._count
-    at.invariant.0 (search rules)) c.end_fault.ensures
+    at.invariant.0 (search rules)) c.end_fault-2.ensures

@@ -8,7 +8,7 @@ use Rattle.mp_main.proofs.clients.converse_over_all.Goals as goal
 
 pub returns-in-Ok : goal.returns-in-Ok
 returns-in-Ok g c = same_start Brand _ _ g.D.Device.input g.D.Device.output c.in-Ok.operator _ c.args.device c.args.clients.items _ _
-    (c.callers_of.ensures ∙ ap (λ clients. length clients + 1) c.deref.ensures.value) c.in-Ok.ensures c.converse_from.ensures
+    (c.callers_of-callers.ensures ∙ ap (λ clients. length clients + 1) c.deref.ensures.value) c.in-Ok.ensures c.converse_from.ensures
 
 pub returns-in-Err : goal.returns-in-Err
 returns-in-Err g c =
