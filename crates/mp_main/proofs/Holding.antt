@@ -152,9 +152,9 @@ module _ (g : Conversation) (old mid now : Option (List ℕ)) (s : Conversation)
 
   pub stand_comes : (b : Bool) → b ≡ true → (all : Option (List ℕ)) → StandsFrom g all left old mid s k
       → IfSome left (λ rest. HasBegun s rest mid now (Ok b) line u after) → ComesIf g all old now line u after k
-  stand_comes false no all at h = absurd (true≢false (sym no))
-  stand_comes true yes None at h = tt
-  stand_comes true yes (Some bytes) (n, most, (rest, is, p)) h =
+  stand_comes false is all at h = absurd (true≢false (sym is))
+  stand_comes true _ None at h = tt
+  stand_comes true _ (Some bytes) (n, most, (rest, is, p)) h =
       let c = comes g old mid now bytes rest s n line u after p (here bytes rest is _ h) in
       record {
         rest = c.rest;
@@ -167,9 +167,9 @@ module _ (g : Conversation) (old mid now : Option (List ℕ)) (s : Conversation)
 
   pub stand_ends : (b : Bool) → b ≡ false → (all : Option (List ℕ)) → StandsFrom g all left old mid s k
       → IfSome left (λ rest. HasBegun s rest mid now (Ok b) line u after) → IfSome all (λ bytes. EndedEarly g bytes old now (Ok tt))
-  stand_ends true no all at h = absurd (true≢false no)
-  stand_ends false yes None at h = tt
-  stand_ends false yes (Some bytes) (n, most, (rest, is, p)) h = all_answered g old mid now bytes rest s n p u (here bytes rest is _ h)
+  stand_ends true is all at h = absurd (true≢false is)
+  stand_ends false _ None at h = tt
+  stand_ends false _ (Some bytes) (n, most, (rest, is, p)) h = all_answered g old mid now bytes rest s n p u (here bytes rest is _ h)
 
   pub stand_fails : (fault : Fault) (all : Option (List ℕ)) → StandsFrom g all left old mid s k
       → IfSome left (λ rest. HasBegun s rest mid now (Err fault) line u after) → IfSome all (λ bytes. EndedEarly g bytes old now (Err fault))

@@ -16,7 +16,7 @@ returns-in-Ok-false g c =
     let at = c.loop-count in
     ends_early Brand c.args.callers input output c.args.start c.args.device now c.args.clients.items _ (Ok tt) (input c.args.device)
     (stand_ends c.args.start (output c.args.device) (output at.device) (output now) at.operator at._count (input at.device)
-    c.begin.new.line.items c.begin.new.conversation (input now) c.in-Ok-false.field-0 c.in-Ok-false.field-0-is (input c.args.device)
+    c.begin.new.line.items c.begin.new.conversation (input now) c.in-Ok-false.field-0 c.in-Ok-false.field-0-test (input c.args.device)
     at.invariant.0 c.in-Ok-false.ensures.begun) refl
 
 pub returns-in-Err : goal.returns-in-Err
@@ -42,7 +42,7 @@ returns-in-Ok g c =
     ends_held Brand c.args.callers input output c.args.start c.args.device now c.args.clients.items status c.begin.new.line.items u at._count
     (input c.args.device)
     (stand_comes c.args.start (output c.args.device) (output at.device) (output now) at.operator at._count (input at.device)
-    c.begin.new.line.items u (input now) c.in-Ok-true.field-0 c.in-Ok-true.field-0-is (input c.args.device)
+    c.begin.new.line.items u (input now) c.in-Ok-true.field-0 c.in-Ok-true.field-0-test (input c.args.device)
     at.invariant.0 c.in-Ok-true.ensures.begun)
     (subst (λ clients. EndsHeld Brand (accepted_by u.signatures) c.args.callers input output u c.begin.new.line.items now clients.items status)
     at.invariant.3 c.in-Ok.ensures.ok)
@@ -61,7 +61,7 @@ returns-in-Err-refuse g c =
     (cut_on input output c.args.start c.args.device now back.device c.refuse.new.device c.begin.new.line.items u back.operator
     c.refuse.new.conversation at._count (ap (λ w. w.device) same) (ap (λ w. w.operator) same)
     (stand_comes c.args.start (output c.args.device) (output at.device) (output now) at.operator at._count (input at.device)
-    c.begin.new.line.items u (input now) c.in-Ok-true.field-0 c.in-Ok-true.field-0-is (input c.args.device)
+    c.begin.new.line.items u (input now) c.in-Ok-true.field-0 c.in-Ok-true.field-0-test (input c.args.device)
     at.invariant.0 c.in-Ok-true.ensures.begun)
     c.in-Err-refuse.ensures.err) c.end_fault-in-Err-refuse.ensures
 
@@ -77,7 +77,7 @@ loop-count-preserved g c =
       refused_on input output c.args.start c.args.device now back.device c.refuse.new.device c.begin.new.line.items u back.operator
           c.refuse.new.conversation at._count (ap (λ w. w.device) same) (ap (λ w. w.operator) same)
           (stand_comes c.args.start (output c.args.device) (output at.device) (output now) at.operator at._count (input at.device)
-          c.begin.new.line.items u (input now) c.in-Ok-true.field-0 c.in-Ok-true.field-0-is (input c.args.device)
+          c.begin.new.line.items u (input now) c.in-Ok-true.field-0 c.in-Ok-true.field-0-test (input c.args.device)
     at.invariant.0 c.in-Ok-true.ensures.begun)
           c.in-Ok-refuse.ensures.ok c.in-Ok-refuse.ensures.input c.in-Ok-refuse.ensures.counted,
       c.in-Ok-refuse.ensures.turn,
