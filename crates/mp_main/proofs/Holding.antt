@@ -15,7 +15,7 @@ use Rattle.mp_serve.specs.Talk.{counted}
 use Rattle.mp_serve.specs.Texts.{no_memory_text}
 use Rattle.mp_serve.specs.Served.{AreAnswers, AppendsUpTo, Ended, WasCut, WereAnswered}
 use Rattle.mp_serve.proofs.Answers.{appends-kept}
-use Rattle.mp_serve.proofs.Progress.{Progress, Stands, goes_on, is_cut, stopped}
+use Rattle.mp_serve.proofs.Progress.{Progress, Stands, goes_on, is_cut, stands-first, stopped}
 use Rattle.mp_clients.specs.Beginning.{HasBegun, HasCome, AreAll, IsBefore, Opens}
 use Rattle.mp_main.specs.Status.{status_of}
 use Rattle.mp_main.specs.Held.{EndedEarly, EndsHeld, EndsShared}
@@ -140,6 +140,9 @@ module _ (g : Conversation) (old now : Option (List ℕ)) (bytes line : List ℕ
 -- at least k - 1 lines were answered, and the others are left
 abbrev pub StandsFrom : Conversation → Option (List ℕ) → Option (List ℕ) → Option (List ℕ) → Option (List ℕ) → Conversation → ℕ → Type 0
 StandsFrom g all left old now s k = (n : ℕ) × (k ≤ n) × Stands g all left old now s n
+
+pub stands_new : (g : Conversation) (all old : Option (List ℕ)) → StandsFrom g all all old old g 1
+stands_new g all old = (1, omega arith, stands-first g all old g 1 refl refl)
 
 abbrev pub ComesIf : Conversation → Option (List ℕ) → Option (List ℕ) → Option (List ℕ) → List ℕ → Conversation → Option (List ℕ) → ℕ → Type 0
 ComesIf g all old now line u after k = IfSome all (λ bytes. Comes g bytes old now line u after k)

@@ -5,8 +5,16 @@ use Rattle.std.specs.declared.marker.Brand.{Brand}
 use Rattle.mp_serve.specs.declared.fault.Fault.TheVariants.{WriteFault, ManyLines}
 use Rattle.mp_signatures.specs.Scheme.{accepted_by}
 use Rattle.mp_main.specs.Held.{EndsHeld}
-use Rattle.mp_main.proofs.Holding.{before_on, cut_on, ends_early, ends_held, refused_on, stand_comes, stand_ends, stand_fails, stand_many}
+use Rattle.mp_main.proofs.Holding.{before_on, cut_on, ends_early, ends_held, refused_on, stand_comes, stand_ends, stand_fails, stand_many, stands_new}
 use Rattle.mp_main.proofs.clients.converse_from.Goals as goal
+
+pub loop-count-init : goal.loop-count-init
+loop-count-init g c = (
+  stands_new c.args.start (g.D.Device.input c.args.device) (g.D.Device.output c.args.device),
+  c.requires.listens,
+  c.requires.before,
+  refl,
+)
 
 pub returns-in-Ok-false : goal.returns-in-Ok-false
 returns-in-Ok-false g c =
@@ -78,7 +86,7 @@ loop-count-preserved g c =
           c.refuse.new.conversation at._count (ap (λ w. w.device) same) (ap (λ w. w.operator) same)
           (stand_comes c.args.start (output c.args.device) (output at.device) (output now) at.operator at._count (input at.device)
           c.begin.new.line.items u (input now) c.in-Ok-true.field-0 c.in-Ok-true.field-0-test (input c.args.device)
-    at.invariant.0 c.in-Ok-true.ensures.begun)
+          at.invariant.0 c.in-Ok-true.ensures.begun)
           c.in-Ok-refuse.ensures.ok c.in-Ok-refuse.ensures.input c.in-Ok-refuse.ensures.counted,
       c.in-Ok-refuse.ensures.turn,
       before_on u back.operator c.refuse.new.conversation (ap (λ w. w.operator) same) c.in-Ok-refuse.ensures.counted c.begin.ensures.before,
