@@ -1,6 +1,6 @@
 -- The operator's conversation until the pool is open, and how the program ends.
 use Rattle.std.proofs.Common.{◌≡◌, ◌≤◌, ◌⊎◌, ℕ, ◌+◌, ◌-◌, ◌^◌, List, [], ◌∷◌, ◌++◌, length, take, refl, sym, ap, subst, ◌∙◌, inl, inr, arith}
-use Rattle.std.proofs.Common.{true, false}
+use Rattle.std.proofs.Common.{Bool, true, false, true≢false}
 use Rattle.std.proofs.lemmas.List.{append_assoc, length-append}
 use Rattle.std.specs.Prelude.{Option, None, Some, IfSome, Result, Ok, Err}
 use Rattle.std.specs.Io.KnownBytes.{Appends, Keeps}
@@ -15,8 +15,8 @@ use Rattle.mp_serve.specs.Talk.{counted}
 use Rattle.mp_serve.specs.Texts.{no_memory_text}
 use Rattle.mp_serve.specs.Served.{AreAnswers, AppendsUpTo, Ended, WasCut, WereAnswered}
 use Rattle.mp_serve.proofs.Answers.{appends-kept}
-use Rattle.mp_serve.proofs.Progress.{Progress, Stands, goes_on, is_cut, stopped}
-use Rattle.mp_clients.specs.Beginning.{HasBegun, HasCome, AreAll, Opens}
+use Rattle.mp_serve.proofs.Progress.{Progress, Stands, goes_on, is_cut, stands-first, stopped}
+use Rattle.mp_clients.specs.Beginning.{HasBegun, HasCome, AreAll, IsBefore, Opens}
 use Rattle.mp_main.specs.Status.{status_of}
 use Rattle.mp_main.specs.Held.{EndedEarly, EndsHeld, EndsShared}
 
@@ -77,13 +77,9 @@ module _ (g : Conversation) (old mid now : Option (List ℕ)) (bytes rest : List
   faulty ReadFault (k, told) = (length p.lines + k, more_answered k told)
   faulty WriteFault cut = more_cut cut
   faulty ManyLines (k, last, told) = (length p.lines + k, omega (arith, last), more_answered k told)
-  faulty NoMemory kept = (
-    length p.lines,
-    (stopped g old mid (lines_of bytes) (lines_of rest) s n p).0,
-    (stopped g old mid (lines_of bytes) (lines_of rest) s n p).1,
-    (stopped g old mid (lines_of bytes) (lines_of rest) s n p).2,
-    appends-kept old mid now p.text (stopped g old mid (lines_of bytes) (lines_of rest) s n p).3 kept,
-  )
+  faulty NoMemory kept =
+      let done = stopped g old mid (lines_of bytes) (lines_of rest) s n p in
+      (length p.lines, (done.0, done.1, done.2, appends-kept old mid now done.0 done.3 kept))
 
 -- A line opens the pool. The lines before it were answered, and are at least n - 1.
 pub record Comes (g : Conversation) (bytes : List ℕ) (old now : Option (List ℕ)) (line : List ℕ) (u : Conversation) (after : Option (List ℕ))
@@ -145,6 +141,9 @@ module _ (g : Conversation) (old now : Option (List ℕ)) (bytes line : List ℕ
 abbrev pub StandsFrom : Conversation → Option (List ℕ) → Option (List ℕ) → Option (List ℕ) → Option (List ℕ) → Conversation → ℕ → Type 0
 StandsFrom g all left old now s k = (n : ℕ) × (k ≤ n) × Stands g all left old now s n
 
+pub stands_new : (g : Conversation) (all old : Option (List ℕ)) → StandsFrom g all all old old g 1
+stands_new g all old = (1, omega arith, stands-first g all old g 1 refl refl)
+
 abbrev pub ComesIf : Conversation → Option (List ℕ) → Option (List ℕ) → Option (List ℕ) → List ℕ → Conversation → Option (List ℕ) → ℕ → Type 0
 ComesIf g all old now line u after k = IfSome all (λ bytes. Comes g bytes old now line u after k)
 
@@ -154,17 +153,26 @@ module _ (g : Conversation) (old mid now : Option (List ℕ)) (s : Conversation)
     here : (Holds : List ℕ → Type 0) → IfSome left Holds → Holds rest
     here Holds h = subst (λ o. IfSome o Holds) is h
 
-  pub stand_comes : (all : Option (List ℕ)) → StandsFrom g all left old mid s k
-      → IfSome left (λ rest. HasBegun s rest mid now (Ok true) line u after) → ComesIf g all old now line u after k
-  stand_comes None at h = tt
-  stand_comes (Some bytes) (n, most, (rest, is, p)) h =
+  pub stand_comes : (b : Bool) → b ≡ true → (all : Option (List ℕ)) → StandsFrom g all left old mid s k
+      → IfSome left (λ rest. HasBegun s rest mid now (Ok b) line u after) → ComesIf g all old now line u after k
+  stand_comes false is all at h = absurd (true≢false (sym is))
+  stand_comes true _ None at h = tt
+  stand_comes true _ (Some bytes) (n, most, (rest, is, p)) h =
       let c = comes g old mid now bytes rest s n line u after p (here bytes rest is _ h) in
-      record c { most = omega (arith, most, c.most) }
+      record {
+        rest = c.rest;
+        left = c.left;
+        m = c.m;
+        most = let more = c.most in omega (arith, most, more);
+        opens_it = c.opens_it;
+        progress = c.progress;
+      }
 
-  pub stand_ends : (all : Option (List ℕ)) → StandsFrom g all left old mid s k
-      → IfSome left (λ rest. HasBegun s rest mid now (Ok false) line u after) → IfSome all (λ bytes. EndedEarly g bytes old now (Ok tt))
-  stand_ends None at h = tt
-  stand_ends (Some bytes) (n, most, (rest, is, p)) h = all_answered g old mid now bytes rest s n p u (here bytes rest is _ h)
+  pub stand_ends : (b : Bool) → b ≡ false → (all : Option (List ℕ)) → StandsFrom g all left old mid s k
+      → IfSome left (λ rest. HasBegun s rest mid now (Ok b) line u after) → IfSome all (λ bytes. EndedEarly g bytes old now (Ok tt))
+  stand_ends true is all at h = absurd (true≢false is)
+  stand_ends false _ None at h = tt
+  stand_ends false _ (Some bytes) (n, most, (rest, is, p)) h = all_answered g old mid now bytes rest s n p u (here bytes rest is _ h)
 
   pub stand_fails : (fault : Fault) (all : Option (List ℕ)) → StandsFrom g all left old mid s k
       → IfSome left (λ rest. HasBegun s rest mid now (Err fault) line u after) → IfSome all (λ bytes. EndedEarly g bytes old now (Err fault))
@@ -200,20 +208,51 @@ none_answered g (Some bytes) old = (0, ([], g, (refl, refl), Appends-nothing old
 
 -- ---- the status
 
-module _ {N D : Type 0} (callers : ℕ) (input output : D → Option (List ℕ)) (g : Conversation) (device now : D) (clients : List D)
+module _ (N : Type 0) {D : Type 0} (callers : ℕ) (input output : D → Option (List ℕ)) (g : Conversation) (device now : D) (clients : List D)
     (status : ℕ) where
   -- the operator's conversation ended before
   pub ends_early : (ended : Result (Unit {0}) Fault) (all : Option (List ℕ))
       → IfSome all (λ bytes. EndedEarly g bytes (output device) (output now) ended) → status ≡ status_of ended
-      → IfSome all (λ bytes. EndsShared {N} callers input output g bytes device clients status)
+      → IfSome all (λ bytes. EndsShared N callers input output g bytes device clients status)
   ends_early ended None h is = tt
   ends_early ended (Some bytes) h is = inl (now, ended, h, is)
 
   -- the pool was opened
   pub ends_held : (line : List ℕ) (u : Conversation) (k : ℕ) (all : Option (List ℕ))
       → ComesIf g all (output device) (output now) line u (input now) k
-      → EndsHeld {N} (accepted_by u.signatures) callers input output u line now clients status
-      → IfSome all (λ bytes. EndsShared {N} callers input output g bytes device clients status)
+      → EndsHeld N (accepted_by u.signatures) callers input output u line now clients status
+      → IfSome all (λ bytes. EndsShared N callers input output g bytes device clients status)
   ends_held line u k None c h = tt
   ends_held line u k (Some bytes) c h =
       inr (now, line, u, has_come g (output device) (output now) bytes line u (input now) k c, h)
+
+-- the same from an equal state, for as many callers
+pub same_start : (N : Type 0) {D : Type 0} (callers other : ℕ) (input output : D → Option (List ℕ)) (g h : Conversation) (device : D)
+    (clients : List D) (status : ℕ) (all : Option (List ℕ)) → callers ≡ other → g ≡ h
+    → IfSome all (λ bytes. EndsShared N callers input output g bytes device clients status)
+    → IfSome all (λ bytes. EndsShared N other input output h bytes device clients status)
+same_start N callers other input output g h device clients status all many same ends =
+    subst (λ n. IfSome all (λ bytes. EndsShared N n input output h bytes device clients status)) many
+    (subst (λ c. IfSome all (λ bytes. EndsShared N callers input output c bytes device clients status)) same ends)
+
+-- ---- after the pool couldn't be opened, the device and the state are the same
+
+module _ {D : Type 0} (input output : D → Option (List ℕ)) (g : Conversation) (first now back new : D) (line : List ℕ)
+    (u v w : Conversation) (k : ℕ) (device_is : back ≡ now) (state_is : v ≡ u)
+    (c : ComesIf g (input first) (output first) (output now) line u (input now) k) where
+  pub refused_on : Appends (output back) (output new) no_memory_text → input new ≡ input back → w ≡ counted v
+      → StandsFrom g (input first) (input new) (output first) (output new) w (k + 1)
+  refused_on wrote left is =
+      let stands = come_refused g (output first) (output now) line u (input now) k (output new) (input first) c
+      (subst (λ d. Appends (output d) (output new) no_memory_text) device_is wrote) in
+      subst (λ o. StandsFrom g (input first) o (output first) (output new) w (k + 1)) (sym (left ∙ ap input device_is))
+      (subst (λ s. StandsFrom g (input first) (input now) (output first) (output new) s (k + 1)) (sym (is ∙ ap counted state_is)) stands)
+
+  pub cut_on : AppendsUpTo (output back) (output new) no_memory_text
+      → IfSome (input first) (λ bytes. EndedEarly g bytes (output first) (output new) (Err WriteFault))
+  cut_on wrote = come_cut g (output first) (output now) line u (input now) k (output new) (input first) c
+      (subst (λ d. AppendsUpTo (output d) (output new) no_memory_text) device_is wrote)
+
+pub before_on : (u v w : Conversation) → v ≡ u → w ≡ counted v → IsBefore u.session.stage → IsBefore w.session.stage
+before_on u v w state_is is before =
+    subst (λ (s : Conversation). IsBefore s.session.stage) (sym (is ∙ ap counted state_is)) before

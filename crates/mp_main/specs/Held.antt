@@ -8,7 +8,7 @@ use Rattle.mp_serve.specs.declared.conversation.Conversation as alone
 use Rattle.mp_serve.specs.declared.fault.Fault.{Fault}
 use Rattle.mp_serve.specs.declared.fault.Fault.TheVariants.{NoMemory, ReadFault, WriteFault, ManyLines}
 use Rattle.mp_serve.specs.Served.{Ended, WereAnswered}
-use Rattle.mp_clients.specs.declared.opening.Opened.{Opened}
+use Rattle.mp_clients.specs.declared.opening.Seat.{Seat}
 use Rattle.mp_clients.specs.declared.service.Finished.{Finished}
 use Rattle.mp_clients.specs.Beginning.{HasCome}
 use Rattle.mp_clients.specs.Opening.{HasOpened}
@@ -24,17 +24,18 @@ EndedEarly start bytes old new (Err ManyLines) =
     (k : ℕ) × (2 ^ 64 - 2 ≤ k) × WereAnswered start old new (take k (lines_of bytes))
 EndedEarly start bytes old new (Err NoMemory) = (k : ℕ) × WereAnswered start old new (take k (lines_of bytes))
 
-module _ {N D : Type 0} (accepts : Accepts) (callers : ℕ) (input output : D → Option (List ℕ)) where
+module _ (N : Type 0) {D : Type 0} (accepts : Accepts) (callers : ℕ) (input output : D → Option (List ℕ)) where
   -- The pool opened for the operator's line, and all conversations ended. One legal history explains their answers.
   pub record AreHeld (operator : alone.Conversation) (line : List ℕ) (device : D) (clients : List D)
       (finished : List (Finished N D)) : Type 0 where
-    pub opened : Opened N
-    pub has_opened : HasOpened accepts callers operator opened
+    pub front : Log
+    pub seats : List (Seat N)
+    pub opened : HasOpened accepts callers operator front seats
     pub history : Log
     pub legal : IsLegalLog accepts callers history
-    pub begins : Begins opened.front history
+    pub begins : Begins front history
     pub seen : All (HasSeenOf history) finished
-    pub served : AreServed accepts callers input output operator line device opened.seats.items clients finished
+    pub served : AreServed accepts callers input output operator line device seats clients finished
 
   -- the status is that of all conversations, or 1 if an allocation failed before all of them went on
   abbrev pub EndsHeld : alone.Conversation → List ℕ → D → List D → ℕ → Type 0
@@ -43,10 +44,11 @@ module _ {N D : Type 0} (accepts : Accepts) (callers : ℕ) (input output : D �
       ⊎ (status ≡ 1)
 
 -- the operator's conversation ended before the pool was open, or the pool opened after some lines
-abbrev pub EndsShared : {N D : Type 0} → ℕ → (D → Option (List ℕ)) → (D → Option (List ℕ)) → alone.Conversation → List ℕ → D → List D → ℕ → Type 0
-EndsShared {N} {D} callers input output start bytes device clients status =
+abbrev pub EndsShared : (N : Type 0) → {D : Type 0} → ℕ → (D → Option (List ℕ)) → (D → Option (List ℕ)) → alone.Conversation
+    → List ℕ → D → List D → ℕ → Type 0
+EndsShared N {D} callers input output start bytes device clients status =
     ((now : D) × (ended : Result (Unit {0}) Fault) × EndedEarly start bytes (output device) (output now) ended
     × (status ≡ status_of ended))
     ⊎ ((now : D) × (line : List ℕ) × (operator : alone.Conversation)
     × HasCome start bytes (output device) (output now) line operator (input now)
-    × EndsHeld {N} (accepted_by operator.signatures) callers input output operator line now clients status)
+    × EndsHeld N (accepted_by operator.signatures) callers input output operator line now clients status)

@@ -1,10 +1,11 @@
 //! Where the lines of a conversation come from, and where their answers go.
 
-ghost use Rattle.std.specs.Prelude.{◌≡◌};
+ghost use Rattle.std.specs.Prelude.{◌≡◌, length, All, IfOk};
 ghost use Rattle.mp_serve.specs.declared.device.Turn.TheVariants.{Listens};
+ghost use Rattle.mp_main.specs.Channel.{turn_of};
 
 use crate::command_line::ClientFiles;
-use mp_memory::Memory;
+use mp_memory::{Memory, NoMemory};
 use mp_serve::{Device, Streams, Turn};
 use mp_text::{LineRead, ReadFault, WriteFault, read_line, write_all};
 use std::fs::{File, OpenOptions};
@@ -160,4 +161,20 @@ impl Device for Channel<'_> {
             Channel::Client(pipes) => pipes.flush(),
         }
     }
+}
+
+/// The files of clients, before their first lines.
+pub fn channels_of<'a>(
+    rt: &'a HostRuntime,
+    memory: Memory,
+    clients: &[ClientFiles<'a>],
+) -> Result<Vec<Channel<'a>, Memory>, NoMemory>
+    ensures listen { IfOk result (λ channels. All (λ c. turn_of c ≡ Listens) channels.items) }
+    ensures len { IfOk result (λ channels. length channels.items ≡ length clients.now) }
+{
+    let mut channels = Vec::new(memory);
+    for names in clients {
+        channels.push(Channel::Client(Pipes::new(rt, memory, *names)))?;
+    }
+    Ok(channels)
 }

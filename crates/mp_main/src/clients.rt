@@ -9,7 +9,7 @@ ghost use Rattle.mp_signatures.specs.Scheme.{accepted_by};
 ghost use Rattle.mp_clients.specs.Beginning.{IsBefore};
 ghost use Rattle.mp_main.specs.Held.{EndsHeld, EndsShared};
 
-use crate::channel::{Channel, Pipes};
+use crate::channel::{Channel, channels_of};
 use crate::command_line::{ClientFiles, SchemeName};
 use crate::conversation::prepare;
 use crate::ending::{end_conversations, end_fault};
@@ -22,7 +22,6 @@ use mp_tx::Salt;
 use std::io::BufReader;
 use std::marker::Brand;
 use std::process::ExitCode;
-use std::rt::Files;
 use std::sync::Wait;
 use std::thread::Threads;
 
@@ -53,10 +52,10 @@ fn open_and_serve<N: PoolName + Send + Sync, D: Device + Send + Drop, R: Threads
     requires most { callers ≤ 64 }
     requires owes { D.turn waiting.device ≡ Turn.Owes }
     requires listen { All (λ d. D.turn d ≡ Turn.Listens) waiting.clients.items }
-    ensures ok { IfOk result (λ code. EndsHeld {N} N.accepts N.callers D.input D.output
-        waiting.entry.operator waiting.entry.line.items waiting.entry.device
-        waiting.entry.clients.items (exit_status code)) }
-    ensures err { IfErr result (λ back. back ≡ waiting.entry) }
+    ensures ok { IfOk result (λ code. EndsHeld N N.accepts N.callers D.input D.output
+        waiting.operator waiting.line.items waiting.device waiting.clients.items
+        (exit_status code)) }
+    ensures err { IfErr result (λ back. back ≡ waiting) }
 {
     match open::<N>(threads, memory, name, &waiting.operator, callers) {
         Ok(opened) => {
@@ -90,8 +89,8 @@ fn converse_from<R: Threads + Wait + Sync, D: Device + Send + Drop>(
     requires listen { All (λ d. D.turn d ≡ Turn.Listens) clients.items }
     requires some { 1 ≤ callers }
     requires most { callers ≤ 64 }
-    ensures { IfSome (D.input device.entry) (λ bytes. EndsShared {Brand} callers
-        D.input D.output start.entry bytes device.entry clients.entry.items
+    ensures { IfSome (D.input device) (λ bytes. EndsShared Brand callers
+        D.input D.output start bytes device clients.items
         (exit_status result)) }
 {
     let mut operator = start;
@@ -120,11 +119,20 @@ fn converse_from<R: Threads + Wait + Sync, D: Device + Send + Drop>(
                 clients = back.clients;
             }
         }
-        if let Err(fault) = refuse(&mut operator, &mut device) {
-            return end_fault(rt, fault);
+        match refuse(&mut operator, &mut device) {
+            Ok(()) => {}
+            Err(fault) => return end_fault(rt, fault),
         }
     }
     end_fault(rt, Fault::ManyLines)
+}
+
+// The operator and the clients.
+fn callers_of<D>(clients: &[D]) -> u32
+    requires { length clients.now ≤ 63 }
+    ensures { result ≡ length clients.now + 1 }
+{
+    clients.len() as u32 + 1
 }
 
 /// Answers the lines of the operator's device and of those of the clients, until all inputs have ended. The pool opens at the
@@ -141,12 +149,12 @@ pub fn converse_over_all<R: Threads + Wait + Sync, D: Device + Send + Drop>(
     requires listens { D.turn device ≡ Turn.Listens }
     requires listen { All (λ d. D.turn d ≡ Turn.Listens) clients.items }
     requires most { length clients.items ≤ 63 }
-    ensures { IfSome (D.input device.entry) (λ bytes. EndsShared {Brand}
-        (length clients.entry.items + 1) D.input D.output
-        (new_conversation signatures salt) bytes device.entry clients.entry.items
+    ensures { IfSome (D.input device) (λ bytes. EndsShared Brand
+        (length clients.items + 1) D.input D.output
+        (new_conversation signatures salt) bytes device clients.items
         (exit_status result)) }
 {
-    let callers = clients.len() as u32 + 1;
+    let callers = callers_of(&clients);
     match Conversation::new(memory, signatures, salt) {
         Ok(operator) => converse_from(rt, threads, memory, operator, device, clients, callers),
         Err(NoMemory) => end_fault(rt, Fault::NoMemory),
@@ -171,14 +179,10 @@ pub fn converse_with<R: Threads + Wait + Sync>(
         return end_fault(rt, Fault::NoMemory);
     };
     let device = Channel::Operator(Streams::new(reader, rt.stdout()));
-    let mut devices = Vec::new(memory);
-    for names in clients {
-        if devices
-            .push(Channel::Client(Pipes::new(rt, memory, *names)))
-            .is_err()
-        {
-            return end_fault(rt, Fault::NoMemory);
+    match channels_of(rt, memory, clients) {
+        Ok(channels) => {
+            converse_over_all(rt, threads, memory, signatures, salt, device, channels)
         }
+        Err(NoMemory) => end_fault(rt, Fault::NoMemory),
     }
-    converse_over_all(rt, threads, memory, signatures, salt, device, devices)
 }

@@ -1,6 +1,7 @@
 //! How the program ends: what it writes to standard error, and its exit status.
 
-ghost use Rattle.std.specs.Prelude.{◌≡◌, ◌≢◌, ◌≤◌, if◌then◌else◌};
+ghost use Rattle.std.specs.Prelude.{◌≡◌, ◌≢◌, ◌≤◌, if◌then◌else◌, is_ok};
+ghost use Rattle.std.specs.List.{list_all};
 ghost use Rattle.std.specs.Process.{exit_status};
 ghost use Rattle.std.specs.IoError.{error_kind};
 ghost use Rattle.std.specs.declared.io.ErrorKind.TheVariants as kinds;
@@ -165,6 +166,13 @@ pub fn end_audit<W: io::Write>(
     }
 }
 
+// Whether all conversations ended with their input.
+fn all_ended<N: PoolName, D: Device>(finished: &[Finished<N, D>]) -> bool
+    ensures { result ≡ list_all (λ f. is_ok f.ended) finished.now }
+{
+    finished.iter().all(|one| one.ended.is_ok())
+}
+
 /// After all conversations of an operator and clients: 0, or 1 and the first fault's line, which names the client.
 pub fn end_conversations<N: PoolName, D: Device>(
     rt: &HostRuntime,
@@ -172,7 +180,7 @@ pub fn end_conversations<N: PoolName, D: Device>(
 ) -> ExitCode
     ensures { exit_status result ≡ status_of_all finished.now }
 {
-    if finished.iter().all(|one| one.ended.is_ok()) {
+    if all_ended(finished) {
         return ExitCode::SUCCESS;
     }
     for (number, one) in finished.iter().enumerate() {
