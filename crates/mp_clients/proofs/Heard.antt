@@ -86,6 +86,11 @@ module _ {N : Type 0} (accepts : Accepts) (callers : ℕ) (c : Conversation N) w
     heard_bad ask text u bad is (inl said) = inr (inl (bad_there ask text u bad is said))
     heard_bad ask text u bad is (inr none) = inr (inr (none, looked_only accepts callers c k u looked is))
 
+    -- the same of the line's number in the state afterwards
+    pub heard_bad_at : (ask : Ask) (text : List ℕ) (u : Conversation N) → IsBadAlone accepts (with_client c k) (λ x. take x ask) → u ≡ with_client c k
+        → IsBadLine u.line text ⊎ (text ≡ no_memory_text) → IsHeard accepts callers c (Some ask) text u
+    heard_bad_at ask text u bad is said = heard_bad ask text u bad is (subst (λ (x : Conversation N). IsBadLine x.line text ⊎ (text ≡ no_memory_text)) is said)
+
     pub heard_alone : (ask : Ask) (text : List ℕ) (u : Conversation N) → is_alone ask ≡ true → IsToldAlone accepts (with_client c k) (λ x. take x ask) text u → IsHeard accepts callers c (Some ask) text u
     heard_alone ask text u e told = inl (taken_alone ask text u e (answered_alone ask text u told))
 

@@ -1,6 +1,7 @@
+use Rattle.mp_serve.specs.declared.answer.Answer.{Answer}
 use Rattle.mp_serve.specs.Inside.Ask.{to_ask}
 use Rattle.mp_clients.proofs.Steps.{looked_only}
-use Rattle.mp_clients.proofs.Heard.{heard_alone, heard_bad, is_bad}
+use Rattle.mp_clients.proofs.Heard.{heard_alone, heard_bad_at, is_bad}
 use Rattle.mp_clients.proofs.conversation.Conversation.look_and_tell.Goals as goal
 
 pub returns-in-Ok-clause-ok : goal.returns-in-Ok-clause-ok
@@ -12,4 +13,4 @@ returns-in-Err-NoMemory-clause-err g c = looked_only g.N.PoolName.accepts g.N.Po
 
 pub returns-in-Err-Bad-clause-ok : goal.returns-in-Err-Bad-clause-ok
 returns-in-Err-Bad-clause-ok g c =
-    heard_bad g.N.PoolName.accepts g.N.PoolName.callers c.args.self.now c.look.new.self c.look.ensures (to_ask c.args.ask) _ c.tell.new.self (c.in-Err-Bad.ensures.bad (is_bad _ _ _ c.in-Err-Bad.field-0-is)) c.in-Err-Bad.ensures.err c.answer_bad.ensures
+    heard_bad_at g.N.PoolName.accepts g.N.PoolName.callers c.args.self.now c.look.new.self c.look.ensures (to_ask c.args.ask) _ c.tell.new.self (c.in-Err-Bad.ensures.bad (is_bad Answer _ _ c.in-Err-Bad.field-0-is)) c.in-Err-Bad.ensures.err c.answer_bad.ensures
