@@ -21,7 +21,7 @@ IsBefore (Open p) = ⊥
 abbrev pub Opens : Names → List ℕ → Type 0
 Opens names line = IsSomeAnd (ask_of names line) (λ ask. opens ask ≡ true)
 
--- Some first lines were answered, and the next one opens the pool. The bytes behind it are left.
+-- Some first lines were answered, and the next one opens the pool. The bytes after it are left.
 pub record HasCome (start : Conversation) (bytes : List ℕ) (old new : Option (List ℕ)) (line : List ℕ) (u : Conversation)
     (left : Option (List ℕ)) : Type 0 where
   pub lines : List (List ℕ)
