@@ -26,14 +26,20 @@ _keltuvar() {
   fi
   local command=${COMP_WORDS[1]}
   case $command:$option in
-    race:--history | race:--svg) _keltuvar_offer_files && return ;;
+    race:--history | race:--svg | serve:--client) _keltuvar_offer_files && return ;;
     race:--workers | race:--verify-us | serve:--salt) return ;;
     *:--signatures) _keltuvar_offer 'trial checked ed25519' && return ;;
   esac
   case $command:$cur in
     run:-* | audit:-*) _keltuvar_offer '--explain --signatures --help' ;;
     race:-*) _keltuvar_offer '--workers --history --svg --verify-us --explain --signatures --help' ;;
-    serve:*) _keltuvar_offer '--signatures --salt --help' ;;
+    serve:*)
+      if ((COMP_CWORD > 2)) && [[ ${COMP_WORDS[COMP_CWORD - 2]} == --client ]]; then
+        _keltuvar_offer_files
+      else
+        _keltuvar_offer '--signatures --salt --client --help'
+      fi
+      ;;
     run:* | race:* | audit:*) _keltuvar_offer_files ;;
   esac
 }

@@ -38,7 +38,8 @@ _keltuvar() {
         (audit) _arguments $explain $signatures '1:scenario:_files' '2:history:_files' && ret=0 ;;
         (serve)
           _arguments '(- *)'{-h,--help}'[write help]' $signatures \
-            "--salt=[a number that salts the pool's tables]:number: " && ret=0
+            "--salt=[a number that salts the pool's tables]:number: " \
+            '*--client[also answer the lines of a file in another file]:lines:_files:answers:_files' && ret=0
           ;;
       esac
       ;;

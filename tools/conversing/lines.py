@@ -606,7 +606,7 @@ class RandomTalk:
             tx = self.names.tx(name)
             if first_broken(tx, tick, unspent, self.talk.verifier) is None:
                 chosen.append(name)
-                unspent = applied(tx, unspent)
+                unspent = applied([tx], unspent)
         return chosen[: self.rng.choice([0, 1, 2, 9])]
 
     def say_adopt(self) -> None:

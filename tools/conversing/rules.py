@@ -2,7 +2,7 @@
 
 from __future__ import annotations
 
-from collections.abc import Callable, Iterator, Mapping
+from collections.abc import Callable, Iterable, Iterator, Mapping
 
 from . import bundles
 from .scripts import Own, Paid, View, accepts
@@ -106,8 +106,16 @@ def view_of(tx: Tx, unspent: Unspent) -> View:
     )
 
 
-def applied(tx: Tx, unspent: Unspent) -> dict[Ref, Output]:
-    """Gives what may be spent after the transaction."""
-    spent = {one.ref for one in tx.parts.inputs}
-    left = {ref: output for ref, output in unspent.items() if ref not in spent}
-    return left | dict(tx.made())
+def apply_to(tx: Tx, unspent: dict[Ref, Output]) -> None:
+    """Takes out what the transaction spends, and puts in what it makes."""
+    for one in tx.parts.inputs:
+        unspent.pop(one.ref, None)
+    unspent.update(tx.made())
+
+
+def applied(txs: Iterable[Tx], unspent: Unspent) -> dict[Ref, Output]:
+    """Gives what may be spent after the transactions."""
+    left = dict(unspent)
+    for tx in txs:
+        apply_to(tx, left)
+    return left

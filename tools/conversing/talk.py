@@ -45,8 +45,8 @@ from . import data, scripts
 LONGEST_CLEAN = 4096
 # The longest line of the language has an output that fills a transaction: utxo ID#INDEX HEX, with an index of 20 digits.
 LONGEST_LINE = len("utxo ") + 64 + len("#") + 20 + len(" ") + 2 * (MOST_BYTES - 27)
-# In the order of `stats`. A conversation never answers that its pool has made as many changes as it may.
-REFUSALS = (*(word for word in read_refusal_words() if word not in ("history", "memory")), "adopt", "back")
+# In the order of `stats`. Only a conversation that shares its pool answers that this has made as many changes as it may.
+REFUSALS = (*(word for word in read_refusal_words() if word != "memory"), "adopt", "back")
 
 
 def fits(answer: str, expected: str) -> bool:
@@ -143,6 +143,8 @@ class Talk:
 
     LONGER = ("bytes", "give", "utxo")  # The first words of lines that may have more than 4,096 bytes.
 
+    POOL = Pool
+
     def __init__(self, verifier: Verifier) -> None:
         self.verifier = verifier
         self.names = Names()
@@ -151,6 +153,7 @@ class Talk:
         self.opening: dict[Ref, Output] = {}
         self.outs = 0
         self.pool: Pool | None = None
+        self.offered = 0  # The last ticket that the conversation's one peer was offered.
         self.refused: Counter[str] = Counter()
         self.lines = 0
 
@@ -198,7 +201,7 @@ class Talk:
         """Gives the pool, which is opened where it isn't yet."""
         if self.pool is None:
             ledger = LedgerState(self.setting("tick"), self.setting("block"), self.opening)
-            self.pool = Pool(ledger, self.setting("limit"), self.setting("last"), self.verifier)
+            self.pool = self.POOL(ledger, self.setting("limit"), self.setting("last"), self.verifier)
         return self.pool
 
     def _script(self, word: str, digits: str) -> str:
@@ -292,7 +295,7 @@ class Talk:
     def _reset(self) -> str:
         if self.pool is None:
             raise Bad
-        self.names, self.tells_ids, self.pool.offered, self.lines = Names(), False, 0, 0
+        self.names, self.tells_ids, self.offered, self.lines = Names(), False, 0, 0
         return "ok"
 
     def _show(self, word: str) -> str:
@@ -333,6 +336,8 @@ class Talk:
         try:
             return tell_two("kept", *self._opened().adopt(tick, block_bytes, txs))
         except Refused as refused:
+            if refused.broken[0] != "adopt":
+                raise
             _, place, *broken = refused.broken
             return f"refused adopt {self._tell_tx(txs[place].id)} {self._tell_refusal(tuple(broken))}"
 
@@ -394,7 +399,10 @@ class Talk:
 
     def _offer(self, first: str, second: str) -> str:
         most, most_bytes = number(first), number(second)
-        return "offer" + self._tell_items(self._opened().offer(most, most_bytes))
+        items = self._opened().offer(self.offered, most, most_bytes)
+        if items:
+            self.offered = items[-1].ticket
+        return "offer" + self._tell_items(items)
 
     def _tell_block(self, first: str, most_bytes: int) -> str:
         block = self._opened().take(most_bytes)

@@ -84,6 +84,13 @@ class Names:
         self.others: dict[str, Opening | Declared] = {}
         self.reported: dict[bytes, str] = {}  # By the id, the name by which the pool last accepted the transaction.
 
+    def copy(self) -> Names:
+        """Gives the same names, of which some may be forgotten or declared without these."""
+        new = Names()
+        new.scripts, new.data = dict(self.scripts), dict(self.data)
+        new.others, new.reported = dict(self.others), dict(self.reported)
+        return new
+
     def new(self, word: str, names: dict[str, object]) -> str:
         """Gives a word that may be declared among the names."""
         if name(word) in names:

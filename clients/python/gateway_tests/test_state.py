@@ -17,6 +17,7 @@ from . import LONG, OPENING, OUTPUTS, PROGRAM, GatewayCase, id_of, pay, pool_of,
 
 # The second time that it starts it ends at once, and the third time it has no memory.
 FAILING = """#!/bin/sh
+case "$*" in *--help) exec {program} "$@" ;; esac
 echo start >> {folder}/starts
 case $(wc -l < {folder}/starts) in
   2) exit 3 ;;

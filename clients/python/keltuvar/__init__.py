@@ -5,11 +5,13 @@
         pool.tx("a", inputs=["g0"], outputs=[100])
         print(pool.submit("a"))
 
-docs/SERVE.md has the conversation, and docs/FORMATS.md the lines and their answers.
+`Clients` holds several conversations with one pool. docs/SERVE.md has the conversation, and
+docs/FORMATS.md the lines and their answers.
 """
 
 from .answers import error_in
 from .channel import Stream
+from .clients import Clients
 from .errors import (
     BadLine,
     Broken,
@@ -43,6 +45,7 @@ __all__ = [
     "Block",
     "Broken",
     "Bundle",
+    "Clients",
     "Closed",
     "Declared",
     "Given",

@@ -162,12 +162,12 @@ class Timeout(KeltuvarError, TimeoutError):
     """How long the call waited."""
     sent: bool
     """Whether the line was sent. If so, its answer may still come and be mistaken for a later one:
-    the program is ended, and the pool takes no further calls. If not, another thread's call took
-    all the time. Nothing has happened, and the pool goes on."""
+    the conversation is ended, and the pool takes no further calls. If not, another thread's call
+    took all the time. Nothing has happened, and the pool goes on."""
 
     def __init__(self, line: str, seconds: float, sent: bool) -> None:
         if sent:
-            super().__init__(f"no answer to '{line}' within {seconds:g} s; the program was ended")
+            super().__init__(f"no answer to '{line}' within {seconds:g} s; the conversation was ended")
         else:
             super().__init__(f"'{line}' wasn't sent: other calls took {seconds:g} s")
         self.line, self.seconds, self.sent = line, seconds, sent

@@ -467,14 +467,14 @@ class Pool:
         if time.monotonic() >= until:
             raise NoTurn
         told = _shorten(lines[0])
-        self._fault = f"the call of '{told}' was interrupted, so the program was ended"
+        self._fault = f"the call of '{told}' was interrupted, so the conversation was ended"
         try:
             text = "".join(f"{line}\n" for line in lines).encode("ascii")
             result = read(self._channel.exchange(text, len(lines), until))
             self._fault = None
             return result
         except OutOfTime:
-            self._fault = f"the call of '{told}' had no answer in time, so the program was ended"
+            self._fault = f"the call of '{told}' had no answer in time, so the conversation was ended"
             raise
         except Ended:
             self._hear_end()

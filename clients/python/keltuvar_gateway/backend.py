@@ -14,7 +14,7 @@ from .state import State
 
 
 class Busy(Exception):
-    """As many submits as allowed wait for the pool."""
+    """As many submits as allowed wait for the pool, or all conversations are taken."""
 
 
 class BadStart(Exception):
@@ -55,6 +55,22 @@ class View:
     """What it held, oldest first."""
 
 
+class Session(ABC):
+    """What a connection of the client socket talks to."""
+
+    @abstractmethod
+    async def ask(self, line: str) -> str:
+        """Returns the answer to a line, for one that is bad whatever its number is.
+
+        Raises a ValueError if clients may not send it, `Busy` if too many submits wait, and a
+        KeltuvarError if there is no memory.
+        """
+
+    @abstractmethod
+    def end(self) -> None:
+        """Ends it. What was its own isn't that of the next one."""
+
+
 class Backend(ABC):
     """A pool. A call raises `Down` while the pool's process isn't there."""
 
@@ -87,6 +103,10 @@ class Backend(ABC):
     @abstractmethod
     async def submit(self, data: bytes) -> Receipt:
         """Submits a transaction. Raises `Busy` if too many others wait."""
+
+    @abstractmethod
+    async def open_session(self) -> Session:
+        """Begins to talk to a connection. Raises `Busy` if there are too many others."""
 
     @abstractmethod
     def find(self, transaction_id: str) -> Held | None:

@@ -15,20 +15,20 @@ from aiohttp import web
 
 from .backend import BadStart
 from .client_lines import ClientLines
+from .conversations import Conversations
 from .guard import Guards
 from .keeper import Keeper
 from .limits import MOST_BODY, Limits
 from .lines import LineServer
-from .one_conversation import OneConversation
 from .operator_lines import OperatorLines
 from .options import Options
-from .program import Down
+from .program import Down, knows_clients
 from .state import BadFile, State, read_state
 from .web import Site
 
 _LOG = logging.getLogger(__name__)
 # File descriptors that aren't connections.
-_OTHER_FILES = 64
+_OTHER_FILES = 320
 # How many seconds the requests under way have at the end.
 _PATIENCE = 1.0
 
@@ -42,7 +42,9 @@ class Gateway:
 
     def __init__(self, options: Options) -> None:
         self._options = options
-        self._pool = OneConversation(options.command, _read_first(options), options.most_waiting)
+        clients = options.clients if knows_clients(options.command) else 0
+        first = _read_first(options)
+        self._pool = Conversations(options.command, first, options.most_waiting, clients)
         self._keeper = Keeper(self._pool, options.state)
         self._guards = Guards(options.limits)
         self._tasks: list[asyncio.Task[None]] = []

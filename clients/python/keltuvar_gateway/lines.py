@@ -8,11 +8,14 @@ import logging
 import os
 import socket
 from abc import ABC, abstractmethod
+from collections.abc import Awaitable, Callable
 
 from .limits import Limits
 from .program import Down
 
 _LOG = logging.getLogger(__name__)
+# Gives the answer to a line.
+Answer = Callable[[str], Awaitable[str]]
 # Every line of a conversation is shorter.
 _MOST_LINE = 1 << 16
 
@@ -56,10 +59,6 @@ class LineServer(ABC):
             await asyncio.wait(self._open)
 
     @abstractmethod
-    async def answer(self, line: str) -> str:
-        """Returns the answer to a line. One that begins with `bad 0: ` gets the line's number."""
-
-    @abstractmethod
     async def talk(self, reader: asyncio.StreamReader, writer: asyncio.StreamWriter) -> None:
         """Answers a connection's lines until it ends."""
 
@@ -84,23 +83,22 @@ class LineServer(ABC):
         reader: asyncio.StreamReader,
         writer: asyncio.StreamWriter,
         idle: float | None,
+        answer: Answer,
         first: bytes = b"",
     ) -> None:
-        """Answers lines, of which one may have been read, until the input ends or is silent."""
+        """Answers lines, of which one may have been read, until the input ends or is silent.
+
+        An answer that begins with `bad` gets the line's number.
+        """
         number, line = 1, first or await self._read_line(reader, idle)
         while line:
-            answer = await self._answer_one(line)
-            if answer.startswith("bad "):
-                answer = f"bad {number}: {answer.partition(': ')[2]}"
-            writer.write(answer.encode("ascii", "replace") + b"\n")
+            told = await _answer_one(line, answer)
+            if told.startswith("bad "):
+                told = f"bad {number}: {told.partition(': ')[2]}"
+            writer.write(told.encode("ascii", "replace") + b"\n")
             async with asyncio.timeout(self._limits.request_seconds):
                 await writer.drain()
             number, line = number + 1, await self._read_line(reader, idle)
-
-    async def _answer_one(self, line: bytes) -> str:
-        if len(line) > _MOST_LINE:
-            return f"bad 0: a line has at most {_MOST_LINE} bytes here"
-        return await self.answer(line.decode("latin-1").removesuffix("\n"))
 
     async def _read_line(self, reader: asyncio.StreamReader, idle: float | None) -> bytes:
         """Returns the next line, or nothing at the end. Of one that is too long it reads a part."""
@@ -112,3 +110,9 @@ class LineServer(ABC):
             except asyncio.LimitOverrunError as error:
                 # It is answered, and what follows of it is answered as lines of its own.
                 return await reader.readexactly(error.consumed + 1)
+
+
+async def _answer_one(line: bytes, answer: Answer) -> str:
+    if len(line) > _MOST_LINE:
+        return f"bad 0: a line has at most {_MOST_LINE} bytes here"
+    return await answer(line.decode("latin-1").removesuffix("\n"))

@@ -29,9 +29,10 @@ class OperatorLines(LineServer):
             if first.startswith(_SAVE):
                 await self._answer_http(reader, writer)
             elif first:
-                await self._answer_lines(reader, writer, None, first)
+                await self._answer_lines(reader, writer, None, self.answer, first)
 
     async def answer(self, line: str) -> str:
+        """Returns the answer to a line."""
         if line.split() != ["save"]:
             return await self._pool.operate(line)
         try:

@@ -7,6 +7,8 @@ import math
 from collections.abc import Sequence
 from dataclasses import dataclass
 
+from keltuvar.clients import MOST_CLIENTS
+
 from . import __version__
 from .limits import Limits
 
@@ -27,6 +29,7 @@ class Options:
     state: str | None
     save_seconds: float
     most_waiting: int
+    clients: int
     limits: Limits
 
     @property
@@ -38,6 +41,14 @@ class Options:
 def _count(text: str) -> int:
     number = int(text)
     if not 1 <= number <= 1_000_000:
+        raise ValueError
+    return number
+
+
+def _clients(text: str) -> int:
+    number = int(text)
+    # One would be for requests, and none for the client socket.
+    if number == 1 or not 0 <= number <= MOST_CLIENTS:
         raise ValueError
     return number
 
@@ -82,6 +93,8 @@ def _make_parser() -> argparse.ArgumentParser:
         "--save-seconds", metavar="N", type=_rate, default=0.0, help="saves so often; 0: at the end"
     )
     add("--waiting", metavar="N", type=_count, default=1024, help="submits that wait for the pool")
+    clients = "conversations for submits and the client socket, 2 to 63; 0: only the operator's"
+    add("--clients", metavar="N", type=_clients, default=8, help=clients)
     limits = {
         "connections": (_count, "N", "connections of each listener"),
         "rate": (_rate, "N", "requests a second of one address; 0: no limit"),
@@ -110,5 +123,6 @@ def read_options(arguments: Sequence[str]) -> Options:
         state=found.state,
         save_seconds=found.save_seconds,
         most_waiting=found.waiting,
+        clients=found.clients,
         limits=limits,
     )

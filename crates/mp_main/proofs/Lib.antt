@@ -2,6 +2,8 @@ pub mod Ends
 pub mod Running
 pub mod Auditing
 pub mod Racing
+pub mod NamedFiles
+pub mod Holding
 pub mod Commands
 pub mod GivenValues
 pub mod KeptByParsing

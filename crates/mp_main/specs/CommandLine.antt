@@ -1,18 +1,21 @@
 -- The command lines that the program accepts: `keltuvar run [--explain] [--signatures WHICH] [FILE]`,
 -- `keltuvar race --workers N [--history FILE] [--svg FILE] [--verify-us MICROSECONDS] [--explain] [--signatures WHICH] [FILE]`,
--- `keltuvar audit [--explain] [--signatures WHICH] SCENARIO HISTORY`, `keltuvar serve [--signatures WHICH] [--salt N]`, `--help`
--- and `--version`.
-use Rattle.std.specs.Prelude.{◌≡◌, ◌≤◌, ◌⊎◌, ⊤, ℕ, Bool, true, false, List, [], ◌∷◌, map, Option, None, Some, codes}
-use Rattle.std.specs.Prelude.{option_and_then, option_map, unwrap_or}
+-- `keltuvar audit [--explain] [--signatures WHICH] SCENARIO HISTORY`,
+-- `keltuvar serve [--signatures WHICH] [--salt N] [--client IN OUT]..`, `--help` and `--version`.
+use Rattle.std.specs.Prelude.{◌≡◌, ◌≤◌, ◌⊎◌, ⊤, ℕ, Bool, true, false, List, [], ◌∷◌, map, length, Option, None, Some, codes}
+use Rattle.std.specs.Prelude.{if◌then◌else◌, nat_lt, option_and_then, option_map, unwrap_or}
 use Rattle.std.specs.Borrow.{Bor}
 use Rattle.std.specs.Str.Parse.{digits_value, without_leading_plus}
+use Rattle.clap.specs.Kinds.{Kinds, or_else}
 use Rattle.clap.specs.Simple.{on_top}
-use Rattle.clap.specs.declared.builder.action.ArgAction.TheVariants.{SetTrue}
+use Rattle.clap.specs.declared.builder.action.ArgAction.TheVariants.{Append, SetTrue}
 use Rattle.clap.specs.declared.builder.value_parser.ValueParser.TheVariants.{Names, Unsigned}
-use Rattle.clap.specs.Words.{App, Row, Rule, Text, first_of, one_of, new_app, new_rule, subcommand_of, with_rule}
-use Rattle.clap.specs.Words.{with_subcommand}
+use Rattle.clap.specs.declared.error.kind.ErrorKind.TheVariants.{TooManyValues}
+use Rattle.clap.specs.Words.{App, Row, Rule, Text, all_of, fault_of, first_of, one_of, new_app, new_rule, subcommand_of}
+use Rattle.clap.specs.Words.{with_rule, with_subcommand}
 use Rattle.mp_main.specs.declared.command_line.asked.Asked.{Asked}
 use Rattle.mp_main.specs.declared.command_line.asked.Asked.TheVariants.{Run, Race, Audit, Serve}
+use Rattle.mp_main.specs.declared.command_line.asked.ClientFiles.{ClientFiles}
 use Rattle.mp_main.specs.declared.command_line.asked.SchemeName.{SchemeName}
 use Rattle.mp_main.specs.declared.command_line.asked.SchemeName.TheVariants.{Trial, Checked, Ed25519}
 
@@ -55,6 +58,14 @@ salt_rule = record (new_rule (codes "salt")) {
   parser = Some (Unsigned 0 18446744073709551615);
 }
 
+-- two files, as often as one likes
+abbrev pub client_rule : Rule
+client_rule = record (new_rule (codes "client")) {
+  long = Some (codes "client");
+  action = Some Append;
+  value_names = 2;
+}
+
 -- an option with a file
 abbrev pub output_rule : Text → Rule
 output_rule name = record (new_rule name) { long = Some name; value_names = 1 }
@@ -83,9 +94,10 @@ abbrev pub audit_command : Bor (List (Bor Text)) → App
 audit_command names = with_rule (with_rule (with_rule (with_rule (new_app (codes "audit"))
     explain_rule) (signatures_rule names)) (input_rule (codes "FILE"))) (input_rule (codes "history"))
 
--- `serve`, with or without one of these names and a number
+-- `serve`, with or without one of these names, a number and the files of clients
 abbrev pub serve_command : Bor (List (Bor Text)) → App
-serve_command names = with_rule (with_rule (new_app (codes "serve")) (signatures_rule names)) salt_rule
+serve_command names = with_rule (with_rule (with_rule (new_app (codes "serve"))
+    (signatures_rule names)) salt_rule) client_rule
 
 -- the program without its commands, of which one is required
 abbrev pub bare_program : App
@@ -173,6 +185,28 @@ signatures_of = value_of (codes "signatures")
 abbrev pub salt_of : Option (Text × List Row) → Option ℕ
 salt_of command = option_map number_of (text_of (codes "salt") command)
 
+-- all values of an option
+abbrev pub values_of : Text → Option (Text × List Row) → List Text
+values_of id command = unwrap_or (option_and_then (all_of id) (option_map (λ c. c.1) command)) []
+
+-- the first and the second, the third and the fourth, and so on
+unfoldable pub pairs_of : {X : Type 0} → List X → List (X × X)
+pairs_of [] = []
+pairs_of (x ∷ []) = []
+pairs_of (x ∷ y ∷ rest) = (x, y) ∷ pairs_of rest
+
+-- the files of each client: the one that its lines are in, and the one for their answers
+abbrev pub clients_of : Option (Text × List Row) → List (Text × Text)
+clients_of command = pairs_of (values_of (codes "client") command)
+
+-- there are too many clients
+abbrev pub clients_fault : List (Text × Text) → Kinds
+clients_fault clients = if nat_lt 63 (length clients) then TooManyValues ∷ [] else []
+
+-- what may be wrong with these words: the first fault that clap finds, or too many clients
+abbrev pub fault_in : List Text → Kinds
+fault_in words = or_else (fault_of program words) (clients_fault (clients_of (met_in words)))
+
 -- what the text of a flag means
 pub record IsFlag (text : Option Text) (set : Bool) : Type 0 where
   pub none : text ≡ None → set ≡ false
@@ -190,7 +224,7 @@ abbrev pub name_of : Asked → Text
 name_of (Run input signatures) = codes "run"
 name_of (Race input workers signatures wishes) = codes "race"
 name_of (Audit scenario history signatures explains) = codes "audit"
-name_of (Serve signatures salt) = codes "serve"
+name_of (Serve signatures salt clients) = codes "serve"
 
 abbrev pub file_text : Option (Bor Text) → Option Text
 file_text = option_map (λ s. s.now)
@@ -200,20 +234,20 @@ abbrev pub scenario_of : Asked → Option Text
 scenario_of (Run input signatures) = file_text input.file
 scenario_of (Race input workers signatures wishes) = file_text input.file
 scenario_of (Audit scenario history signatures explains) = Some scenario.now
-scenario_of (Serve signatures salt) = None
+scenario_of (Serve signatures salt clients) = None
 
 abbrev pub explains_of : Asked → Bool
 explains_of (Run input signatures) = input.explains
 explains_of (Race input workers signatures wishes) = input.explains
 explains_of (Audit scenario history signatures explains) = explains
-explains_of (Serve signatures salt) = false
+explains_of (Serve signatures salt clients) = false
 
 -- the signatures that are accepted
 abbrev pub scheme_of : Asked → SchemeName
 scheme_of (Run input signatures) = signatures
 scheme_of (Race input workers signatures wishes) = signatures
 scheme_of (Audit scenario history signatures explains) = signatures
-scheme_of (Serve signatures salt) = signatures
+scheme_of (Serve signatures salt clients) = signatures
 
 -- a race has the given number of workers, from 1 to 64
 abbrev pub HasWorkers : Option ℕ → Asked → Type 0
@@ -225,7 +259,7 @@ abbrev pub HasHistory : Option Text → Asked → Type 0
 HasHistory given (Run input signatures) = ⊤
 HasHistory given (Race input workers signatures wishes) = file_text wishes.history ≡ given
 HasHistory given (Audit scenario history signatures explains) = Some history.now ≡ given
-HasHistory given (Serve signatures salt) = ⊤
+HasHistory given (Serve signatures salt clients) = ⊤
 
 -- the file for a race's picture is the given one, or none
 abbrev pub HasPicture : Option Text → Asked → Type 0
@@ -237,7 +271,15 @@ abbrev pub HasDelay : Option ℕ → Asked → Type 0
 HasDelay given (Race input workers signatures wishes) = (wishes.verify_us ≡ unwrap_or given 0) × (wishes.verify_us ≤ 1000000)
 HasDelay given asked = ⊤
 
+abbrev pub files_of : ClientFiles → Text × Text
+files_of client = (client.input.now, client.output.now)
+
+-- a conversation's clients have the given files, and are at most 63
+abbrev pub HasClients : List (Text × Text) → Asked → Type 0
+HasClients given (Serve signatures salt clients) = (map files_of clients.items ≡ given) × (length given ≤ 63)
+HasClients given asked = ⊤
+
 -- a conversation has the given salt, or none
 abbrev pub HasSalt : Option ℕ → Asked → Type 0
-HasSalt given (Serve signatures salt) = salt ≡ given
+HasSalt given (Serve signatures salt clients) = salt ≡ given
 HasSalt given asked = ⊤

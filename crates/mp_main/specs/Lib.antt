@@ -1,4 +1,6 @@
 pub mod Status
+pub mod Channel
+pub mod Held
 pub mod Legal
 pub mod Told
 pub mod Picture

@@ -1,6 +1,6 @@
 //! `keltuvar serve`: a conversation over standard input and output.
 
-ghost use Rattle.std.specs.Prelude.{◌≡◌, IfSome};
+ghost use Rattle.std.specs.Prelude.{◌≡◌, IfErr, IfSome};
 ghost use Rattle.std.specs.Process.{exit_status};
 ghost use Rattle.mp_serve.specs.Served.{Ended};
 ghost use Rattle.mp_serve.specs.Device.{EndsAt};
@@ -38,18 +38,26 @@ pub fn converse_over<D: Device>(
     }
 }
 
-/// Answers each line of standard input on standard output, until the input ends. With `accepts_all`, the program that writes the
-/// lines has checked all signatures. The salt is random if none is given.
-pub fn converse(rt: &HostRuntime, signatures: SchemeName, salt: Option<u64>) -> ExitCode {
-    let salt = match salt_of(rt, salt) {
-        Ok(salt) => salt,
-        Err(code) => return code,
-    };
+/// Makes what a conversation needs, or returns how the program ends. The salt is random if none is given.
+pub fn prepare(
+    rt: &HostRuntime,
+    signatures: SchemeName,
+    salt: Option<u64>,
+) -> Result<(Memory, Signatures, Salt), ExitCode>
+    ensures status { IfErr result (λ code. exit_status code ≡ 1) }
+{
+    let salt = salt_of(rt, salt)?;
     let Ok(memory) = Memory::new(rt.alloc()) else {
-        return end_fault(rt, Fault::NoMemory);
+        return Err(end_fault(rt, Fault::NoMemory));
     };
-    let signatures = match signatures_of(rt, memory, signatures) {
-        Ok(signatures) => signatures,
+    let signatures = signatures_of(rt, memory, signatures)?;
+    Ok((memory, signatures, salt))
+}
+
+/// Answers each line of standard input on standard output, until the input ends. The salt is random if none is given.
+pub fn converse(rt: &HostRuntime, signatures: SchemeName, salt: Option<u64>) -> ExitCode {
+    let (memory, signatures, salt) = match prepare(rt, signatures, salt) {
+        Ok(prepared) => prepared,
         Err(code) => return code,
     };
     let Ok(reader) = BufReader::new(memory, rt.stdin()) else {

@@ -1,18 +1,21 @@
 //! How the program ends: what it writes to standard error, and its exit status.
 
-ghost use Rattle.std.specs.Prelude.{◌≡◌, ◌≢◌, ◌≤◌, if◌then◌else◌};
+ghost use Rattle.std.specs.Prelude.{◌≡◌, ◌≢◌, ◌≤◌, if◌then◌else◌, is_ok};
+ghost use Rattle.std.specs.List.{list_all};
 ghost use Rattle.std.specs.Process.{exit_status};
 ghost use Rattle.std.specs.IoError.{error_kind};
 ghost use Rattle.std.specs.declared.io.ErrorKind.TheVariants as kinds;
 ghost use Rattle.clap.specs.Words.{kind_of};
-ghost use Rattle.mp_main.specs.Status.{status_of, EndsAs};
+ghost use Rattle.mp_main.specs.Status.{status_of, status_of_all, EndsAs};
 ghost use Rattle.mp_main.specs.Legal.{IsSaid};
 
 use clap::Error;
 use clap::error::ErrorKind;
-use mp_history::AuditFault;
+use mp_clients::Finished;
+use mp_history::{AuditFault, PoolName};
 use mp_names::Reason;
 use mp_race::Fault;
+use mp_serve::Device;
 use mp_session::Stop;
 use mp_text::{WriteFault, write_all};
 use std::process::ExitCode;
@@ -160,6 +163,44 @@ pub fn end_audit<W: io::Write>(
             Err(WriteFault) => end_fault(rt, Fault::WriteFault),
         },
         Err(fault) => end_fault_there(rt, fault),
+    }
+}
+
+// Whether all conversations ended with their input.
+fn all_ended<N: PoolName, D: Device>(finished: &[Finished<N, D>]) -> bool
+    ensures { result ≡ list_all (λ f. is_ok f.ended) finished.now }
+{
+    finished.iter().all(|one| one.ended.is_ok())
+}
+
+/// After all conversations of an operator and clients: 0, or 1 and the first fault's line, which names the client.
+pub fn end_conversations<N: PoolName, D: Device>(
+    rt: &HostRuntime,
+    finished: &[Finished<N, D>],
+) -> ExitCode
+    ensures { exit_status result ≡ status_of_all finished.now }
+{
+    if all_ended(finished) {
+        return ExitCode::SUCCESS;
+    }
+    for (number, one) in finished.iter().enumerate() {
+        match one.ended {
+            Ok(()) => {}
+            Err(fault) => return end_fault_of(rt, number, fault),
+        }
+    }
+    ExitCode::FAILURE
+}
+
+// After a fault of the operator's conversation, or of the client's with this number.
+fn end_fault_of(rt: &HostRuntime, number: usize, fault: mp_clients::Fault) -> ExitCode
+    ensures { exit_status result ≡ 1 }
+{
+    if number == 0 {
+        end_fault(rt, fault)
+    } else {
+        let _ = rt.eprintln(format_args!("client {number}: {fault}"));
+        ExitCode::FAILURE
     }
 }
 

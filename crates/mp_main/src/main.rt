@@ -4,10 +4,12 @@
 //! - `race --workers N [--explain] [FILE]` lets N threads race over it and writes the report, and if asked the history and a
 //! picture.
 //! - `audit SCENARIO HISTORY` says whether such a history is legal.
-//! - `serve [--signatures WHICH] [--salt N]` holds a conversation.
+//! - `serve [--signatures WHICH] [--salt N] [--client IN OUT]..` holds a conversation, and one with each client.
 #![tactic(auto)]
 
 mod audits;
+mod channel;
+mod clients;
 mod command_line;
 mod conversation;
 mod ending;
@@ -21,6 +23,7 @@ mod schemes;
 mod slow;
 
 use audits::audit_files;
+use clients::converse_with;
 use command_line::{Asked, parse_words};
 use conversation::converse;
 use ending::{end_unparsed, end_unworded};
@@ -49,7 +52,19 @@ fn main(rt: HostRuntime) -> ExitCode {
                     explains,
                 },
             ) => audit_files(&rt, scenario, history, signatures, explains),
-            Ok(Asked::Serve { signatures, salt }) => converse(&rt, signatures, salt),
+            Ok(
+                Asked::Serve {
+                    signatures,
+                    salt,
+                    clients,
+                },
+            ) => {
+                if clients.is_empty() {
+                    converse(&rt, signatures, salt)
+                } else {
+                    converse_with(&rt, &rt, signatures, salt, &clients)
+                }
+            }
             Err(error) => end_unparsed(&rt, error),
         },
         Err(error) => end_unworded(&rt, error),

@@ -6,3 +6,4 @@ pub mod Pass
 pub mod Seen
 pub mod Locked
 pub mod Ready
+pub mod Jobs

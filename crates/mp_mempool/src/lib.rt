@@ -3,6 +3,7 @@
 #![tactic(auto)]
 
 mod config;
+mod jobs;
 mod mempool;
 mod opening;
 mod read;
@@ -13,6 +14,7 @@ pub mod under_lock;
 pub mod write;
 
 pub use config::Config;
+pub use jobs::{Job, run_all};
 pub use mempool::{Handover, Mempool, Opened};
 pub use read::{Pass, Reader, Receipt, SnapshotFor};
 pub use refusal::{OpenRefusal, Refusal, SuccessorRefusal};

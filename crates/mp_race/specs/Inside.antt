@@ -5,7 +5,6 @@ pub mod Gathered
 pub mod Counts
 pub mod Auditing
 pub mod HistoryWords
-pub mod Jobs
 pub mod HistoryFront
 pub mod HistoryReading
 pub mod Ordered

@@ -7,7 +7,6 @@ mod gate;
 mod gathering;
 mod history;
 mod input;
-mod jobs;
 mod laws;
 mod ordering;
 pub mod picture;

@@ -7,12 +7,11 @@ ghost use Rattle.mp_race.specs.Inside.Work.{IsUnused, Does};
 ghost use Rattle.mp_race.specs.Inside.Gathered.{IsBack};
 
 use crate::gate::Watch;
-use crate::jobs::Job;
 use crate::task::Task;
 use crate::told::{Done, Refused};
 use mp_history::PoolName;
 use mp_memory::{Memory, NoMemory};
-use mp_mempool::{Mempool, Pass, Reader, Refusal};
+use mp_mempool::{Job, Mempool, Pass, Reader, Refusal};
 use mp_rules::Verifier;
 use std::sync::{Arc, Wait};
 
@@ -111,6 +110,7 @@ impl<N: PoolName + Send + Sync, V: Verifier + Watch + Send + Sync> Job<
     ghost use Rattle.mp_race.specs.Inside.Work.{IsUnused};
     ghost use Rattle.mp_race.specs.Inside.Gathered.{IsBack};
 
+    ghost takes = { λ w pass. Unit {0} };
     ghost does = { λ w pass result. (opening : Pool) → IsUnused opening pass
         → IsBack N.accepts w.workers opening (tasks_of w.tasks.now) result };
 

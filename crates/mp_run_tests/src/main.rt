@@ -4,13 +4,16 @@
 #![tactic(auto)]
 
 mod cases;
+mod clients;
 mod devices;
+mod holding;
 mod long;
 mod meeting;
 mod picture;
 mod reports;
 mod runs;
 mod serving;
+mod streams;
 mod talks;
 mod texts;
 
@@ -33,6 +36,7 @@ fn check_all<R: Print + Threads + Wait + Sync>(
     println!(rt; "meetings {}", meeting::held(rt, memory)?)?;
     println!(rt; "devices {}", devices::held(rt, memory, alloc)?)?;
     println!(rt; "serving {}", serving::held(rt, memory, alloc)?)?;
+    println!(rt; "clients {}", clients::held(rt, memory, alloc)?)?;
     println!(rt; "texts {}", texts::held(rt, alloc)?)?;
     Ok(())
 }

@@ -1,60 +1,12 @@
 //! Conversations over devices that fail, and with allocations that fail, also while a line is read.
+use crate::streams::{Converse, Fails, NEVER, held_failures, streams, written};
 use mp_memory::Memory;
-use mp_serve::{Fault, Streams, serve};
+use mp_serve::{Fault, serve};
 use mp_signatures::{Scheme, Signatures};
-use mp_testing::{FailingReader, FailingWriter, MAX_GROWTHS, Seen, count};
+use mp_testing::{FailingReader, MAX_GROWTHS, Seen, count};
 use mp_tx::Salt;
 use std::alloc::Global;
 use std::io;
-use std::io::{BufReader, ErrorKind, Write};
-
-// Lines that end after the bytes 9, 26, 35, 44 and 45.
-const LINES: &[u8] = b"out g0 5\ntx a in=g0 out=5\nsubmit a\nlookup 1\n\n";
-
-// The answers, which end after the bytes 3, 6, 17, 26 and 29.
-const ANSWERS: &[u8] = b"ok\nok\naccepted 1\nlookup a\nok\n";
-
-// The last read, of one byte, up to which a failed read leaves this much written. The last of all finds the end of the input.
-const READS: [(u64, u64); 6] = [(9, 0), (26, 3), (35, 6), (44, 17), (45, 26), (46, 29)];
-
-// How much is written if the flush with this number fails.
-const FLUSHES: [u64; 5] = [3, 6, 17, 26, 29];
-
-// A writer of which one flush fails.
-#[derive(Drop)]
-struct Unflushed {
-    inner: FailingWriter,
-    fails_at: u64,
-    flushes: u64,
-}
-
-impl Write for Unflushed {
-    fn write(&mut self, buf: &[u8]) -> io::Result<usize> {
-        self.inner.write(buf)
-    }
-
-    fn flush(&mut self) -> io::Result<()> {
-        self.flushes = self.flushes.saturating_add(1);
-        if self.flushes == self.fails_at {
-            return Err(io::Error::from(ErrorKind::Other));
-        }
-        Ok(())
-    }
-}
-
-// Which call of each kind fails, from 1. With 0 none does.
-#[derive(Clone, Copy)]
-struct Fails {
-    read: u64,
-    write: u64,
-    flush: u64,
-}
-
-const NEVER: Fails = Fails {
-    read: 0,
-    write: 0,
-    flush: 0,
-};
 
 fn number_of(ended: Result<(), Fault>) -> u64 {
     match ended {
@@ -75,100 +27,34 @@ fn hold(
     fails: Fails,
     refused: u64,
 ) -> (u64, Vec<u8, Global>) {
-    let mut writer = FailingWriter::new(alloc);
-    writer.at_once = at_once;
-    writer.fails_at = fails.write;
-    let writer = Unflushed {
-        inner: writer,
-        fails_at: fails.flush,
-        flushes: 0,
-    };
-    let Ok(reader) = BufReader::new(alloc, lines) else {
+    let Some(streams) = streams(alloc, lines, at_once, fails) else {
         return (1, Vec::new(alloc));
     };
     let Ok(signatures) = Signatures::new(memory, Scheme::Trial) else {
         return (1, Vec::new(alloc));
     };
-    let mut device = Streams::new(reader, writer);
+    let mut device = streams;
     memory.refuse(refused);
     let ended = serve(memory, signatures, Salt::new(7), &mut device);
-    let Streams {
-        reader: _,
-        writer,
-        turn: _,
-    } = device;
-    let Unflushed {
-        inner,
-        fails_at: _,
-        flushes: _,
-    } = writer;
-    let FailingWriter {
-        taken,
-        at_once: _,
-        fails_at: _,
-        writes: _,
-    } = inner;
-    (number_of(ended), taken)
+    (number_of(ended), written(device))
 }
 
-// The fault, how much is written, and whether that is a prefix of the answers.
-fn see(memory: Memory, alloc: Global, fails: Fails) -> Seen {
-    let mut lines = FailingReader::of(LINES);
-    lines.at_once = 1;
-    lines.fails_at = fails.read;
-    let (fault, written) = hold(memory, alloc, lines, 1, fails, 0);
-    let is_front = ANSWERS.starts_with(&written);
-    [fault, written.len() as u64, u64::from(is_front), 0, 0, 0]
+// A conversation alone.
+#[derive(Clone, Copy)]
+struct Alone {
+    memory: Memory,
+    alloc: Global,
 }
 
-// How much is written if the read with this number fails.
-fn written_before(read: u64) -> u64 {
-    for (last, written) in READS {
-        if read <= last {
-            return written;
-        }
+impl Converse for Alone {
+    fn converse(
+        &self,
+        lines: FailingReader,
+        at_once: usize,
+        fails: Fails,
+    ) -> (u64, Vec<u8, Global>) {
+        hold(self.memory, self.alloc, lines, at_once, fails, 0)
     }
-    0
-}
-
-fn held_reads(rt: &impl Print, memory: Memory, alloc: Global) -> io::Result<u64> {
-    let mut held: u64 = 0;
-    for read in 1..=47 {
-        let seen = see(memory, alloc, Fails { read, ..NEVER });
-        let wanted = if read <= 46 {
-            [3, written_before(read)]
-        } else {
-            [0, 29]
-        };
-        let [fault, written] = wanted;
-        let wanted = [fault, written, 1, 0, 0, 0];
-        held = held.saturating_add(count(rt, "a read that fails", Some(seen), wanted)?);
-    }
-    Ok(held)
-}
-
-fn held_writes(rt: &impl Print, memory: Memory, alloc: Global) -> io::Result<u64> {
-    let mut held: u64 = 0;
-    for write in 1..31u64 {
-        let seen = see(memory, alloc, Fails { write, ..NEVER });
-        let fault = if write <= 29 { 4 } else { 0 };
-        let wanted = [fault, write - 1, 1, 0, 0, 0];
-        held = held.saturating_add(count(rt, "a write that fails", Some(seen), wanted)?);
-    }
-    Ok(held)
-}
-
-fn held_flushes(rt: &impl Print, memory: Memory, alloc: Global) -> io::Result<u64> {
-    let mut held: u64 = 0;
-    for (place, written) in FLUSHES.iter().enumerate() {
-        let flush = place as u64 + 1;
-        let seen = see(memory, alloc, Fails { flush, ..NEVER });
-        let wanted = [4, *written, 1, 0, 0, 0];
-        held = held.saturating_add(count(rt, "a flush that fails", Some(seen), wanted)?);
-    }
-    let seen = see(memory, alloc, Fails { flush: 6, ..NEVER });
-    let last = count(rt, "no flush that fails", Some(seen), [0, 29, 1, 0, 0, 0])?;
-    Ok(held.saturating_add(last))
 }
 
 // Lines of which none changes another's answer, one of them with some 300 bytes.
@@ -213,9 +99,7 @@ fn lost(told: &[u8], wanted: &[&[u8]]) -> Option<u64> {
 // Whether each failed allocation is reported: at the beginning by a fault, with nothing written, and later by the answer to one
 // line. None if there is no such allocation.
 fn is_told(memory: Memory, alloc: Global, nth: u64) -> Option<bool> {
-    let mut lines = FailingReader::of(APART);
-    lines.at_once = 11;
-    let (fault, written) = hold(memory, alloc, lines, 4096, NEVER, nth);
+    let (fault, written) = hold(memory, alloc, FailingReader::of(APART), 11, NEVER, nth);
     let is_met = !memory.waits();
     memory.refuse(0);
     let is_begun = fault == 0 && lost(&written, &APART_ANSWERS) == Some(u64::from(is_met));
@@ -297,16 +181,8 @@ fn held_long(rt: &impl Print, memory: Memory, alloc: Global) -> io::Result<u64> 
 
 /// How many cases hold.
 pub fn held(rt: &impl Print, memory: Memory, alloc: Global) -> io::Result<u64> {
-    let reads = held_reads(rt, memory, alloc)?;
-    let writes = held_writes(rt, memory, alloc)?;
-    let flushes = held_flushes(rt, memory, alloc)?;
+    let failures = held_failures(rt, &Alone { memory, alloc })?;
     let growths = held_growths(rt, memory, alloc)?;
     let long = held_long(rt, memory, alloc)?;
-    Ok(
-        reads
-            .saturating_add(writes)
-            .saturating_add(flushes)
-            .saturating_add(growths)
-            .saturating_add(long),
-    )
+    Ok(failures.saturating_add(growths).saturating_add(long))
 }

@@ -9,12 +9,12 @@ use mp_tx::Salt;
 use std::alloc::Global;
 use std::io;
 
-// Lines and their answers.
+/// Lines and their answers, in which `bad` is short for that to a bad line.
 #[derive(Clone, Copy)]
-struct Talk {
-    name: &'static str,
-    lines: &'static [&'static [u8]],
-    answers: &'static [u8],
+pub struct Talk {
+    pub name: &'static str,
+    pub lines: &'static [&'static [u8]],
+    pub answers: &'static [u8],
 }
 
 // Every line that changes something, then lines that show the change.
@@ -44,9 +44,9 @@ const CHANGES: Talk = Talk {
         snapshot 2 379 3 1:a 3:b\n",
 };
 
-// The bytes of a transaction are read again under another name, with nothing to distinguish it from the first. On a ledger state
-// with only `a.0`, `a` isn't valid.
-const READS: Talk = Talk {
+/// The bytes of a transaction are read again under another name, with nothing to distinguish it from the first. On a ledger state
+/// with only `a.0`, `a` isn't valid.
+pub const READS: Talk = Talk {
     name: "reads in a conversation at refused growths",
     lines: &[
         b"out g0 100",
@@ -81,8 +81,8 @@ const READS: Talk = Talk {
         block 1 181 1:a\noffer 1:a\noffer\nfor\nfor 1:a\n",
 };
 
-// Blocks, one of which has a transaction whose input is missing, and the way back.
-const BLOCKS: Talk = Talk {
+/// Blocks, one of which has a transaction whose input is missing, and the way back.
+pub const BLOCKS: Talk = Talk {
     name: "blocks in a conversation at refused growths",
     lines: &[
         b"block 400",
@@ -110,8 +110,8 @@ const BLOCKS: Talk = Talk {
         refused back 1\nkept 2 dropped\naccepted 3\nforgotten 1\nbad\nstats 2 362 438 3 5 adopt 1 back 1\n",
 };
 
-// A spoilt signature and two names for one id. The pool accepts the bytes under the second name.
-const REPORTS: Talk = Talk {
+/// A spoilt signature and two names for one id. The pool accepts the bytes under the second name.
+pub const REPORTS: Talk = Talk {
     name: "reports in a conversation at refused growths",
     lines: &[
         b"out g0 100",
@@ -133,8 +133,8 @@ const REPORTS: Talk = Talk {
         kept dropped 1\nkept dropped\nforgotten 1\nstats 0 0 1000000 1 3 signature 1 adopt 1\n",
 };
 
-// Bytes without a name, and words of ids.
-const GIVEN: Talk = Talk {
+/// Bytes without a name, and words of ids.
+pub const GIVEN: Talk = Talk {
     name: "bytes without a name at refused growths",
     lines: &[
         b"out g0 100",

@@ -1,23 +1,25 @@
 //! What the words of a command line ask for.
 
-ghost use Rattle.std.specs.Prelude.{◌≡◌, IfErr, IfOk, IfSome, IsSomeAnd, Some, codes};
-ghost use Rattle.std.specs.Prelude.{is_some, map, option_map, true, unwrap_or};
+ghost use Rattle.std.specs.Prelude.{◌≡◌, ◌≤◌, [], IfErr, IfOk, IfSome, IsSomeAnd, Some, codes};
+ghost use Rattle.std.specs.Prelude.{is_some, length, map, option_map, true, unwrap_or};
 ghost use Rattle.clap.specs.Values.{IsUnsignedIn};
-ghost use Rattle.clap.specs.Faults.{fault_of};
 ghost use Rattle.clap.specs.Kinds.{FailsBy};
-ghost use Rattle.clap.specs.Words.{first_of, found_of, kind_of, one_of, rows_of};
+ghost use Rattle.clap.specs.Walk.{texts};
+ghost use Rattle.clap.specs.Words.{all_of, first_of, found_of, kind_of, one_of, rows_of};
 ghost use Rattle.clap.specs.Words.{subcommand_rows_of, takes};
 ghost use Rattle.mp_main.specs.CommandLine as spec;
 ghost use Rattle.mp_main.specs.Inside.Taken.{IsSmall, IsTaken, IsWide};
 
-use crate::command_line::program::program;
+use crate::command_line::program::{program, too_many_clients};
 use clap::error::ErrorKind;
 use clap::{ArgMatches, Error};
-use std::alloc::Global;
+use std::alloc::{AllocError, Global};
 use std::convert::AsStr;
 
+const MAX_CLIENTS: usize = 63;
+
 /// What the command line asks for.
-#[derive(Clone, Copy)]
+#[derive(Drop)]
 pub enum Asked<'a> {
     /// A run of a scenario.
     Run {
@@ -39,12 +41,23 @@ pub enum Asked<'a> {
         /// Whether to say what is wrong with a bad line.
         explains: bool,
     },
-    /// A conversation over standard input and output.
+    /// A conversation over standard input and output, and one with each client, over the same pool.
     Serve {
         signatures: SchemeName,
         /// The salt of the pool's tables, or `None` if none is given.
         salt: Option<u64>,
+        /// At most 63.
+        clients: Vec<ClientFiles<'a>>,
     },
+}
+
+/// The names of the files of a client's conversation.
+#[derive(Clone, Copy)]
+pub struct ClientFiles<'a> {
+    /// The file that its lines are read from.
+    pub input: &'a str,
+    /// The file that their answers are written to.
+    pub output: &'a str,
 }
 
 /// The name of the signatures that a pool accepts.
@@ -83,7 +96,7 @@ pub struct Wishes<'a> {
 /// # Errors
 /// The help or the version if the words ask for one, the reason for a refusal, or `OutOfMemory`.
 pub fn parse_words<'a, S: AsStr>(alloc: Global, words: &'a [S]) -> Result<Asked<'a>, Error>
-    ensures taken { FailsBy (fault_of spec.program (map S.text words.now)) result }
+    ensures taken { FailsBy (spec.fault_in (map S.text words.now)) result }
     ensures command { IfOk result (λ asked. spec.command_in (map S.text words.now)
         ≡ Some (spec.name_of asked)) }
     ensures file { IfOk result (λ asked. spec.scenario_of asked
@@ -102,17 +115,73 @@ pub fn parse_words<'a, S: AsStr>(alloc: Global, words: &'a [S]) -> Result<Asked<
         (spec.signatures_of (spec.met_in (map S.text words.now))) (spec.scheme_of asked)) }
     ensures salt { IfOk result
         (spec.HasSalt (spec.salt_of (spec.met_in (map S.text words.now)))) }
+    ensures clients { IfOk result
+        (spec.HasClients (spec.clients_of (spec.met_in (map S.text words.now)))) }
     ensures passes { IfErr result (λ e. takes spec.program (map S.text words.now) ≡ true
+        → length (spec.clients_of (spec.met_in (map S.text words.now))) ≤ 63
         → kind_of e ≡ ErrorKind.OutOfMemory) }
 {
     match program(alloc)?.try_get_matches_from(words) {
-        Ok(matches) => Ok(read_matches(&matches)),
+        Ok(matches) => match clients_in(alloc, &matches) {
+            Ok(clients) => Ok(read_matches(&matches, clients)),
+            Err(error) => Err(error),
+        },
         Err(error) => Err(error),
     }
 }
 
-fn read_matches<'a>(matches: &ArgMatches<'a>) -> Asked<'a>
+fn clients_in<'a>(alloc: Global, matches: &ArgMatches<'a>) -> Result<Vec<ClientFiles<'a>>, Error>
+    ensures taken { FailsBy
+        (spec.clients_fault (spec.clients_of (subcommand_rows_of matches.now))) result }
+    ensures files { IfOk result (λ clients. map spec.files_of clients.items
+        ≡ spec.clients_of (subcommand_rows_of matches.now)) }
+{
+    match matches.subcommand() {
+        Some((_, given)) => clients_of(alloc, given),
+        None => Ok(Vec::new(alloc)),
+    }
+}
+
+fn clients_of<'a>(alloc: Global, given: &ArgMatches<'a>) -> Result<Vec<ClientFiles<'a>>, Error>
+    ensures taken { FailsBy (spec.clients_fault (spec.pairs_of
+        (unwrap_or (all_of (codes "client") (rows_of (found_of given.now))) []))) result }
+    ensures files { IfOk result (λ clients. map spec.files_of clients.items ≡ spec.pairs_of
+        (unwrap_or (all_of (codes "client") (rows_of (found_of given.now))) [])) }
+{
+    match given.get_strs("client") {
+        Some(names) => {
+            let clients = pair_up(alloc, names)?;
+            if clients.len() > MAX_CLIENTS {
+                Err(too_many_clients(alloc))
+            } else {
+                Ok(clients)
+            }
+        }
+        None => Ok(Vec::new(alloc)),
+    }
+}
+
+// Clients with the first and the second of these files, the third and the fourth, and so on.
+fn pair_up<'a>(alloc: Global, names: &[&'a str]) -> Result<Vec<ClientFiles<'a>>, AllocError>
+    ensures { IfOk result (λ clients. map spec.files_of clients.items
+        ≡ spec.pairs_of (texts names.now)) }
+{
+    let mut clients = Vec::new(alloc);
+    for client in 0..names.len() / 2 {
+        clients.push(ClientFiles {
+            input: names[2 * client],
+            output: names[2 * client + 1],
+        })?;
+    }
+    Ok(clients)
+}
+
+// With these clients, if it is a conversation.
+fn read_matches<'a>(matches: &ArgMatches<'a>, clients: Vec<ClientFiles<'a>>) -> Asked<'a>
     requires taken { IsTaken (subcommand_rows_of matches.now) }
+    requires clients { map spec.files_of clients.items
+        ≡ spec.clients_of (subcommand_rows_of matches.now) }
+    requires most { length (spec.clients_of (subcommand_rows_of matches.now)) ≤ 63 }
     ensures command { option_map (λ c. c.0) (subcommand_rows_of matches.now)
         ≡ Some (spec.name_of result) }
     ensures file { spec.scenario_of result ≡ spec.file_of (subcommand_rows_of matches.now) }
@@ -125,6 +194,7 @@ fn read_matches<'a>(matches: &ArgMatches<'a>) -> Asked<'a>
     ensures signatures { spec.IsChoice (spec.signatures_of (subcommand_rows_of matches.now))
         (spec.scheme_of result) }
     ensures salt { spec.HasSalt (spec.salt_of (subcommand_rows_of matches.now)) result }
+    ensures clients { spec.HasClients (spec.clients_of (subcommand_rows_of matches.now)) result }
 {
     match matches.subcommand() {
         Some((name, given)) => {
@@ -146,6 +216,7 @@ fn read_matches<'a>(matches: &ArgMatches<'a>) -> Asked<'a>
                 Asked::Serve {
                     signatures: scheme_of(given),
                     salt: wide_number_of(given, "salt"),
+                    clients,
                 }
             } else {
                 Asked::Run {

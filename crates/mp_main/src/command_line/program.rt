@@ -1,19 +1,22 @@
 //! The texts of the command line: the program's name, its commands, their options, its help and its version.
 
-ghost use Rattle.std.specs.Prelude.{◌≡◌, IfOk, codes, false};
+ghost use Rattle.std.specs.Prelude.{◌≡◌, ◌⊎◌, IfOk, codes, false};
 ghost use Rattle.clap.specs.declared.builder.command.Command.TheViews.{out-Command as fields_of};
-ghost use Rattle.clap.specs.Words.{App, app_of, new_app, rule_of, with_rule, with_subcommand};
+ghost use Rattle.clap.specs.Words.{App, app_of, kind_of, new_app, rule_of, with_rule, with_subcommand};
 ghost use Rattle.mp_main.specs.CommandLine as spec;
 ghost use Rattle.mp_main.specs.Inside.Alike.{IsAlike};
 
 use clap::builder::ValueParser;
-use clap::{Arg, ArgAction, Command, value_parser};
+use clap::error::ErrorKind;
+use clap::{Arg, ArgAction, Command, Error, value_parser};
 use std::alloc::{AllocError, Global};
 
 const VERSION: &str = "0.1.0";
 
 // The last is another word for the first.
 const SIGNATURES: &[&str] = &["trial", "checked", "ed25519", "scenarios"];
+
+const CLIENT_FILES: &[&str] = &["IN", "OUT"];
 
 const EXAMPLES: &str = "\
 Examples:
@@ -33,6 +36,7 @@ Examples:
                                     accept Ed25519 signatures
   keltuvar serve --signatures checked
                                     accept every signature, because the host has checked it
+  keltuvar serve --client in out    share the pool with a client, whose lines come from a named pipe
 
 Exit status: 0; 1 after a fault, like a scenario's bad line or a history that isn't legal; 2 if the
 command line is refused.";
@@ -140,7 +144,26 @@ fn serve_command<'a>(alloc: Global, names: &'a [&'a str]) -> Result<Command<'a>,
     let about =
         "Hold a conversation with a pool: answer each line of standard input on standard output";
     let command = new_command(alloc, "serve", about).arg(signatures_option(alloc, names));
-    add_arg(command, salt_option(alloc))
+    let salted = add_arg(command, salt_option(alloc));
+    add_arg(salted, client_option(alloc))
+}
+
+/// That more clients are named than a conversation may have.
+pub(crate) fn too_many_clients(alloc: Global) -> Error
+    ensures { (kind_of result ≡ ErrorKind.TooManyValues) ⊎ (kind_of result ≡ ErrorKind.OutOfMemory) }
+{
+    match refuse_clients(alloc) {
+        Ok(error) => error,
+        Err(error) => Error::from(error),
+    }
+}
+
+fn refuse_clients(alloc: Global) -> Result<Error, AllocError>
+    ensures { IfOk result (λ e. kind_of e ≡ ErrorKind.TooManyValues) }
+{
+    let message = "the argument '--client <IN> <OUT>' cannot be used more than 63 times";
+    let mut command = serve_command(alloc, SIGNATURES)?.bin_name("keltuvar serve")?;
+    command.error(ErrorKind::TooManyValues, message)
 }
 
 fn new_command<'a>(alloc: Global, name: &'a str, about: &'a str) -> Command<'a>
@@ -197,6 +220,19 @@ fn salt_option<'a>(alloc: Global) -> Arg<'a>
 {
     let help = "A number that salts the pool's tables; random if it is left out";
     value_option(alloc, "salt", "N", help).value_parser(value_parser!(u64))
+}
+
+fn client_option<'a>(alloc: Global) -> Arg<'a>
+    ensures rule { rule_of result ≡ spec.client_rule }
+    ensures local { result.global ≡ false }
+{
+    let help =
+        "Answer the lines of IN in OUT too, at the same time and by the same pool; up to 63 times";
+    Arg::new(alloc, "client")
+        .long("client")
+        .value_names(CLIENT_FILES)
+        .action(ArgAction::Append)
+        .help(help)
 }
 
 // An option with a value, which the help names `value`.

@@ -8,6 +8,10 @@ pub returns : goal.returns
 returns c =
     let bare = new_app (codes "serve") in
     let signed = with_rule bare (spec.signatures_rule c.args.names) in
+    let salted = with_rule signed spec.salt_rule in
     let by_signatures = added c.new_command.result c.signatures_option.result bare (spec.signatures_rule c.args.names)
     c.arg-command.result c.new_command.ensures c.signatures_option.ensures.rule c.signatures_option.ensures.local c.arg-command.ensures in
-    ruled c.add_arg.result signed (rule_of c.salt_option.result) spec.salt_rule c.salt_option.ensures.rule (c.add_arg.ensures signed by_signatures)
+    let by_salt = ruled c.add_arg-salted.result signed (rule_of c.salt_option.result) spec.salt_rule
+    c.salt_option.ensures.rule (c.add_arg-salted.ensures signed by_signatures) in
+    ruled c.add_arg.result salted (rule_of c.client_option.result) spec.client_rule c.client_option.ensures.rule
+    (c.add_arg.ensures salted by_salt)

@@ -1,0 +1,15 @@
+pub mod Progress
+pub mod Checks
+pub mod Steps
+pub mod Heard
+pub mod Clients
+pub mod Responses
+pub mod Ending
+pub mod Alone
+pub mod Hearing
+pub mod Backs
+pub mod Before
+pub mod Connecting
+pub mod Fresh
+pub mod Seen
+pub mod Seats

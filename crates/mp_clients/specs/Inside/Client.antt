@@ -1,0 +1,25 @@
+-- How contracts see a client, and its invariant.
+use Rattle.std.specs.Prelude.{◌≡◌, ℕ, ◌≤◌, List, length}
+use Rattle.mp_tx.specs.Ledger.{LedgerState}
+use Rattle.mp_rules.specs.Verifier.{Accepts}
+use Rattle.mp_signatures.specs.declared.scheme.Scheme.{Scheme}
+use Rattle.mp_signatures.specs.Scheme.{accepted_by}
+use Rattle.mp_mempool.specs.Pass.{Pass}
+use Rattle.mp_serve.specs.declared.refused.Counts.{Counts}
+use Rattle.mp_clients.specs.Client.{Client}
+
+abbrev pub client_of : Pass → Scheme → LedgerState → List LedgerState → Counts → ℕ → Client
+client_of pass signatures ledger former refused cursor = record {
+  pass = pass;
+  signatures = signatures;
+  ledger = ledger;
+  former = former;
+  refused = refused;
+  cursor = cursor;
+}
+
+-- the verifier is the pool's, and so is the limit of changes; at most 2,160 former ledger states are kept
+pub record IsClient (accepts : Accepts) (signatures : Scheme) (limit : ℕ) (pass : Pass) (former : List LedgerState) : Type 0 where
+  pub verifier : accepted_by signatures ≡ accepts
+  pub limit_is : limit ≡ pass.front.opening.limit
+  pub few : length former ≤ 2160

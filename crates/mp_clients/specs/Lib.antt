@@ -1,0 +1,10 @@
+pub mod Client
+pub mod Alone
+pub mod Asking
+pub mod Answers
+pub mod Told
+pub mod Waiting
+pub mod Beginning
+pub mod Opening
+pub mod Service
+pub mod Inside

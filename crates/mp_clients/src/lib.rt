@@ -1,0 +1,32 @@
+//! Conversations with a pool that they share. Each line is answered before the next of its conversation is read.
+#![tactic(auto)]
+
+mod adopting;
+mod allowed;
+mod answering;
+mod asking;
+mod bad;
+mod beginning;
+mod checking;
+mod client;
+mod connected;
+mod conversation;
+mod conversing;
+mod fault;
+mod forgetting;
+mod former;
+mod meaning;
+mod opening;
+mod reading;
+mod service;
+mod shared;
+mod stop;
+
+pub use beginning::{begin, refuse};
+pub use client::Client;
+pub use connected::Connected;
+pub use conversation::Conversation;
+pub use fault::Fault;
+pub use opening::{Opened, Seat, open};
+pub use service::{Finished, Service, serve};
+pub use shared::Shared;

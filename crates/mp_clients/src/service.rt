@@ -1,0 +1,287 @@
+//! Conversations at once, over one pool.
+
+ghost use Rattle.std.specs.Prelude.{◌≡◌, ◌<◌, ◌++◌, ℕ, List, length, slice_index_or, All, IfOk, OnOk};
+ghost use Rattle.std.specs.Arc.{arc_value};
+ghost use Rattle.mp_history.specs.Log.{Begins, IsLegalLog};
+ghost use Rattle.mp_clients.specs.declared.connected.Connected.{Connected};
+ghost use Rattle.mp_clients.specs.declared.service.Finished.{Finished};
+ghost use Rattle.mp_clients.specs.Service.{IsFinished, HasSeenOf, AreServed};
+ghost use Rattle.mp_clients.specs.Inside.Connecting.{IsReady, IsOperator, IsClientOf, AreClientsOf, AreConnected};
+
+use crate::client::Client;
+use crate::connected::Connected;
+use crate::conversation::Conversation;
+use crate::conversing::answer_from;
+use crate::fault::Fault;
+use crate::opening::{Opened, Seat};
+use crate::shared::Shared;
+use mp_history::{Front, PoolName};
+use mp_memory::{Memory, NoMemory};
+use mp_names::Names;
+use mp_rules::Verifier;
+use mp_serve as alone;
+use mp_serve::{Device, Turn};
+use mp_session::{Session, Settings};
+use std::sync::{Arc, Wait};
+use std::thread::{Threads, map_vec};
+
+/// A conversation that has ended.
+#[derive(Drop)]
+pub struct Finished<N: PoolName, D: Device> {
+    pub conversation: Conversation<N>,
+    pub device: D,
+    pub ended: Result<(), Fault>,
+}
+
+// One conversation.
+fn converse<N: PoolName, V: Verifier, D: Device>(
+    rt: &impl Wait,
+    shared: &Shared<N, V>,
+    memory: Memory,
+    connected: Connected<N, D>,
+) -> Finished<N, D>
+    requires { IsReady D.turn connected }
+    ensures { IsFinished N.accepts N.callers D.input D.output connected result }
+{
+    let Connected {
+        mut conversation,
+        mut device,
+        line,
+    } = connected;
+    let ended = answer_from(rt, shared, memory, &mut conversation, line, &mut device);
+    Finished {
+        conversation,
+        device,
+        ended,
+    }
+}
+
+// All conversations, each on a thread of its own if one can be made.
+fn converse_all<
+    N: PoolName + Send + Sync,
+    V: Verifier + Send + Sync,
+    D: Device + Send + Drop,
+    R: Threads + Wait + Sync,
+>(
+    rt: &R,
+    shared: &Shared<N, V>,
+    memory: Memory,
+    all: Vec<Connected<N, D>, Memory>,
+) -> Result<Vec<Finished<N, D>, Memory>, NoMemory>
+    requires { All (IsReady D.turn) all.items }
+    ensures len { IfOk result (λ done. length done.items ≡ length all.items) }
+    ensures each { IfOk result (λ done. (i : ℕ) (c : Connected N D) (f : Finished N D)
+        → i < length all.items → IsFinished N.accepts N.callers D.input D.output
+        (slice_index_or all.items i c) (slice_index_or done.items i f)) }
+{
+    Ok(map_vec(
+        rt,
+        all,
+        &|connected: Connected<N, D>| -> Finished<N, D>
+            requires { IsReady D.turn connected }
+            ensures { IsFinished N.accepts N.callers D.input D.output connected result }
+        { converse(rt, shared, memory, connected) },
+    )?)
+}
+
+// The longer of the two fronts. The other is a prefix of it.
+fn longer<N: PoolName>(front: Front<N>, client: &Client<N>) -> Front<N>
+    ensures this { Begins front result }
+    ensures that { Begins client.now.pass.front result }
+    ensures legal { IsLegalLog N.accepts N.callers front → IsLegalLog N.accepts N.callers result }
+{
+    let other = client.front();
+    front.compare(other);
+    if front.len() < other.len() {
+        other.again()
+    } else {
+        front
+    }
+}
+
+// The longest front. What each conversation has seen is a prefix of it.
+fn longest<N: PoolName, D: Device>(front: Front<N>, done: &[Finished<N, D>]) -> Front<N>
+    requires { IsLegalLog N.accepts N.callers front }
+    ensures legal { IsLegalLog N.accepts N.callers result }
+    ensures begins { Begins front result }
+    ensures seen { All (HasSeenOf result) done.now }
+{
+    let mut longest = front;
+    for finished in done {
+        longest = longer(longest, &finished.conversation.client);
+    }
+    longest
+}
+
+/// All conversations, and a history of which each has seen a prefix.
+#[derive(Drop)]
+pub struct Service<N: PoolName, D: Device> {
+    pub finished: Vec<Finished<N, D>, Memory>,
+    pub front: Front<N>,
+}
+
+// Holds all conversations at once, each on a thread of its own if one can be made. One legal history explains them all. What each has
+// seen is a prefix of it, and each line was answered as the pool would at a point of that.
+fn serve_all<
+    N: PoolName + Send + Sync,
+    V: Verifier + Send + Sync,
+    D: Device + Send + Drop,
+    R: Threads + Wait + Sync,
+>(
+    rt: &R,
+    shared: &Shared<N, V>,
+    memory: Memory,
+    front: Front<N>,
+    all: Vec<Connected<N, D>, Memory>,
+) -> Result<Service<N, D>, NoMemory>
+    requires legal { IsLegalLog N.accepts N.callers front }
+    requires ready { All (IsReady D.turn) all.items }
+    ensures legal { IfOk result (λ s. IsLegalLog N.accepts N.callers s.front) }
+    ensures begins { IfOk result (λ s. Begins front s.front) }
+    ensures seen { IfOk result (λ s. All (HasSeenOf s.front) s.finished.items) }
+    ensures len { IfOk result (λ s. length s.finished.items ≡ length all.items) }
+    ensures each { IfOk result (λ s. (i : ℕ) (c : Connected N D) (f : Finished N D)
+        → i < length all.items → IsFinished N.accepts N.callers D.input D.output
+        (slice_index_or all.items i c) (slice_index_or s.finished.items i f)) }
+{
+    let finished = converse_all(rt, shared, memory, all)?;
+    let front = longest(front, &finished);
+    Ok(Service { finished, front })
+}
+
+// The operator's conversation goes on, with the line that opened the pool.
+fn connect_operator<N: PoolName, D: Device>(
+    seat: Seat<N>,
+    names: Names,
+    settings: Arc<Settings, Memory>,
+    number: u64,
+    line: Vec<u8, Memory>,
+    device: D,
+) -> Connected<N, D>
+    ensures { IsOperator names (arc_value settings) seat number line.items device result }
+{
+    let Seat { names: _, client } = seat;
+    let conversation = Conversation {
+        names,
+        settings,
+        client,
+        line: number,
+    };
+    Connected {
+        conversation,
+        device,
+        line: Some(line),
+    }
+}
+
+// The conversation of a client before its first line.
+fn connect_client<N: PoolName, D: Device>(
+    seat: Seat<N>,
+    settings: Arc<Settings, Memory>,
+    device: D,
+) -> Connected<N, D>
+    ensures { IsClientOf (arc_value settings) seat device result }
+{
+    let Seat { names, client } = seat;
+    let conversation = Conversation {
+        names,
+        settings,
+        client,
+        line: 1,
+    };
+    Connected {
+        conversation,
+        device,
+        line: None,
+    }
+}
+
+// Adds the conversations of the clients that have these devices.
+fn connect_clients<N: PoolName, D: Device + Drop>(
+    all: &mut Vec<Connected<N, D>, Memory>,
+    seats: Vec<Seat<N>, Memory>,
+    settings: &Arc<Settings, Memory>,
+    devices: Vec<D, Memory>,
+) -> Result<(), NoMemory>
+    ensures { OnOk result ((more : List (Connected N D)) × (all.new.items ≡ all.old.items ++ more)
+        × AreClientsOf (arc_value settings.now) seats.items devices.items more) }
+{
+    let mut seats = seats.into_iter();
+    for device in devices {
+        let Some(seat) = seats.next() else {
+            return Ok(());
+        };
+        all.push(connect_client(seat, Arc::try_clone(settings)?, device))?;
+    }
+    Ok(())
+}
+
+// All conversations, the operator's first.
+fn connect_all<N: PoolName, D: Device + Drop>(
+    memory: Memory,
+    seats: Vec<Seat<N>, Memory>,
+    operator: alone::Conversation,
+    line: Vec<u8, Memory>,
+    device: D,
+    clients: Vec<D, Memory>,
+) -> Result<Vec<Connected<N, D>, Memory>, NoMemory>
+    ensures { IfOk result (λ all.
+        AreConnected operator line.items device seats.items clients.items all.items) }
+{
+    let alone::Conversation {
+        session,
+        line: number,
+        ..
+    } = operator;
+    let Session {
+        names,
+        settings,
+        ..
+    } = session;
+    let settings = Arc::new(memory, settings)?;
+    let mut all = Vec::new(memory);
+    let mut seats = seats;
+    if seats.is_empty() {
+        return Ok(all);
+    }
+    let first = seats.remove(0);
+    let shared = Arc::try_clone(&settings)?;
+    all.push(connect_operator(first, names, shared, number, line, device))?;
+    connect_clients(&mut all, seats, &settings, clients)?;
+    Ok(all)
+}
+
+/// Answers the line that opened the pool in the operator's conversation, and all lines of all conversations from then on. Each
+/// conversation is on a thread of its own if one can be made. The clients have the devices `clients`, in order.
+///
+/// One legal history explains all answers. It extends that with which the pool opened. What each conversation has seen is a prefix
+/// of it, and each line was answered as the pool would at a point of that.
+///
+/// # Errors
+/// `NoMemory`. Then some conversations may not have gone on.
+pub fn serve<N: PoolName + Send + Sync, D: Device + Send + Drop, R: Threads + Wait + Sync>(
+    rt: &R,
+    memory: Memory,
+    opened: Opened<N>,
+    operator: alone::Conversation,
+    line: Vec<u8, Memory>,
+    device: D,
+    clients: Vec<D, Memory>,
+) -> Result<Service<N, D>, NoMemory>
+    requires legal { IsLegalLog N.accepts N.callers opened.front }
+    requires owes { D.turn device ≡ Turn.Owes }
+    requires listen { All (λ d. D.turn d ≡ Turn.Listens) clients.items }
+    ensures legal { IfOk result (λ s. IsLegalLog N.accepts N.callers s.front) }
+    ensures begins { IfOk result (λ s. Begins opened.front s.front) }
+    ensures seen { IfOk result (λ s. All (HasSeenOf s.front) s.finished.items) }
+    ensures served { IfOk result (λ s. AreServed N.accepts N.callers D.input D.output
+        operator line.items device opened.seats.items clients.items s.finished.items) }
+{
+    let Opened {
+        shared,
+        front,
+        seats,
+    } = opened;
+    let all = connect_all(memory, seats, operator, line, device, clients)?;
+    serve_all(rt, &shared, memory, front, all)
+}
