@@ -7,7 +7,6 @@ use boxcar::Pushed;
 use mp_history::PoolName;
 use mp_memory::{Memory, NoMemory};
 use std::sync::Wait;
-use std::sync::atomic::{AtomicUsize, Ordering};
 
 // A board with this many versions is full. With its own version, a pass that keeps a board keeps at most 64.
 const MAX_VERSIONS: usize = 63;
@@ -15,13 +14,12 @@ const MAX_VERSIONS: usize = 63;
 /// Evidence that a board has a version.
 pub(crate) type Published<N> = Pushed<Shown<N>, Memory>;
 
-/// Published versions, for all threads at once, and a hint which of them is the newest. They are freed with the board. A reader
-/// gets a `Shown`, whose type says that it is a true version: no clause depends on the hint.
+/// Published versions, for all threads at once. They are freed with the board. A reader gets a `Shown`, whose type says that it is
+/// a true version: no clause says which.
 pub(crate) struct Board<N: PoolName> {
     // How many boards were opened before this one.
     pub(crate) number: u64,
     pub(crate) shown: boxcar::Vec<Shown<N>, Memory>,
-    newest: AtomicUsize,
 }
 
 impl<N: PoolName> Drop for Board<N> {
@@ -29,7 +27,6 @@ impl<N: PoolName> Drop for Board<N> {
         let Board {
             number: _,
             shown: _,
-            newest: _,
         } = self;
     }
 }
@@ -40,7 +37,6 @@ impl<N: PoolName> Board<N> {
         Ok(Board {
             number,
             shown: boxcar::Vec::new(memory)?,
-            newest: AtomicUsize::new(0),
         })
     }
 
@@ -53,14 +49,12 @@ impl<N: PoolName> Board<N> {
         ensures version { IfOk result (λ p. p.value ≡ shown) }
         ensures back { IfErr result (λ s. s ≡ shown) }
     {
-        let published = self.shown.push_shown(rt, shown)?;
-        self.newest.store(published.index(), Ordering::SeqCst);
-        Ok(published)
+        self.shown.push_shown(rt, shown)
     }
 
     /// The version that was added last, if any. It allocates nothing and waits for nobody.
     pub(crate) fn newest(&self) -> Option<&Shown<N>> {
-        self.shown.get(self.newest.load(Ordering::SeqCst))
+        self.shown.get(self.shown.count().checked_sub(1)?)
     }
 
     /// Whether the next version belongs on another board.

@@ -25,6 +25,8 @@ pub struct Boards<N: PoolName> {
     places: Vec<Place<N>, Memory>,
     // The number of the newest board, times the number of places, plus its place.
     newest: AtomicU64,
+    // How many entries the version that was published last is after.
+    newest_len: AtomicU64,
     ghost sized: { length places.items ≡ 8 },
 }
 
@@ -33,6 +35,7 @@ impl<N: PoolName> Drop for Boards<N> {
         let Boards {
             places: _,
             newest: _,
+            newest_len: _,
         } = self;
     }
 }
@@ -68,8 +71,24 @@ impl<N: PoolName> Boards<N> {
         let publisher = Publisher::new(rt, memory, 0, first)?;
         let mut places = Vec::with_capacity(memory, PLACES as usize)?;
         fill(&mut places, publisher.board())?;
-        let newest = AtomicU64::new(mark(0, 0));
-        Ok((Boards { places, newest }, publisher))
+        let boards = Boards {
+            places,
+            newest: AtomicU64::new(mark(0, 0)),
+            newest_len: AtomicU64::new(first.front().len()),
+        };
+        Ok((boards, publisher))
+    }
+
+    /// How many entries the version that was published last is after. It is one load: whoever has looked since it last changed
+    /// finds nothing newer.
+    #[inline]
+    pub fn newest_len(&self) -> u64 {
+        self.newest_len.load(Ordering::SeqCst)
+    }
+
+    /// A version after this many entries was published.
+    pub(crate) fn set_newest_len(&self, entries: u64) {
+        self.newest_len.store(entries, Ordering::SeqCst);
     }
 
     // The place that the word names.

@@ -80,17 +80,20 @@ impl<N: PoolName> Publisher<N> {
         let number = self.board.number.wrapping_add(1);
         let next = Publisher::new(rt, memory, number, shown)?;
         boards.announce(rt, &next.board)?;
+        boards.set_newest_len(shown.front().len());
         *self = next;
         Ok(())
     }
 
     // Publishes the version on the same board.
-    fn add(&mut self, rt: &impl Wait, shown: Shown<N>) -> Result<(), Shown<N>>
+    fn add(&mut self, rt: &impl Wait, boards: &Boards<N>, shown: Shown<N>) -> Result<(), Shown<N>>
         ensures ok { OnOk result (self.new ≡ shown) }
         ensures same { OnErr result (self.new ≡ self.old) }
         ensures back { IfErr result (λ s. s ≡ shown) }
     {
+        let entries = shown.front().len();
         self.last = self.board.add(rt, shown)?;
+        boards.set_newest_len(entries);
         Ok(())
     }
 
@@ -113,6 +116,6 @@ impl<N: PoolName> Publisher<N> {
         if self.board.is_full() && self.open_board(rt, memory, boards, &shown).is_ok() {
             return Ok(());
         }
-        self.add(rt, shown)
+        self.add(rt, boards, shown)
     }
 }

@@ -22,6 +22,8 @@ pub struct Pass<N: PoolName> {
     caller: Caller<N>,
     shown: Shown<N>,
     subscriber: Subscriber<N>,
+    // How many entries the newest version was after when the caller last looked. The pass's own is after at least as many.
+    looked: u64,
 }
 
 impl<N: PoolName> Drop for Pass<N> {
@@ -30,6 +32,7 @@ impl<N: PoolName> Drop for Pass<N> {
             caller: _,
             shown: _,
             subscriber: _,
+            looked: _,
         } = self;
     }
 }
@@ -61,10 +64,12 @@ impl<N: PoolName> Pass<N> {
         requires { caller.last ≡ None }
         ensures { result ≡ pass_of shown caller }
     {
+        let looked = shown.front().len();
         Pass {
             caller,
             shown,
             subscriber,
+            looked,
         }
     }
 
@@ -149,6 +154,21 @@ impl<N: PoolName> Pass<N> {
         ensures { result.now ≡ self.now.front }
     {
         &self.shown
+    }
+
+    /// Whether the caller has looked since the newest version was after this many entries.
+    #[inline]
+    pub(crate) fn has_looked(&self, newest_len: u64) -> bool {
+        self.looked == newest_len
+    }
+
+    /// The caller has looked since then, unless it was refused what it found.
+    pub(crate) fn note_look(&mut self, newest_len: u64)
+        ensures { self.new ≡ self.old }
+    {
+        if self.shown.front().len() >= newest_len {
+            self.looked = newest_len;
+        }
     }
 
     /// From now on the pass finds the newest versions published until now. What the caller has seen stays as it is.

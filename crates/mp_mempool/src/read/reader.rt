@@ -96,15 +96,37 @@ impl<N: PoolName, V: Verifier> Reader<N, V> {
         check_early(self.memory, version, tx, self.verifier())
     }
 
-    /// Gives the pass the newest published version if that is longer than its own. `Pass::snapshot` then reads it. It takes no
-    /// lock and allocates nothing.
-    pub fn refresh(&self, pass: &mut Pass<N>)
+    // Gives the pass the newest version that it finds, if that is longer than its own.
+    fn take_later(&self, pass: &mut Pass<N>)
         ensures seen { IsSeen N.accepts N.callers pass.old pass.new }
     {
         pass.catch_up(&self.boards);
         match pass.share_later() {
             Some(shown) => see(pass, shown),
             None => look_at(pass),
+        }
+    }
+
+    // The same. The newest version was after this many entries before the look.
+    #[inline(never)]
+    fn look(&self, pass: &mut Pass<N>, newest_len: u64)
+        ensures seen { IsSeen N.accepts N.callers pass.old pass.new }
+    {
+        self.take_later(pass);
+        pass.note_look(newest_len);
+    }
+
+    /// Gives the pass the newest published version if that is longer than its own. `Pass::snapshot` then reads it. It takes no
+    /// lock and allocates nothing. If nothing was published since the last call, it is one load.
+    #[inline]
+    pub fn refresh(&self, pass: &mut Pass<N>)
+        ensures seen { IsSeen N.accepts N.callers pass.old pass.new }
+    {
+        let newest_len = self.boards.newest_len();
+        if pass.has_looked(newest_len) {
+            look_at(pass);
+        } else {
+            self.look(pass, newest_len);
         }
     }
 

@@ -2,7 +2,7 @@ use Rattle.std.proofs.Common.{subst}
 use Rattle.mp_mempool.specs.Pass.{Pass}
 use Rattle.mp_mempool.specs.Seen.{IsSeen}
 use Rattle.mp_mempool.proofs.Seeing.{is_seen_still}
-use Rattle.mp_mempool.proofs.read.reader.Reader.refresh.Goals as goal
+use Rattle.mp_mempool.proofs.read.reader.Reader.take_later.Goals as goal
 
 pub returns-in-None : goal.returns-in-None
 returns-in-None g c = record {
