@@ -9,6 +9,7 @@ mod bad;
 mod beginning;
 mod checking;
 mod client;
+mod closing;
 mod connected;
 mod conversation;
 mod conversing;
@@ -24,6 +25,7 @@ mod stop;
 
 pub use beginning::{begin, refuse};
 pub use client::Client;
+pub use closing::Close;
 pub use connected::Connected;
 pub use conversation::Conversation;
 pub use fault::Fault;

@@ -9,6 +9,7 @@ ghost use Rattle.mp_clients.specs.Service.{IsFinished, HasSeenOf, AreServed};
 ghost use Rattle.mp_clients.specs.Inside.Connecting.{IsReady, IsOperator, IsClientOf, AreClientsOf, AreConnected};
 
 use crate::client::Client;
+use crate::closing::Close;
 use crate::connected::Connected;
 use crate::conversation::Conversation;
 use crate::conversing::answer_from;
@@ -17,13 +18,14 @@ use crate::opening::{Opened, Seat};
 use crate::shared::Shared;
 use mp_history::{Front, PoolName};
 use mp_memory::{Memory, NoMemory};
+use mp_mempool::{Job, run_all};
 use mp_names::Names;
 use mp_rules::Verifier;
 use mp_serve as alone;
 use mp_serve::{Device, Turn};
 use mp_session::{Session, Settings};
 use std::sync::{Arc, Wait};
-use std::thread::{Threads, map_vec};
+use std::thread::Threads;
 
 /// A conversation that has ended.
 #[derive(Drop)]
@@ -33,8 +35,8 @@ pub struct Finished<N: PoolName, D: Device> {
     pub ended: Result<(), Fault>,
 }
 
-// One conversation.
-fn converse<N: PoolName, V: Verifier, D: Device>(
+// Answers the lines of the conversation until it ends, and closes its device.
+fn converse<N: PoolName, V: Verifier, D: Device + Close>(
     rt: &impl Wait,
     shared: &Shared<N, V>,
     memory: Memory,
@@ -49,6 +51,7 @@ fn converse<N: PoolName, V: Verifier, D: Device>(
         line,
     } = connected;
     let ended = answer_from(rt, shared, memory, &mut conversation, line, &mut device);
+    device.close();
     Finished {
         conversation,
         device,
@@ -56,11 +59,43 @@ fn converse<N: PoolName, V: Verifier, D: Device>(
     }
 }
 
+// Conversations over this pool.
+struct Converse<'a, N: PoolName, V: Verifier> {
+    shared: &'a Shared<N, V>,
+    memory: Memory,
+}
+
+impl<N: PoolName, V: Verifier> Drop for Converse<'_, N, V> {
+    fn drop(self) {
+        let Converse {
+            shared: _,
+            memory: _,
+        } = self;
+    }
+}
+
+impl<N: PoolName + Send + Sync, V: Verifier + Send + Sync, D: Device + Close> Job<
+    Connected<N, D>,
+    Finished<N, D>,
+> for Converse<'_, N, V> {
+    ghost use Rattle.mp_clients.specs.Service.{IsFinished};
+    ghost use Rattle.mp_clients.specs.Inside.Connecting.{IsReady};
+
+    ghost takes = { λ _ connected. IsReady D.turn connected };
+
+    ghost does = { λ _ connected finished.
+        IsFinished N.accepts N.callers D.input D.output connected finished };
+
+    fn run<R: Wait>(&self, rt: &R, connected: Connected<N, D>) -> Finished<N, D> {
+        converse(rt, self.shared, self.memory, connected)
+    }
+}
+
 // All conversations, each on a thread of its own if one can be made.
 fn converse_all<
     N: PoolName + Send + Sync,
     V: Verifier + Send + Sync,
-    D: Device + Send + Drop,
+    D: Device + Close + Send + Drop,
     R: Threads + Wait + Sync,
 >(
     rt: &R,
@@ -74,14 +109,8 @@ fn converse_all<
         → i < length all.items → IsFinished N.accepts N.callers D.input D.output
         (slice_index_or all.items i c) (slice_index_or done.items i f)) }
 {
-    Ok(map_vec(
-        rt,
-        all,
-        &|connected: Connected<N, D>| -> Finished<N, D>
-            requires { IsReady D.turn connected }
-            ensures { IsFinished N.accepts N.callers D.input D.output connected result }
-        { converse(rt, shared, memory, connected) },
-    )?)
+    let job = Converse { shared, memory };
+    Ok(run_all(rt, &job, all)?)
 }
 
 // The longer of the two fronts. The other is a prefix of it.
@@ -125,7 +154,7 @@ pub struct Service<N: PoolName, D: Device> {
 fn serve_all<
     N: PoolName + Send + Sync,
     V: Verifier + Send + Sync,
-    D: Device + Send + Drop,
+    D: Device + Close + Send + Drop,
     R: Threads + Wait + Sync,
 >(
     rt: &R,
@@ -259,7 +288,11 @@ fn connect_all<N: PoolName, D: Device + Drop>(
 ///
 /// # Errors
 /// `NoMemory`. Then some conversations may not have gone on.
-pub fn serve<N: PoolName + Send + Sync, D: Device + Send + Drop, R: Threads + Wait + Sync>(
+pub fn serve<
+    N: PoolName + Send + Sync,
+    D: Device + Close + Send + Drop,
+    R: Threads + Wait + Sync,
+>(
     rt: &R,
     memory: Memory,
     opened: Opened<N>,
