@@ -11,5 +11,4 @@ pub mod Backs
 pub mod Before
 pub mod Connecting
 pub mod Fresh
-pub mod Seen
 pub mod Seats
