@@ -1,3 +1,4 @@
+pub mod Words
 pub mod Progress
 pub mod Checks
 pub mod Steps
