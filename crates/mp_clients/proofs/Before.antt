@@ -26,18 +26,31 @@ use Rattle.mp_serve.specs.ServedPool.{ServedPool}
 use Rattle.mp_serve.specs.declared.conversation.Conversation.{Conversation}
 use Rattle.mp_serve.specs.declared.fault.Fault.TheVariants.{ReadFault}
 use Rattle.mp_serve.specs.Ask as asks
-use Rattle.mp_serve.specs.Ask.{Ask, longest, ask_within, ask_of}
-use Rattle.mp_serve.specs.TxWord.{TxWord, tx_meant}
+use Rattle.mp_serve.specs.Ask.{Ask, NewBlock, longest, ask_within, ask_of}
+use Rattle.mp_serve.specs.Request.{Check, Extend}
+use Rattle.mp_serve.specs.TxWord.{TxWord, Named, Pooled, tx_held, tx_meant, put_meant}
 use Rattle.mp_serve.specs.Served.{IsBadLine, IsTold, IsAnswer, AreAnswers}
-use Rattle.mp_serve.specs.Talk.{Step, take as taken, line_step, with_session, ask_if, reset_at}
+use Rattle.mp_serve.specs.Talk.{Step, take as taken, line_step, with_session, ask, ask_if, block_at, reset_at}
 use Rattle.mp_serve.specs.Texts.{ok_text, show_text, no_memory_text}
 use Rattle.mp_serve.proofs.Lines.{first_through}
 use Rattle.mp_serve.proofs.Progress.{Progress, Stands}
-use Rattle.mp_clients.specs.Asking.{does_open, opens}
+use Rattle.std.specs.List.{list_all}
+use Rattle.mp_clients.specs.Asking.{does_open, is_named, opens}
 use Rattle.mp_clients.specs.Beginning.{IsBefore, Opens, HasCome, AreAll}
 use Rattle.mp_clients.specs.Inside.Before.{IsStepTold}
 
 -- ---- the pool isn't opened
+
+none_held : (stage : Stage ServedPool) (id : List ℕ) → IsBefore stage → tx_held stage id ≡ None
+none_held (Before b) id before = refl
+none_held (Open p) id before = absurd before
+
+none_meant : (stage : Stage ServedPool) (txs : List Transaction) (words : List TxWord) → IsBefore stage → list_all is_named words ≡ false
+    → put_meant stage txs words ≡ None
+none_meant stage txs [] before e = Prim.cc
+none_meant stage txs (Named t ∷ words) before e = none_meant stage (txs ++ t ∷ []) words before e
+none_meant stage txs (Pooled id ∷ words) before e =
+    ap (option_and_then (λ t. put_meant stage (txs ++ t ∷ []) words)) (none_held stage id before)
 
 module _ (c : Conversation) (before : IsBefore c.session.stage) where
   -- the pool isn't open after the step
@@ -79,6 +92,16 @@ module _ (c : Conversation) (before : IsBefore c.session.stage) where
   shows None = tt
   shows (Some t) = before
 
+  checks : (word : TxWord) → is_named word ≡ false → Stays (taken c (asks.Checks word))
+  checks (Named t) e = Prim.cc
+  checks (Pooled id) e =
+      subst (λ (o : Option Transaction). Stays (option_map (λ t. ask c (Check t)) o)) (sym (none_held c.session.stage id before)) tt
+
+  extends : (b : NewBlock) → list_all is_named b.txs ≡ false → Stays (taken c (asks.Extends b))
+  extends b e =
+      subst (λ (o : Option (List Transaction)). Stays (option_map (λ txs. ask c (Extend (block_at c.session.settings b txs))) o))
+      (sym (none_meant c.session.stage [] b.txs before e)) tt
+
   resets : (stage : Stage ServedPool) → IsBefore stage → Stays (reset_at c stage)
   resets (Before b) at = tt
   resets (Open p) at = absurd at
@@ -102,10 +125,10 @@ module _ (c : Conversation) (before : IsBefore c.session.stage) where
   stays (asks.Submits n t) e = Prim.cc
   stays (asks.SubmitsBytes b) e = Prim.cc
   stays (asks.Shows w) e = shows (tx_meant c.session.stage w)
-  stays (asks.Checks w) e = Prim.cc
+  stays (asks.Checks w) e = checks w e
   stays asks.Counts e = Prim.cc
   stays (asks.Holds r o) e = holds r o c.session.stage
-  stays (asks.Extends b) e = Prim.cc
+  stays (asks.Extends b) e = extends b e
   stays (asks.Returns n) e = Prim.cc
   stays (asks.Forgets ns) e = before
   stays (asks.ReportsById b) e = before

@@ -1,6 +1,8 @@
 -- What a conversation may ask once the pool is open, and what opens it.
 use Rattle.std.specs.Prelude.{ℕ, nat_eq, Bool, true, false, List, Option, None, Some, option_and_then, if◌then◌else◌}
 use Rattle.mp_lines.specs.Lines.{Line, Sets, Out, Submit, Remove, Sync, For, Asks}
+use Rattle.std.specs.List.{list_all}
+use Rattle.mp_serve.specs.TxWord.{TxWord, Named, Pooled}
 use Rattle.mp_serve.specs.Ask.{Ask, Does, Reads, Submits, SubmitsBytes, Shows, Checks, Counts, Holds, Extends, Returns, Forgets, ReportsById, Resets, ask_of}
 use Rattle.mp_clients.specs.declared.conversation.Conversation.{Conversation}
 
@@ -40,13 +42,18 @@ does_open (For ledger) = true
 does_open (Asks query) = true
 does_open line = false
 
+-- whether the word is a declared name; no other word means a transaction before the pool is open
+abbrev pub is_named : TxWord → Bool
+is_named (Named t) = true
+is_named (Pooled id) = false
+
 -- whether the pool opens for this
 abbrev pub opens : Ask → Bool
 opens (Does line) = does_open line
 opens (Submits name t) = true
 opens (SubmitsBytes bytes) = true
-opens (Checks word) = true
+opens (Checks word) = is_named word
 opens Counts = true
-opens (Extends block) = true
+opens (Extends block) = list_all is_named block.txs
 opens (Returns count) = true
 opens ask = false

@@ -1,14 +1,15 @@
 //! What a conversation may ask once the pool is open, and what opens it.
 
 ghost use Rattle.std.specs.Prelude.{◌≡◌, true, false, IfSome, IfNone};
+ghost use Rattle.std.specs.List.{list_all};
 ghost use Rattle.mp_lines.specs.Inside.Line.{to_line};
-ghost use Rattle.mp_serve.specs.Inside.Ask.{to_ask};
+ghost use Rattle.mp_serve.specs.Inside.Ask.{to_ask, to_tx_word};
 ghost use Rattle.mp_clients.specs.Inside.Notes.{is_note, is_alone};
-ghost use Rattle.mp_clients.specs.Asking.{is_operator, may_do, may_ask, does_open, opens};
+ghost use Rattle.mp_clients.specs.Asking.{is_operator, may_do, may_ask, does_open, is_named, opens};
 
 use mp_lines::Line;
 use mp_names::Reason;
-use mp_serve::Ask;
+use mp_serve::{Ask, TxWord};
 
 // Why the caller may not ask for what only the operator may.
 fn unless_operator<'a>(caller: u32) -> Option<Reason<'a>>
@@ -93,7 +94,25 @@ fn does_open(line: &Line) -> bool
     }
 }
 
+// Whether the word is a declared name.
+fn is_named(word: &TxWord) -> bool
+    ensures { result ≡ is_named (to_tx_word word.now) }
+{
+    match word {
+        TxWord::Named(_) => true,
+        TxWord::Pooled(_) => false,
+    }
+}
+
+// Whether all words are declared names.
+fn all_named(words: &[TxWord]) -> bool
+    ensures { result ≡ list_all (λ w. is_named (to_tx_word w)) words.now }
+{
+    words.iter().all(|word| is_named(word))
+}
+
 /// Whether the pool opens for this.
+#[tactic(auto, using(crate::proofs::Words::all_named))]
 pub fn opens(ask: &Ask) -> bool
     ensures { result ≡ opens (to_ask ask.now) }
 {
@@ -101,9 +120,9 @@ pub fn opens(ask: &Ask) -> bool
         Ask::Does(line) => does_open(line),
         Ask::Submits(_, _) => true,
         Ask::SubmitsBytes(_) => true,
-        Ask::Checks(_) => true,
+        Ask::Checks(word) => is_named(word),
         Ask::Counts => true,
-        Ask::Extends(_) => true,
+        Ask::Extends(block) => all_named(&block.txs),
         Ask::Returns(_) => true,
         _ => false,
     }

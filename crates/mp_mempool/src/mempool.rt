@@ -22,7 +22,7 @@ use mp_memory::{Memory, NoMemory};
 use mp_rules::Verifier;
 use mp_seqpool::{Command, Ids};
 use mp_tx::{Ledger, Tx};
-use std::sync::{Arc, Mutex, Wait};
+use std::sync::{Arc, Mutex, MutexGuard, Wait};
 
 /// The mempool that many callers share (the Mempool API of ouroboros-consensus).
 ///
@@ -291,6 +291,12 @@ impl<N: PoolName, V: Verifier> Mempool<N, V> {
     {
         let mut locked = self.locked.lock(rt);
         sync_in(self, rt, &mut locked, pass, ledger)
+    }
+
+    /// Takes the lock, for what is asked of the whole history. No change is made until the guard is dropped. The call may wait for
+    /// other callers.
+    pub fn lock(&self, rt: &impl Wait) -> MutexGuard<'_, Locked<N>> {
+        self.locked.lock(rt)
     }
 }
 

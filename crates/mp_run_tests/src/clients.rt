@@ -5,6 +5,7 @@ ghost use Rattle.mp_serve.specs.declared.device.Turn.TheVariants.{Listens};
 use crate::holding::{Ended, Held, LOST, hold};
 use crate::streams::{Bytes, Converse, Fails, NEVER, held_failures, streams, written};
 use crate::talks::{BLOCKS, GIVEN, READS, REPORTS, Talk};
+use mp_clients::Close;
 use mp_memory::Memory;
 use mp_serve::{Device, Turn};
 use mp_testing::{FailingReader, MAX_GROWTHS, Seen, count};
@@ -194,6 +195,7 @@ struct Patient {
     lines: &'static [&'static [u8]],
     told: Vec<u8, Global>,
     turn: Turn,
+    is_closed: bool,
 }
 
 // The answer to the oldest line.
@@ -257,6 +259,12 @@ impl Device for Patient {
     fn flush(&mut self) -> Result<(), WriteFault> {
         self.turn = Turn::Listens;
         Ok(())
+    }
+}
+
+impl Close for Patient {
+    fn close(&mut self) {
+        self.is_closed = true;
     }
 }
 
@@ -333,6 +341,10 @@ const MOST_OUTSIDE: u64 = 3;
 // The fault's number and what is written; none if an allocation failed outside of the answers.
 type Told = Option<(u64, Vec<u8, Global>)>;
 
+// No fault has this number.
+const LEFT_OPEN: u64 = 100;
+
+// How the conversation of these lines ended, and the answers. Its device must have been closed.
 fn hold_patiently<R: Threads + Wait + Sync>(
     rt: &R,
     memory: Memory,
@@ -344,6 +356,7 @@ fn hold_patiently<R: Threads + Wait + Sync>(
         lines,
         told: Vec::new(alloc),
         turn: Turn::Listens,
+        is_closed: false,
     };
     let held = hold(rt, memory, alloc, device, Vec::new(memory), nth);
     let Ended { fault, device } = only_one(held)?;
@@ -351,8 +364,13 @@ fn hold_patiently<R: Threads + Wait + Sync>(
         lines: _,
         told,
         turn: _,
+        is_closed,
     } = device;
-    Some((fault, told))
+    if is_closed {
+        Some((fault, told))
+    } else {
+        Some((LEFT_OPEN, told))
+    }
 }
 
 // Whether these are the answers before a line whose answer is lost.

@@ -4,7 +4,7 @@ ghost use Rattle.mp_history.specs.PoolName.{head_of};
 ghost use Rattle.mp_signatures.specs.Scheme.{accepted_by};
 ghost use Rattle.mp_clients.specs.Beginning.{IsBefore};
 
-use mp_clients::{Fault, Finished, Service, begin, open, refuse, serve};
+use mp_clients::{Close, Fault, Finished, Service, begin, open, refuse, serve};
 use mp_history::{NewName, PoolName};
 use mp_memory::{Memory, NoMemory};
 use mp_serve as alone;
@@ -59,7 +59,14 @@ fn only<D: Device + Drop>(alloc: Global, fault: u64, device: D) -> Held<D> {
 }
 
 fn all_ended<N: PoolName, D: Device + Drop>(alloc: Global, service: Service<N, D>) -> Held<D> {
-    let Service { finished, front: _ } = service;
+    let Service {
+        finished,
+        front: _,
+        is_known,
+    } = service;
+    if !is_known {
+        return None;
+    }
     let mut all = Vec::new(alloc);
     for one in finished {
         let Finished {
@@ -84,7 +91,11 @@ struct Waiting<D: Device> {
 }
 
 // Opens the pool for the operator's line, and holds all conversations. Returns what waits if an allocation failed before.
-fn open_and_serve<N: PoolName + Send + Sync, D: Device + Send + Drop, R: Threads + Wait + Sync>(
+fn open_and_serve<
+    N: PoolName + Send + Sync,
+    D: Device + Close + Send + Drop,
+    R: Threads + Wait + Sync,
+>(
     rt: &R,
     memory: Memory,
     alloc: Global,
@@ -120,7 +131,7 @@ fn open_and_serve<N: PoolName + Send + Sync, D: Device + Send + Drop, R: Threads
 }
 
 // Answers the operator's lines until the pool can be opened, then holds all conversations.
-fn hold_from<D: Device + Send + Drop, R: Threads + Wait + Sync>(
+fn hold_from<D: Device + Close + Send + Drop, R: Threads + Wait + Sync>(
     rt: &R,
     memory: Memory,
     alloc: Global,
@@ -170,7 +181,7 @@ fn hold_from<D: Device + Send + Drop, R: Threads + Wait + Sync>(
 
 /// Holds the conversations of an operator and of clients with these devices. The allocation with the number `refused` fails,
 /// counted from the operator's first line.
-pub fn hold<D: Device + Send + Drop, R: Threads + Wait + Sync>(
+pub fn hold<D: Device + Close + Send + Drop, R: Threads + Wait + Sync>(
     rt: &R,
     memory: Memory,
     alloc: Global,
