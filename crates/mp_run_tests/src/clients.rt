@@ -193,6 +193,8 @@ const NO_MEMORY: &[u8] = b"fault: no memory\n";
 #[derive(Drop)]
 struct Patient {
     lines: &'static [&'static [u8]],
+    // The place of the oldest line that isn't answered.
+    next: usize,
     told: Vec<u8, Global>,
     turn: Turn,
     is_closed: bool,
@@ -205,8 +207,7 @@ fn keep(patient: &mut Patient, text: &[u8]) -> Option<()>
     if text == NO_MEMORY {
         return Some(());
     }
-    let (_, rest) = patient.lines.split_first()?;
-    patient.lines = rest;
+    patient.next = patient.next.checked_add(1)?;
     let kept = if text.starts_with(b"bad ") {
         b"bad\n"
     } else {
@@ -229,7 +230,7 @@ impl Device for Patient {
         line: &mut Vec<u8, Memory>,
         limit: usize,
     ) -> Result<LineRead, ReadFault> {
-        let Some((oldest, _)) = self.lines.split_first() else {
+        let Some(oldest) = self.lines.get(self.next) else {
             return Ok(LineRead::End);
         };
         self.turn = Turn::Owes;
@@ -354,6 +355,7 @@ fn hold_patiently<R: Threads + Wait + Sync>(
 ) -> Told {
     let device = Patient {
         lines,
+        next: 0,
         told: Vec::new(alloc),
         turn: Turn::Listens,
         is_closed: false,
@@ -362,6 +364,7 @@ fn hold_patiently<R: Threads + Wait + Sync>(
     let Ended { fault, device } = only_one(held)?;
     let Patient {
         lines: _,
+        next: _,
         told,
         turn: _,
         is_closed,

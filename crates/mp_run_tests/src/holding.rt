@@ -111,7 +111,7 @@ fn open_and_serve<
     requires most { callers ≤ 64 }
     requires owes { D.turn waiting.device ≡ Turn.Owes }
     requires listen { All (λ d. D.turn d ≡ Turn.Listens) waiting.clients.items }
-    ensures { IfErr result (λ back. back ≡ waiting.entry) }
+    ensures { IfErr result (λ back. back ≡ waiting) }
 {
     match open::<N>(rt, memory, name, &waiting.operator, callers) {
         Ok(opened) => {
