@@ -197,6 +197,8 @@ struct Patient {
     next: usize,
     told: Vec<u8, Global>,
     turn: Turn,
+    // Whether an answer couldn't be kept.
+    is_lost: bool,
     is_closed: bool,
 }
 
@@ -245,16 +247,11 @@ impl Device for Patient {
     }
 
     fn write(&mut self, text: &[u8]) -> Result<(), WriteFault> {
-        match keep(self, text) {
-            Some(()) => {
-                self.turn = Turn::Holds;
-                Ok(())
-            }
-            None => {
-                self.turn = Turn::Failed;
-                Err(WriteFault)
-            }
+        if keep(self, text).is_none() {
+            self.is_lost = true;
         }
+        self.turn = Turn::Holds;
+        Ok(())
     }
 
     fn flush(&mut self) -> Result<(), WriteFault> {
@@ -342,8 +339,8 @@ const MOST_OUTSIDE: u64 = 3;
 // The fault's number and what is written; none if an allocation failed outside of the answers.
 type Told = Option<(u64, Vec<u8, Global>)>;
 
-// No fault has this number.
-const LEFT_OPEN: u64 = 100;
+// No fault has this number: the device was left open, or couldn't keep an answer.
+const NOT_HELD: u64 = 100;
 
 // How the conversation of these lines ended, and the answers. Its device must have been closed.
 fn hold_patiently<R: Threads + Wait + Sync>(
@@ -358,6 +355,7 @@ fn hold_patiently<R: Threads + Wait + Sync>(
         next: 0,
         told: Vec::new(alloc),
         turn: Turn::Listens,
+        is_lost: false,
         is_closed: false,
     };
     let held = hold(rt, memory, alloc, device, Vec::new(memory), nth);
@@ -367,12 +365,13 @@ fn hold_patiently<R: Threads + Wait + Sync>(
         next: _,
         told,
         turn: _,
+        is_lost,
         is_closed,
     } = device;
-    if is_closed {
+    if is_closed && !is_lost {
         Some((fault, told))
     } else {
-        Some((LEFT_OPEN, told))
+        Some((NOT_HELD, told))
     }
 }
 
