@@ -111,6 +111,7 @@ impl<N: PoolName + Send + Sync, V: Verifier + Watch + Send + Sync> Job<
     ghost use Rattle.mp_race.specs.Inside.Gathered.{IsBack};
 
     ghost takes = { λ w pass. Unit {0} };
+
     ghost does = { λ w pass result. (opening : Pool) → IsUnused opening pass
         → IsBack N.accepts w.workers opening (tasks_of w.tasks.now) result };
 

@@ -3,8 +3,9 @@ ghost use Rattle.std.specs.Prelude.{◌≡◌, length, All, IfSome};
 ghost use Rattle.mp_serve.specs.declared.device.Turn.TheVariants.{Listens};
 
 use crate::holding::{Ended, Held, LOST, hold};
-use crate::streams::{Bytes, Converse, Fails, NEVER, held_failures, streams, written};
+use crate::streams::{Bytes, Fails, NEVER, held_failures, streams, written};
 use crate::talks::{BLOCKS, GIVEN, READS, REPORTS, Talk};
+use crate::ways::{Holder, Way, converse};
 use mp_clients::Close;
 use mp_memory::Memory;
 use mp_serve::{Device, Turn};
@@ -126,36 +127,29 @@ const ROWS: [Row; 4] = [
     },
 ];
 
-// An operator alone.
-#[derive(Drop)]
-struct Operator<'a, R> {
-    rt: &'a R,
-    memory: Memory,
-    alloc: Global,
-}
-
 // How the only conversation ended, and its device.
 fn only_one<D: Device + Drop>(held: Held<D>) -> Option<Ended<D>> {
     let mut all = held?;
     all.pop()
 }
 
-impl<R: Threads + Wait + Sync> Converse for Operator<'_, R> {
-    fn converse(
-        &self,
-        lines: FailingReader,
-        at_once: usize,
-        fails: Fails,
-    ) -> (u64, Vec<u8, Global>) {
-        let Some(device) = streams(self.alloc, lines, at_once, fails) else {
-            return (1, Vec::new(self.alloc));
-        };
-        let clients = Vec::new(self.memory);
-        let held = hold(self.rt, self.memory, self.alloc, device, clients, 0);
-        match only_one(held) {
-            Some(Ended { fault, device }) => (fault, written(device)),
-            None => (1, Vec::new(self.alloc)),
-        }
+/// How the conversation of an operator without clients ends, and what is written. The device reads and writes a given number of
+/// bytes at once.
+pub fn hold_operator<R: Threads + Wait + Sync>(
+    rt: &R,
+    memory: Memory,
+    alloc: Global,
+    lines: FailingReader,
+    at_once: usize,
+    fails: Fails,
+) -> (u64, Vec<u8, Global>) {
+    let Some(device) = streams(alloc, lines, at_once, fails) else {
+        return (1, Vec::new(alloc));
+    };
+    let held = hold(rt, memory, alloc, device, Vec::new(memory), 0);
+    match only_one(held) {
+        Some(Ended { fault, device }) => (fault, written(device)),
+        None => (1, Vec::new(alloc)),
     }
 }
 
@@ -175,10 +169,10 @@ fn is_written(
     Ok(false)
 }
 
-fn held_rows(rt: &impl Print, way: &impl Converse) -> io::Result<u64> {
+fn held_rows<R: Print + Threads + Wait + Sync>(rt: &R, holder: Holder) -> io::Result<u64> {
     let mut held: u64 = 0;
     for row in ROWS {
-        let (fault, told) = way.converse(FailingReader::of(row.lines), 4096, NEVER);
+        let (fault, told) = converse(rt, holder, FailingReader::of(row.lines), 4096, NEVER);
         if is_written(rt, row.name, (fault, &told), (0, row.answers))? {
             held = held.saturating_add(1);
         }
@@ -197,6 +191,8 @@ struct Patient {
     next: usize,
     told: Vec<u8, Global>,
     turn: Turn,
+    // Whether an answer couldn't be kept.
+    is_lost: bool,
     is_closed: bool,
 }
 
@@ -245,16 +241,11 @@ impl Device for Patient {
     }
 
     fn write(&mut self, text: &[u8]) -> Result<(), WriteFault> {
-        match keep(self, text) {
-            Some(()) => {
-                self.turn = Turn::Holds;
-                Ok(())
-            }
-            None => {
-                self.turn = Turn::Failed;
-                Err(WriteFault)
-            }
+        if keep(self, text).is_none() {
+            self.is_lost = true;
         }
+        self.turn = Turn::Holds;
+        Ok(())
     }
 
     fn flush(&mut self) -> Result<(), WriteFault> {
@@ -342,8 +333,8 @@ const MOST_OUTSIDE: u64 = 3;
 // The fault's number and what is written; none if an allocation failed outside of the answers.
 type Told = Option<(u64, Vec<u8, Global>)>;
 
-// No fault has this number.
-const LEFT_OPEN: u64 = 100;
+// No fault has this number: the device was left open, or couldn't keep an answer.
+const NOT_HELD: u64 = 100;
 
 // How the conversation of these lines ended, and the answers. Its device must have been closed.
 fn hold_patiently<R: Threads + Wait + Sync>(
@@ -358,6 +349,7 @@ fn hold_patiently<R: Threads + Wait + Sync>(
         next: 0,
         told: Vec::new(alloc),
         turn: Turn::Listens,
+        is_lost: false,
         is_closed: false,
     };
     let held = hold(rt, memory, alloc, device, Vec::new(memory), nth);
@@ -367,12 +359,13 @@ fn hold_patiently<R: Threads + Wait + Sync>(
         next: _,
         told,
         turn: _,
+        is_lost,
         is_closed,
     } = device;
-    if is_closed {
+    if is_closed && !is_lost {
         Some((fault, told))
     } else {
-        Some((LEFT_OPEN, told))
+        Some((NOT_HELD, told))
     }
 }
 
@@ -646,9 +639,13 @@ pub fn held<R: Print + Threads + Wait + Sync>(
     memory: Memory,
     alloc: Global,
 ) -> io::Result<u64> {
-    let way = Operator { rt, memory, alloc };
-    let rows = held_rows(rt, &way)?;
-    let failures = held_failures(rt, &way)?;
+    let holder = Holder {
+        memory,
+        alloc,
+        way: Way::Operator,
+    };
+    let rows = held_rows(rt, holder)?;
+    let failures = held_failures(rt, holder)?;
     let growths = held_growths(rt, memory, alloc)?;
     let rounds = held_rounds(rt, memory, alloc)?;
     let fails = held_fails(rt, memory, alloc)?;

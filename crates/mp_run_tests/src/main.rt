@@ -16,6 +16,7 @@ mod serving;
 mod streams;
 mod talks;
 mod texts;
+mod ways;
 
 use mp_memory::Memory;
 use std::alloc::Global;

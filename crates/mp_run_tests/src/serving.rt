@@ -1,5 +1,6 @@
 //! Conversations over devices that fail, and with allocations that fail, also while a line is read.
-use crate::streams::{Converse, Fails, NEVER, held_failures, streams, written};
+use crate::streams::{Fails, NEVER, held_failures, streams, written};
+use crate::ways::{Holder, Way};
 use mp_memory::Memory;
 use mp_serve::{Fault, serve};
 use mp_signatures::{Scheme, Signatures};
@@ -7,6 +8,8 @@ use mp_testing::{FailingReader, MAX_GROWTHS, Seen, count};
 use mp_tx::Salt;
 use std::alloc::Global;
 use std::io;
+use std::sync::Wait;
+use std::thread::Threads;
 
 fn number_of(ended: Result<(), Fault>) -> u64 {
     match ended {
@@ -18,8 +21,8 @@ fn number_of(ended: Result<(), Fault>) -> u64 {
     }
 }
 
-// How a conversation of these lines ends, and what is written. The device reads and writes a given number of bytes at once.
-fn hold(
+/// How a conversation of these lines ends, and what is written. The device reads and writes a given number of bytes at once.
+pub fn hold(
     memory: Memory,
     alloc: Global,
     lines: FailingReader,
@@ -37,24 +40,6 @@ fn hold(
     memory.refuse(refused);
     let ended = serve(memory, signatures, Salt::new(7), &mut device);
     (number_of(ended), written(device))
-}
-
-// A conversation alone.
-#[derive(Clone, Copy)]
-struct Alone {
-    memory: Memory,
-    alloc: Global,
-}
-
-impl Converse for Alone {
-    fn converse(
-        &self,
-        lines: FailingReader,
-        at_once: usize,
-        fails: Fails,
-    ) -> (u64, Vec<u8, Global>) {
-        hold(self.memory, self.alloc, lines, at_once, fails, 0)
-    }
 }
 
 // Lines of which none changes another's answer, one of them with some 300 bytes.
@@ -180,8 +165,17 @@ fn held_long(rt: &impl Print, memory: Memory, alloc: Global) -> io::Result<u64> 
 }
 
 /// How many cases hold.
-pub fn held(rt: &impl Print, memory: Memory, alloc: Global) -> io::Result<u64> {
-    let failures = held_failures(rt, &Alone { memory, alloc })?;
+pub fn held<R: Print + Threads + Wait + Sync>(
+    rt: &R,
+    memory: Memory,
+    alloc: Global,
+) -> io::Result<u64> {
+    let holder = Holder {
+        memory,
+        alloc,
+        way: Way::Alone,
+    };
+    let failures = held_failures(rt, holder)?;
     let growths = held_growths(rt, memory, alloc)?;
     let long = held_long(rt, memory, alloc)?;
     Ok(failures.saturating_add(growths).saturating_add(long))

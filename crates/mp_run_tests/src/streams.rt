@@ -2,11 +2,14 @@
 ghost use Rattle.std.specs.Prelude.{◌≡◌, IfSome};
 ghost use Rattle.mp_serve.specs.declared.device.Turn.TheVariants.{Listens};
 
+use crate::ways::{Holder, converse};
 use mp_serve::Streams;
 use mp_testing::{FailingReader, FailingWriter, Seen, count};
 use std::alloc::Global;
 use std::io;
 use std::io::{BufReader, ErrorKind, Write};
+use std::sync::Wait;
+use std::thread::Threads;
 
 /// Which call of each kind fails, from 1. With 0 none does.
 #[derive(Clone, Copy)]
@@ -88,17 +91,6 @@ pub fn written(streams: Bytes) -> Vec<u8, Global> {
     taken
 }
 
-/// A way to hold a conversation.
-pub trait Converse {
-    /// The number of the fault with which the conversation of these lines ends, or 0, and what is written.
-    fn converse(
-        &self,
-        lines: FailingReader,
-        at_once: usize,
-        fails: Fails,
-    ) -> (u64, Vec<u8, Global>);
-}
-
 // Lines that end after the bytes 9, 26, 35, 44 and 45.
 const LINES: &[u8] = b"out g0 5\ntx a in=g0 out=5\nsubmit a\nlookup 1\n\n";
 
@@ -112,8 +104,8 @@ const READS: [(u64, u64); 6] = [(9, 0), (26, 3), (35, 6), (44, 17), (45, 26), (4
 const FLUSHES: [u64; 5] = [3, 6, 17, 26, 29];
 
 // The fault, how much is written, and whether that is a prefix of the answers.
-fn see(way: &impl Converse, fails: Fails) -> Seen {
-    let (fault, written) = way.converse(FailingReader::of(LINES), 1, fails);
+fn see<R: Threads + Wait + Sync>(rt: &R, holder: Holder, fails: Fails) -> Seen {
+    let (fault, written) = converse(rt, holder, FailingReader::of(LINES), 1, fails);
     let is_front = ANSWERS.starts_with(&written);
     [fault, written.len() as u64, u64::from(is_front), 0, 0, 0]
 }
@@ -128,10 +120,10 @@ fn written_before(read: u64) -> u64 {
     0
 }
 
-fn held_reads(rt: &impl Print, way: &impl Converse) -> io::Result<u64> {
+fn held_reads<R: Print + Threads + Wait + Sync>(rt: &R, holder: Holder) -> io::Result<u64> {
     let mut held: u64 = 0;
     for read in 1..=47 {
-        let seen = see(way, Fails { read, ..NEVER });
+        let seen = see(rt, holder, Fails { read, ..NEVER });
         let wanted = if read <= 46 {
             [3, written_before(read)]
         } else {
@@ -144,10 +136,10 @@ fn held_reads(rt: &impl Print, way: &impl Converse) -> io::Result<u64> {
     Ok(held)
 }
 
-fn held_writes(rt: &impl Print, way: &impl Converse) -> io::Result<u64> {
+fn held_writes<R: Print + Threads + Wait + Sync>(rt: &R, holder: Holder) -> io::Result<u64> {
     let mut held: u64 = 0;
     for write in 1..31u64 {
-        let seen = see(way, Fails { write, ..NEVER });
+        let seen = see(rt, holder, Fails { write, ..NEVER });
         let fault = if write <= 29 { 4 } else { 0 };
         let wanted = [fault, write - 1, 1, 0, 0, 0];
         held = held.saturating_add(count(rt, "a write that fails", Some(seen), wanted)?);
@@ -155,23 +147,23 @@ fn held_writes(rt: &impl Print, way: &impl Converse) -> io::Result<u64> {
     Ok(held)
 }
 
-fn held_flushes(rt: &impl Print, way: &impl Converse) -> io::Result<u64> {
+fn held_flushes<R: Print + Threads + Wait + Sync>(rt: &R, holder: Holder) -> io::Result<u64> {
     let mut held: u64 = 0;
     for (place, written) in FLUSHES.iter().enumerate() {
         let flush = place as u64 + 1;
-        let seen = see(way, Fails { flush, ..NEVER });
+        let seen = see(rt, holder, Fails { flush, ..NEVER });
         let wanted = [4, *written, 1, 0, 0, 0];
         held = held.saturating_add(count(rt, "a flush that fails", Some(seen), wanted)?);
     }
-    let seen = see(way, Fails { flush: 6, ..NEVER });
+    let seen = see(rt, holder, Fails { flush: 6, ..NEVER });
     let last = count(rt, "no flush that fails", Some(seen), [0, 29, 1, 0, 0, 0])?;
     Ok(held.saturating_add(last))
 }
 
 /// Each read, write and flush fails in turn: how many cases hold.
-pub fn held_failures(rt: &impl Print, way: &impl Converse) -> io::Result<u64> {
-    let reads = held_reads(rt, way)?;
-    let writes = held_writes(rt, way)?;
-    let flushes = held_flushes(rt, way)?;
+pub fn held_failures<R: Print + Threads + Wait + Sync>(rt: &R, holder: Holder) -> io::Result<u64> {
+    let reads = held_reads(rt, holder)?;
+    let writes = held_writes(rt, holder)?;
+    let flushes = held_flushes(rt, holder)?;
     Ok(reads.saturating_add(writes).saturating_add(flushes))
 }
