@@ -79,8 +79,8 @@ impl<N: PoolName> Boards<N> {
         Ok((boards, publisher))
     }
 
-    /// How many entries the version that was published last is after. It is one load: whoever has looked since it last changed
-    /// finds nothing newer.
+    /// How many entries the version that was published last is after. It is one load. A caller that has looked since it last
+    /// changed finds nothing newer.
     #[inline]
     pub fn newest_len(&self) -> u64 {
         self.newest_len.load(Ordering::SeqCst)
