@@ -23,7 +23,7 @@ use mp_names::{Binding, DeclaredTx, LineFault, Name, Names};
 use mp_rules::{AppliedBlock, Verifier};
 use mp_seqpool::{Command, Ids};
 use mp_serve::{
-    Answer, Ask, Block, Extended, NewBlock, Text, TxWord, back_refused_line, extend,
+    Answer, Ask, Block, Extended, Former, NewBlock, Text, TxWord, back_refused_line, extend,
     forgotten_line, read_line, report_under, show_line, undecodable_line,
 };
 use mp_session::{Settings, ledger_at};
@@ -136,7 +136,7 @@ pub struct Conversation<N: PoolName> {
 }
 
 impl<N: PoolName> Conversation<N> {
-    ghost use Rattle.std.specs.Prelude.{◌≡◌, ◌≤◌, ℕ, length, true, false, Some, None, Ok, Err, IfOk, IfErr, OnErr};
+    ghost use Rattle.std.specs.Prelude.{◌≡◌, ℕ, true, false, Some, None, Ok, Err, IfOk, IfErr, OnErr};
     ghost use Rattle.std.specs.Arc.{arc_value};
     ghost use Rattle.mp_tx.specs.Reading.{transaction_of};
     ghost use Rattle.mp_seqpool.specs.Command.{Submit};
@@ -146,6 +146,7 @@ impl<N: PoolName> Conversation<N> {
     ghost use Rattle.mp_serve.specs.Talk as alone;
     ghost use Rattle.mp_serve.specs.Ask.{Does, Extends};
     ghost use Rattle.mp_serve.specs.ServedPool.{state_back};
+    ghost use Rattle.mp_serve.specs.Inside.Former.{LeadsBack};
     ghost use Rattle.mp_serve.specs.Inside.Ask.{to_ask, to_block, to_tx_word};
     ghost use Rattle.mp_serve.specs.Inside.Answer.{text_of};
     ghost use Rattle.mp_clients.specs.declared.stop.Stop.TheVariants as stops;
@@ -270,8 +271,32 @@ impl<N: PoolName> Conversation<N> {
         }
     }
 
-    // Adopts a new ledger state.
+    // Adopts a new ledger state, and keeps how to go back to the one before it.
     fn go_on<V: Verifier>(
+        &mut self,
+        rt: &impl Wait,
+        shared: &Shared<N, V>,
+        memory: Memory,
+        ledger: Ledger,
+        former: Former,
+    ) -> Result<Answer, Stop>
+        requires { LeadsBack ledger former self.old.client.ledger }
+        ensures ok { IfOk result (λ a. IsSynced N.accepts N.callers self.old ledger
+            (text_of a) self.new) }
+        ensures err { IfErr result (IsStopped N.accepts N.callers (IsSynced N.accepts N.callers
+            self.old ledger) self.old self.new) }
+    {
+        let Ok(room) = make_room(memory) else {
+            return Err(Stop::NoMemory);
+        };
+        match self.client.go_on(rt, &shared.pool, ledger, former) {
+            Ok(asked) => finish(memory, &self.names, &mut self.client, room, &asked),
+            Err(stop) => Err(stop),
+        }
+    }
+
+    // Adopts a new ledger state. The one before it is stored whole.
+    fn adopt<V: Verifier>(
         &mut self,
         rt: &impl Wait,
         shared: &Shared<N, V>,
@@ -283,13 +308,10 @@ impl<N: PoolName> Conversation<N> {
         ensures err { IfErr result (IsStopped N.accepts N.callers (IsSynced N.accepts N.callers
             self.old ledger) self.old self.new) }
     {
-        let Ok(room) = make_room(memory) else {
+        let Ok(before) = self.client.ledger().share() else {
             return Err(Stop::NoMemory);
         };
-        match self.client.go_on(rt, &shared.pool, ledger) {
-            Ok(asked) => finish(memory, &self.names, &mut self.client, room, &asked),
-            Err(stop) => Err(stop),
-        }
+        self.go_on(rt, shared, memory, ledger, Former::Whole(before))
     }
 
     // Adopts the ledger state after the block.
@@ -309,8 +331,8 @@ impl<N: PoolName> Conversation<N> {
         let (signatures, ledger) = (client.signatures(), client.ledger());
         match extend(memory, &self.names, signatures, ledger, block) {
             Ok(Extended::To(applied)) => {
-                let AppliedBlock { ledger, undo: _ } = applied;
-                self.go_on(rt, shared, memory, ledger)
+                let AppliedBlock { ledger, undo } = applied;
+                self.go_on(rt, shared, memory, ledger, Former::Block(undo))
             }
             Ok(Extended::Refused(text)) => {
                 self.client.count_adopt();
@@ -365,7 +387,7 @@ impl<N: PoolName> Conversation<N> {
         count: usize,
         ledger: Ledger,
     ) -> Result<Answer, Stop>
-        requires { count ≤ length self.old.client.former }
+        requires { state_back self.old.client.former self.old.client.ledger count ≡ Some ledger }
         ensures ok { IfOk result (λ a. IsReturned N.accepts N.callers self.old count
             (Some ledger) (text_of a) self.new) }
         ensures err { IfErr result (IsStopped N.accepts N.callers (IsReturned N.accepts N.callers
@@ -386,7 +408,7 @@ impl<N: PoolName> Conversation<N> {
             self.old count None (text_of a) self.new) }
         ensures err { IfErr result (λ stop. (stop ≡ stops.NoMemory) × (self.new ≡ self.old)) }
     {
-        match back_refused_line(memory, self.client.former().len() as u64) {
+        match back_refused_line(memory, self.client.kept_back() as u64) {
             Ok(text) => {
                 self.client.count_back();
                 Ok(Answer::Line(text))
@@ -396,7 +418,6 @@ impl<N: PoolName> Conversation<N> {
     }
 
     // Adopts the ledger state this many steps ago, or answers how many are kept.
-    #[tactic(auto, using(crate::proofs::Backs::kept_within))]
     fn return_by<V: Verifier>(
         &mut self,
         rt: &impl Wait,
@@ -412,7 +433,7 @@ impl<N: PoolName> Conversation<N> {
             self.old self.new) }
     {
         let count = count as usize;
-        match self.client.state_back(count) {
+        match self.client.state_back(memory, count) {
             Ok(Some(ledger)) => self.go_back(rt, shared, memory, count, ledger),
             Ok(None) => self.refuse_back(memory),
             Err(_) => Err(Stop::NoMemory),
@@ -546,7 +567,7 @@ impl<N: PoolName> Conversation<N> {
                 let Ok(ledger) = ledger_at(memory, &self.settings, ledger) else {
                     return Err(Stop::NoMemory);
                 };
-                self.go_on(rt, shared, memory, ledger)
+                self.adopt(rt, shared, memory, ledger)
             }
             Line::Blank => unreachable!(),
             Line::Sets(_) => unreachable!(),
