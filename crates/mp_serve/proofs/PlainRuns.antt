@@ -37,6 +37,7 @@ use Rattle.mp_serve.specs.declared.conversation.Conversation.{Conversation}
 use Rattle.mp_serve.specs.declared.refused.Counts.{Counts}
 use Rattle.mp_serve.specs.Refused.{none_counted, counted_if}
 use Rattle.mp_serve.specs.ServedPool.{ServedPool, latest}
+use Rattle.mp_serve.specs.Staged.{nothing_staged}
 use Rattle.mp_serve.specs.Request.{Plain, answer_to, reported_if, respond_plainly, respond}
 use Rattle.mp_serve.specs.Ask.{Does, ask_of}
 use Rattle.mp_serve.specs.Talk as talk
@@ -105,7 +106,7 @@ abbrev pub session_with : Session ScenarioPool → List LedgerState → Counts �
 session_with s f r = record { names = s.names; settings = s.settings; stage = stage_with s.stage f r }
 
 abbrev pub conversation_with : Scene → List LedgerState → Counts → Conversation
-conversation_with s f r = record { signatures = s.signatures; session = session_with s.session f r; line = 1 }
+conversation_with s f r = record { signatures = s.signatures; session = session_with s.session f r; staged = nothing_staged 0; line = 1 }
 
 abbrev pub former_in : Stage ScenarioPool → List LedgerState → List LedgerState
 former_in (Before b) f = []

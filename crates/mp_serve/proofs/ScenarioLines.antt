@@ -1,6 +1,7 @@
 -- What a conversation takes a scenario's line for.
 use Rattle.std.proofs.Common.{◌≡◌, ℕ, Bool, true, false, cond, List, [], ◌∷◌, length, refl, sym, ap, subst, ◌∙◌, arith}
 use Rattle.std.specs.Prelude.{◌&&◌, nat_eq, nat_le, nat_lt, codes, Option, None, Some, option_map, unwrap_or}
+use Rattle.std.specs.Option.{option_or}
 use Rattle.std.specs.Cmp.Lexicographic.{pointwise, bytes_decides}
 use Rattle.std.proofs.lemmas.Bool.Decides.{nat_tests}
 use Rattle.mp_text.specs.Lines.{is_clean}
@@ -8,7 +9,7 @@ use Rattle.mp_text.specs.Words.{words_of}
 use Rattle.mp_names.specs.DeclaredTx.{DeclaredTx}
 use Rattle.mp_names.specs.Names.{Names, tx_named}
 use Rattle.mp_lines.specs.Lines.{Line, Submit, submit_line, words_line, line_of}
-use Rattle.mp_serve.specs.Ask.{Does, Submits, longest, ask_within, words_ask, long_ask, ask_of}
+use Rattle.mp_serve.specs.Ask.{Does, Submits, longest, ask_within, words_ask, long_ask, staged_ask, ask_of}
 
 -- ---- options
 
@@ -53,6 +54,10 @@ same_word word key is = (bytes_decides word key).0 is
 skipped : {X : Type 0} (b : Bool) (x y : X) → b ≡ false → cond b x y ≡ y
 skipped b x y e = ap (λ c. cond c x y) e
 
+either : {X : Type 0} (b : Bool) (x y z : X) → x ≡ z → y ≡ z → cond b x y ≡ z
+either true x y z p q = p
+either false x y z p q = q
+
 -- the first word isn't one with which no line of a scenario begins
 differs : (names : Names) (key word : List ℕ) (words : List (List ℕ)) (l : Line) → words_line names (key ∷ words) ≡ None
     → words_line names (word ∷ words) ≡ Some l → pointwise nat_eq word key ≡ false
@@ -78,11 +83,15 @@ does_line names line word words l is e other =
     ∙ skipped _ _ _ (differs names (codes "utxo") word words l refl good)
     ∙ skipped _ _ _ (differs names (codes "adopt") word words l refl good)
     ∙ skipped _ _ _ (differs names (codes "back") word words l refl good)
-    ∙ skipped _ _ _ (differs names (codes "forget") word words l refl good)
-    ∙ skipped _ _ _ (differs names (codes "ids") word words l refl good)
-    ∙ skipped _ _ _ (differs names (codes "names") word words l refl good)
-    ∙ skipped _ _ _ (differs names (codes "reset") word words l refl good)
-    ∙ ap (option_map Does) e
+    ∙ skipped _ _ _ (differs names (codes "stage") word words l refl good)
+    ∙ skipped _ _ _ (differs names (codes "unstage") word words l refl good)
+    ∙ either (pointwise nat_eq word (codes "sync")) _ _ (Some (Does l)) (ap (λ o. option_or (option_map Does o) (staged_ask words)) e) (
+      skipped _ _ _ (differs names (codes "forget") word words l refl good)
+      ∙ skipped _ _ _ (differs names (codes "ids") word words l refl good)
+      ∙ skipped _ _ _ (differs names (codes "names") word words l refl good)
+      ∙ skipped _ _ _ (differs names (codes "reset") word words l refl good)
+      ∙ ap (option_map Does) e
+    )
 
 pub blank_line : (names : Names) (line : List ℕ) (l : Line) → words_of line ≡ [] → line_of names line ≡ Some l → ask_of names line ≡ Some (Does l)
 blank_line names line l is e = asked names line (is_clean_line names line l e).0 ∙ ap (words_ask names line) is ∙ ap (option_map Does) e
