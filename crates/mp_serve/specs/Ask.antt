@@ -118,22 +118,22 @@ abbrev pub is_marked : List ℕ → Bool
 is_marked [] = false
 is_marked (byte ∷ bytes) = byte == 35
 
-abbrev pub stage_held : List (List ℕ) → Option Ask
-stage_held words = option_map StagesHeld (put_ids [] words)
+abbrev pub stage_held_ask : List (List ℕ) → Option Ask
+stage_held_ask words = option_map StagesHeld (put_ids [] words)
 
-abbrev pub stage_bytes : List (List ℕ) → Option Ask
-stage_bytes words = option_map Stages (option_and_then bytes_of (one_word words))
+abbrev pub stage_bytes_ask : List (List ℕ) → Option Ask
+stage_bytes_ask words = option_map Stages (option_and_then bytes_of (one_word words))
 
-abbrev pub stage_output : List (List ℕ) → Option Ask
-stage_output words = option_map (λ e. StagesOutput e.0 e.1) (entry_of words)
+abbrev pub stage_output_ask : List (List ℕ) → Option Ask
+stage_output_ask words = option_map (λ e. StagesOutput e.0 e.1) (entry_of words)
 
 -- stage utxo ID#INDEX HEX, stage #ID .., stage HEX
 abbrev pub stage_ask : List (List ℕ) → Option Ask
 stage_ask [] = None
 stage_ask (word ∷ words) =
-    if pointwise nat_eq word (codes "utxo") then stage_output words
-    else if is_marked word then stage_held (word ∷ words)
-    else stage_bytes (word ∷ words)
+    if pointwise nat_eq word (codes "utxo") then stage_output_ask words
+    else if is_marked word then stage_held_ask (word ∷ words)
+    else stage_bytes_ask (word ∷ words)
 
 abbrev pub is_staged_word : List ℕ → Bool
 is_staged_word word = pointwise nat_eq word (codes "staged")

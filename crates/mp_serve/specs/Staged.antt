@@ -29,20 +29,20 @@ abbrev pub nothing_staged : ℕ → Staged
 nothing_staged salt = record { txs = []; outputs = 0; ledger = no_outputs salt }
 
 -- what is staged then, and the line that says how much
-abbrev pub put_txs : Staged → List Transaction → Staged × List ℕ
-put_txs s txs = (record s { txs = s.txs ++ txs }, staged_text (length (s.txs ++ txs)))
+abbrev pub add_txs : Staged → List Transaction → Staged × List ℕ
+add_txs s txs = (record s { txs = s.txs ++ txs }, staged_text (length (s.txs ++ txs)))
 
 -- the same for the transaction that was read, if there is one
-abbrev pub put_read : Staged → Result Transaction TxFault → Staged × List ℕ
-put_read s (Ok t) = put_txs s (t ∷ [])
-put_read s (Err fault) = (s, bytes_text (Err fault))
+abbrev pub add_read : Staged → Result Transaction TxFault → Staged × List ℕ
+add_read s (Ok t) = add_txs s (t ∷ [])
+add_read s (Err fault) = (s, bytes_text (Err fault))
 
 abbrev pub with_ledger : Staged → LedgerState → Staged × List ℕ
 with_ledger s l = (record s { outputs = one_more s.outputs; ledger = l }, staged_text (one_more s.outputs))
 
 -- one more output, unless its reference is staged already
-abbrev pub put_output : Staged → OutRef → Output → Option (Staged × List ℕ)
-put_output s r o = option_map (with_ledger s) (put_in s.ledger r o)
+abbrev pub add_output : Staged → OutRef → Output → Option (Staged × List ℕ)
+add_output s r o = option_map (with_ledger s) (put_in s.ledger r o)
 
 -- the ledger state that has the staged outputs; without block bytes in the line, the setting applies
 abbrev pub staged_ledger : Settings → Staged → ℕ → Option ℕ → LedgerState

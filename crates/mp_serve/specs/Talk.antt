@@ -29,7 +29,7 @@ use Rattle.mp_serve.specs.Refused.{none_counted, one_more}
 use Rattle.mp_serve.specs.ServedPool.{ServedPool}
 use Rattle.mp_serve.specs.TxWord.{TxWord, tx_meant, put_meant}
 use Rattle.mp_serve.specs.declared.used.Used.TheVariants.{Txs, Outputs}
-use Rattle.mp_serve.specs.Staged.{Staged, no_outputs, nothing_staged, put_txs, put_read, put_output, staged_ledger}
+use Rattle.mp_serve.specs.Staged.{Staged, no_outputs, nothing_staged, add_txs, add_read, add_output, staged_ledger}
 use Rattle.mp_serve.specs.Staged as staged
 use Rattle.mp_serve.specs.Request.{Block, Request, Response, Plain, Return, Check, Give, Count, do_command, respond, adopt_block, is_adopted, answer_to, reported_if}
 use Rattle.mp_serve.specs.Texts.{ok_text, bytes_text, show_text, forgotten_text}
@@ -183,13 +183,13 @@ abbrev pub with_staging : Conversation → Staged × List ℕ → Conversation �
 with_staging c r = (with_staged c r.0, r.1)
 
 abbrev pub stage_bytes : Conversation → Result Transaction TxFault → Conversation × List ℕ
-stage_bytes c found = with_staging c (put_read c.staged found)
+stage_bytes c found = with_staging c (add_read c.staged found)
 
 abbrev pub stage_held : Conversation → List TxWord → Step
-stage_held c words = option_map (λ txs. with_staging c (put_txs c.staged txs)) (put_meant c.session.stage [] words)
+stage_held c words = option_map (λ txs. with_staging c (add_txs c.staged txs)) (put_meant c.session.stage [] words)
 
 abbrev pub stage_output : Conversation → OutRef → Output → Step
-stage_output c r o = option_map (with_staging c) (put_output c.staged r o)
+stage_output c r o = option_map (with_staging c) (add_output c.staged r o)
 
 abbrev pub unstage : Conversation → Conversation × List ℕ
 unstage c = (with_staged c (nothing_staged (salt_of c.session.settings)), ok_text)

@@ -8,7 +8,7 @@ ghost use Rattle.mp_lines.specs.Lines.{line_of};
 ghost use Rattle.mp_lines.specs.Inside.LedgerHead.{to_head};
 ghost use Rattle.mp_names.specs.Fault.{Gives, Reads, IsBad};
 ghost use Rattle.mp_names.specs.Names.{is_among};
-ghost use Rattle.mp_serve.specs.Ask.{Does, Shows, Checks, Forgets, bytes_by, bytes_ask, give_ask, submit_by, submit_ask, one_tx, entry_by, entry_of, utxo_ask, put_txs, block_behind, adopt_ask, put_ids, is_marked, stage_held, stage_bytes, stage_output, stage_ask, is_staged_word, staged_behind, staged_ask, sync_ask, staging_ask, back_ask, put_names, forget_ask, names_ask, ledger_ask, clean_ask, words_ask, hex_ask, long_ask, ask_within};
+ghost use Rattle.mp_serve.specs.Ask.{Does, Shows, Checks, Forgets, bytes_by, bytes_ask, give_ask, submit_by, submit_ask, one_tx, entry_by, entry_of, utxo_ask, put_txs, block_behind, adopt_ask, put_ids, is_marked, stage_held_ask, stage_bytes_ask, stage_output_ask, stage_ask, is_staged_word, staged_behind, staged_ask, sync_ask, staging_ask, back_ask, put_names, forget_ask, names_ask, ledger_ask, clean_ask, words_ask, hex_ask, long_ask, ask_within};
 ghost use Rattle.mp_serve.specs.Inside.Ask.{to_ask, to_tx_word};
 
 use crate::block::NewBlock;
@@ -315,23 +315,23 @@ fn put_ids<'a>(txs: &mut Vec<TxWord, Memory>, words: &'a [u8]) -> Result<(), Lin
     Ok(())
 }
 
-fn stage_held<'a>(memory: Memory, words: &'a [u8]) -> Result<Ask, LineFault<'a>>
-    ensures { Gives to_ask (stage_held (words_of words.now)) result }
+fn stage_held_ask<'a>(memory: Memory, words: &'a [u8]) -> Result<Ask, LineFault<'a>>
+    ensures { Gives to_ask (stage_held_ask (words_of words.now)) result }
 {
     let mut txs = Vec::new(memory);
     put_ids(&mut txs, words)?;
     Ok(Ask::StagesHeld(txs))
 }
 
-fn stage_bytes<'a>(memory: Memory, words: &'a [u8]) -> Result<Ask, LineFault<'a>>
-    ensures { Gives to_ask (stage_bytes (words_of words.now)) result }
+fn stage_bytes_ask<'a>(memory: Memory, words: &'a [u8]) -> Result<Ask, LineFault<'a>>
+    ensures { Gives to_ask (stage_bytes_ask (words_of words.now)) result }
 {
     let digits = one_word(STAGE.text, words)?;
     Ok(Ask::Stages(bytes_of(memory, digits)?))
 }
 
-fn stage_output<'a>(memory: Memory, words: &'a [u8]) -> Result<Ask, LineFault<'a>>
-    ensures { Gives to_ask (stage_output (words_of words.now)) result }
+fn stage_output_ask<'a>(memory: Memory, words: &'a [u8]) -> Result<Ask, LineFault<'a>>
+    ensures { Gives to_ask (stage_output_ask (words_of words.now)) result }
 {
     let (reference, output) = entry_of(memory, STAGE.text, words)?;
     Ok(Ask::StagesOutput(reference, output))
@@ -355,11 +355,11 @@ fn stage_ask<'a>(memory: Memory, words: &'a [u8]) -> Result<Ask, LineFault<'a>>
         return Err(LineFault::Bad(Reason::FewWords(STAGE.text)));
     };
     if word == UTXO.word {
-        stage_output(memory, others)
+        stage_output_ask(memory, others)
     } else if is_marked(word) {
-        stage_held(memory, words)
+        stage_held_ask(memory, words)
     } else {
-        stage_bytes(memory, words)
+        stage_bytes_ask(memory, words)
     }
 }
 

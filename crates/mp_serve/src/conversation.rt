@@ -378,7 +378,7 @@ impl Conversation {
         ensures err { OnErr result (self.new ≡ self.old) }
     {
         let txs = txs_meant(memory, &self.session.stage, words)?;
-        Ok(self.staged.put_txs(memory, txs)?)
+        Ok(self.staged.add_txs(memory, txs)?)
     }
 
     // Stages the output.
@@ -393,7 +393,7 @@ impl Conversation {
         ensures bad { lines.IsBad result → stage_output self.old reference output ≡ None }
         ensures err { OnErr result (self.new ≡ self.old) }
     {
-        self.staged.put_output(memory, reference, output)
+        self.staged.add_output(memory, reference, output)
     }
 
     // Forgets all that is staged.

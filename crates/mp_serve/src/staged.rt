@@ -90,7 +90,7 @@ impl Staged {
     ghost use Rattle.std.specs.Arc.{arc_value};
     ghost use Rattle.mp_tx.specs.Reading.{transaction_of};
     ghost use Rattle.mp_names.specs.Fault.{IsBad};
-    ghost use Rattle.mp_serve.specs.Staged.{nothing_staged, put_txs, put_read, put_output, staged_ledger, without};
+    ghost use Rattle.mp_serve.specs.Staged.{nothing_staged, add_txs, add_read, add_output, staged_ledger, without};
 
     /// Nothing is staged.
     pub fn new(memory: Memory, salt: Salt) -> Result<Staged, NoMemory>
@@ -107,9 +107,9 @@ impl Staged {
     ///
     /// # Errors
     /// `NoMemory`. Then nothing has changed.
-    pub fn put_txs(&mut self, memory: Memory, txs: Txs) -> Result<Text, NoMemory>
+    pub fn add_txs(&mut self, memory: Memory, txs: Txs) -> Result<Text, NoMemory>
         ensures ok { IfOk result (λ text.
-            put_txs self.old (map arc_value txs.items) ≡ (self.new, text.items)) }
+            add_txs self.old (map arc_value txs.items) ≡ (self.new, text.items)) }
         ensures err { OnErr result (self.new ≡ self.old) }
     {
         let mut txs = txs;
@@ -130,13 +130,13 @@ impl Staged {
     /// `NoMemory`. Then nothing has changed.
     pub fn read(&mut self, memory: Memory, bytes: &[u8]) -> Result<Text, NoMemory>
         ensures ok { IfOk result (λ text.
-            put_read self.old (transaction_of bytes.now) ≡ (self.new, text.items)) }
+            add_read self.old (transaction_of bytes.now) ≡ (self.new, text.items)) }
         ensures err { OnErr result (self.new ≡ self.old) }
     {
         match Tx::decode(memory, bytes) {
             Ok(tx) => {
                 let txs = alone(memory, tx)?;
-                self.put_txs(memory, txs)
+                self.add_txs(memory, txs)
             }
             Err(TxFault::NoMemory) => Err(NoMemory),
             Err(fault) => undecodable_line(memory, fault),
@@ -147,15 +147,15 @@ impl Staged {
     ///
     /// # Errors
     /// `Bad` if the reference is staged already. After an `Err` nothing has changed.
-    pub fn put_output<'a>(
+    pub fn add_output<'a>(
         &mut self,
         memory: Memory,
         reference: OutRef,
         output: Output,
     ) -> Result<Text, LineFault<'a>>
         ensures ok { IfOk result (λ text.
-            put_output self.old reference output ≡ Some (self.new, text.items)) }
-        ensures bad { IsBad result → put_output self.old reference output ≡ None }
+            add_output self.old reference output ≡ Some (self.new, text.items)) }
+        ensures bad { IsBad result → add_output self.old reference output ≡ None }
         ensures err { OnErr result (self.new ≡ self.old) }
     {
         let count = self.outputs.saturating_add(1);
