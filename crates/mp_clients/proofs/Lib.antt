@@ -1,3 +1,4 @@
+pub mod Words
 pub mod Progress
 pub mod Checks
 pub mod Steps
@@ -11,5 +12,4 @@ pub mod Backs
 pub mod Before
 pub mod Connecting
 pub mod Fresh
-pub mod Seen
 pub mod Seats

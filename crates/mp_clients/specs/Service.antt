@@ -3,6 +3,8 @@ use Rattle.std.specs.Prelude.{◌≡◌, ℕ, List, [], ◌∷◌, Option, None,
 use Rattle.std.specs.Arc.{arc_value}
 use Rattle.mp_rules.specs.Verifier.{Accepts}
 use Rattle.mp_history.specs.Log.{Log, Begins}
+use Rattle.mp_mempool.specs.Answers.{IsForeign}
+use Rattle.mp_mempool.specs.Successor.{IsKnownTo}
 use Rattle.mp_names.specs.Names.{Names}
 use Rattle.mp_session.specs.declared.settings.Settings.{Settings}
 use Rattle.mp_session.specs.Settings.{salt_of}
@@ -28,6 +30,14 @@ pub record IsWith {N : Type 0} (names : Names) (settings : Settings) (seat : Sea
 -- what the conversation has seen is a prefix of this history
 abbrev pub HasSeenOf : {N D : Type 0} → Log → Finished N D → Type 0
 HasSeenOf log f = Begins f.conversation.client.pass.front log
+
+-- the conversation knows all entries of its own in this history
+abbrev pub KnowsAllOf : {N D : Type 0} → Log → Finished N D → Type 0
+KnowsAllOf log f = IsKnownTo log f.conversation.client.pass
+
+-- this history has an entry of the conversation that it doesn't know
+abbrev pub LacksOneOf : {N D : Type 0} → Log → Finished N D → Type 0
+LacksOneOf log f = IsForeign f.conversation.client.pass log
 
 -- The verifier decides which signatures are good.
 module _ {N D : Type 0} (accepts : Accepts) (callers : ℕ) (input output : D → Option (List ℕ)) where

@@ -118,7 +118,7 @@ fn all_named(words: &[TxWord]) -> bool
 }
 
 /// Whether the pool opens for this.
-#[tactic(auto, using(std::proofs::lemmas::List::Folds::list_all-map))]
+#[tactic(auto, using(crate::proofs::Words::all_named))]
 pub fn opens(ask: &Ask) -> bool
     ensures { result ≡ opens (to_ask ask.now) }
 {

@@ -31,7 +31,8 @@ fn answer_ask<N: PoolName, V: Verifier>(
     ask: Ask,
 ) -> Result<Answer, Fault>
     ensures ok { IfOk result (λ answer. IsHeard N.accepts N.callers conversation.old
-        (allowed conversation.old.client.pass.caller (to_ask ask)) (text_of answer) conversation.new) }
+        (allowed conversation.old.client.pass.caller (to_ask ask)) (text_of answer)
+        conversation.new) }
     ensures err { IfErr result (IsBroken N.accepts N.callers conversation.old conversation.new) }
 {
     if let Some(reason) = forbids(conversation.client.caller(), &ask) {

@@ -7,7 +7,7 @@ use crate::former::{Formers, state_back};
 use crate::reading::{for_line, query_line, stats_line};
 use crate::stop::Stop;
 use mp_answers::answer_line;
-use mp_history::{Front, PoolName};
+use mp_history::PoolName;
 use mp_lines::Query;
 use mp_memory::{Memory, NoMemory};
 use mp_mempool::{Mempool, Pass, Reader};
@@ -71,7 +71,7 @@ impl<N: PoolName> Client<N> {
     ghost use Rattle.mp_seqpool.specs.Command.{Sync};
     ghost use Rattle.mp_seqpool.specs.SlowPool.{ticket_of};
     ghost use Rattle.mp_seqpool.specs.Inside.Command.{command_of};
-    ghost use Rattle.mp_history.specs.Log.{IsLegalLog, state_after};
+    ghost use Rattle.mp_history.specs.Log.{state_after};
     ghost use Rattle.mp_session.specs.Request.{Try, Read};
     ghost use Rattle.mp_serve.specs.Request.{Plain, Check, Count, one_adopt_more, one_back_more};
     ghost use Rattle.mp_serve.specs.ServedPool.{state_back};
@@ -110,13 +110,11 @@ impl<N: PoolName> Client<N> {
         self.pass.caller()
     }
 
-    /// The front of what it has seen, which is legal.
-    pub(crate) fn front(&self) -> &Front<N>
-        ensures front { result.now ≡ self.now.pass.front }
-        ensures legal { IsLegalLog N.accepts N.callers self.now.pass.front }
+    /// Its pass.
+    pub(crate) fn pass(&self) -> &Pass<N>
+        ensures { result.now ≡ self.now.pass }
     {
-        let _version = self.pass.shown().version();
-        self.pass.front()
+        &self.pass
     }
 
     /// The signatures that the pool accepts.

@@ -1,14 +1,13 @@
 //! Conversations at once, over one pool.
 
-ghost use Rattle.std.specs.Prelude.{◌≡◌, ◌<◌, ◌++◌, ℕ, List, length, slice_index_or, All, IfOk, OnOk};
+ghost use Rattle.std.specs.Prelude.{◌≡◌, ◌<◌, ◌++◌, ℕ, true, false, List, length, slice_index_or, All, Any, IfOk, OnOk};
 ghost use Rattle.std.specs.Arc.{arc_value};
 ghost use Rattle.mp_history.specs.Log.{Begins, IsLegalLog};
 ghost use Rattle.mp_clients.specs.declared.connected.Connected.{Connected};
 ghost use Rattle.mp_clients.specs.declared.service.Finished.{Finished};
-ghost use Rattle.mp_clients.specs.Service.{IsFinished, HasSeenOf, AreServed};
+ghost use Rattle.mp_clients.specs.Service.{IsFinished, HasSeenOf, KnowsAllOf, LacksOneOf, AreServed};
 ghost use Rattle.mp_clients.specs.Inside.Connecting.{IsReady, IsOperator, IsClientOf, AreClientsOf, AreConnected};
 
-use crate::client::Client;
 use crate::closing::Close;
 use crate::connected::Connected;
 use crate::conversation::Conversation;
@@ -18,7 +17,7 @@ use crate::opening::{Opened, Seat};
 use crate::shared::Shared;
 use mp_history::{Front, PoolName};
 use mp_memory::{Memory, NoMemory};
-use mp_mempool::{Job, run_all};
+use mp_mempool::{HoldsPass, Job, Pass, Settled, run_all};
 use mp_names::Names;
 use mp_rules::Verifier;
 use mp_serve as alone;
@@ -113,44 +112,24 @@ fn converse_all<
     Ok(run_all(rt, &job, all)?)
 }
 
-// The longer of the two fronts. The other is a prefix of it.
-fn longer<N: PoolName>(front: Front<N>, client: &Client<N>) -> Front<N>
-    ensures this { Begins front result }
-    ensures that { Begins client.now.pass.front result }
-    ensures legal { IsLegalLog N.accepts N.callers front → IsLegalLog N.accepts N.callers result }
-{
-    let other = client.front();
-    front.compare(other);
-    if front.len() < other.len() {
-        other.again()
-    } else {
-        front
+impl<N: PoolName, D: Device> HoldsPass<N> for Finished<N, D> {
+    ghost held = { λ finished. finished.conversation.client.pass };
+
+    fn pass(&self) -> &Pass<N> {
+        self.conversation.client.pass()
     }
 }
 
-// The longest front. What each conversation has seen is a prefix of it.
-fn longest<N: PoolName, D: Device>(front: Front<N>, done: &[Finished<N, D>]) -> Front<N>
-    requires { IsLegalLog N.accepts N.callers front }
-    ensures legal { IsLegalLog N.accepts N.callers result }
-    ensures begins { Begins front result }
-    ensures seen { All (HasSeenOf result) done.now }
-{
-    let mut longest = front;
-    for finished in done {
-        longest = longer(longest, &finished.conversation.client);
-    }
-    longest
-}
-
-/// All conversations, and a history of which each has seen a prefix.
+/// All conversations, and the history of the pool. Each conversation has seen a prefix of that.
 #[derive(Drop)]
 pub struct Service<N: PoolName, D: Device> {
     pub finished: Vec<Finished<N, D>, Memory>,
     pub front: Front<N>,
+    /// Whether each conversation knows all its entries in the history.
+    pub is_known: bool,
 }
 
-// Holds all conversations at once, each on a thread of its own if one can be made. One legal history explains them all. What each has
-// seen is a prefix of it, and each line was answered as the pool would at a point of that.
+// Holds all conversations at once, each on a thread of its own if one can be made. The pool's history explains them all.
 fn serve_all<
     N: PoolName + Send + Sync,
     V: Verifier + Send + Sync,
@@ -168,14 +147,22 @@ fn serve_all<
     ensures legal { IfOk result (λ s. IsLegalLog N.accepts N.callers s.front) }
     ensures begins { IfOk result (λ s. Begins front s.front) }
     ensures seen { IfOk result (λ s. All (HasSeenOf s.front) s.finished.items) }
+    ensures known { IfOk result (λ s. s.is_known ≡ true
+        → All (KnowsAllOf s.front) s.finished.items) }
+    ensures foreign { IfOk result (λ s. s.is_known ≡ false
+        → Any (LacksOneOf s.front) s.finished.items) }
     ensures len { IfOk result (λ s. length s.finished.items ≡ length all.items) }
     ensures each { IfOk result (λ s. (i : ℕ) (c : Connected N D) (f : Finished N D)
         → i < length all.items → IsFinished N.accepts N.callers D.input D.output
         (slice_index_or all.items i c) (slice_index_or s.finished.items i f)) }
 {
     let finished = converse_all(rt, shared, memory, all)?;
-    let front = longest(front, &finished);
-    Ok(Service { finished, front })
+    let Settled { front, is_known } = shared.pool.settle(rt, &front, &finished);
+    Ok(Service {
+        finished,
+        front,
+        is_known,
+    })
 }
 
 // The operator's conversation goes on, with the line that opened the pool.
@@ -283,8 +270,9 @@ fn connect_all<N: PoolName, D: Device + Drop>(
 /// Answers the line that opened the pool in the operator's conversation, and all lines of all conversations from then on. Each
 /// conversation is on a thread of its own if one can be made. The clients have the devices `clients`, in order.
 ///
-/// One legal history explains all answers. It extends that with which the pool opened. What each conversation has seen is a prefix
-/// of it, and each line was answered as the pool would at a point of that.
+/// The history of the pool is legal and explains all answers. It extends that with which the pool opened. What each conversation
+/// has seen is a prefix of it, and each line was answered as the pool would at a point of that. If `is_known` holds, no
+/// conversation has an entry there after the last that it knows.
 ///
 /// # Errors
 /// `NoMemory`. Then some conversations may not have gone on.
@@ -307,6 +295,10 @@ pub fn serve<
     ensures legal { IfOk result (λ s. IsLegalLog N.accepts N.callers s.front) }
     ensures begins { IfOk result (λ s. Begins opened.front s.front) }
     ensures seen { IfOk result (λ s. All (HasSeenOf s.front) s.finished.items) }
+    ensures known { IfOk result (λ s. s.is_known ≡ true
+        → All (KnowsAllOf s.front) s.finished.items) }
+    ensures foreign { IfOk result (λ s. s.is_known ≡ false
+        → Any (LacksOneOf s.front) s.finished.items) }
     ensures served { IfOk result (λ s. AreServed N.accepts N.callers D.input D.output
         operator line.items device opened.seats.items clients.items s.finished.items) }
 {

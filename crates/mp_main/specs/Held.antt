@@ -1,5 +1,5 @@
 -- How the program ends that holds conversations with an operator and clients, over one pool.
-use Rattle.std.specs.Prelude.{◌≡◌, ◌≤◌, ◌⊎◌, ℕ, ◌-◌, ◌^◌, List, Option, Result, Ok, Err, All, take}
+use Rattle.std.specs.Prelude.{◌≡◌, ◌≤◌, ◌⊎◌, ℕ, ◌-◌, ◌^◌, Bool, true, List, Option, Result, Ok, Err, All, take}
 use Rattle.mp_rules.specs.Verifier.{Accepts}
 use Rattle.mp_signatures.specs.Scheme.{accepted_by}
 use Rattle.mp_text.specs.Lines.{lines_of}
@@ -12,7 +12,7 @@ use Rattle.mp_clients.specs.declared.opening.Seat.{Seat}
 use Rattle.mp_clients.specs.declared.service.Finished.{Finished}
 use Rattle.mp_clients.specs.Beginning.{HasCome}
 use Rattle.mp_clients.specs.Opening.{HasOpened}
-use Rattle.mp_clients.specs.Service.{AreServed, HasSeenOf}
+use Rattle.mp_clients.specs.Service.{AreServed, HasSeenOf, KnowsAllOf}
 use Rattle.mp_main.specs.Status.{status_of, status_of_all}
 
 -- how the operator's conversation ends before the pool is open: as one alone, but perhaps after more lines
@@ -25,8 +25,9 @@ EndedEarly start bytes old new (Err ManyLines) =
 EndedEarly start bytes old new (Err NoMemory) = (k : ℕ) × WereAnswered start old new (take k (lines_of bytes))
 
 module _ (N : Type 0) {D : Type 0} (accepts : Accepts) (callers : ℕ) (input output : D → Option (List ℕ)) where
-  -- The pool opened for the operator's line, and all conversations ended. One legal history explains their answers.
-  pub record AreHeld (operator : alone.Conversation) (line : List ℕ) (device : D) (clients : List D)
+  -- The pool opened for the operator's line, and all conversations ended. One legal history explains their answers. It has no
+  -- further entry of a conversation, if all are known.
+  pub record AreHeld (operator : alone.Conversation) (line : List ℕ) (device : D) (clients : List D) (is_known : Bool)
       (finished : List (Finished N D)) : Type 0 where
     pub front : Log
     pub seats : List (Seat N)
@@ -35,12 +36,14 @@ module _ (N : Type 0) {D : Type 0} (accepts : Accepts) (callers : ℕ) (input ou
     pub legal : IsLegalLog accepts callers history
     pub begins : Begins front history
     pub seen : All (HasSeenOf history) finished
+    pub known : is_known ≡ true → All (KnowsAllOf history) finished
     pub served : AreServed accepts callers input output operator line device seats clients finished
 
   -- the status is that of all conversations, or 1 if an allocation failed before all of them went on
   abbrev pub EndsHeld : alone.Conversation → List ℕ → D → List D → ℕ → Type 0
   EndsHeld operator line device clients status =
-      ((finished : List (Finished N D)) × AreHeld operator line device clients finished × (status ≡ status_of_all finished))
+      ((is_known : Bool) × (finished : List (Finished N D)) × AreHeld operator line device clients is_known finished
+      × (status ≡ status_of_all is_known finished))
       ⊎ (status ≡ 1)
 
 -- the operator's conversation ended before the pool was open, or the pool opened after some lines

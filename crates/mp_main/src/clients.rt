@@ -66,7 +66,7 @@ fn open_and_serve<N: PoolName + Send + Sync, D: Device + Send + Drop, R: Threads
                 clients,
             } = waiting;
             match serve(threads, memory, opened, operator, line, device, clients) {
-                Ok(service) => Ok(end_conversations(rt, &service.finished)),
+                Ok(service) => Ok(end_conversations(rt, &service)),
                 Err(NoMemory) => Ok(end_fault(rt, Fault::NoMemory)),
             }
         }

@@ -11,7 +11,7 @@ ghost use Rattle.mp_main.specs.Legal.{IsSaid};
 
 use clap::Error;
 use clap::error::ErrorKind;
-use mp_clients::Finished;
+use mp_clients::{Finished, Service};
 use mp_history::{AuditFault, PoolName};
 use mp_names::Reason;
 use mp_race::Fault;
@@ -176,20 +176,21 @@ fn all_ended<N: PoolName, D: Device>(finished: &[Finished<N, D>]) -> bool
 /// After all conversations of an operator and clients: 0, or 1 and the first fault's line, which names the client.
 pub fn end_conversations<N: PoolName, D: Device>(
     rt: &HostRuntime,
-    finished: &[Finished<N, D>],
+    service: &Service<N, D>,
 ) -> ExitCode
-    ensures { exit_status result ≡ status_of_all finished.now }
+    ensures { exit_status result
+        ≡ status_of_all service.now.is_known service.now.finished.items }
 {
-    if all_ended(finished) {
+    if service.is_known && all_ended(&service.finished) {
         return ExitCode::SUCCESS;
     }
-    for (number, one) in finished.iter().enumerate() {
+    for (number, one) in service.finished.iter().enumerate() {
         match one.ended {
             Ok(()) => {}
             Err(fault) => return end_fault_of(rt, number, fault),
         }
     }
-    ExitCode::FAILURE
+    end_fault(rt, mp_clients::Fault::Foreign)
 }
 
 // After a fault of the operator's conversation, or of the client's with this number.

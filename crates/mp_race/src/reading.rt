@@ -27,14 +27,16 @@ struct Front<'a> {
 
 // The number that the first word denotes, and what follows it.
 fn first_number(words: &[u8]) -> Option<(u64, &[u8])>
-    ensures { option_map (λ f. (f.0, words_of f.1.now)) result ≡ told.number_in (words_of words.now) }
+    ensures { option_map (λ f. (f.0, words_of f.1.now)) result
+        ≡ told.number_in (words_of words.now) }
 {
     let (word, rest) = first_word(words)?;
     Some((number(word)?, rest))
 }
 
 fn small_number(words: &[u8]) -> Option<(u32, &[u8])>
-    ensures { option_map (λ f. (f.0, words_of f.1.now)) result ≡ told.small_in (words_of words.now) }
+    ensures { option_map (λ f. (f.0, words_of f.1.now)) result
+        ≡ told.small_in (words_of words.now) }
 {
     let (number, rest) = first_number(words)?;
     Some((u32::try_from(number).ok()?, rest))

@@ -59,7 +59,14 @@ fn only<D: Device + Drop>(alloc: Global, fault: u64, device: D) -> Held<D> {
 }
 
 fn all_ended<N: PoolName, D: Device + Drop>(alloc: Global, service: Service<N, D>) -> Held<D> {
-    let Service { finished, front: _ } = service;
+    let Service {
+        finished,
+        front: _,
+        is_known,
+    } = service;
+    if !is_known {
+        return None;
+    }
     let mut all = Vec::new(alloc);
     for one in finished {
         let Finished {

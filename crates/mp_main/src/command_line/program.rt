@@ -150,7 +150,8 @@ fn serve_command<'a>(alloc: Global, names: &'a [&'a str]) -> Result<Command<'a>,
 
 /// That more clients are named than a conversation may have.
 pub(crate) fn too_many_clients(alloc: Global) -> Error
-    ensures { (kind_of result ≡ ErrorKind.TooManyValues) ⊎ (kind_of result ≡ ErrorKind.OutOfMemory) }
+    ensures { (kind_of result ≡ ErrorKind.TooManyValues)
+        ⊎ (kind_of result ≡ ErrorKind.OutOfMemory) }
 {
     match refuse_clients(alloc) {
         Ok(error) => error,

@@ -227,6 +227,14 @@ impl<N: PoolName> Locked<N> {
         self.places[caller.number() as usize]
     }
 
+    /// What the front has is a prefix of the history under the lock.
+    pub fn covers(&mut self, front: &Front<N>)
+        ensures same { self.new ≡ self.old }
+        ensures begins { Begins front.now self.new.log }
+    {
+        self.right.covers(front);
+    }
+
     /// Whether the pass knows the last of its caller's entries. What the pass has seen is a prefix of the history under the lock.
     pub fn is_known_to(&mut self, pass: &Pass<N>) -> bool
         ensures same { self.new ≡ self.old }

@@ -11,7 +11,8 @@ use mp_tx::{Key, Sig, TxId};
 pub struct KeyThenId;
 
 impl Verifier for KeyThenId {
-    ghost accepts = { λ _ key id sig. pointwise nat_eq (take 32 sig) key && pointwise nat_eq (drop 32 sig) id };
+    ghost accepts = { λ _ key id sig. pointwise nat_eq (take 32 sig) key
+        && pointwise nat_eq (drop 32 sig) id };
 
     fn verify(&self, key: &Key, id: &TxId, sig: &Sig) -> bool {
         let (front, back) = sig.split_at(32);

@@ -1,11 +1,11 @@
-use Rattle.std.proofs.Common.{◌∙◌, ap, inl}
-use Rattle.mp_main.specs.Status.{status_of_all}
+use Rattle.std.proofs.Common.{inl}
 use Rattle.mp_main.proofs.clients.open_and_serve.Goals as goal
 
 pub returns-in-Ok-serve-clause-ok : goal.returns-in-Ok-serve-clause-ok
 returns-in-Ok-serve-clause-ok g c =
     let service = c.in-Ok-serve.service in
     inl (
+      service.is_known,
       service.finished.items,
       record {
         front = c.in-Ok.opened.front;
@@ -15,7 +15,8 @@ returns-in-Ok-serve-clause-ok g c =
         legal = c.in-Ok-serve.ensures.legal;
         begins = c.in-Ok-serve.ensures.begins;
         seen = c.in-Ok-serve.ensures.seen;
+        known = c.in-Ok-serve.ensures.known;
         served = c.in-Ok-serve.ensures.served;
       },
-      c.end_conversations.ensures ∙ ap status_of_all c.deref.ensures.value,
+      c.end_conversations.ensures,
     )
