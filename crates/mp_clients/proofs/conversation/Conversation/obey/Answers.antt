@@ -7,6 +7,7 @@ use Rattle.mp_lines.specs.declared.line.Line as code
 use Rattle.mp_lines.specs.Inside.Line.{to_line}
 use Rattle.mp_session.specs.Ledgers.{ledger_at}
 use Rattle.mp_serve.specs.Ask.{Does}
+use Rattle.mp_serve.specs.declared.used.Used.TheVariants.{Nothing}
 use Rattle.mp_clients.specs.Answers.{IsTaken, IsDone, IsSynced, moved}
 use Rattle.mp_clients.specs.Inside.Steps.{IsStopped}
 use Rattle.mp_clients.proofs.conversation.Conversation.obey.Goals as goal
@@ -32,5 +33,5 @@ returns-in-Ok-ledger_at-clause-err g c =
     let callers = g.N.PoolName.callers in
     let s = c.args.self.now in
     let same : c.in-Ok-ledger_at.ledger ≡ ledger_at (arc_value s.settings) c.in-Sync.ledger = search rules in
-    let made = subst (λ (l : LedgerState). IfErr c.go_on.result (IsStopped accepts callers (IsSynced accepts callers s l) s c.go_on.new.self)) same c.go_on.ensures.err in
+    let made = subst (λ (l : LedgerState). IfErr c.go_on.result (IsStopped accepts callers (IsSynced accepts callers s l Nothing) s c.go_on.new.self)) same c.go_on.ensures.err in
     subst (λ (l : code.Line). IfErr c.go_on.result (IsStopped accepts callers (IsTaken accepts callers s (Does (to_line l))) s c.go_on.new.self)) (sym c.in-Sync.is) made
