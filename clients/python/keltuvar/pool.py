@@ -44,6 +44,8 @@ LAST_WORDS = 1.0
 # How many characters of a line an error shows.
 _MOST_TOLD = 60
 _MOST_BLOCK, _MOST_LIMIT = 2**39, 2**32
+# So many ids fit on a line.
+_MOST_IDS = 490
 
 
 class Pool:
@@ -306,7 +308,10 @@ class Pool:
         return self._ask(["names"], answers.read_ok, timeout)
 
     def reset(self, *, timeout: float | None = None) -> None:
-        """Forgets all names, ends `ids`, and counts lines from 1. The pool holds what it held."""
+        """Forgets all names and what is staged, ends `ids`, and counts lines from 1.
+
+        The pool holds what it held.
+        """
         return self._ask(["reset"], answers.read_ok, timeout)
 
     # Changes.
@@ -355,8 +360,61 @@ class Pool:
         """Adopts the ledger state after a block of these transactions, in this order.
 
         block: as of `sync`. Where a transaction isn't valid the refusal's word is `adopt`.
+
+        Without a transaction it is `adopt_staged`.
         """
         line = ["adopt", *_format_moment(tick, block), *words.format_transactions(transactions)]
+        return self._ask(line, answers.read_ledger_change, timeout)
+
+    def stage(self, data: bytes, *, timeout: float | None = None) -> int:
+        """Stages a transaction by its bytes for the next block. Returns how many are staged."""
+        return self._ask(["stage", words.format_bytes(data)], answers.read_staged, timeout)
+
+    def stage_ids(self, ids: Iterable[str], *, timeout: float | None = None) -> int:
+        """Stages transactions that the pool holds, by their ids. Returns how many are staged.
+
+        Many ids are several lines. If the pool lacks one, none of its line is staged, those of
+        the others are, and the first error is raised.
+        """
+        chosen = words.format_some(words.format_ids(ids))
+        starts = range(0, len(chosen), _MOST_IDS)
+        lines = [" ".join(["stage", *chosen[start : start + _MOST_IDS]]) for start in starts]
+        counts = self._raise_first(self._exchange(lines, _each(answers.read_staged), timeout))
+        return counts[-1]
+
+    def stage_output(
+        self, transaction_id: str, index: int, data: bytes, *, timeout: float | None = None
+    ) -> int:
+        """Stages an output of the next ledger state, given its bytes in a transaction.
+
+        Returns how many outputs are staged.
+        """
+        reference = words.format_output_id(transaction_id, index)
+        line = ["stage", "utxo", reference, words.format_bytes(data)]
+        return self._ask(line, answers.read_staged, timeout)
+
+    def unstage(self, *, timeout: float | None = None) -> None:
+        """Forgets all that is staged."""
+        return self._ask(["unstage"], answers.read_ok, timeout)
+
+    def adopt_staged(
+        self, tick: int, *, block: int | None = None, timeout: float | None = None
+    ) -> LedgerChange:
+        """Adopts the ledger state after the block of the staged transactions, perhaps of none.
+
+        block: as of `sync`. After a refusal they are still staged.
+        """
+        line = ["adopt", *_format_moment(tick, block)]
+        return self._ask(line, answers.read_ledger_change, timeout)
+
+    def sync_staged(
+        self, tick: int, *, block: int | None = None, timeout: float | None = None
+    ) -> LedgerChange:
+        """Adopts the ledger state at the tick with exactly the staged outputs.
+
+        block: as of `sync`. There may be no output called `staged`.
+        """
+        line = ["sync", *_format_moment(tick, block), "staged"]
         return self._ask(line, answers.read_ledger_change, timeout)
 
     def back(self, count: int, *, timeout: float | None = None) -> LedgerChange:

@@ -183,7 +183,8 @@ class Program(unittest.TestCase):
         assert PROGRAM
         with Clients(PROGRAM, 1, timeout=LONG) as pools:
             pools.operator.snapshot()
-            for line in ("remove a", "sync 1", "adopt 1", "back 0", "block 9", "out g 5"):
+            lines = ("remove a", "sync 1", "adopt 1", "stage 00", "unstage", "back 0", "block 9")
+            for line in (*lines, "out g 5"):
                 with self.assertRaises(BadLine):
                     pools.clients[0].ask(line)
             pools.clients[0].reset()
