@@ -27,9 +27,9 @@ STRANGE_COMMENTS = [b"#\t", b"# \x1f", b"#~", b"#\x7f", b"#\x80", b"\r", b"\x00"
 class RandomTalk:
     """A conversation: its lines, and the model's answers."""
 
-    def __init__(self, rng: Random, checked: bool) -> None:
+    def __init__(self, rng: Random, checked: bool, most_names: int = Talk.MOST_NAMES) -> None:
         self.rng = rng
-        self.talk = Talk(rules.is_anything if checked else rules.is_key_then_id)
+        self.talk = Talk(rules.is_anything if checked else rules.is_key_then_id, most_names)
         self.lines: list[bytes] = []
         self.answers: list[str] = []
         self.known = Known()

@@ -145,10 +145,15 @@ class Talk:
 
     POOL = Pool
 
-    def __init__(self, verifier: Verifier) -> None:
+    DECLARING = ("script", "data", "out", "tx", "bytes")  # The first words of lines that declare a name.
+
+    MOST_NAMES = 65_536
+
+    def __init__(self, verifier: Verifier, most_names: int = MOST_NAMES) -> None:
         self.verifier = verifier
         self.names = Names()
         self.tells_ids = False
+        self.most_names = most_names
         self.settings: dict[str, int] = {}
         self.opening: dict[Ref, Output] = {}
         self.outs = 0
@@ -187,6 +192,8 @@ class Talk:
             raise Bad
         take, least, most = self.LINES[first]
         if len(words) < least or (most is not None and len(words) > most):
+            raise Bad
+        if first in self.DECLARING and self.names.count() >= self.most_names:
             raise Bad
         return take(self, *words)
 

@@ -44,6 +44,7 @@ LAST_WORDS = 1.0
 # How many characters of a line an error shows.
 _MOST_TOLD = 60
 _MOST_BLOCK, _MOST_LIMIT = 2**39, 2**32
+_MOST_NAMES = 2**32
 # So many ids fit on a line.
 _MOST_IDS = 490
 
@@ -70,6 +71,7 @@ class Pool:
         *,
         signatures: Signatures = "trial",
         salt: int | None = None,
+        names: int | None = None,
         timeout: float | None = None,
     ) -> None:
         """Starts `PROGRAM serve`. Raises an OSError if that can't be run.
@@ -78,10 +80,11 @@ class Pool:
             and then the id. "checked" accepts every signature, as verified by the caller.
             "ed25519" accepts Ed25519 signatures of the id.
         salt: a number for the program's `--salt`; without one the program chooses.
+        names: how many names may be declared, 1 to 2^32, default 65,536.
         timeout: the limit of each call that has none of its own; None is no limit.
         """
         limit = read_limit(timeout)
-        process = Process(make_command(program, signatures, salt))
+        process = Process(make_command(program, signatures, salt, names))
         self._set_up(process.channel, process, limit)
 
     @classmethod
@@ -570,7 +573,9 @@ class Pool:
         return Broken(self._fault or "", self.status, error_text)
 
 
-def make_command(program: Program, signatures: Signatures, salt: int | None) -> list[str]:
+def make_command(
+    program: Program, signatures: Signatures, salt: int | None, names: int | None
+) -> list[str]:
     """Returns the command line that begins a conversation."""
     if signatures not in ("trial", "checked", "ed25519", "scenarios"):
         raise ValueError(f"{signatures!r:.80} is none of 'trial', 'checked' and 'ed25519'")
@@ -579,6 +584,8 @@ def make_command(program: Program, signatures: Signatures, salt: int | None) -> 
         command += ["--signatures", signatures]
     if salt is not None:
         command += ["--salt", words.format_number(salt)]
+    if names is not None:
+        command += ["--names", words.format_number(names, _MOST_NAMES)]
     return command
 
 

@@ -165,16 +165,16 @@ module _ (c : Conversation) (before : IsBefore c.session.stage) where
 -- ---- answers
 
 module _ (c : Conversation) (line text : List ℕ) (u : Conversation) where
-  step_of : (o : Option Ask) → ask_of c.session.names line ≡ o → line_step c line ≡ option_and_then (taken c) o
+  step_of : (o : Option Ask) → ask_of c.session.names c.most_names line ≡ o → line_step c line ≡ option_and_then (taken c) o
   unfolding line_step
   step_of o e = ap (option_and_then (taken c)) e
 
   -- the line asks this
-  pub asked_line : (ask : Ask) → ask_of c.session.names line ≡ Some ask → IsStepTold c.line c (taken c ask) text u → IsAnswer c.line c line text u
+  pub asked_line : (ask : Ask) → ask_of c.session.names c.most_names line ≡ Some ask → IsStepTold c.line c (taken c ask) text u → IsAnswer c.line c line text u
   asked_line ask e is = subst (λ (s : Step). IsStepTold c.line c s text u) (sym (step_of (Some ask) e)) is
 
 -- the line isn't in the language
-pub bad_line : (c : Conversation) (line text : List ℕ) → ask_of c.session.names line ≡ None → IsBadLine c.line text ⊎ (text ≡ no_memory_text) → IsAnswer c.line c line text c
+pub bad_line : (c : Conversation) (line text : List ℕ) → ask_of c.session.names c.most_names line ≡ None → IsBadLine c.line text ⊎ (text ≡ no_memory_text) → IsAnswer c.line c line text c
 bad_line c line text e (inl bad) = inl (subst (λ (s : Step). IsTold c.line c s text c) (sym (step_of c line text c None e)) (bad, refl))
 bad_line c line text e (inr none) = inr (none, refl)
 
@@ -190,7 +190,7 @@ module _ (g : Conversation) (old now : Option (List ℕ)) (s : Conversation) (n 
       (p.text, subst (λ l. AreAnswers g l p.text s) (sym done) p.told, p.wrote)
 
   module _ (left after : Option (List ℕ)) (kept : List ℕ) (dropped : DropsThrough left after 10)
-      (line : IfSome left (λ bytes. IsLine longest bytes Whole kept)) (opens_it : Opens s.session.names kept) where
+      (line : IfSome left (λ bytes. IsLine longest bytes Whole kept)) (opens_it : Opens s.session.names s.most_names kept) where
     come : (bytes rest : List ℕ) (p : Progress g old now (lines_of bytes) (lines_of rest) s n) → IsLine longest rest Whole kept → after ≡ Some (drop_through 10 rest) → HasCome g bytes old now kept s after
     come bytes [] p is to = absurd (is.0 refl)
     come bytes (x ∷ xs) p is to = record {

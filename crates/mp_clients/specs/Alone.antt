@@ -19,5 +19,6 @@ alone_at accepts c log = record {
   signatures = c.client.signatures;
   session = record { names = c.names; settings = arc_value c.settings; stage = Open (served_at accepts c.client log) };
   staged = c.staged;
+  most_names = c.most_names;
   line = c.line;
 }

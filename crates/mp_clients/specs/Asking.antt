@@ -36,7 +36,7 @@ allowed caller ask = if may_ask caller ask then Some ask else None
 
 -- what the line asks for, if it is in the language and the conversation may ask it
 abbrev pub asked_by : {N : Type 0} → Conversation N → List ℕ → Option Ask
-asked_by c line = option_and_then (allowed c.client.pass.caller) (ask_of c.names line)
+asked_by c line = option_and_then (allowed c.client.pass.caller) (ask_of c.names c.most_names line)
 
 -- whether a line of a scenario asks something of the pool
 abbrev pub does_open : Line → Bool

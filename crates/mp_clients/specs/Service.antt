@@ -25,6 +25,7 @@ pub record IsWith {N : Type 0} (names : Names) (settings : Settings) (seat : Sea
   pub settings_are : arc_value c.settings ≡ settings
   pub client : c.client ≡ seat.client
   pub staged_is : c.staged ≡ staged
+  pub most_is : c.most_names ≡ seat.most_names
   pub line_is : c.line ≡ line
 
 -- what the conversation has seen is a prefix of this history

@@ -46,6 +46,8 @@ pub struct Conversation<N: PoolName> {
     pub client: Client<N>,
     /// What is staged for the next ledger state.
     pub staged: Staged,
+    /// How many names may be declared.
+    pub most_names: u64,
     /// The number of the next line, from 1, or from the last reset.
     pub line: u64,
 }

@@ -179,12 +179,17 @@ fn connect_operator<N: PoolName, D: Device>(
 ) -> Connected<N, D>
     ensures { IsOperator names (arc_value settings) seat staged number line.items device result }
 {
-    let Seat { names: _, client } = seat;
+    let Seat {
+        names: _,
+        most_names,
+        client,
+    } = seat;
     let conversation = Conversation {
         names,
         settings,
         client,
         staged,
+        most_names,
         line: number,
     };
     Connected {
@@ -204,12 +209,17 @@ fn connect_client<N: PoolName, D: Device>(
     requires { staged ≡ nothing_staged (salt_of (arc_value settings)) }
     ensures { IsClientOf (arc_value settings) seat device result }
 {
-    let Seat { names, client } = seat;
+    let Seat {
+        names,
+        most_names,
+        client,
+    } = seat;
     let conversation = Conversation {
         names,
         settings,
         client,
         staged,
+        most_names,
         line: 1,
     };
     Connected {

@@ -195,7 +195,7 @@ pub fn hold<D: Device + Close + Send + Drop, R: Threads + Wait + Sync>(
 {
     let callers = clients.len() as u32 + 1;
     let signatures = Signatures::new(memory, Scheme::Trial).ok()?;
-    let start = Conversation::new(memory, signatures, Salt::new(7)).ok()?;
+    let start = Conversation::new(memory, signatures, Salt::new(7), MOST_NAMES).ok()?;
     memory.refuse(refused);
     hold_from(rt, memory, alloc, start, device, clients, callers)
 }

@@ -35,7 +35,7 @@ fn hold(
     };
     let mut device = streams;
     memory.refuse(refused);
-    let ended = serve(memory, signatures, Salt::new(7), &mut device);
+    let ended = serve(memory, signatures, Salt::new(7), MOST_NAMES, &mut device);
     (number_of(ended), written(device))
 }
 

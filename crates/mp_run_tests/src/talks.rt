@@ -246,9 +246,9 @@ const FEWEST: u64 = 20;
 
 fn begin(memory: Memory) -> Result<Conversation, NoMemory> {
     let signatures = Signatures::new(memory, Scheme::Trial)?;
-    match Conversation::new(memory, signatures.share()?, Salt::new(7)) {
+    match Conversation::new(memory, signatures.share()?, Salt::new(7), MOST_NAMES) {
         Ok(conversation) => Ok(conversation),
-        Err(_) => Conversation::new(memory, signatures, Salt::new(7)),
+        Err(_) => Conversation::new(memory, signatures, Salt::new(7), MOST_NAMES),
     }
 }
 

@@ -1,5 +1,5 @@
 -- What a line of a conversation asks for, given what was declared before it.
-use Rattle.std.specs.Prelude.{ℕ, ◌+◌, ◌-◌, ◌*◌, ◌==◌, Bool, true, false, nat_eq, nat_lt, List, [], ◌∷◌, ◌++◌, length, codes, Option, None, Some, option_map, option_and_then, if◌then◌else◌}
+use Rattle.std.specs.Prelude.{ℕ, ◌+◌, ◌-◌, ◌*◌, ◌==◌, ◌&&◌, Bool, true, false, nat_eq, nat_lt, List, [], ◌∷◌, ◌++◌, length, codes, Option, None, Some, option_map, option_and_then, if◌then◌else◌}
 use Rattle.std.specs.Option.{option_or}
 use Rattle.std.specs.Cmp.Lexicographic.{pointwise}
 use Rattle.mp_text.specs.Lines.{is_clean}
@@ -8,11 +8,11 @@ use Rattle.mp_text.specs.Words.{words_of}
 use Rattle.mp_tx.specs.declared.reference.OutRef.{OutRef}
 use Rattle.mp_tx.specs.declared.output.Output.{Output}
 use Rattle.mp_tx.specs.Transaction.{Transaction}
-use Rattle.mp_names.specs.Names.{Names, tx_named, is_new_binding, is_among}
+use Rattle.mp_names.specs.Names.{Names, tx_named, is_new_binding, is_among, has_many}
 use Rattle.mp_names.specs.Ids.{id_in}
 use Rattle.mp_lines.specs.Words.{no_word, one_word, two_words}
 use Rattle.mp_lines.specs.Ledgers.{LedgerHead, head_of}
-use Rattle.mp_lines.specs.Lines.{Line, bytes_of, line_of}
+use Rattle.mp_lines.specs.Lines.{Line, Script, Data, Out, Tx, bytes_of, line_of}
 use Rattle.mp_serve.specs.Output.{output_in, ref_in}
 use Rattle.mp_serve.specs.TxWord.{TxWord, Pooled, tx_word_of}
 
@@ -220,11 +220,28 @@ long_ask names (word ∷ words) = hex_ask names word words
 abbrev pub ask_within : Names → List ℕ → Option Ask
 ask_within names line = if is_clean line then words_ask names line (words_of line) else long_ask names (words_of line)
 
+-- whether a line of scenarios declares a name
+abbrev pub does_declare : Line → Bool
+does_declare (Script named) = true
+does_declare (Data named) = true
+does_declare (Out name payment) = true
+does_declare (Tx name t) = true
+does_declare line = false
+
+abbrev pub declares : Ask → Bool
+declares (Does line) = does_declare line
+declares (Reads name bytes) = true
+declares ask = false
+
+-- once there are so many names, no other is declared
+abbrev pub within : Names → ℕ → Ask → Option Ask
+within names most ask = if declares ask && has_many names most then None else Some ask
+
 -- The longest line is `stage utxo ID#INDEX HEX`, for the largest output that a transaction of 16,384 bytes can have, with 27 bytes
 -- around it. An index has at most 20 digits.
 abbrev pub longest : ℕ
 longest = 11 + 64 + 1 + 20 + 1 + 2 * (16384 - 27)
 
--- what the line asks for, if it is in the language, in which no line is longer
-unfoldable pub ask_of : Names → List ℕ → Option Ask
-ask_of names line = if nat_lt longest (length line) then None else ask_within names line
+-- what the line asks for, if it is in the language, in which no line is longer, and if there may be the names that it declares
+unfoldable pub ask_of : Names → ℕ → List ℕ → Option Ask
+ask_of names most line = if nat_lt longest (length line) then None else option_and_then (within names most) (ask_within names line)

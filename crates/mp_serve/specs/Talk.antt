@@ -35,8 +35,14 @@ use Rattle.mp_serve.specs.Request.{Block, Request, Response, Plain, Return, Chec
 use Rattle.mp_serve.specs.Texts.{ok_text, bytes_text, show_text, forgotten_text}
 
 -- before the first line
-abbrev pub new_conversation : Scheme → ℕ → Conversation
-new_conversation signatures salt = record { signatures = signatures; session = new_session salt; staged = nothing_staged salt; line = 1 }
+abbrev pub new_conversation : Scheme → ℕ → ℕ → Conversation
+new_conversation signatures salt most_names = record {
+  signatures = signatures;
+  session = new_session salt;
+  staged = nothing_staged salt;
+  most_names = most_names;
+  line = 1;
+}
 
 -- after one more line, whose number is at most 2^64 - 1
 abbrev pub counted : Conversation → Conversation
@@ -238,4 +244,4 @@ take c Resets = reset_at c c.session.stage
 
 -- the state and the answer after a line, unless it is bad
 unfoldable pub line_step : Conversation → List ℕ → Step
-line_step c line = option_and_then (take c) (ask_of c.session.names line)
+line_step c line = option_and_then (take c) (ask_of c.session.names c.most_names line)

@@ -8,7 +8,8 @@ ghost use Rattle.mp_lines.specs.Lines.{line_of};
 ghost use Rattle.mp_lines.specs.Inside.LedgerHead.{to_head};
 ghost use Rattle.mp_names.specs.Fault.{Gives, Reads, IsBad};
 ghost use Rattle.mp_names.specs.Names.{is_among};
-ghost use Rattle.mp_serve.specs.Ask.{Does, Shows, Checks, Forgets, bytes_by, bytes_ask, give_ask, submit_by, submit_ask, one_tx, entry_by, entry_of, utxo_ask, put_txs, block_behind, adopt_ask, put_ids, is_marked, stage_held_ask, stage_bytes_ask, stage_output_ask, stage_ask, is_staged_word, staged_behind, staged_ask, sync_ask, staging_ask, back_ask, put_names, forget_ask, names_ask, ledger_ask, clean_ask, words_ask, hex_ask, long_ask, ask_within};
+ghost use Rattle.mp_serve.specs.Ask.{Does, Shows, Checks, Forgets, bytes_by, bytes_ask, give_ask, submit_by, submit_ask, one_tx, entry_by, entry_of, utxo_ask, put_txs, block_behind, adopt_ask, put_ids, is_marked, stage_held_ask, stage_bytes_ask, stage_output_ask, stage_ask, is_staged_word, staged_behind, staged_ask, sync_ask, staging_ask, back_ask, put_names, forget_ask, names_ask, ledger_ask, clean_ask, words_ask, hex_ask, long_ask, does_declare, declares, within, ask_within};
+ghost use Rattle.mp_lines.specs.Inside.Line.{to_line};
 ghost use Rattle.mp_serve.specs.Inside.Ask.{to_ask, to_tx_word};
 
 use crate::block::NewBlock;
@@ -622,22 +623,62 @@ fn ask_within<'a>(memory: Memory, names: &Names, line: &'a [u8]) -> Result<Ask, 
     }
 }
 
+// Whether a line of scenarios declares a name.
+fn does_declare(line: &Line) -> bool
+    ensures { result ≡ does_declare (to_line line.now) }
+{
+    match line {
+        Line::Script(_) => true,
+        Line::Data(_) => true,
+        Line::Out(_, _) => true,
+        Line::Tx(_, _) => true,
+        _ => false,
+    }
+}
+
+fn declares(ask: &Ask) -> bool
+    ensures { result ≡ declares (to_ask ask.now) }
+{
+    match ask {
+        Ask::Does(line) => does_declare(line),
+        Ask::Reads(_, _) => true,
+        _ => false,
+    }
+}
+
+// Once there are so many names, no other is declared.
+fn within<'a>(names: &Names, most_names: u64, ask: Ask) -> Result<Ask, LineFault<'a>>
+    ensures { Gives to_ask (within names.now most_names (to_ask ask)) result }
+{
+    if declares(&ask) && names.has_many(most_names) {
+        Err(LineFault::Bad(Reason::ManyNames(most_names)))
+    } else {
+        Ok(ask)
+    }
+}
+
 impl Ask {
     ghost use Rattle.mp_names.specs.Fault.{Gives};
     ghost use Rattle.mp_serve.specs.Ask.{ask_of};
     ghost use Rattle.mp_serve.specs.Inside.Ask.{to_ask};
 
-    /// What the line, without its line feed, asks for, given the declared names.
+    /// What the line, without its line feed, asks for, given the declared names. At most `most_names` may be declared.
     ///
     /// # Errors
-    /// `Bad` if the line isn't in the language. `NoMemory` may replace any other answer.
+    /// `Bad` if the line isn't in the language, or if it declares a name too many. `NoMemory` may replace any other answer.
     #[tactic(auto, unfolding(crate::specs::Ask::ask_of))]
-    pub fn parse<'a>(memory: Memory, names: &Names, line: &'a [u8]) -> Result<Ask, LineFault<'a>>
-        ensures { Gives to_ask (ask_of names.now line.now) result }
+    pub fn parse<'a>(
+        memory: Memory,
+        names: &Names,
+        most_names: u64,
+        line: &'a [u8],
+    ) -> Result<Ask, LineFault<'a>>
+        ensures { Gives to_ask (ask_of names.now most_names line.now) result }
     {
         if line.len() > MAX_LINE_BYTES {
             return Err(LineFault::Bad(Reason::LongLine));
         }
-        ask_within(memory, names, line)
+        let ask = ask_within(memory, names, line)?;
+        within(names, most_names, ask)
     }
 }

@@ -35,6 +35,8 @@ pub struct Conversation {
     pub session: Session<ServedPool>,
     /// What is staged for the next ledger state.
     pub staged: Staged,
+    /// How many names may be declared.
+    pub most_names: u64,
     /// The number of the next line, from 1, or from the last reset.
     pub line: u64,
 }
@@ -112,9 +114,14 @@ impl Conversation {
     ghost use Rattle.mp_serve.specs.Inside.Request.{to_request};
     ghost use Rattle.mp_serve.specs.Inside.Answer.{text_of};
 
-    /// A conversation before its first line.
-    pub fn new(memory: Memory, signatures: Signatures, salt: Salt) -> Result<Conversation, NoMemory>
-        ensures { IfOk result (λ c. c ≡ new_conversation signatures salt) }
+    /// A conversation before its first line. At most `most_names` may be declared.
+    pub fn new(
+        memory: Memory,
+        signatures: Signatures,
+        salt: Salt,
+        most_names: u64,
+    ) -> Result<Conversation, NoMemory>
+        ensures { IfOk result (λ c. c ≡ new_conversation signatures salt most_names) }
     {
         let session = Session::new(memory, salt)?;
         let staged = Staged::new(memory, salt)?;
@@ -122,6 +129,7 @@ impl Conversation {
             signatures,
             session,
             staged,
+            most_names,
             line: 1,
         })
     }
@@ -524,7 +532,7 @@ impl Conversation {
         ensures bad { lines.IsBad result → line_step self.old line.now ≡ None }
         ensures err { OnErr result (self.new ≡ self.old) }
     {
-        let ask = Ask::parse(memory, &self.session.names, line)?;
+        let ask = Ask::parse(memory, &self.session.names, self.most_names, line)?;
         self.take(memory, ask)
     }
 }
