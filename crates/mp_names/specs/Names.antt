@@ -74,7 +74,7 @@ with_script names named = record names { scripts = names.scripts ++ named ∷ []
 abbrev pub with_datum : Names → NamedDatum → Names
 with_datum names named = record names { datums = names.datums ++ named ∷ [] }
 
--- whether so many names are declared, apart from `yes`, `no` and `unit`
+-- whether this many names are declared, apart from `yes`, `no` and `unit`
 abbrev pub has_many : Names → ℕ → Bool
 has_many names most = nat_le (most + 3) (length names.bindings + length names.scripts + length names.datums)
 

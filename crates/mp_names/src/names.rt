@@ -246,7 +246,7 @@ impl Names {
         self.bindings.len()
     }
 
-    /// Whether so many names are declared, apart from those that are declared from the start.
+    /// Whether this many names are declared, apart from those that are declared from the start.
     pub fn has_many(&self, most: u64) -> bool
         ensures { result ≡ has_many self.now most }
     {

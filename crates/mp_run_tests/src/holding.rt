@@ -4,6 +4,7 @@ ghost use Rattle.mp_history.specs.PoolName.{head_of};
 ghost use Rattle.mp_signatures.specs.Scheme.{accepted_by};
 ghost use Rattle.mp_clients.specs.Beginning.{IsBefore};
 
+use crate::talks::MOST_NAMES;
 use mp_clients::{Close, Fault, Finished, Service, begin, open, refuse, serve};
 use mp_history::{NewName, PoolName};
 use mp_memory::{Memory, NoMemory};

@@ -1,5 +1,6 @@
 //! Conversations over devices that fail, and with allocations that fail, also while a line is read.
 use crate::streams::{Converse, Fails, NEVER, held_failures, streams, written};
+use crate::talks::MOST_NAMES;
 use mp_memory::Memory;
 use mp_serve::{Fault, serve};
 use mp_signatures::{Scheme, Signatures};

@@ -9,6 +9,9 @@ use mp_tx::Salt;
 use std::alloc::Global;
 use std::io;
 
+/// How many names may be declared.
+pub const MOST_NAMES: u64 = 65_536;
+
 /// Lines and their answers, in which `bad` is short for that to a bad line.
 #[derive(Clone, Copy)]
 pub struct Talk {

@@ -233,7 +233,7 @@ declares (Does line) = does_declare line
 declares (Reads name bytes) = true
 declares ask = false
 
--- once there are so many names, no other is declared
+-- once there are this many names, no other is declared
 abbrev pub within : Names → ℕ → Ask → Option Ask
 within names most ask = if declares ask && has_many names most then None else Some ask
 

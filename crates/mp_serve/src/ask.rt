@@ -646,7 +646,7 @@ fn declares(ask: &Ask) -> bool
     }
 }
 
-// Once there are so many names, no other is declared.
+// Once there are this many names, no other is declared.
 fn within<'a>(names: &Names, most_names: u64, ask: Ask) -> Result<Ask, LineFault<'a>>
     ensures { Gives to_ask (within names.now most_names (to_ask ask)) result }
 {
