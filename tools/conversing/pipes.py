@@ -79,7 +79,7 @@ class Conversations:
             self.selector.register(one.answers, selectors.EVENT_READ, one.read)
 
     def hold(self, lines: list[list[bytes]], rounds: list[list[int]]) -> str:
-        """Sends the lines round by round, ends all conversations, and gives what went wrong."""
+        """Sends the lines round by round, ends all conversations, the operator's last, and gives what went wrong."""
         for number in range(max(of[-1] for of in rounds) + 1):
             for one, own, of in zip(self.ends, lines, rounds):
                 one.unsent += b"".join(line + b"\n" for line, at in zip(own, of) if at == number)
@@ -87,8 +87,13 @@ class Conversations:
             wanted = [sum(at <= number for at in of) for of in rounds]
             if fault := self._wait(lambda: all(len(one.got) >= count for one, count in zip(self.ends, wanted))):
                 return fault
-        for one in self.ends:
+        operator, *clients = self.ends
+        for one in clients:
             one.end_lines()
+        # The answers to a client end with its conversation, though the program goes on.
+        if fault := self._wait(lambda: len(self.selector.get_map()) == 1):
+            return fault
+        operator.end_lines()
         return self._wait(lambda: not self.selector.get_map())
 
     def _watch_lines(self, one: Ends) -> None:

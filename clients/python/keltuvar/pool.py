@@ -539,8 +539,10 @@ class Pool:
             raise
         except Ended:
             self._hear_end()
-            status = "" if self.status is None else f" with status {self.status}"
-            self._fault = f"the program ended{status} before it answered '{told}'"
+            ended = "the conversation ended"
+            if self.status is not None:
+                ended = f"the program ended with status {self.status}"
+            self._fault = f"{ended} before it answered '{told}'"
             raise self._end() from None
         except Unasked:
             self._fault = f"the program wrote more than one answer, at '{told}'"

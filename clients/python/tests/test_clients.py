@@ -90,6 +90,7 @@ class Fake(unittest.TestCase):
         with self.assertRaises(Broken) as caught:
             first.ask("leave")
         self.assertIsNone(caught.exception.status)
+        self.assertIn("the conversation ended before it answered 'leave'", str(caught.exception))
         third.close()
         self.assertEqual((second.lookup(2), self.pools.operator.lookup(3)), ("n2", "n3"))
 

@@ -168,7 +168,7 @@ class Interruptions(unittest.TestCase):
         ours, theirs = socket.socketpair()
         with Pool.from_streams(ours, ours, timeout=LONG) as pool:
             theirs.close()
-            with self.assertRaisesRegex(Broken, "^the program ended before it answered 'stats'$"):
+            with self.assertRaisesRegex(Broken, "^the conversation ended before it answered 'stats'$"):
                 pool.stats()
 
     def test_half_an_answer_at_the_end(self) -> None:

@@ -61,14 +61,14 @@ fn converse<N: PoolName, V: Verifier, D: Device + Close>(
 }
 
 // Conversations over this pool.
-struct Converse<'a, N: PoolName, V: Verifier> {
+struct OverPool<'a, N: PoolName, V: Verifier> {
     shared: &'a Shared<N, V>,
     memory: Memory,
 }
 
-impl<N: PoolName, V: Verifier> Drop for Converse<'_, N, V> {
+impl<N: PoolName, V: Verifier> Drop for OverPool<'_, N, V> {
     fn drop(self) {
-        let Converse {
+        let OverPool {
             shared: _,
             memory: _,
         } = self;
@@ -78,7 +78,7 @@ impl<N: PoolName, V: Verifier> Drop for Converse<'_, N, V> {
 impl<N: PoolName + Send + Sync, V: Verifier + Send + Sync, D: Device + Close> Job<
     Connected<N, D>,
     Finished<N, D>,
-> for Converse<'_, N, V> {
+> for OverPool<'_, N, V> {
     ghost use Rattle.mp_clients.specs.Service.{IsFinished};
     ghost use Rattle.mp_clients.specs.Inside.Connecting.{IsReady};
 
@@ -110,7 +110,7 @@ fn converse_all<
         → i < length all.items → IsFinished N.accepts N.callers D.input D.output
         (slice_index_or all.items i c) (slice_index_or done.items i f)) }
 {
-    let job = Converse { shared, memory };
+    let job = OverPool { shared, memory };
     Ok(run_all(rt, &job, all)?)
 }
 

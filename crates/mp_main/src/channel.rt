@@ -1,10 +1,11 @@
 //! Where the lines of a conversation come from, and where their answers go.
 
 ghost use Rattle.std.specs.Prelude.{◌≡◌, length, All, IfOk};
-ghost use Rattle.mp_serve.specs.declared.device.Turn.TheVariants.{Listens};
+ghost use Rattle.mp_serve.specs.declared.device.Turn.TheVariants.{Listens, Failed};
 ghost use Rattle.mp_main.specs.Channel.{turn_of};
 
 use crate::command_line::ClientFiles;
+use mp_clients::Close;
 use mp_memory::{Memory, NoMemory};
 use mp_serve::{Device, Streams, Turn};
 use mp_text::{LineRead, ReadFault, WriteFault, read_line, write_all};
@@ -12,14 +13,39 @@ use std::fs::{File, OpenOptions};
 use std::io::{BufReader, Write};
 use std::rt::{Stdin, Stdout};
 
-/// The files of a client. The first read opens them: a named pipe opens when its other end does.
+// The files of a client: a named pipe opens when its other end does.
+#[derive(Drop)]
+enum Files {
+    // No line was read yet.
+    Unopened,
+    Open {
+        reader: BufReader<File, Memory>,
+        // `None` if the file of the answers can't be opened.
+        writer: Option<File>,
+    },
+    // The conversation has ended, or the file of its lines can't be opened.
+    Closed,
+}
+
+// Opens the file of the lines, and then that of the answers.
+fn open(rt: &HostRuntime, memory: Memory, names: ClientFiles<'_>) -> Files {
+    let Ok(input) = File::open(rt, names.input) else {
+        return Files::Closed;
+    };
+    let writer = OpenOptions::new().write(true).open(rt, names.output).ok();
+    match BufReader::new(memory, input) {
+        Ok(reader) => Files::Open { reader, writer },
+        Err(_) => Files::Closed,
+    }
+}
+
+/// The files of a client. The first read opens them. They are closed at the end of the lines, and when one of them fails.
 #[derive(Drop)]
 pub struct Pipes<'a> {
     rt: &'a HostRuntime,
     memory: Memory,
     names: ClientFiles<'a>,
-    reader: Option<BufReader<File, Memory>>,
-    writer: Option<File>,
+    files: Files,
     turn: Turn,
 }
 
@@ -32,26 +58,26 @@ impl<'a> Pipes<'a> {
             rt,
             memory,
             names,
-            reader: None,
-            writer: None,
+            files: Files::Unopened,
             turn: Turn::Listens,
         }
     }
 
-    // Opens the files if no read was before. A file that can't be opened is left out.
-    fn open(&mut self)
+    // Opens the files at the first read.
+    fn open_once(&mut self)
         ensures { self.new.turn ≡ self.old.turn }
     {
-        if self.reader.is_some() {
-            return;
+        if let Files::Unopened = self.files {
+            self.files = open(self.rt, self.memory, self.names);
         }
-        if let Ok(file) = File::open(self.rt, self.names.input) {
-            self.reader = BufReader::new(self.memory, file).ok();
-            self.writer = OpenOptions::new()
-                .write(true)
-                .open(self.rt, self.names.output)
-                .ok();
-        }
+    }
+
+    // Closes the files because one of them failed.
+    fn fail(&mut self)
+        ensures { self.new.turn ≡ Failed }
+    {
+        self.files = Files::Closed;
+        self.turn = Turn::Failed;
     }
 }
 
@@ -69,29 +95,34 @@ impl Device for Pipes<'_> {
         line: &mut Vec<u8, Memory>,
         limit: usize,
     ) -> Result<LineRead, ReadFault> {
-        self.open();
-        let found = match &mut self.reader {
-            Some(reader) => read_line(reader, line, limit),
-            None => Err(ReadFault),
+        self.open_once();
+        let found = match &mut self.files {
+            Files::Open { reader, .. } => read_line(reader, line, limit),
+            _ => Err(ReadFault),
         };
         match found {
-            Ok(LineRead::End) => Ok(LineRead::End),
+            Ok(LineRead::End) => {
+                self.files = Files::Closed;
+                Ok(LineRead::End)
+            }
             Ok(found) => {
                 self.turn = Turn::Owes;
                 Ok(found)
             }
             Err(fault) => {
-                self.turn = Turn::Failed;
+                self.fail();
                 Err(fault)
             }
         }
     }
 
-    // If the file couldn't be opened, the flush fails.
     fn write(&mut self, text: &[u8]) -> Result<(), WriteFault> {
-        let written = match &mut self.writer {
-            Some(writer) => write_all(writer, text),
-            None => Ok(()),
+        let written = match &mut self.files {
+            Files::Open {
+                writer: Some(writer),
+                ..
+            } => write_all(writer, text),
+            _ => Err(WriteFault),
         };
         match written {
             Ok(()) => {
@@ -99,24 +130,33 @@ impl Device for Pipes<'_> {
                 Ok(())
             }
             Err(fault) => {
-                self.turn = Turn::Failed;
+                self.fail();
                 Err(fault)
             }
         }
     }
 
     fn flush(&mut self) -> Result<(), WriteFault> {
-        let flushed = match &mut self.writer {
-            Some(writer) => writer.flush().is_ok(),
-            None => false,
+        let flushed = match &mut self.files {
+            Files::Open {
+                writer: Some(writer),
+                ..
+            } => writer.flush().is_ok(),
+            _ => false,
         };
         if flushed {
             self.turn = Turn::Listens;
             Ok(())
         } else {
-            self.turn = Turn::Failed;
+            self.fail();
             Err(WriteFault)
         }
+    }
+}
+
+impl Close for Pipes<'_> {
+    fn close(&mut self) {
+        self.files = Files::Closed;
     }
 }
 
@@ -159,6 +199,16 @@ impl Device for Channel<'_> {
         match self {
             Channel::Operator(streams) => streams.flush(),
             Channel::Client(pipes) => pipes.flush(),
+        }
+    }
+}
+
+// The standard streams of the operator stay open until the program ends.
+impl Close for Channel<'_> {
+    fn close(&mut self) {
+        match self {
+            Channel::Operator(_) => {}
+            Channel::Client(pipes) => pipes.close(),
         }
     }
 }

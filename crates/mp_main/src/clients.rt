@@ -13,7 +13,7 @@ use crate::channel::{Channel, channels_of};
 use crate::command_line::{ClientFiles, SchemeName};
 use crate::conversation::prepare;
 use crate::ending::{end_conversations, end_fault};
-use mp_clients::{begin, open, refuse, serve};
+use mp_clients::{Close, begin, open, refuse, serve};
 use mp_history::{NewName, PoolName};
 use mp_memory::{Memory, NoMemory};
 use mp_serve::{Conversation, Device, Fault, Streams, Turn};
@@ -36,7 +36,11 @@ pub struct Waiting<D: Device> {
 }
 
 // Opens the pool for the operator's line, and holds all conversations. Gives back what waits if an allocation failed before.
-fn open_and_serve<N: PoolName + Send + Sync, D: Device + Send + Drop, R: Threads + Wait + Sync>(
+fn open_and_serve<
+    N: PoolName + Send + Sync,
+    D: Device + Close + Send + Drop,
+    R: Threads + Wait + Sync,
+>(
     rt: &HostRuntime,
     threads: &R,
     memory: Memory,
@@ -75,7 +79,7 @@ fn open_and_serve<N: PoolName + Send + Sync, D: Device + Send + Drop, R: Threads
 }
 
 // Answers the operator's lines until the pool can be opened, then holds all conversations.
-fn converse_from<R: Threads + Wait + Sync, D: Device + Send + Drop>(
+fn converse_from<R: Threads + Wait + Sync, D: Device + Close + Send + Drop>(
     rt: &HostRuntime,
     threads: &R,
     memory: Memory,
@@ -137,7 +141,7 @@ fn callers_of<D>(clients: &[D]) -> u32
 
 /// Answers the lines of the operator's device and of those of the clients, until all inputs have ended. The pool opens at the
 /// operator's first request, and the clients' lines wait for that. In each conversation at most `names` names may be declared.
-pub fn converse_over_all<R: Threads + Wait + Sync, D: Device + Send + Drop>(
+pub fn converse_over_all<R: Threads + Wait + Sync, D: Device + Close + Send + Drop>(
     rt: &HostRuntime,
     threads: &R,
     memory: Memory,

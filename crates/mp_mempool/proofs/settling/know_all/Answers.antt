@@ -38,3 +38,7 @@ loop-holder-preserved g c =
 pub returns-clause-known : goal.returns-clause-known
 returns-clause-known g c =
     λ e. subst (All (λ h. IsKnownTo c.args.locked.now.log (g.H.HoldsPass.held h))) (take_all c.loop-holder.holder-index c.args.holders.now c.loop-holder-test.false) (c.loop-holder.invariant.2 e)
+
+pub returns-clause-seen : goal.returns-clause-seen
+returns-clause-seen g c =
+    subst (All (λ h. Begins (g.H.HoldsPass.held h).front c.args.locked.now.log)) (take_all c.loop-holder.holder-index c.args.holders.now c.loop-holder-test.false) c.loop-holder.invariant.1
