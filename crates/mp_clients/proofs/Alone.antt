@@ -12,9 +12,9 @@ use Rattle.mp_signatures.specs.declared.scheme.Scheme.{Scheme}
 use Rattle.mp_serve.specs.declared.conversation.Conversation as alone
 use Rattle.mp_serve.specs.ServedPool.{ServedPool}
 use Rattle.mp_serve.specs.Ask.{NewBlock}
-use Rattle.mp_serve.specs.TxWord.{TxWord, tx_meant, put_meant}
+use Rattle.mp_serve.specs.TxWord.{TxWord, tx_meant}
 use Rattle.mp_session.specs.Settings.{salt_of}
-use Rattle.mp_serve.specs.Staged.{Staged, nothing_staged, add_txs, add_read, add_output}
+use Rattle.mp_serve.specs.Staged.{Staged, nothing_staged}
 use Rattle.mp_serve.specs.Request.{Request, Check, respond}
 use Rattle.mp_serve.specs.Texts.{ok_text, bytes_text, show_text, forgotten_text}
 use Rattle.mp_serve.specs.Talk.{Step, ask, read, with_read, with_names, names_to_go, forget, show, check, extend, adopt_by, block_at, block_txs, with_staging, reset_at}

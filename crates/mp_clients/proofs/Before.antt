@@ -29,7 +29,7 @@ use Rattle.mp_serve.specs.declared.fault.Fault.TheVariants.{ReadFault}
 use Rattle.mp_serve.specs.Ask as asks
 use Rattle.mp_serve.specs.Ask.{Ask, NewBlock, longest, ask_within, ask_of}
 use Rattle.mp_serve.specs.Request.{Check}
-use Rattle.mp_serve.specs.Staged.{Staged, add_txs, add_read, add_output}
+use Rattle.mp_serve.specs.Staged.{Staged, add_txs, add_output}
 use Rattle.mp_serve.specs.TxWord.{TxWord, Named, Pooled, tx_held, tx_meant, put_meant}
 use Rattle.mp_serve.specs.Served.{IsBadLine, IsTold, IsAnswer, AreAnswers}
 use Rattle.mp_serve.specs.Talk.{Step, take as taken, line_step, with_session, ask, ask_if, adopt, block_at, with_staging, stage_bytes, reset_at}

@@ -244,7 +244,11 @@ impl<N: PoolName> Conversation<N> {
     }
 
     // The transactions of a block's words, by the pool that was seen. Without words they are those that are staged.
-    fn block_txs<'a>(&self, memory: Memory, words: Vec<TxWord, Memory>) -> Result<Txs, LineFault<'a>>
+    fn block_txs<'a>(
+        &self,
+        memory: Memory,
+        words: Vec<TxWord, Memory>,
+    ) -> Result<Txs, LineFault<'a>>
         ensures { lines.Gives (λ txs. map arc_value txs.items)
             (alone.block_txs self.now.staged (stage_of N.accepts self.now.client)
             (map to_tx_word words.items)) result }
@@ -310,7 +314,10 @@ impl<N: PoolName> Conversation<N> {
         let Ok(none) = no_outputs(memory, self.settings.salt()) else {
             return Err(Stop::NoMemory);
         };
-        let Ok(ledger) = self.staged.ledger_at(memory, &self.settings, tick, block_bytes) else {
+        let Ok(ledger) = self
+            .staged
+            .ledger_at(memory, &self.settings, tick, block_bytes)
+        else {
             return Err(Stop::NoMemory);
         };
         self.go_on(rt, shared, memory, ledger, Used::Outputs(none))

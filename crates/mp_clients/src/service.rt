@@ -297,11 +297,7 @@ fn connect_all<N: PoolName, D: Device + Drop>(
 ///
 /// # Errors
 /// `NoMemory`. Then some conversations may not have gone on.
-pub fn serve<
-    N: PoolName + Send + Sync,
-    D: Device + Close + Send + Drop,
-    R: Threads + Wait + Sync,
->(
+pub fn serve<N: PoolName + Send + Sync, D: Device + Close + Send + Drop, R: Threads + Wait + Sync>(
     rt: &R,
     memory: Memory,
     opened: Opened<N>,

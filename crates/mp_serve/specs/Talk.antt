@@ -143,11 +143,14 @@ report_by_id c by_id = (with_names c (reporting_by_id c.session.names by_id), ok
 -- first request on
 abbrev pub reset_at : Conversation → Stage ServedPool → Step
 reset_at c (Before b) = None
-reset_at c (Open p) = Some (record c {
-  session = record c.session { names = first_names; stage = Open (record p { cursor = 0 }) };
-  staged = nothing_staged (salt_of c.session.settings);
-  line = 0;
-}, ok_text)
+reset_at c (Open p) = Some (
+  record c {
+    session = record c.session { names = first_names; stage = Open (record p { cursor = 0 }) };
+    staged = nothing_staged (salt_of c.session.settings);
+    line = 0;
+  },
+  ok_text,
+)
 
 -- ---- words for transactions
 

@@ -1,14 +1,12 @@
 //! What a line asks for.
 
-ghost use Rattle.std.specs.Prelude.{◌≡◌, [], Some, None, map, option_map, option_and_then, OnOk};
-ghost use Rattle.std.specs.Option.{option_or};
-ghost use Rattle.std.specs.Result.{result_ok};
+ghost use Rattle.std.specs.Prelude.{◌≡◌, [], Some, None, map, option_map, OnOk};
 ghost use Rattle.mp_text.specs.Words.{words_of};
 ghost use Rattle.mp_lines.specs.Lines.{line_of};
 ghost use Rattle.mp_lines.specs.Inside.LedgerHead.{to_head};
 ghost use Rattle.mp_names.specs.Fault.{Gives, Reads, IsBad};
 ghost use Rattle.mp_names.specs.Names.{is_among};
-ghost use Rattle.mp_serve.specs.Ask.{Does, Shows, Checks, Forgets, bytes_by, bytes_ask, give_ask, submit_by, submit_ask, one_tx, entry_by, entry_of, utxo_ask, put_txs, block_behind, adopt_ask, put_ids, is_marked, stage_held_ask, stage_bytes_ask, stage_output_ask, stage_ask, is_staged_word, staged_behind, staged_ask, sync_ask, staging_ask, back_ask, put_names, forget_ask, names_ask, ledger_ask, clean_ask, words_ask, hex_ask, long_ask, does_declare, declares, within, ask_within};
+ghost use Rattle.mp_serve.specs.Ask.{Does, Shows, Checks, Forgets, bytes_by, bytes_ask, give_ask, submit_by, submit_ask, one_tx, entry_by, entry_of, utxo_ask, put_txs, block_behind, adopt_ask, put_ids, is_marked, stage_held_ask, stage_bytes_ask, stage_output_ask, stage_ask, staged_behind, staged_ask, sync_ask, staging_ask, back_ask, put_names, forget_ask, names_ask, ledger_ask, clean_ask, words_ask, hex_ask, long_ask, does_declare, declares, within, ask_within};
 ghost use Rattle.mp_lines.specs.Inside.Line.{to_line};
 ghost use Rattle.mp_serve.specs.Inside.Ask.{to_ask, to_tx_word};
 

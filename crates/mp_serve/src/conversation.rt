@@ -103,12 +103,12 @@ fn open_onto(
 }
 
 impl Conversation {
-    ghost use Rattle.std.specs.Prelude.{◌≡◌, [], ◌∷◌, Some, None, map, IfOk, OnErr};
+    ghost use Rattle.std.specs.Prelude.{◌≡◌, [], Some, None, map, IfOk, OnErr};
     ghost use Rattle.std.specs.Arc.{arc_value};
     ghost use Rattle.mp_names.specs.Fault as lines;
     ghost use Rattle.mp_lines.specs.Inside.Line.{to_line};
     ghost use Rattle.mp_tx.specs.Reading.{transaction_of};
-    ghost use Rattle.mp_serve.specs.Talk.{new_conversation, served_in, ask, submit, hold, does, read, give, show, check, block_txs, block_at, adopt, adopt_staged, extend, stage_held, stage_output, unstage, sync_staged, stage_bytes, report_by_id, reset_at, counted, forget, take, line_step};
+    ghost use Rattle.mp_serve.specs.Talk.{new_conversation, served_in, ask, submit, hold, does, read, give, show, check, adopt, adopt_staged, extend, stage_held, stage_output, unstage, sync_staged, stage_bytes, report_by_id, reset_at, counted, forget, take, line_step};
     ghost use Rattle.mp_serve.specs.Request.{Give, is_adopted};
     ghost use Rattle.mp_serve.specs.Inside.Ask.{to_ask, to_block, to_tx_word};
     ghost use Rattle.mp_serve.specs.Inside.Request.{to_request};

@@ -86,7 +86,7 @@ fn alone(memory: Memory, tx: Tx) -> Result<Txs, NoMemory>
 }
 
 impl Staged {
-    ghost use Rattle.std.specs.Prelude.{◌≡◌, Some, None, map, unwrap_or, IfOk, OnErr};
+    ghost use Rattle.std.specs.Prelude.{◌≡◌, Some, None, map, IfOk, OnErr};
     ghost use Rattle.std.specs.Arc.{arc_value};
     ghost use Rattle.mp_tx.specs.Reading.{transaction_of};
     ghost use Rattle.mp_names.specs.Fault.{IsBad};
