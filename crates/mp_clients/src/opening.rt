@@ -128,8 +128,7 @@ fn open_on<N: PoolName>(
         Ok((pool, reader, passes)) => {
             let front = first_front(&passes);
             let salt = settings.salt();
-            let seats =
-                seats_of(memory, passes, signatures, limit, ledger, salt, most_names)?;
+            let seats = seats_of(memory, passes, signatures, limit, ledger, salt, most_names)?;
             let shared = Shared { pool, reader };
             Ok(Opened {
                 shared,
@@ -166,7 +165,9 @@ fn open_with<N: PoolName>(
         (opening_ledger settings.now beginning.now)) most_names o.front o.seats.items) }
 {
     let ledger = beginning.open(memory, settings)?;
-    open_on(rt, memory, name, signatures, settings, &ledger, callers, most_names)
+    open_on(
+        rt, memory, name, signatures, settings, &ledger, callers, most_names,
+    )
 }
 
 /// Opens the pool under the name, as the operator's conversation would alone, for the operator and `callers - 1` clients.

@@ -187,7 +187,9 @@ pub fn converse_with<R: Threads + Wait + Sync>(
     let device = Channel::Operator(Streams::new(reader, rt.stdout()));
     match channels_of(rt, memory, clients) {
         Ok(channels) => {
-            converse_over_all(rt, threads, memory, signatures, salt, names, device, channels)
+            converse_over_all(
+                rt, threads, memory, signatures, salt, names, device, channels,
+            )
         }
         Err(NoMemory) => end_fault(rt, Fault::NoMemory),
     }
