@@ -86,7 +86,8 @@ pub does_line : (names : Names) (most : ℕ) (line word : List ℕ) (words : Lis
 does_line names most line word words l few is e other =
     let clean = is_clean_line names line l e in
     let good : words_line names (word ∷ words) ≡ Some l = ap (words_line names) (sym is) ∙ clean.1 in
-    asked_for names most line (Does l) clean.0 few (
+    asked_for names most line (Does l) clean.0 few
+    (
     ap (words_ask names line) is
     ∙ skipped _ _ _ (differs names (codes "bytes") word words l refl good)
     ∙ skipped _ _ _ (differs names (codes "give") word words l refl good)
@@ -100,21 +101,13 @@ does_line names most line word words l few is e other =
     ∙ skipped _ _ _ (differs names (codes "stage") word words l refl good)
     ∙ skipped _ _ _ (differs names (codes "unstage") word words l refl good)
     ∙ either (pointwise nat_eq word (codes "sync")) _ _ (Some (Does l)) (ap (λ o. option_or (option_map Does o) (staged_ask words)) e) (
-<<<<<<< HEAD
-      skipped _ _ _ (differs names (codes "forget") word words l refl good)
-      ∙ skipped _ _ _ (differs names (codes "ids") word words l refl good)
-      ∙ skipped _ _ _ (differs names (codes "names") word words l refl good)
-      ∙ skipped _ _ _ (differs names (codes "reset") word words l refl good)
-      ∙ ap (option_map Does) e
-    ))
-=======
     skipped _ _ _ (differs names (codes "forget") word words l refl good)
     ∙ skipped _ _ _ (differs names (codes "ids") word words l refl good)
     ∙ skipped _ _ _ (differs names (codes "names") word words l refl good)
     ∙ skipped _ _ _ (differs names (codes "reset") word words l refl good)
     ∙ ap (option_map Does) e
     )
->>>>>>> stage
+    )
 
 pub blank_line : (names : Names) (most : ℕ) (line : List ℕ) (l : Line) → has_many names most ≡ false → words_of line ≡ [] → line_of names line ≡ Some l
     → ask_of names most line ≡ Some (Does l)
