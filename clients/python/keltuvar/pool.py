@@ -587,6 +587,8 @@ def make_command(
     if salt is not None:
         command += ["--salt", words.format_number(salt)]
     if names is not None:
+        if names == 0:
+            raise ValueError("a conversation has at least 1 name")
         command += ["--names", words.format_number(names, _MOST_NAMES)]
     return command
 

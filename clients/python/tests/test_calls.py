@@ -296,6 +296,8 @@ class Programs(unittest.TestCase):
             self.assertEqual(pool.ask("arguments"), "serve --signatures ed25519")
         with Pool(FAKE, timeout=LONG, signatures="checked", salt=7) as pool:
             self.assertEqual(pool.ask("arguments"), "serve --signatures checked --salt 7")
+        with Pool(FAKE, timeout=LONG, names=2**32) as pool:
+            self.assertEqual(pool.ask("arguments"), "serve --names 4294967296")
 
     def test_streams(self) -> None:
         pipe = subprocess.PIPE

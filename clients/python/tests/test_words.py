@@ -245,6 +245,9 @@ class Injection(unittest.TestCase):
         program: Any = "/nowhere"
         with self.assertRaises(ValueError):
             Pool(program, signatures="checked --salt 5")  # type: ignore[arg-type]
+        for names in (0, -1, 2**32 + 1):
+            with self.assertRaises(ValueError):
+                Pool(program, names=names)
         for salt in (-1, 2**64):
             with self.assertRaises(ValueError):
                 Pool(program, salt=salt)
