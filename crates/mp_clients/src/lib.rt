@@ -21,6 +21,7 @@ mod meaning;
 mod opening;
 mod reading;
 mod service;
+mod settling;
 mod shared;
 mod stop;
 

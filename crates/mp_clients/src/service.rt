@@ -16,10 +16,11 @@ use crate::conversation::Conversation;
 use crate::conversing::answer_from;
 use crate::fault::Fault;
 use crate::opening::{Opened, Seat};
+use crate::settling::{Settled, settle};
 use crate::shared::Shared;
 use mp_history::{Front, PoolName};
 use mp_memory::{Memory, NoMemory};
-use mp_mempool::{HoldsPass, Job, Pass, Settled, run_all};
+use mp_mempool::{Job, run_all};
 use mp_names::Names;
 use mp_rules::Verifier;
 use mp_serve as alone;
@@ -114,14 +115,6 @@ fn converse_all<
     Ok(run_all(rt, &job, all)?)
 }
 
-impl<N: PoolName, D: Device> HoldsPass<N> for Finished<N, D> {
-    ghost held = { λ finished. finished.conversation.client.pass };
-
-    fn pass(&self) -> &Pass<N> {
-        self.conversation.client.pass()
-    }
-}
-
 /// All conversations, and the history of the pool. Each conversation has seen a prefix of that.
 #[derive(Drop)]
 pub struct Service<N: PoolName, D: Device> {
@@ -159,7 +152,7 @@ fn serve_all<
         (slice_index_or all.items i c) (slice_index_or s.finished.items i f)) }
 {
     let finished = converse_all(rt, shared, memory, all)?;
-    let Settled { front, is_known } = shared.pool.settle(rt, &front, &finished);
+    let Settled { front, is_known } = settle(rt, &shared.pool, &front, &finished);
     Ok(Service {
         finished,
         front,

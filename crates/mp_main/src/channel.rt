@@ -1,6 +1,7 @@
 //! Where the lines of a conversation come from, and where their answers go.
 
-ghost use Rattle.std.specs.Prelude.{◌≡◌, length, All, IfOk};
+ghost use Rattle.std.specs.Prelude.{◌≡◌, length, None, All, IfOk, OnErr};
+ghost use Rattle.mp_text.specs.Output.{AppendsFront};
 ghost use Rattle.mp_serve.specs.declared.device.Turn.TheVariants.{Listens, Failed};
 ghost use Rattle.mp_main.specs.Channel.{turn_of};
 
@@ -37,6 +38,16 @@ fn open(rt: &HostRuntime, memory: Memory, names: ClientFiles<'_>) -> Files {
         Ok(reader) => Files::Open { reader, writer },
         Err(_) => Files::Closed,
     }
+}
+
+// A write where no file is open. It fails unless there is nothing to write.
+fn write_nowhere(text: &[u8]) -> Result<(), WriteFault>
+    ensures { OnErr result (AppendsFront None None text.now) }
+{
+    if text.is_empty() {
+        return Ok(());
+    }
+    Err(WriteFault)
 }
 
 /// The files of a client. The first read opens them. They are closed at the end of the lines, and when one of them fails.
@@ -122,7 +133,7 @@ impl Device for Pipes<'_> {
                 writer: Some(writer),
                 ..
             } => write_all(writer, text),
-            _ => Err(WriteFault),
+            _ => write_nowhere(text),
         };
         match written {
             Ok(()) => {

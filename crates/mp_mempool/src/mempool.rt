@@ -1,13 +1,12 @@
 //! The pool that many callers share.
-ghost use Rattle.std.specs.Prelude.{◌≡◌, ◌≤◌, ◌^◌, true, false, None, All, Any, IfOk, IfErr, OnOk};
+ghost use Rattle.std.specs.Prelude.{◌≡◌, ◌≤◌, ◌^◌, None, IfOk, IfErr, OnOk};
 ghost use Rattle.std.specs.Arc.{arc_value};
 ghost use Rattle.mp_seqpool.specs.Command.{Submit, Remove, Sync};
-ghost use Rattle.mp_history.specs.Log.{Begins, IsLegalLog};
 ghost use Rattle.mp_history.specs.PoolName.{head_of};
 ghost use Rattle.mp_history.specs.Successors.{successor};
-ghost use Rattle.mp_mempool.specs.Answers.{IsEntered, IsRefused, IsForeign};
+ghost use Rattle.mp_mempool.specs.Answers.{IsEntered, IsRefused};
 ghost use Rattle.mp_mempool.specs.Opening.{fresh_log, fresh_passes, open_fault, IsOpenFault};
-ghost use Rattle.mp_mempool.specs.Successor.{AreSuccessors, IsKnownTo, IsRefusedSuccessor};
+ghost use Rattle.mp_mempool.specs.Successor.{AreSuccessors, IsRefusedSuccessor};
 ghost use Rattle.mp_mempool.specs.Inside.Heir.{IsHeir};
 
 use crate::config::Config;
@@ -15,16 +14,15 @@ use crate::opening::{Parts, open_fault, open_parts};
 use crate::read::{Pass, Reader, Receipt};
 use crate::readers::{Readers, make_readers};
 use crate::refusal::{OpenRefusal, Refusal, SuccessorRefusal};
-use crate::settling::{HoldsPass, Settled, settle_in};
 use crate::successor::{Heir, prepare};
 use crate::under_lock::{remove_in, submit_in, sync_in};
 use crate::write::Locked;
-use mp_history::{Front, History, NewName, PoolName};
+use mp_history::{History, NewName, PoolName};
 use mp_memory::{Memory, NoMemory};
 use mp_rules::Verifier;
 use mp_seqpool::{Command, Ids};
 use mp_tx::{Ledger, Tx};
-use std::sync::{Arc, Mutex, Wait};
+use std::sync::{Arc, Mutex, MutexGuard, Wait};
 
 /// The mempool that many callers share (the Mempool API of ouroboros-consensus).
 ///
@@ -295,24 +293,10 @@ impl<N: PoolName, V: Verifier> Mempool<N, V> {
         sync_in(self, rt, &mut locked, pass, ledger)
     }
 
-    /// The history up to now, and whether each of the passes knows all entries of its caller there. What the front and the passes
-    /// have seen is a prefix of that history. The call may wait for other callers.
-    pub fn settle<H: HoldsPass<N>>(
-        &self,
-        rt: &impl Wait,
-        front: &Front<N>,
-        holders: &[H],
-    ) -> Settled<N>
-        ensures legal { IsLegalLog N.accepts N.callers result.front }
-        ensures begins { Begins front.now result.front }
-        ensures seen { All (λ h. Begins (H.held h).front result.front) holders.now }
-        ensures known { result.is_known ≡ true
-            → All (λ h. IsKnownTo result.front (H.held h)) holders.now }
-        ensures foreign { result.is_known ≡ false
-            → Any (λ h. IsForeign (H.held h) result.front) holders.now }
-    {
-        let mut locked = self.locked.lock(rt);
-        settle_in(&mut locked, front, holders)
+    /// Takes the lock, for what is asked of the whole history. No change is made until the guard is dropped. The call may wait for
+    /// other callers.
+    pub fn lock(&self, rt: &impl Wait) -> MutexGuard<'_, Locked<N>> {
+        self.locked.lock(rt)
     }
 }
 
