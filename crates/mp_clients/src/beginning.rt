@@ -47,8 +47,12 @@ fn answer_line(conversation: &mut Conversation, memory: Memory, line: &[u8]) -> 
     ensures before { IsBefore conversation.old.session.stage
         → IsBefore conversation.new.session.stage }
 {
-    let names = &conversation.session.names;
-    match Ask::parse(memory, names, conversation.most_names, line) {
+    match Ask::parse(
+        memory,
+        &conversation.session.names,
+        conversation.most_names,
+        line,
+    ) {
         Ok(ask) => {
             if opens(&ask) {
                 None
