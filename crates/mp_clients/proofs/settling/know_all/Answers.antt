@@ -20,18 +20,18 @@ loop-finished-preserved g c =
     let knows = c.is_known_to-knows in
     let same = knows.ensures.same ∙ c.loop-finished.invariant.0 in
     let here : (Q : Pass → Log → Type 0) → Q c.pass.result.now knows.new.self.log → Q x.conversation.client.pass log =
-        λ Q q. subst (Q x.conversation.client.pass) (ap (λ l. l.log) same) (subst (λ p. Q p knows.new.self.log) c.pass.ensures q) in (
+    λ Q q. subst (Q x.conversation.client.pass) (ap (λ l. l.log) same) (subst (λ p. Q p knows.new.self.log) c.pass.ensures q) in (
       same,
       All-more (HasSeenOf log) fs i x c.loop-finished-test.true c.loop-finished.invariant.1
           (subst (HasSeenOf log) c.finished-item.is (here (λ p l. Begins p.front l) knows.ensures.begins)),
       elim c.if-is_known.branch [
-        then-is_known w ↦ (λ e. All-more (KnowsAllOf log) fs i x c.loop-finished-test.true (c.loop-finished.invariant.2 w.if-is_known.true)
+        | then-is_known w ↦ (λ e. All-more (KnowsAllOf log) fs i x c.loop-finished-test.true (c.loop-finished.invariant.2 w.if-is_known.true)
             (subst (KnowsAllOf log) c.finished-item.is (here (λ p l. IsKnownTo l p) (record { begins = knows.ensures.begins; known = knows.ensures.known (sym w.is_known-is ∙ e) }))))
-      | else-is_known w ↦ (λ e. Prim.cc)
+        | else-is_known w ↦ (λ e. Prim.cc)
       ],
       elim c.if-is_known.branch [
-        then-is_known w ↦ (λ e. (i, x, c.loop-finished-test.true, sym c.finished-item.is, here IsForeign (foreign_told c.pass.result.now knows.new.self.log knows.new.self.log knows.ensures.own knows.ensures.begins (knows.ensures.foreign (sym w.is_known-is ∙ e)) refl)))
-      | else-is_known w ↦ (λ e. c.loop-finished.invariant.3 w.if-is_known.false)
+        | then-is_known w ↦ (λ e. (i, x, c.loop-finished-test.true, sym c.finished-item.is, here IsForeign (foreign_told c.pass.result.now knows.new.self.log knows.new.self.log knows.ensures.own knows.ensures.begins (knows.ensures.foreign (sym w.is_known-is ∙ e)) refl)))
+        | else-is_known w ↦ (λ e. c.loop-finished.invariant.3 w.if-is_known.false)
       ],
     )
 
