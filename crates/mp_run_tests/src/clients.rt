@@ -193,8 +193,12 @@ const NO_MEMORY: &[u8] = b"fault: no memory\n";
 #[derive(Drop)]
 struct Patient {
     lines: &'static [&'static [u8]],
+    // The place of the oldest line that isn't answered.
+    next: usize,
     told: Vec<u8, Global>,
     turn: Turn,
+    // Whether an answer couldn't be kept.
+    is_lost: bool,
     is_closed: bool,
 }
 
@@ -205,8 +209,7 @@ fn keep(patient: &mut Patient, text: &[u8]) -> Option<()>
     if text == NO_MEMORY {
         return Some(());
     }
-    let (_, rest) = patient.lines.split_first()?;
-    patient.lines = rest;
+    patient.next = patient.next.checked_add(1)?;
     let kept = if text.starts_with(b"bad ") {
         b"bad\n"
     } else {
@@ -229,7 +232,7 @@ impl Device for Patient {
         line: &mut Vec<u8, Memory>,
         limit: usize,
     ) -> Result<LineRead, ReadFault> {
-        let Some((oldest, _)) = self.lines.split_first() else {
+        let Some(oldest) = self.lines.get(self.next) else {
             return Ok(LineRead::End);
         };
         self.turn = Turn::Owes;
@@ -244,16 +247,11 @@ impl Device for Patient {
     }
 
     fn write(&mut self, text: &[u8]) -> Result<(), WriteFault> {
-        match keep(self, text) {
-            Some(()) => {
-                self.turn = Turn::Holds;
-                Ok(())
-            }
-            None => {
-                self.turn = Turn::Failed;
-                Err(WriteFault)
-            }
+        if keep(self, text).is_none() {
+            self.is_lost = true;
         }
+        self.turn = Turn::Holds;
+        Ok(())
     }
 
     fn flush(&mut self) -> Result<(), WriteFault> {
@@ -342,8 +340,8 @@ const MOST_OUTSIDE: u64 = 3;
 // The fault's number and what is written; none if an allocation failed outside of the answers.
 type Told = Option<(u64, Vec<u8, Global>)>;
 
-// No fault has this number.
-const LEFT_OPEN: u64 = 100;
+// No fault has this number: the device was left open, or couldn't keep an answer.
+const NOT_HELD: u64 = 100;
 
 // How the conversation of these lines ended, and the answers. Its device must have been closed.
 fn hold_patiently<R: Threads + Wait + Sync>(
@@ -355,22 +353,26 @@ fn hold_patiently<R: Threads + Wait + Sync>(
 ) -> Told {
     let device = Patient {
         lines,
+        next: 0,
         told: Vec::new(alloc),
         turn: Turn::Listens,
+        is_lost: false,
         is_closed: false,
     };
     let held = hold(rt, memory, alloc, device, Vec::new(memory), nth);
     let Ended { fault, device } = only_one(held)?;
     let Patient {
         lines: _,
+        next: _,
         told,
         turn: _,
+        is_lost,
         is_closed,
     } = device;
-    if is_closed {
+    if is_closed && !is_lost {
         Some((fault, told))
     } else {
-        Some((LEFT_OPEN, told))
+        Some((NOT_HELD, told))
     }
 }
 

@@ -111,7 +111,7 @@ fn open_and_serve<
     requires most { callers ≤ 64 }
     requires owes { D.turn waiting.device ≡ Turn.Owes }
     requires listen { All (λ d. D.turn d ≡ Turn.Listens) waiting.clients.items }
-    ensures { IfErr result (λ back. back ≡ waiting.entry) }
+    ensures { IfErr result (λ back. back ≡ waiting) }
 {
     match open::<N>(rt, memory, name, &waiting.operator, callers) {
         Ok(opened) => {
@@ -195,7 +195,11 @@ pub fn hold<D: Device + Close + Send + Drop, R: Threads + Wait + Sync>(
 {
     let callers = clients.len() as u32 + 1;
     let signatures = Signatures::new(memory, Scheme::Trial).ok()?;
-    let start = Conversation::new(memory, signatures, Salt::new(7)).ok()?;
-    memory.refuse(refused);
-    hold_from(rt, memory, alloc, start, device, clients, callers)
+    match Conversation::new(memory, signatures, Salt::new(7)) {
+        Ok(start) => {
+            memory.refuse(refused);
+            hold_from(rt, memory, alloc, start, device, clients, callers)
+        }
+        Err(NoMemory) => None,
+    }
 }
