@@ -17,6 +17,6 @@ returns-in-Ok g c =
 pub returns-in-Err-NoMemory-clause-err : goal.returns-in-Err-NoMemory-clause-err
 returns-in-Err-NoMemory-clause-err g c = looked_only g.N.PoolName.accepts g.N.PoolName.callers c.args.self.now c.look.new.self _ c.look.ensures refl
 
-pub returns-in-Err-Bad-clause-ok : goal.returns-in-Err-Bad-clause-ok
-returns-in-Err-Bad-clause-ok g c =
+pub returns-clause-ok : goal.returns-clause-ok
+returns-clause-ok g c =
     heard_bad g.N.PoolName.accepts g.N.PoolName.callers c.args.self.now c.look.new.self c.look.ensures (Extends (to_block c.args.block)) _ _ (c.in-Err-Bad.ensures.bad (is_bad Block _ _ c.in-Err-Bad.field-0-is)) refl c.answer_bad.ensures
