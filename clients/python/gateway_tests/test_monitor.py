@@ -10,6 +10,11 @@ from aiohttp import ClientWebSocketResponse
 
 from . import LONG, GatewayCase, id_of, pay, spend
 
+UPGRADE = (
+    b"GET /monitor HTTP/1.1\r\nHost: x\r\nUpgrade: websocket\r\nConnection: Upgrade\r\n"
+    b"Sec-WebSocket-Version: 13\r\nSec-WebSocket-Key: AAAAAAAAAAAAAAAAAAAAAA==\r\n\r\n"
+)
+
 
 class Session(GatewayCase):
     async def open(self) -> ClientWebSocketResponse:
@@ -101,6 +106,32 @@ class Session(GatewayCase):
             while (await self.http.get(f"{self.url}/monitor")).status == 503:
                 await asyncio.sleep(0.05)
         await self.get("/monitor", 400)
+
+    async def test_clients_that_dont_read(self) -> None:
+        await self.start("--rate", "0", "--request-seconds", "1")
+        await self.accept(pay(0, *[1] * 100))
+        clients = [await self.send_without_reading() for _ in range(4)]
+        sockets = [await self.open() for _ in range(60)]
+        async with asyncio.timeout(LONG):
+            while (await self.http.get(f"{self.url}/monitor")).status == 503:
+                await asyncio.sleep(0.1)
+        sockets += [await self.open() for _ in range(4)]
+        await self.get("/monitor", 503)
+        for client in clients:
+            client.close()
+
+    async def send_without_reading(self) -> asyncio.StreamWriter:
+        """Begins a session, asks for more than fits into the buffers, and stays."""
+        port = int(self.url.rpartition(":")[2])
+        reader, writer = await asyncio.open_connection("127.0.0.1", port, limit=1000)
+        writer.write(UPGRADE)
+        await reader.readuntil(b"\r\n\r\n")
+        for method in ("acquireMempool", "nextTransaction", "releaseMempool") * 400:
+            request = {"jsonrpc": "2.0", "method": method, "params": {"fields": "all"}}
+            text = json.dumps(request).encode()
+            # The mask is zero.
+            writer.write(bytes([0x81, 0x80 | len(text)]) + bytes(4) + text)
+        return writer
 
     async def test_a_message_that_is_too_long(self) -> None:
         await self.start()

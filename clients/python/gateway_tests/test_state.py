@@ -25,6 +25,16 @@ case $(wc -l < {folder}/starts) in
 esac
 exec {program} "$@"
 """
+# The second time that it starts it takes only so many lines, and the third time it waits.
+BROKEN_OFF = """#!/bin/sh
+case "$*" in *--help) exec {program} "$@" ;; esac
+echo start >> {folder}/starts
+case $(wc -l < {folder}/starts) in
+  2) mkfifo {folder}/lines; exec 3<&0; sed -u {lines}q <&3 >{folder}/lines & exec {program} "$@" <{folder}/lines 3<&- ;;
+  3) while [ ! -e {folder}/go ]; do sleep 0.1; done ;;
+esac
+exec {program} "$@"
+"""
 
 
 class Files(GatewayCase):
@@ -140,6 +150,26 @@ class Restarts(GatewayCase):
         self.assertEqual(await self.held(), [id_of(pay(0))])
         with open(f"{self.folder}/starts", encoding="ascii") as file:
             self.assertEqual(len(file.readlines()), 4)
+
+    async def test_a_start_that_is_broken_off(self) -> None:
+        program = f"{self.folder}/program"
+        # Settings, outputs, the line that opens the pool, and 10 transactions.
+        lines = 4 + OUTPUTS + 2 + 10
+        with open(program, "w", encoding="ascii") as file:
+            file.write(BROKEN_OFF.format(folder=self.folder, program=PROGRAM, lines=lines))
+        os.chmod(program, 0o755)
+        gateway = await self.start(program=program)
+        transactions = [pay(place) for place in range(20)]
+        await self.accept(*transactions)
+        kill_pool(gateway)
+        async with asyncio.timeout(LONG):
+            while len(Path(f"{self.folder}/starts").read_text().splitlines()) < 3:
+                await asyncio.sleep(0.05)
+        self.assertEqual(await self.operate("save"), ["saved 20"])
+        self.assertEqual(read_state(self.state, whole=True).transactions, transactions)
+        Path(f"{self.folder}/go").touch()
+        await self.comes_back(gateway)
+        self.assertEqual(await self.held(), [id_of(data) for data in transactions])
 
     async def test_it_is_down_meanwhile(self) -> None:
         gateway = await self.start()

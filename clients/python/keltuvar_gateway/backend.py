@@ -18,7 +18,7 @@ class Busy(Exception):
 
 
 class BadStart(Exception):
-    """The pool doesn't take the settings and outputs that it is to begin with."""
+    """The pool doesn't take the settings, outputs and transactions that it is to begin with."""
 
 
 @dataclass(frozen=True, slots=True)

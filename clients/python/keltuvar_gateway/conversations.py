@@ -62,8 +62,8 @@ class Conversations(Backend):
         # What is accepted, by the tickets, while a smaller ticket isn't known.
         self._early: dict[int, Held] = {}
         self._events: deque[_Event] = deque()
-        # What a new process of the pool doesn't have yet, oldest first.
-        self._missing = list(state.transactions)
+        # What a new process of the pool hasn't answered yet, oldest first.
+        self._missing = dict.fromkeys(state.transactions)
         self._program: Program | None = None
         # The conversations that no session has.
         self._free: list[Conversation] = []
@@ -75,7 +75,8 @@ class Conversations(Backend):
     async def open(self) -> Program:
         self._stop_waiting()
         state = self.copy_state()
-        self._is_open, self._missing, self._holdings = False, state.transactions, Holdings()
+        self._is_open, self._holdings = False, Holdings()
+        self._missing = dict.fromkeys(state.transactions)
         self._ledger.forget_former()
         self._program = program = await Program.start(self._command, self._clients)
         try:
@@ -109,10 +110,11 @@ class Conversations(Backend):
         """Submits again what the pool held, in order."""
         counts: Counter[str] = Counter()
         while self._missing:
-            batch = self._missing[:_BATCH]
+            batch = list(islice(self._missing, _BATCH))
             gives = (self._give(program.operator, data, counts) for data in batch)
             await asyncio.gather(*gives)
-            del self._missing[: len(batch)]
+            if counts["no-memory"]:
+                raise BadStart("there is no memory for what the pool held")
         refused = counts.total() - counts["accepted"] - counts["already"]
         if refused:
             _LOG.warning("%d transactions aren't valid any more, and were dropped", refused)
@@ -162,6 +164,8 @@ class Conversations(Backend):
             receipt = Receipt(given.id, given.ticket, None)
             self._add(Held(given.id, given.ticket, data))
         counts[receipt.word] += 1
+        if receipt.word != "no-memory":
+            self._missing.pop(data, None)
         return receipt
 
     # Sessions.

@@ -44,6 +44,10 @@ class Guard(asyncio.Protocol):
         """The connection is a WebSocket's, which has limits of its own."""
         self._is_idle, self._ahead, self.deadline = False, -1, math.inf
 
+    def is_late(self, now: float) -> bool:
+        """Returns whether the deadline has passed. A WebSocket that is closing has none left."""
+        return self.deadline < now or (self.deadline == math.inf and self.transport.is_closing())
+
     def abort(self) -> None:
         """Closes the connection at once."""
         self.transport.abort()
@@ -125,5 +129,5 @@ class Guards:
         while True:
             await asyncio.sleep(min(1.0, self.limits.request_seconds / 4))
             now = time.monotonic()
-            for guard in [one for one in self._guards.values() if one.deadline < now]:
+            for guard in [one for one in self._guards.values() if one.is_late(now)]:
                 guard.abort()

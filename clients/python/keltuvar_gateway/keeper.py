@@ -52,6 +52,9 @@ class Keeper:
                 _LOG.warning("the pool runs again, with %d transactions", self._pool.count)
             except (OSError, BadStart, Down) as error:
                 _LOG.error("the pool can't be started: %s", error)
+            except Exception:
+                # Whatever it is, the next start may go well.
+                _LOG.exception("the pool can't be started")
 
     async def save(self) -> int:
         """Writes the state file, and returns how many transactions it has.

@@ -3,11 +3,13 @@
 from __future__ import annotations
 
 import asyncio
+import contextlib
 import json
 from collections.abc import Iterator
 from typing import Any
 
 from aiohttp import WSMsgType, web
+from keltuvar import KeltuvarError
 
 from .backend import Backend, Busy, View
 from .holdings import Held
@@ -56,7 +58,7 @@ class _Session:
             return shape | {"result": await self._call(request.get("method"), params)}
         except (ValueError, RecursionError):
             code, message = _NOT_JSON, "it is no JSON"
-        except Down as error:
+        except (Down, KeltuvarError) as error:
             code, message = _FAILED, str(error)
         except _Fault as fault:
             code, message = fault.args
@@ -139,27 +141,45 @@ class Monitor:
         )
         await socket.prepare(request)
         requests: asyncio.Queue[str] = asyncio.Queue(_MOST_QUEUED)
-        answering = asyncio.create_task(self._answer_all(socket, requests))
+        # A client that doesn't read ends the answers, and the requests that wait for them.
+        tasks = [
+            asyncio.create_task(self._read_all(socket, request.remote or "", requests)),
+            asyncio.create_task(self._answer_all(socket, requests)),
+        ]
         try:
-            async for message in socket:
-                if message.type is not WSMsgType.TEXT or not self._rates.take(request.remote or ""):
-                    break
-                await requests.put(message.data)
+            await asyncio.wait(tasks, return_when=asyncio.FIRST_COMPLETED)
         finally:
-            answering.cancel()
-            await asyncio.wait([answering])
-            await socket.close()
+            for task in tasks:
+                task.cancel()
+            await asyncio.wait(tasks)
+            await self._close(socket, request)
         return socket
+
+    async def _close(self, socket: web.WebSocketResponse, request: web.BaseRequest) -> None:
+        """Closes a session. Of a client that doesn't take part in time it drops the connection."""
+        try:
+            async with asyncio.timeout(self._limits.request_seconds):
+                await socket.close()
+        except TimeoutError:
+            if request.transport:
+                request.transport.abort()
+
+    async def _read_all(
+        self, socket: web.WebSocketResponse, address: str, requests: asyncio.Queue[str]
+    ) -> None:
+        """Reads the requests of a session."""
+        async for message in socket:
+            if message.type is not WSMsgType.TEXT or not self._rates.take(address):
+                break
+            await requests.put(message.data)
 
     async def _answer_all(
         self, socket: web.WebSocketResponse, requests: asyncio.Queue[str]
     ) -> None:
         """Answers the requests of a session, one after the other."""
         session = _Session(self._pool)
-        try:
+        with contextlib.suppress(TimeoutError, ConnectionError):
             while True:
                 answer = await session.answer(await requests.get())
                 async with asyncio.timeout(self._limits.request_seconds):
                     await socket.send_json(answer)
-        except (TimeoutError, ConnectionError):
-            await socket.close()
