@@ -6,7 +6,7 @@ import asyncio
 import json
 from typing import Any
 
-from aiohttp import ClientWebSocketResponse
+from aiohttp import ClientWebSocketResponse, WSServerHandshakeError
 
 from . import LONG, GatewayCase, id_of, pay, spend
 
@@ -21,6 +21,15 @@ class Session(GatewayCase):
         socket = await self.http.ws_connect(f"{self.url}/monitor")
         self.addAsyncCleanup(socket.close)
         return socket
+
+    async def open_when_free(self) -> ClientWebSocketResponse:
+        """Opens a session as soon as there are fewer than the most."""
+        while True:
+            try:
+                return await self.open()
+            except WSServerHandshakeError as error:
+                self.assertEqual(error.status, 503)
+                await asyncio.sleep(0.1)
 
     async def ask(self, socket: ClientWebSocketResponse, method: str, **params: Any) -> Any:
         """Returns the result of a request."""
@@ -113,9 +122,7 @@ class Session(GatewayCase):
         clients = [await self.send_without_reading() for _ in range(4)]
         sockets = [await self.open() for _ in range(60)]
         async with asyncio.timeout(LONG):
-            while (await self.http.get(f"{self.url}/monitor")).status == 503:
-                await asyncio.sleep(0.1)
-        sockets += [await self.open() for _ in range(4)]
+            sockets += [await self.open_when_free() for _ in range(4)]
         await self.get("/monitor", 503)
         for client in clients:
             client.close()
