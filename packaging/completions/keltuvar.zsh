@@ -39,6 +39,7 @@ _keltuvar() {
         (serve)
           _arguments '(- *)'{-h,--help}'[write help]' $signatures \
             "--salt=[a number that salts the pool's tables]:number: " \
+            '--names=[how many names a conversation may declare]:number: ' \
             '*--client[also answer the lines of a file in another file]:lines:_files:answers:_files' && ret=0
           ;;
       esac

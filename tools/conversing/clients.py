@@ -14,10 +14,10 @@ from .scripts import NO, YES
 from .talk import Talk
 
 # What only the operator may ask.
-OF_OPERATOR = ("remove", "sync", "adopt", "back")
+OF_OPERATOR = ("remove", "sync", "adopt", "back", "stage", "unstage")
 # How much less often than alone the operator says what drops most of the pool, and a client what it may not ask.
-SELDOM_OF_OPERATOR = {"say_sync": 0.2, "say_taken": 0.1, "say_adopt": 0.5, "say_back": 0.5}
-SELDOM_OF_CLIENT = {f"say_{word}": 0.1 for word in ("remove", "sync", "taken", "adopt", "back", "out", "utxo", "setting")}
+SELDOM_OF_OPERATOR = {"say_sync": 0.2, "say_taken": 0.1, "say_adopt": 0.5, "say_forged": 0.5, "say_staged_outputs": 0.2, "say_back": 0.5}
+SELDOM_OF_CLIENT = {f"say_{word}": 0.1 for word in ("remove", "sync", "taken", "adopt", "stage", "forged", "staged_outputs", "back", "out", "utxo", "setting")}
 # The operator makes new outputs when fewer may be spent.
 FEW_OUTPUTS = 20
 # So many ids fit on a line, and so many transactions are declared for a block.

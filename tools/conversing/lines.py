@@ -27,9 +27,9 @@ STRANGE_COMMENTS = [b"#\t", b"# \x1f", b"#~", b"#\x7f", b"#\x80", b"\r", b"\x00"
 class RandomTalk:
     """A conversation: its lines, and the model's answers."""
 
-    def __init__(self, rng: Random, checked: bool) -> None:
+    def __init__(self, rng: Random, checked: bool, most_names: int = Talk.MOST_NAMES) -> None:
         self.rng = rng
-        self.talk = Talk(rules.is_anything if checked else rules.is_key_then_id)
+        self.talk = Talk(rules.is_anything if checked else rules.is_key_then_id, most_names)
         self.lines: list[bytes] = []
         self.answers: list[str] = []
         self.known = Known()
@@ -615,6 +615,62 @@ class RandomTalk:
         if answer.startswith("kept") and self.chance(0.3):
             self.say_back()
 
+    def stage_line(self) -> str:
+        """Stages the bytes of a transaction, transactions of the pool, or an output."""
+        kind = self.rng.random()
+        if kind < 0.4:
+            return f"stage {' '.join(self.give_line().split()[1:])}"
+        if kind < 0.7:
+            held = [item.tx.id.hex() for item in self.talk.pool.items] if self.talk.pool else []
+            words = ["#" + digits for digits in held[: self.rng.choice([1, 1, 2, 9])]]
+            if not words or self.chance(0.2):
+                words.append(self.any_word())
+            return f"stage {' '.join(words)}"
+        return self.stage_output_line(self.rng.choice([*self.ledger(), *self.unspent(), Ref(self.rng.choice(KEYS), 0)]))
+
+    def stage_output_line(self, ref: Ref) -> str:
+        output = self.unspent().get(ref) or self.ledger().get(ref)
+        if output is None or self.chance(0.1):
+            return f"stage {self.utxo_line()}"
+        digits = join(spell_output(output)).hex()
+        return f"stage utxo {ref.id.hex()}#{self.number(ref.place)} {digits.upper() if self.chance(0.1) else digits}"
+
+    def say_stage(self) -> None:
+        """Says a line about what is staged, or two."""
+        self.say(self.stage_line())
+        if self.chance(0.3):
+            self.say(self.rng.choice([self.stage_line, self.adopt_staged_line, self.sync_staged_line, lambda: "unstage"])())
+
+    def adopt_staged_line(self) -> str:
+        return " ".join(["adopt", self.other_tick(), *self.block_bytes()])
+
+    def sync_staged_line(self) -> str:
+        return " ".join(["sync", self.other_tick(), *self.block_bytes(), "staged"])
+
+    def say_forged(self) -> None:
+        """Stages the oldest transactions of the pool, or others that may be a block, and adopts them."""
+        words = self.held_block()
+        if self.chance(0.5):
+            words += self.found_block(self.tick())
+        if self.chance(0.7):
+            self.say("unstage")
+        for word in words:
+            in_pool = word.startswith("#")
+            self.say(f"stage {word if in_pool else self.names.tx(word).octets.hex()}")
+        self.say(self.adopt_staged_line())
+        self.ask_for_wanted()
+
+    def say_staged_outputs(self) -> None:
+        """Stages outputs near to those that may be spent now, and adopts them."""
+        chosen = {ref for ref in [*self.ledger(), *self.unspent()] if self.chance(0.85)}
+        if self.chance(0.7):
+            self.say("unstage")
+        for ref in sorted(chosen)[:60]:
+            self.say(self.stage_output_line(ref))
+        if self.chance(0.9):
+            self.say(self.sync_staged_line())
+            self.ask_for_wanted()
+
     def say_back(self) -> None:
         kept = len(self.talk.pool.former) if self.talk.pool else 0
         self.say(f"back {self.number(self.rng.choice([0, 1, 1, 1, 2, 3, kept, kept + 1]))}")
@@ -700,6 +756,9 @@ class RandomTalk:
                 self.remove_line,
                 lambda: self.ledger_line(self.rng.choice(["sync", "for"])),
                 self.adopt_line,
+                self.stage_line,
+                self.adopt_staged_line,
+                self.sync_staged_line,
                 lambda: f"back {self.rng.choice([0, 1])}",
                 self.read_line,
                 self.forget_line,
@@ -736,6 +795,9 @@ class RandomTalk:
         (say_for, 2),
         (say_adopt, 4),
         (say_back, 2),
+        (say_stage, 2),
+        (say_forged, 1),
+        (say_staged_outputs, 0.5),
         (say_read, 8),
         (say_forget, 2.5),
         (say_spoilt, 6),

@@ -6,7 +6,7 @@ from random import Random
 
 from .transactions import MOST_BYTES
 
-LONGEST = 91 + 2 * (MOST_BYTES - 27)  # An output that fills a transaction, and 91 bytes before it.
+LONGEST = 97 + 2 * (MOST_BYTES - 27)  # An output that fills a transaction, and 97 bytes before it.
 FAR = [LONGEST + 1, LONGEST + 4096, 2**16, 2**16 + 1, 100_000, 300_000]
 
 
@@ -25,6 +25,9 @@ def long_line(rng: Random, name: str, txs: list[str]) -> bytes:
             "give " + rng.choice(["0100", "00" * rng.choice([MOST_BYTES, MOST_BYTES + 1, MOST_BYTES + 14])]),
             f"bytes {name} " + "00" * rng.choice([MOST_BYTES, MOST_BYTES + 1, MOST_BYTES + 7, MOST_BYTES + 13, MOST_BYTES + 14]),
             f"utxo {'cd' * 32}#1 {'0a' * 64}0000",
+            f"stage utxo {'cd' * 32}#{rng.choice(['1', '2'])} {'0a' * 64}0000",
+            "stage " + rng.choice(["0100", "00" * rng.choice([MOST_BYTES, MOST_BYTES + 1, MOST_BYTES + 14])]),
+            "unstage",
             f"utxo {'cd' * 32}#{'0' * rng.choice([0, 18, 19, 20])}2 {'0a' * 64}0000",
         ]
     )

@@ -93,11 +93,13 @@ class Follower:
 
     def save(self) -> tuple[Any, ...]:
         talk = self.talk
-        return self.next, self.anchor, talk.names.copy(), talk.tells_ids, talk.refused.copy(), talk.lines, talk.offered
+        staged = (talk.staged, talk.staged_outputs)
+        return self.next, self.anchor, talk.names.copy(), talk.tells_ids, talk.refused.copy(), talk.lines, talk.offered, staged
 
     def restore(self, saved: tuple[Any, ...]) -> None:
         talk = self.talk
-        self.next, self.anchor, names, talk.tells_ids, refused, talk.lines, talk.offered = saved
+        self.next, self.anchor, names, talk.tells_ids, refused, talk.lines, talk.offered, staged = saved
+        talk.staged, talk.staged_outputs = staged
         talk.names, talk.refused = names.copy(), refused.copy()
 
     def take_step(self, pool: Pool) -> Pool | None:

@@ -13,7 +13,7 @@ from .pool import Item, Pool
 from .rules import Verifier
 from .talk import Talk
 
-CHANGES = ("submit", "give", *OF_OPERATOR)
+CHANGES = ("submit", "give", "remove", "sync", "adopt", "back")
 # A read may be of the pool as it was so many changes ago.
 MOST_STALE = 40
 

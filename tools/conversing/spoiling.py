@@ -17,7 +17,7 @@ NUMBERS = [
     "18446744073709551616", "00000000000000000001", "000000000000000000001", "0000000000000000001", "1e3", "0x1",
 ]  # fmt: skip
 FIRST_WORDS = [
-    "block", "limit", "last", "tick", "out", "utxo", "script", "data", "tx", "bytes", "give", "ids", "names", "reset", "show", "check", "submit", "remove",
+    "block", "limit", "last", "tick", "out", "utxo", "script", "data", "tx", "bytes", "give", "stage", "unstage", "ids", "names", "reset", "show", "check", "submit", "remove",
     "sync",
     "adopt", "back", "forget", "snapshot", "stats", "after", "lookup", "has", "take", "forge", "offer", "for", "Submit",
     "submits", "end", "help", "exit",
@@ -243,6 +243,9 @@ def odd_line(rng: Random, name: str, output: str) -> str:
             f"bytes {name} {rng.choice(DIGITS)}",
             f"utxo {rng.choice(REFS)} {rng.choice(OUTPUTS)}",
             f"utxo {rng.choice(REFS)} {rng.choice(OUTPUTS)}",
+            f"stage utxo {rng.choice(REFS)} {rng.choice(OUTPUTS)}",
+            f"stage {rng.choice([*DIGITS, 'utxo', '#', '#' + 'a' * 64, name])}",
+            f"sync {number} {rng.choice(['staged', 'staged', 'staged staged', 'block=300 staged', f'staged {output}'])}",
             f"{first} {number}",
             f"{first} {number} {rng.choice(NUMBERS)}",
             f"{first} 1 block={number}",

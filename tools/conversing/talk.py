@@ -43,8 +43,8 @@ from .words import (
 from . import data, scripts
 
 LONGEST_CLEAN = 4096
-# The longest line of the language has an output that fills a transaction: utxo ID#INDEX HEX, with an index of 20 digits.
-LONGEST_LINE = len("utxo ") + 64 + len("#") + 20 + len(" ") + 2 * (MOST_BYTES - 27)
+# The longest line of the language has an output that fills a transaction: stage utxo ID#INDEX HEX, with an index of 20 digits.
+LONGEST_LINE = len("stage utxo ") + 64 + len("#") + 20 + len(" ") + 2 * (MOST_BYTES - 27)
 # In the order of `stats`. Only a conversation that shares its pool answers that this has made as many changes as it may.
 REFUSALS = (*(word for word in read_refusal_words() if word != "memory"), "adopt", "back")
 
@@ -141,18 +141,26 @@ class Talk:
         "tick": (0, MOST, 0),
     }
 
-    LONGER = ("bytes", "give", "utxo")  # The first words of lines that may have more than 4,096 bytes.
+    LONGER = ("bytes", "give", "utxo", "stage")  # The first words of lines that may have more than 4,096 bytes.
 
     POOL = Pool
 
-    def __init__(self, verifier: Verifier) -> None:
+    DECLARING = ("script", "data", "out", "tx", "bytes")  # The first words of lines that declare a name.
+
+    MOST_NAMES = 65_536
+
+    def __init__(self, verifier: Verifier, most_names: int = MOST_NAMES) -> None:
         self.verifier = verifier
         self.names = Names()
         self.tells_ids = False
+        self.most_names = most_names
         self.settings: dict[str, int] = {}
         self.opening: dict[Ref, Output] = {}
         self.outs = 0
         self.pool: Pool | None = None
+        # What is staged; these are never changed in place.
+        self.staged: list[Tx] = []
+        self.staged_outputs: dict[Ref, Output] = {}
         self.offered = 0  # The last ticket that the conversation's one peer was offered.
         self.refused: Counter[str] = Counter()
         self.lines = 0
@@ -184,6 +192,8 @@ class Talk:
             raise Bad
         take, least, most = self.LINES[first]
         if len(words) < least or (most is not None and len(words) > most):
+            raise Bad
+        if first in self.DECLARING and self.names.count() >= self.most_names:
             raise Bad
         return take(self, *words)
 
@@ -232,17 +242,38 @@ class Talk:
         return "ok"
 
     def _utxo(self, word: str, digits: str) -> str:
-        before, _, behind = word.partition("#")
-        ref = Ref(octets(before), number(behind, most=MOST_PLACES - 1))
-        if len(ref.id) != 32 or self.pool or ref in self.opening:
+        ref, output = output_in(word, digits)
+        if self.pool or ref in self.opening:
             raise Bad
-        spelled = octets(digits)
-        if len(spelled) > MOST_BYTES - len(of_parts(Parts()).octets):
+        self.opening[ref] = output
+        return "ok"
+
+    def _stage(self, first: str, *words: str) -> str:
+        if first == "utxo":
+            return self._stage_output(*words)
+        if first.startswith("#"):
+            txs = [self._held(word) for word in (first, *words)]
+        elif words:
             raise Bad
-        try:
-            self.opening[ref] = decode_output(spelled)
-        except Fault:
-            raise Bad from None
+        else:
+            try:
+                txs = [decode(octets(first))]
+            except Fault as fault:
+                return f"undecodable {fault.name}"
+        self.staged = [*self.staged, *txs]
+        return f"staged {len(self.staged)}"
+
+    def _stage_output(self, *words: str) -> str:
+        if len(words) != 2:
+            raise Bad
+        ref, output = output_in(*words)
+        if ref in self.staged_outputs:
+            raise Bad
+        self.staged_outputs = self.staged_outputs | {ref: output}
+        return f"staged {len(self.staged_outputs)}"
+
+    def _unstage(self) -> str:
+        self.staged, self.staged_outputs = [], {}
         return "ok"
 
     def _tx(self, word: str, *items: str) -> str:
@@ -276,10 +307,12 @@ class Talk:
 
     def _meant(self, word: str) -> Tx:
         """Gives the transaction that has the name, or that the pool holds under the id."""
+        return self.names.tx(word) if id_in(word) is None else self._held(word)
+
+    def _held(self, word: str) -> Tx:
+        """Gives the transaction that the pool holds under the id that a word has."""
         id = id_in(word)
-        if id is None:
-            return self.names.tx(word)
-        held = self.pool.held(id) if self.pool else None
+        held = self.pool.held(id) if self.pool and id is not None else None
         if held is None:
             raise Bad
         return held.tx
@@ -296,7 +329,7 @@ class Talk:
         if self.pool is None:
             raise Bad
         self.names, self.tells_ids, self.offered, self.lines = Names(), False, 0, 0
-        return "ok"
+        return self._unstage()
 
     def _show(self, word: str) -> str:
         tx = self._meant(word)
@@ -332,9 +365,11 @@ class Talk:
 
     def _adopt(self, word: str, *words: str) -> str:
         tick, block_bytes, words = self._state_words(word, words)
-        txs = [self._meant(word) for word in words]
+        txs = [self._meant(word) for word in words] or self.staged
         try:
-            return tell_two("kept", *self._opened().adopt(tick, block_bytes, txs))
+            answer = tell_two("kept", *self._opened().adopt(tick, block_bytes, txs))
+            self.staged = self.staged if words else []
+            return answer
         except Refused as refused:
             if refused.broken[0] != "adopt":
                 raise
@@ -346,8 +381,12 @@ class Talk:
         return tell_two("kept", *self._opened().back(count))
 
     def _sync(self, word: str, *words: str) -> str:
-        ledger = self._ledger_state(word, words)
-        return tell_two("kept", *self._opened().sync(ledger))
+        tick, block_bytes, refs = self._state_words(word, words)
+        if refs != ("staged",) or isinstance(self.names.others.get("staged"), Opening):
+            return tell_two("kept", *self._opened().sync(self._ledger_state(word, words)))
+        answer = tell_two("kept", *self._opened().sync(LedgerState(tick, block_bytes, self.staged_outputs)))
+        self.staged_outputs = {}
+        return answer
 
     def _for(self, word: str, *words: str) -> str:
         ledger = self._ledger_state(word, words)
@@ -441,6 +480,8 @@ class Talk:
         "tx": (_tx, 2, None),
         "bytes": (_bytes, 2, 2),
         "give": (_give, 1, 1),
+        "stage": (_stage, 1, None),
+        "unstage": (_unstage, 0, 0),
         "ids": (_ids, 0, 0),
         "names": (_names, 0, 0),
         "reset": (_reset, 0, 0),
@@ -462,6 +503,19 @@ class Talk:
         "forge": (_forge, 1, 1),
         "offer": (_offer, 2, 2),
     }
+
+
+def output_in(word: str, digits: str) -> tuple[Ref, Output]:
+    """Reads an output by its bytes, and its reference by the id and the index."""
+    before, _, behind = word.partition("#")
+    ref = Ref(octets(before), number(behind, most=MOST_PLACES - 1))
+    spelled = octets(digits)
+    if len(ref.id) != 32 or len(spelled) > MOST_BYTES - len(of_parts(Parts()).octets):
+        raise Bad
+    try:
+        return ref, decode_output(spelled)
+    except Fault:
+        raise Bad from None
 
 
 def tell_digits(octets: bytes) -> str:

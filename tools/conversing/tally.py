@@ -13,7 +13,7 @@ FAULTS = [
     "truncated", "trailing", "version", "order", "bundle", "script", "data", "interval", "large", "spent", "references",
 ]  # fmt: skip
 FIRST_WORDS = [
-    "ok", "bad", "tx", "accepted", "removed", "kept", "forgotten", "snapshot", "stats", "after", "lookup", "has", "take",
+    "ok", "bad", "tx", "accepted", "removed", "kept", "staged", "forgotten", "snapshot", "stats", "after", "lookup", "has", "take",
     "block", "offer", "for",
 ]  # fmt: skip
 KINDS = [

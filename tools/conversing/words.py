@@ -78,6 +78,8 @@ def id_in(word: str) -> bytes | None:
 class Names:
     """What has been declared."""
 
+    FIRST = 3  # So many names are declared from the start.
+
     def __init__(self) -> None:
         self.scripts: dict[str, Script] = {"yes": scripts.YES, "no": scripts.NO}
         self.data: dict[str, Datum] = {"unit": data.UNIT}
@@ -90,6 +92,10 @@ class Names:
         new.scripts, new.data = dict(self.scripts), dict(self.data)
         new.others, new.reported = dict(self.others), dict(self.reported)
         return new
+
+    def count(self) -> int:
+        """Gives how many names lines have declared."""
+        return len(self.scripts) + len(self.data) + len(self.others) - self.FIRST
 
     def new(self, word: str, names: dict[str, object]) -> str:
         """Gives a word that may be declared among the names."""

@@ -94,6 +94,10 @@ def read_forgotten(answer: str) -> int:
     return read_number(_read_word(answer, "forgotten"))
 
 
+def read_staged(answer: str) -> int:
+    return read_number(_read_word(answer, "staged"))
+
+
 def read_snapshot(answer: str) -> Snapshot:
     count, size, last, *items = _read_words(answer, "snapshot")
     return Snapshot(read_number(count), read_number(size), read_number(last), _read_items(items))

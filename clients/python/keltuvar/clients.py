@@ -47,6 +47,7 @@ class Clients:
         *,
         signatures: Signatures = "trial",
         salt: int | None = None,
+        names: int | None = None,
         timeout: float | None = None,
     ) -> None:
         """Starts `PROGRAM serve` for so many clients, 0 to 63. Raises an OSError if it can't be run.
@@ -54,7 +55,7 @@ class Clients:
         The other arguments are those of `Pool`.
         """
         limit, number = read_limit(timeout), int(words.format_number(count, MOST_CLIENTS))
-        command = make_command(program, signatures, salt)
+        command = make_command(program, signatures, salt, names)
         self._owner = os.getpid()
         with contextlib.ExitStack() as stack:
             folder = stack.enter_context(tempfile.TemporaryDirectory(prefix="keltuvar-"))

@@ -44,6 +44,9 @@ LAST_WORDS = 1.0
 # How many characters of a line an error shows.
 _MOST_TOLD = 60
 _MOST_BLOCK, _MOST_LIMIT = 2**39, 2**32
+_MOST_NAMES = 2**32
+# So many ids fit on a line.
+_MOST_IDS = 490
 
 
 class Pool:
@@ -68,6 +71,7 @@ class Pool:
         *,
         signatures: Signatures = "trial",
         salt: int | None = None,
+        names: int | None = None,
         timeout: float | None = None,
     ) -> None:
         """Starts `PROGRAM serve`. Raises an OSError if that can't be run.
@@ -76,10 +80,11 @@ class Pool:
             and then the id. "checked" accepts every signature, as verified by the caller.
             "ed25519" accepts Ed25519 signatures of the id.
         salt: a number for the program's `--salt`; without one the program chooses.
+        names: how many names may be declared, 1 to 2^32, default 65,536.
         timeout: the limit of each call that has none of its own; None is no limit.
         """
         limit = read_limit(timeout)
-        process = Process(make_command(program, signatures, salt))
+        process = Process(make_command(program, signatures, salt, names))
         self._set_up(process.channel, process, limit)
 
     @classmethod
@@ -306,7 +311,10 @@ class Pool:
         return self._ask(["names"], answers.read_ok, timeout)
 
     def reset(self, *, timeout: float | None = None) -> None:
-        """Forgets all names, ends `ids`, and counts lines from 1. The pool holds what it held."""
+        """Forgets all names and what is staged, ends `ids`, and counts lines from 1.
+
+        The pool holds what it held.
+        """
         return self._ask(["reset"], answers.read_ok, timeout)
 
     # Changes.
@@ -355,8 +363,61 @@ class Pool:
         """Adopts the ledger state after a block of these transactions, in this order.
 
         block: as of `sync`. Where a transaction isn't valid the refusal's word is `adopt`.
+
+        Without a transaction it is `adopt_staged`.
         """
         line = ["adopt", *_format_moment(tick, block), *words.format_transactions(transactions)]
+        return self._ask(line, answers.read_ledger_change, timeout)
+
+    def stage(self, data: bytes, *, timeout: float | None = None) -> int:
+        """Stages a transaction by its bytes for the next block. Returns how many are staged."""
+        return self._ask(["stage", words.format_bytes(data)], answers.read_staged, timeout)
+
+    def stage_ids(self, ids: Iterable[str], *, timeout: float | None = None) -> int:
+        """Stages transactions that the pool holds, by their ids. Returns how many are staged.
+
+        Many ids are several lines. If the pool lacks one, none of its line is staged, those of
+        the others are, and the first error is raised.
+        """
+        chosen = words.format_some(words.format_ids(ids))
+        starts = range(0, len(chosen), _MOST_IDS)
+        lines = [" ".join(["stage", *chosen[start : start + _MOST_IDS]]) for start in starts]
+        counts = self._raise_first(self._exchange(lines, _each(answers.read_staged), timeout))
+        return counts[-1]
+
+    def stage_output(
+        self, transaction_id: str, index: int, data: bytes, *, timeout: float | None = None
+    ) -> int:
+        """Stages an output of the next ledger state, given its bytes in a transaction.
+
+        Returns how many outputs are staged.
+        """
+        reference = words.format_output_id(transaction_id, index)
+        line = ["stage", "utxo", reference, words.format_bytes(data)]
+        return self._ask(line, answers.read_staged, timeout)
+
+    def unstage(self, *, timeout: float | None = None) -> None:
+        """Forgets all that is staged."""
+        return self._ask(["unstage"], answers.read_ok, timeout)
+
+    def adopt_staged(
+        self, tick: int, *, block: int | None = None, timeout: float | None = None
+    ) -> LedgerChange:
+        """Adopts the ledger state after the block of the staged transactions, perhaps of none.
+
+        block: as of `sync`. After a refusal they are still staged.
+        """
+        line = ["adopt", *_format_moment(tick, block)]
+        return self._ask(line, answers.read_ledger_change, timeout)
+
+    def sync_staged(
+        self, tick: int, *, block: int | None = None, timeout: float | None = None
+    ) -> LedgerChange:
+        """Adopts the ledger state at the tick with exactly the staged outputs.
+
+        block: as of `sync`. There may be no output called `staged`.
+        """
+        line = ["sync", *_format_moment(tick, block), "staged"]
         return self._ask(line, answers.read_ledger_change, timeout)
 
     def back(self, count: int, *, timeout: float | None = None) -> LedgerChange:
@@ -514,7 +575,9 @@ class Pool:
         return Broken(self._fault or "", self.status, error_text)
 
 
-def make_command(program: Program, signatures: Signatures, salt: int | None) -> list[str]:
+def make_command(
+    program: Program, signatures: Signatures, salt: int | None, names: int | None
+) -> list[str]:
     """Returns the command line that begins a conversation."""
     if signatures not in ("trial", "checked", "ed25519", "scenarios"):
         raise ValueError(f"{signatures!r:.80} is none of 'trial', 'checked' and 'ed25519'")
@@ -523,6 +586,10 @@ def make_command(program: Program, signatures: Signatures, salt: int | None) -> 
         command += ["--signatures", signatures]
     if salt is not None:
         command += ["--salt", words.format_number(salt)]
+    if names is not None:
+        if names == 0:
+            raise ValueError("a conversation has at least 1 name")
+        command += ["--names", words.format_number(names, _MOST_NAMES)]
     return command
 
 

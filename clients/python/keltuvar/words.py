@@ -117,6 +117,12 @@ def format_output_id(transaction_id: object, index: object) -> str:
     return f"{digits}#{format_number(index, 65535)}"
 
 
+def format_ids(ids: object) -> list[str]:
+    """Returns the words `#ID` of several ids, each of 64 lower-case digits."""
+    form = "id: 64 lower-case hexadecimal digits"
+    return [f"#{_format_match(_READ_ID, digits, form)}" for digits in check_list(ids)]
+
+
 def _format_entry(token: object, quantity: object) -> str:
     word = _format_match(_TOKEN, token, "token: 'coin', 'POLICY' or 'POLICY.TOKEN'")
     if not isinstance(quantity, int) or isinstance(quantity, bool):

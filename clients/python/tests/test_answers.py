@@ -239,6 +239,7 @@ READERS: dict[str, Callable[[str], object]] = {
     "offer": answers.read_offer,
     "removed": answers.read_removed,
     "snapshot": answers.read_snapshot,
+    "staged": answers.read_staged,
     "stats": answers.read_stats,
     "take": answers.read_take,
 }

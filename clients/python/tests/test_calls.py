@@ -127,6 +127,22 @@ CALLS: list[tuple[Callable[[Pool], object], str, str, object]] = [
         LedgerChange((), (1,)),
     ),
     (lambda pool: pool.adopt(6, ()), "adopt 6", "kept 4 dropped", LedgerChange((4,), ())),
+    (lambda pool: pool.stage(b"\x01\xff"), "stage 01ff", "staged 3", 3),
+    (lambda pool: pool.stage_ids([ID, ID]), f"stage #{ID} #{ID}", "staged 2", 2),
+    (
+        lambda pool: pool.stage_output(ID, 7, b"\x0a"),
+        f"stage utxo {ID}#7 0a",
+        "staged 18446744073709551615",
+        2**64 - 1,
+    ),
+    (lambda pool: pool.unstage(), "unstage", "ok", None),
+    (lambda pool: pool.adopt_staged(5), "adopt 5", "kept dropped 1", LedgerChange((), (1,))),
+    (
+        lambda pool: pool.sync_staged(5, block=300),
+        "sync 5 block=300 staged",
+        "kept 1 dropped",
+        LedgerChange((1,), ()),
+    ),
     (lambda pool: pool.back(0), "back 0", "kept dropped", LedgerChange((), ())),
     (lambda pool: pool.forge(300), "forge 300", "block 0 0", Block(0, 0, ())),
     (
@@ -173,6 +189,8 @@ WRONG: list[tuple[Callable[[Pool], object], list[str]]] = [
     (lambda pool: pool.give(b"a"), ["accepted 1", "accepted 1 a", f"accepted {ID}", "ok"]),
     (lambda pool: pool.remove("a"), ["removed", "removed 1", "removed x dropped", "kept dropped"]),
     (lambda pool: pool.back(1), ["kept", "kept 1", "removed dropped", "kept dropped -1"]),
+    (lambda pool: pool.stage(b"a"), ["staged", "staged a", "staged 1 2", "ok", "kept dropped"]),
+    (lambda pool: pool.unstage(), ["staged 0", "unstaged"]),
     (lambda pool: pool.after(0), ["after a", "after 1:a:b", "after x:a", "for 1:a", "after "]),
     (lambda pool: pool.has("a"), ["has", "has maybe", "has yes no", "lookup yes"]),
     (lambda pool: pool.lookup(9), ["lookup", "lookup a b", "has yes"]),
@@ -230,6 +248,15 @@ class Calls(unittest.TestCase):
             self.pool.settings(block=300, last=3, tick=4)
         self.assertEqual(caught.exception.number, 2)
 
+    def test_many_ids_are_several_lines(self) -> None:
+        self.pool.ask_all(["next staged 490", "next staged 980", "next staged 981"])
+        self.assertEqual(self.pool.stage_ids([ID] * 981), 981)
+        self.assertEqual(self.pool.ask("heard"), f"stage #{ID}")
+        self.pool.ask_all(["next staged 490", "next bad 2: no transaction", "next staged 491"])
+        with self.assertRaises(BadLine) as caught:
+            self.pool.stage_ids([ID] * 981)
+        self.assertEqual(caught.exception.number, 2)
+
     def test_many_lines(self) -> None:
         self.assertEqual(self.pool.ask_all([]), [])
         self.pool.ask("next refused missing 0")
@@ -269,6 +296,8 @@ class Programs(unittest.TestCase):
             self.assertEqual(pool.ask("arguments"), "serve --signatures ed25519")
         with Pool(FAKE, timeout=LONG, signatures="checked", salt=7) as pool:
             self.assertEqual(pool.ask("arguments"), "serve --signatures checked --salt 7")
+        with Pool(FAKE, timeout=LONG, names=2**32) as pool:
+            self.assertEqual(pool.ask("arguments"), "serve --names 4294967296")
 
     def test_streams(self) -> None:
         pipe = subprocess.PIPE

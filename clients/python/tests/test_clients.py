@@ -43,8 +43,9 @@ class Fake(unittest.TestCase):
         self.assertEqual(first.ask("long 5000000"), "x" * 5000000)
 
     def test_the_command_line(self) -> None:
-        with Clients(FAKE, 0, signatures="checked", salt=7, timeout=LONG) as pools:
-            self.assertEqual(pools.operator.ask("arguments"), "serve --signatures checked --salt 7")
+        with Clients(FAKE, 0, signatures="checked", salt=7, names=9, timeout=LONG) as pools:
+            expected = "serve --signatures checked --salt 7 --names 9"
+            self.assertEqual(pools.operator.ask("arguments"), expected)
         words = self.pools.operator.ask("arguments").split(" ")
         self.assertEqual(words[1::3], ["--client"] * 3)
         folders = {os.path.dirname(word) for word in words[2::3] + words[3::3]}
@@ -184,7 +185,8 @@ class Program(unittest.TestCase):
         assert PROGRAM
         with Clients(PROGRAM, 1, timeout=LONG) as pools:
             pools.operator.snapshot()
-            for line in ("remove a", "sync 1", "adopt 1", "back 0", "block 9", "out g 5"):
+            lines = ("remove a", "sync 1", "adopt 1", "stage 00", "unstage", "back 0", "block 9")
+            for line in (*lines, "out g 5"):
                 with self.assertRaises(BadLine):
                     pools.clients[0].ask(line)
             pools.clients[0].reset()

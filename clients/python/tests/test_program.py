@@ -45,6 +45,7 @@ PLAIN = bytes.fromhex(
     "0000000000000000" "ffffffffffffffff"
     "0000" "0000" "0000"
 )
+PLAIN_OUTPUT = PLAIN[52:159]
 PLAIN_ID = "f8f11283a19134b80b18f90f8ab47ef21a315808b705b442408dadb4fffe20b1"
 # What an output of 100 coin has there.
 PLAIN_OUTPUT = PLAIN[52:159]
@@ -143,7 +144,16 @@ class Program(unittest.TestCase):
         self.assertEqual(pool.adopt(1, [f"#{PLAIN_ID}"]), LedgerChange((), (1,)))
         self.assertEqual(pool.back(1), LedgerChange((), ()))
         self.assertEqual(pool.give(PLAIN).ticket, 2)
-        self.assertEqual(pool.remove(f"#{PLAIN_ID}"), Removed((2,), ()))
+        self.assertEqual((pool.stage_ids([PLAIN_ID]), pool.stage(PLAIN)), (1, 2))
+        self.assertEqual(refusal(lambda: pool.adopt_staged(1)).word, "adopt")
+        pool.unstage()
+        self.assertEqual(pool.stage_ids([PLAIN_ID]), 1)
+        self.assertEqual(pool.adopt_staged(1, block=500), LedgerChange((), (2,)))
+        self.assertEqual(pool.adopt_staged(1), LedgerChange((), ()))
+        self.assertEqual(pool.stage_output("0" * 64, 0, PLAIN_OUTPUT), 1)
+        self.assertEqual(pool.sync_staged(2), LedgerChange((), ()))
+        self.assertEqual(pool.give(PLAIN).ticket, 3)
+        self.assertEqual(pool.remove(f"#{PLAIN_ID}"), Removed((3,), ()))
 
     def test_removal(self) -> None:
         pool = self.begin()

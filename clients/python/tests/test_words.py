@@ -137,6 +137,7 @@ class Injection(unittest.TestCase):
             lambda names: pool.sync(1, names),
             lambda names: pool.try_ledger(1, names),
             lambda names: pool.adopt(1, names),
+            lambda names: pool.stage_ids(names),
             lambda names: pool.tx("a", inputs=names),
             lambda names: pool.tx("a", references=names),
             lambda names: pool.tx("a", policies=names),
@@ -153,6 +154,8 @@ class Injection(unittest.TestCase):
             lambda number: pool.sync(number, []),
             lambda number: pool.try_ledger(number, []),
             lambda number: pool.adopt(number, []),
+            lambda number: pool.adopt_staged(number),
+            lambda number: pool.sync_staged(number),
             lambda number: pool.back(number),
             lambda number: pool.after(number),
             lambda number: pool.lookup(number),
@@ -176,6 +179,8 @@ class Injection(unittest.TestCase):
             lambda number: pool.sync(1, [], block=number),
             lambda number: pool.try_ledger(1, [], block=number),
             lambda number: pool.adopt(1, [], block=number),
+            lambda number: pool.adopt_staged(1, block=number),
+            lambda number: pool.sync_staged(1, block=number),
             lambda number: pool.tx("a", first_tick=number),
             lambda number: pool.tx("a", last_tick=number),
         ]
@@ -240,6 +245,9 @@ class Injection(unittest.TestCase):
         program: Any = "/nowhere"
         with self.assertRaises(ValueError):
             Pool(program, signatures="checked --salt 5")  # type: ignore[arg-type]
+        for names in (0, -1, 2**32 + 1):
+            with self.assertRaises(ValueError):
+                Pool(program, names=names)
         for salt in (-1, 2**64):
             with self.assertRaises(ValueError):
                 Pool(program, salt=salt)

@@ -12,10 +12,12 @@ use Rattle.mp_signatures.specs.declared.scheme.Scheme.{Scheme}
 use Rattle.mp_serve.specs.declared.conversation.Conversation as alone
 use Rattle.mp_serve.specs.ServedPool.{ServedPool}
 use Rattle.mp_serve.specs.Ask.{NewBlock}
-use Rattle.mp_serve.specs.TxWord.{TxWord, tx_meant, put_meant}
-use Rattle.mp_serve.specs.Request.{Request, Check, Extend, respond}
+use Rattle.mp_serve.specs.TxWord.{TxWord, tx_meant}
+use Rattle.mp_session.specs.Settings.{salt_of}
+use Rattle.mp_serve.specs.Staged.{Staged, nothing_staged}
+use Rattle.mp_serve.specs.Request.{Request, Check, respond}
 use Rattle.mp_serve.specs.Texts.{ok_text, bytes_text, show_text, forgotten_text}
-use Rattle.mp_serve.specs.Talk.{Step, ask, read, with_read, with_names, names_to_go, forget, show, check, extend, block_at, reset_at}
+use Rattle.mp_serve.specs.Talk.{Step, ask, read, with_read, with_names, names_to_go, forget, show, check, extend, adopt_by, block_at, block_txs, with_staging, reset_at}
 use Rattle.mp_clients.specs.declared.conversation.Conversation.{Conversation}
 use Rattle.mp_clients.specs.Client.{Client, served_at}
 use Rattle.mp_clients.specs.Alone.{alone_at, stage_of}
@@ -78,11 +80,12 @@ module _ {N : Type 0} (accepts : Accepts) (c : Conversation N) where
   }
 
   -- all names are forgotten, and the peer is offered all again
-  pub told_reset : (names : Names) (k : Client) (text : List ℕ) (u : Conversation N) → names ≡ first_names → k ≡ record c.client { cursor = 0 } → text ≡ ok_text
-      → u ≡ record c { names = names; client = k; line = 0 } → IsToldAlone accepts c (λ x. reset_at x x.session.stage) text u
-  told_reset names k text u none offers is same =
-      let all : u ≡ record c { names = first_names; client = record c.client { cursor = 0 }; line = 0 } =
-      same ∙ ap₂ (λ (n : Names) (x : Client). record c { names = n; client = x; line = 0 }) none offers in
+  pub told_reset : (names : Names) (k : Client) (s : Staged) (text : List ℕ) (u : Conversation N) → names ≡ first_names → k ≡ record c.client { cursor = 0 } → s ≡ nothing_staged (salt_of (arc_value c.settings)) → text ≡ ok_text
+      → u ≡ record c { names = names; client = k; staged = s; line = 0 } → IsToldAlone accepts c (λ x. reset_at x x.session.stage) text u
+  told_reset names k s text u none offers nothing is same =
+      let all : u ≡ record c { names = first_names; client = record c.client { cursor = 0 }; staged = nothing_staged (salt_of (arc_value c.settings)); line = 0 } =
+      same ∙ ap₂ (λ (n : Names) (x : Client). record c { names = n; client = x; staged = s; line = 0 }) none offers
+      ∙ ap (λ (y : Staged). record c { names = first_names; client = record c.client { cursor = 0 }; staged = y; line = 0 }) nothing in
       record {
         said = ap₂ (λ (v : Conversation N) t. Some (alone_at accepts v c.client.pass.front, t)) (sym all) (sym is);
         pass = ap (λ (v : Conversation N). v.client.pass) all;
@@ -110,8 +113,16 @@ module _ {N : Type 0} (accepts : Accepts) (c : Conversation N) where
   pub bad_check : (word : TxWord) → tx_meant (stage_of accepts c.client) word ≡ None → IsBadAlone accepts c (λ x. check x word)
   bad_check word none = ap (option_map (λ t. ask now (Check t))) none
 
-  pub bad_extend : (b : NewBlock) → put_meant (stage_of accepts c.client) [] b.txs ≡ None → IsBadAlone accepts c (λ x. extend x b)
-  bad_extend b none = ap (option_map (λ txs. ask now (Extend (block_at (arc_value c.settings) b txs)))) none
+  pub bad_extend : (b : NewBlock) → block_txs c.staged (stage_of accepts c.client) b.txs ≡ None → IsBadAlone accepts c (λ x. extend x b)
+  bad_extend b none = ap (option_map (λ txs. adopt_by now b.txs (block_at (arc_value c.settings) b txs))) none
+
+  -- something is staged
+  pub told_staged : (r : Staged × List ℕ) (s : Staged) (text : List ℕ) (u : Conversation N) → r ≡ (s, text) → u ≡ record c { staged = s } → IsToldAlone accepts c (λ x. Some (with_staging x r)) text u
+  told_staged r s text u is same = record {
+    said = ap (λ (y : Staged × List ℕ). Some (with_staging now y)) is ∙ ap (λ (v : Conversation N). Some (alone_at accepts v c.client.pass.front, text)) (sym same);
+    pass = ap (λ (v : Conversation N). v.client.pass) same;
+    ledger = ap (λ (v : Conversation N). v.client.ledger) same;
+  }
 
   -- a transaction was read
   pub told_read : (name : List ℕ) (found : Result Transaction TxFault) (t : Transaction) (names : Names) (text : List ℕ) (u : Conversation N) → found ≡ Ok t

@@ -1,10 +1,11 @@
 -- The operator's lines before the pool is open.
 use Rattle.std.proofs.Common.{◌≡◌, ◌⊎◌, ℕ, true, false, List, [], ◌∷◌, ◌++◌, inl, inr, refl, sym, ap, subst, ◌∙◌, append-nil}
-use Rattle.std.specs.Prelude.{Option, None, Some, IfSome, option_map, option_and_then}
+use Rattle.std.specs.Prelude.{Option, None, Some, IfSome, option_map, option_and_then, Result, Ok, Err}
 use Rattle.std.specs.Io.KnownBytes.{Appends, IsAtEnd}
 use Rattle.std.specs.Io.BufRead.{drop_through, DropsThrough}
 use Rattle.mp_tx.specs.Transaction.{Transaction}
 use Rattle.mp_tx.specs.Reading.{transaction_of}
+use Rattle.mp_tx.specs.declared.fault.TxFault.{TxFault}
 use Rattle.mp_tx.specs.declared.reference.OutRef.{OutRef}
 use Rattle.mp_tx.specs.declared.output.Output.{Output}
 use Rattle.mp_text.specs.Lines.{lines_of}
@@ -27,10 +28,11 @@ use Rattle.mp_serve.specs.declared.conversation.Conversation.{Conversation}
 use Rattle.mp_serve.specs.declared.fault.Fault.TheVariants.{ReadFault}
 use Rattle.mp_serve.specs.Ask as asks
 use Rattle.mp_serve.specs.Ask.{Ask, NewBlock, longest, ask_within, ask_of}
-use Rattle.mp_serve.specs.Request.{Check, Extend}
+use Rattle.mp_serve.specs.Request.{Check}
+use Rattle.mp_serve.specs.Staged.{Staged, add_txs, add_output}
 use Rattle.mp_serve.specs.TxWord.{TxWord, Named, Pooled, tx_held, tx_meant, put_meant}
 use Rattle.mp_serve.specs.Served.{IsBadLine, IsTold, IsAnswer, AreAnswers}
-use Rattle.mp_serve.specs.Talk.{Step, take as taken, line_step, with_session, ask, ask_if, block_at, reset_at}
+use Rattle.mp_serve.specs.Talk.{Step, take as taken, line_step, with_session, ask, ask_if, adopt, block_at, with_staging, stage_bytes, reset_at}
 use Rattle.mp_serve.specs.Texts.{ok_text, show_text, no_memory_text}
 use Rattle.mp_serve.proofs.Lines.{first_through}
 use Rattle.mp_serve.proofs.Progress.{Progress, Stands}
@@ -97,10 +99,28 @@ module _ (c : Conversation) (before : IsBefore c.session.stage) where
   checks (Pooled id) e =
       subst (λ (o : Option Transaction). Stays (option_map (λ t. ask c (Check t)) o)) (sym (none_held c.session.stage id before)) tt
 
+  extends_by : (tick : ℕ) (bytes : Option ℕ) (words : List TxWord) → list_all is_named words ≡ false
+      → Stays (taken c (asks.Extends (record { tick = tick; block_bytes = bytes; txs = words })))
+  extends_by tick bytes [] e = Prim.cc
+  extends_by tick bytes (word ∷ words) e =
+      subst (λ (o : Option (List Transaction)). Stays (option_map (λ txs. adopt c (block_at c.session.settings (record { tick = tick; block_bytes = bytes; txs = word ∷ words }) txs)) o))
+      (sym (none_meant c.session.stage [] (word ∷ words) before e)) tt
+
   extends : (b : NewBlock) → list_all is_named b.txs ≡ false → Stays (taken c (asks.Extends b))
-  extends b e =
-      subst (λ (o : Option (List Transaction)). Stays (option_map (λ txs. ask c (Extend (block_at c.session.settings b txs))) o))
-      (sym (none_meant c.session.stage [] b.txs before e)) tt
+  extends b e = extends_by b.tick b.block_bytes b.txs e
+
+  -- nothing that is staged opens it
+  stages : (found : Result Transaction TxFault) → IsBefore (stage_bytes c found).0.session.stage
+  stages (Ok t) = before
+  stages (Err fault) = before
+
+  stages_held : (o : Option (List Transaction)) → Stays (option_map (λ txs. with_staging c (add_txs c.staged txs)) o)
+  stages_held None = tt
+  stages_held (Some txs) = before
+
+  stages_output : (o : Option (Staged × List ℕ)) → Stays (option_map (with_staging c) o)
+  stages_output None = tt
+  stages_output (Some r) = before
 
   resets : (stage : Stage ServedPool) → IsBefore stage → Stays (reset_at c stage)
   resets (Before b) at = tt
@@ -129,6 +149,11 @@ module _ (c : Conversation) (before : IsBefore c.session.stage) where
   stays asks.Counts e = Prim.cc
   stays (asks.Holds r o) e = holds r o c.session.stage
   stays (asks.Extends b) e = extends b e
+  stays (asks.Stages bytes) e = stages (transaction_of bytes)
+  stays (asks.StagesHeld words) e = stages_held (put_meant c.session.stage [] words)
+  stays (asks.StagesOutput r o) e = stages_output (add_output c.staged r o)
+  stays asks.Unstages e = before
+  stays (asks.Syncs n b) e = Prim.cc
   stays (asks.Returns n) e = Prim.cc
   stays (asks.Forgets ns) e = before
   stays (asks.ReportsById b) e = before
@@ -140,16 +165,16 @@ module _ (c : Conversation) (before : IsBefore c.session.stage) where
 -- ---- answers
 
 module _ (c : Conversation) (line text : List ℕ) (u : Conversation) where
-  step_of : (o : Option Ask) → ask_of c.session.names line ≡ o → line_step c line ≡ option_and_then (taken c) o
+  step_of : (o : Option Ask) → ask_of c.session.names c.most_names line ≡ o → line_step c line ≡ option_and_then (taken c) o
   unfolding line_step
   step_of o e = ap (option_and_then (taken c)) e
 
   -- the line asks this
-  pub asked_line : (ask : Ask) → ask_of c.session.names line ≡ Some ask → IsStepTold c.line c (taken c ask) text u → IsAnswer c.line c line text u
+  pub asked_line : (ask : Ask) → ask_of c.session.names c.most_names line ≡ Some ask → IsStepTold c.line c (taken c ask) text u → IsAnswer c.line c line text u
   asked_line ask e is = subst (λ (s : Step). IsStepTold c.line c s text u) (sym (step_of (Some ask) e)) is
 
 -- the line isn't in the language
-pub bad_line : (c : Conversation) (line text : List ℕ) → ask_of c.session.names line ≡ None → IsBadLine c.line text ⊎ (text ≡ no_memory_text) → IsAnswer c.line c line text c
+pub bad_line : (c : Conversation) (line text : List ℕ) → ask_of c.session.names c.most_names line ≡ None → IsBadLine c.line text ⊎ (text ≡ no_memory_text) → IsAnswer c.line c line text c
 bad_line c line text e (inl bad) = inl (subst (λ (s : Step). IsTold c.line c s text c) (sym (step_of c line text c None e)) (bad, refl))
 bad_line c line text e (inr none) = inr (none, refl)
 
@@ -165,7 +190,7 @@ module _ (g : Conversation) (old now : Option (List ℕ)) (s : Conversation) (n 
       (p.text, subst (λ l. AreAnswers g l p.text s) (sym done) p.told, p.wrote)
 
   module _ (left after : Option (List ℕ)) (kept : List ℕ) (dropped : DropsThrough left after 10)
-      (line : IfSome left (λ bytes. IsLine longest bytes Whole kept)) (opens_it : Opens s.session.names kept) where
+      (line : IfSome left (λ bytes. IsLine longest bytes Whole kept)) (opens_it : Opens s.session.names s.most_names kept) where
     come : (bytes rest : List ℕ) (p : Progress g old now (lines_of bytes) (lines_of rest) s n) → IsLine longest rest Whole kept → after ≡ Some (drop_through 10 rest) → HasCome g bytes old now kept s after
     come bytes [] p is to = absurd (is.0 refl)
     come bytes (x ∷ xs) p is to = record {

@@ -69,17 +69,17 @@ module _ {N D : Type 0} where
 
   -- the operator's conversation and those of the clients
   pub connected : (operator : alone.Conversation) (line : List ℕ) (d : D) (seats : List (Seat N)) (s : Seat N) (ss : List (Seat N)) (devices : List D) (k : Connected N D) (all : List (Connected N D)) → seats ≡ s ∷ ss
-      → IsOperator operator.session.names operator.session.settings s operator.line line d k → (more : List (Connected N D)) × (all ≡ k ∷ more) × AreClientsOf operator.session.settings ss devices more
+      → IsOperator operator.session.names operator.session.settings s operator.staged operator.line line d k → (more : List (Connected N D)) × (all ≡ k ∷ more) × AreClientsOf operator.session.settings ss devices more
       → AreConnected operator line d seats devices all
   connected operator line d seats s ss devices k all e is (more, at, are) =
       subst (λ (l : List (Seat N)). AreConnected operator line d l devices all) (sym e) (subst (λ (l : List (Connected N D)). AreConnected operator line d (s ∷ ss) devices l) (sym at) (is, are))
 
   -- by the settings that they share
   pub connected_all : (operator : alone.Conversation) (line : List ℕ) (d : D) (seats ss : List (Seat N)) (s : Seat N) (devices : List D) (k : Connected N D) (pushed all : List (Connected N D)) (own shared : Settings) → seats ≡ s ∷ ss
-      → shared ≡ operator.session.settings → own ≡ operator.session.settings → IsOperator operator.session.names own s operator.line line d k → pushed ≡ k ∷ []
+      → shared ≡ operator.session.settings → own ≡ operator.session.settings → IsOperator operator.session.names own s operator.staged operator.line line d k → pushed ≡ k ∷ []
       → (more : List (Connected N D)) × (all ≡ pushed ++ more) × AreClientsOf shared ss devices more → AreConnected operator line d seats devices all
   connected_all operator line d seats ss s devices k pushed all own shared e same mine is p (more, at, are) =
-      connected operator line d seats s ss devices k all e (subst (λ (g : Settings). IsOperator operator.session.names g s operator.line line d k) mine is)
+      connected operator line d seats s ss devices k all e (subst (λ (g : Settings). IsOperator operator.session.names g s operator.staged operator.line line d k) mine is)
       (more, at ∙ ap (λ l. l ++ more) p, subst (λ (g : Settings). AreClientsOf g ss devices more) same are)
 
   -- without a seat

@@ -17,6 +17,7 @@ use Rattle.mp_serve.specs.Ask.{Ask, NewBlock, Does}
 use Rattle.mp_serve.specs.Request.{Block}
 use Rattle.mp_serve.specs.Served.{IsBadLine}
 use Rattle.mp_serve.specs.Talk.{take}
+use Rattle.mp_serve.specs.declared.used.Used.{Used}
 use Rattle.mp_serve.specs.Texts.{no_memory_text}
 use Rattle.mp_clients.specs.declared.conversation.Conversation.{Conversation}
 use Rattle.mp_clients.specs.declared.stop.Stop.{Stop}
@@ -24,7 +25,7 @@ use Rattle.mp_clients.specs.declared.stop.Stop.TheVariants.{NoMemory, Untold, Fo
 use Rattle.mp_clients.specs.Client.{Client}
 use Rattle.mp_clients.specs.Alone.{alone_at}
 use Rattle.mp_clients.specs.Asking.{may_do}
-use Rattle.mp_clients.specs.Answers.{HasLooked, IsAnsweredAlone, IsExtendedBy, IsTaken, IsMeaningless, IsHeard, with_client}
+use Rattle.mp_clients.specs.Answers.{HasLooked, IsAnsweredAlone, IsExtendedBy, IsTaken, IsMeaningless, IsHeard, used_by, with_client}
 use Rattle.mp_clients.specs.Inside.Notes.{is_note, is_change, is_alone}
 use Rattle.mp_clients.specs.Inside.Steps.{IsToldAlone, IsBadAlone, IsMeantBlock, IsStopped}
 use Rattle.mp_clients.proofs.Steps.{looked_only, unchanged_more}
@@ -53,6 +54,11 @@ module _ {N : Type 0} (accepts : Accepts) (callers : ℕ) (c : Conversation N) w
   taken_alone asks.Counts text u e is = is
   taken_alone (asks.Holds r o) text u e is = Prim.cc
   taken_alone (asks.Extends b) text u e is = Prim.cc
+  taken_alone (asks.Stages b) text u e is = is
+  taken_alone (asks.StagesHeld ws) text u e is = is
+  taken_alone (asks.StagesOutput r o) text u e is = is
+  taken_alone asks.Unstages text u e is = is
+  taken_alone (asks.Syncs n b) text u e is = Prim.cc
   taken_alone (asks.Returns n) text u e is = Prim.cc
   taken_alone (asks.Forgets ns) text u e is = is
   taken_alone (asks.ReportsById b) text u e is = is
@@ -97,20 +103,26 @@ module _ {N : Type 0} (accepts : Accepts) (callers : ℕ) (c : Conversation N) w
     pub noted : (line : lines.Line) (text : List ℕ) (u : Conversation N) → is_note line ≡ true → IsToldAlone accepts (with_client c k) (λ x. take x (Does line)) text u → IsTaken accepts callers c (Does line) text u
     noted line text u e told = taken_note line text u e (answered_alone (Does line) text u told)
 
+    extended_as : (used uses : Used) (block b : Block) (text : List ℕ) (u : Conversation N) → used ≡ uses → block ≡ b
+        → IsExtendedBy accepts callers (with_client c k) used block text u → IsExtendedBy accepts callers (with_client c k) uses b text u
+    extended_as used uses block b text u same is e =
+        subst (λ (x : Used). IsExtendedBy accepts callers (with_client c k) x b text u) same
+        (subst (λ (x : Block). IsExtendedBy accepts callers (with_client c k) used x text u) is e)
+
     -- the words of a block mean transactions
-    pub extended_there : (b : NewBlock) (block : Block) (r : Result Answer Stop) (u : Conversation N) → IsMeantBlock accepts (with_client c k) b block
-        → IfOk r (λ a. IsExtendedBy accepts callers (with_client c k) block (text_of a) u)
-        → IfErr r (IsStopped accepts callers (IsExtendedBy accepts callers (with_client c k) block) (with_client c k) u)
+    pub extended_there : (b : NewBlock) (block : Block) (used : Used) (r : Result Answer Stop) (u : Conversation N) → used ≡ used_by b.txs → IsMeantBlock accepts (with_client c k) b block
+        → IfOk r (λ a. IsExtendedBy accepts callers (with_client c k) used block (text_of a) u)
+        → IfErr r (IsStopped accepts callers (IsExtendedBy accepts callers (with_client c k) used block) (with_client c k) u)
         → IfOk r (λ a. IsHeard accepts callers c (Some (asks.Extends b)) (text_of a) u) × IfErr r (IsStopped accepts callers (IsTaken accepts callers c (asks.Extends b)) c u)
-    extended_there b block (Ok a) u (txs, meant, is) ok err = (
-      inl (record { client = k; txs = txs; looked = looked; meant = meant; extended = subst (λ (x : Block). IsExtendedBy accepts callers (with_client c k) x (text_of a) u) is ok }),
+    extended_there b block used (Ok a) u uses (txs, meant, is) ok err = (
+      inl (record { client = k; txs = txs; looked = looked; meant = meant; extended = extended_as used (used_by b.txs) block _ (text_of a) u uses is ok }),
       tt,
     )
-    extended_there b block (Err NoMemory) u meant ok err = (tt, unchanged_more accepts callers c k u looked err)
-    extended_there b block (Err Foreign) u meant ok err = (tt, unchanged_more accepts callers c k u looked err)
-    extended_there b block (Err Untold) u (txs, meant, is) ok (text, v, does, same) = (
+    extended_there b block used (Err NoMemory) u uses meant ok err = (tt, unchanged_more accepts callers c k u looked err)
+    extended_there b block used (Err Foreign) u uses meant ok err = (tt, unchanged_more accepts callers c k u looked err)
+    extended_there b block used (Err Untold) u uses (txs, meant, is) ok (text, v, does, same) = (
       tt,
-      (text, v, record { client = k; txs = txs; looked = looked; meant = meant; extended = subst (λ (x : Block). IsExtendedBy accepts callers (with_client c k) x text v) is does }, same),
+      (text, v, record { client = k; txs = txs; looked = looked; meant = meant; extended = extended_as used (used_by b.txs) block _ text v uses is does }, same),
     )
 
 -- the line is bad

@@ -25,14 +25,14 @@ none_left s t None is other = nil_from_length (into_iter_items s) (sym s.rest.ok
 none_left s t (Some x) is other = absurd (other x refl)
 
 -- the pool opened with these settings
-pub opened_on : {N : Type 0} (accepts : Accepts) (callers n : ℕ) (signatures : Scheme) (ledger : LedgerState) (limit last l k : ℕ) (front : Log) (seats : List (Seat N)) (passes : List Pass) → limit ≡ l → last ≡ k → n ≡ callers
-    → front ≡ new_log (empty_pool limit last ledger) → IsLegalLog accepts callers front → passes ≡ fresh_passes n (new_log (empty_pool limit last ledger)) → seats ≡ map (seat_of signatures ledger) passes
-    → HasOpenedOn accepts callers signatures (empty_pool l k ledger) front seats
-opened_on accepts callers n signatures ledger limit last l k front seats passes e f m fr legal ps ss = record {
+pub opened_on : {N : Type 0} (accepts : Accepts) (callers n : ℕ) (signatures : Scheme) (ledger : LedgerState) (limit last l k most : ℕ) (front : Log) (seats : List (Seat N)) (passes : List Pass) → limit ≡ l → last ≡ k → n ≡ callers
+    → front ≡ new_log (empty_pool limit last ledger) → IsLegalLog accepts callers front → passes ≡ fresh_passes n (new_log (empty_pool limit last ledger)) → seats ≡ map (seat_of signatures ledger most) passes
+    → HasOpenedOn accepts callers signatures (empty_pool l k ledger) most front seats
+opened_on accepts callers n signatures ledger limit last l k most front seats passes e f m fr legal ps ss = record {
   front_is = fr ∙ ap₂ (λ x y. new_log (empty_pool x y ledger)) e f;
   legal = legal;
   seats_are = ss
-      ∙ ap (map (seat_of signatures ledger)) (ps ∙ ap (λ x. fresh_passes x (new_log (empty_pool limit last ledger))) m ∙ ap₂ (λ x y. fresh_passes callers (new_log (empty_pool x y ledger))) e f);
+      ∙ ap (map (seat_of signatures ledger most)) (ps ∙ ap (λ x. fresh_passes x (new_log (empty_pool limit last ledger))) m ∙ ap₂ (λ x y. fresh_passes callers (new_log (empty_pool x y ledger))) e f);
 }
 
 -- the first element and those that are left

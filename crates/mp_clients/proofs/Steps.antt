@@ -15,6 +15,8 @@ use Rattle.mp_mempool.specs.Pass.{Pass}
 use Rattle.mp_mempool.specs.Seen.{IsSeen, seen}
 use Rattle.mp_answers.specs.AnswerText.{answer_text}
 use Rattle.mp_serve.specs.declared.answer.Answer.{Answer}
+use Rattle.mp_serve.specs.declared.used.Used.{Used}
+use Rattle.mp_serve.specs.Staged.{Staged}
 use Rattle.mp_serve.specs.Inside.Answer.{text_of}
 use Rattle.mp_clients.specs.declared.conversation.Conversation.{Conversation}
 use Rattle.mp_clients.specs.declared.stop.Stop.{Stop}
@@ -55,24 +57,24 @@ module _ {N : Type 0} (accepts : Accepts) (callers : ℕ) where
 
   -- ---- changes
 
-  module _ (c : Conversation N) (command : Command) (does : Result Reply Refusal → Pass → Client) (names : Result Reply Refusal → Names) (says : Result Reply Refusal → List ℕ) where
+  module _ (c : Conversation N) (command : Command) (does : Result Reply Refusal → Pass → Client) (names : Result Reply Refusal → Names) (staged : Result Reply Refusal → Staged) (says : Result Reply Refusal → List ℕ) where
     -- a change that is answered
     pub answered : (a : Result Reply Refusal) (k : Client) (text : List ℕ) (u : Conversation N) → IsAsked accepts callers c.client command does a k
-        → text ≡ says a → u ≡ record c { names = names a; client = counting a k } → IsAnsweredBy accepts callers c command does names says text u
+        → text ≡ says a → u ≡ record c { names = names a; client = counting a k; staged = staged a } → IsAnsweredBy accepts callers c command does names staged says text u
     answered a k text u asked said is = record {
       answer = a;
       pass = k.pass;
       asked = subst (IsAsked accepts callers c.client command does a) asked.after_is asked;
       text_is = said;
-      after = is ∙ ap (λ (x : Client). record c { names = names a; client = counting a x }) asked.after_is;
+      after = is ∙ ap (λ (x : Client). record c { names = names a; client = counting a x; staged = staged a }) asked.after_is;
     }
 
     -- a change whose answer is lost
-    untold : (r : Reply) (k : Client) (u : Conversation N) → IsAsked accepts callers c.client command does (Ok r) k → u ≡ with_client c k
-        → IsStopped accepts callers (IsAnsweredBy accepts callers c command does names says) c u Untold
+    untold : (r : Reply) (k : Client) (u : Conversation N) → IsAsked accepts callers c.client command does (Ok r) k → u ≡ record c { client = k; staged = staged (Ok r) }
+        → IsStopped accepts callers (IsAnsweredBy accepts callers c command does names staged says) c u Untold
     untold r k u asked is = (
       says (Ok r),
-      record c { names = names (Ok r); client = counting (Ok r) k },
+      record c { names = names (Ok r); client = counting (Ok r) k; staged = staged (Ok r) },
       answered (Ok r) k _ _ asked refl refl,
       is,
     )
@@ -89,35 +91,38 @@ module _ {N : Type 0} (accepts : Accepts) (callers : ℕ) where
     )
 
     -- there is no line of the answer
-    pub stopped : (a : Result Reply Refusal) (k : Client) (u : Conversation N) (stop : Stop) → IsAsked accepts callers c.client command does a k → u ≡ with_client c k
-        → ((f : Refusal) (p : Pass) → does (Err f) p ≡ record c.client { pass = p }) → IsUnanswered a stop
-        → IsStopped accepts callers (IsAnsweredBy accepts callers c command does names says) c u stop
-    stopped (Ok r) k u stop asked is moves why = subst (IsStopped accepts callers (IsAnsweredBy accepts callers c command does names says) c u) (sym why) (untold r k u asked is)
-    stopped (Err f) k u stop asked is moves why = subst (IsStopped accepts callers (IsAnsweredBy accepts callers c command does names says) c u) (sym why) (unmoved f k u asked is (moves f))
+    pub stopped : (a : Result Reply Refusal) (k : Client) (u : Conversation N) (stop : Stop) → IsAsked accepts callers c.client command does a k → u ≡ record c { client = k; staged = staged a }
+        → ((f : Refusal) (p : Pass) → does (Err f) p ≡ record c.client { pass = p }) → ((f : Refusal) → staged (Err f) ≡ c.staged) → IsUnanswered a stop
+        → IsStopped accepts callers (IsAnsweredBy accepts callers c command does names staged says) c u stop
+    stopped (Ok r) k u stop asked is moves stays why = subst (IsStopped accepts callers (IsAnsweredBy accepts callers c command does names staged says) c u) (sym why) (untold r k u asked is)
+    stopped (Err f) k u stop asked is moves stays why =
+        subst (IsStopped accepts callers (IsAnsweredBy accepts callers c command does names staged says) c u) (sym why)
+        (unmoved f k u asked (is ∙ ap (λ (s : Staged). record c { client = k; staged = s }) (stays f)) (moves f))
 
     -- the answer to a change, whether there is a line or not
-    pub finished : (a : Result Reply Refusal) (k l : Client) (n : Names) (r : Result Answer Stop) → IsAsked accepts callers c.client command does a k
-        → ((f : Refusal) (p : Pass) → does (Err f) p ≡ record c.client { pass = p })
+    pub finished : (a : Result Reply Refusal) (k l : Client) (n : Names) (s : Staged) (r : Result Answer Stop) → IsAsked accepts callers c.client command does a k
+        → ((f : Refusal) (p : Pass) → does (Err f) p ≡ record c.client { pass = p }) → ((f : Refusal) → staged (Err f) ≡ c.staged) → s ≡ staged a
         → IfOk r (λ t. text_of t ≡ says a) → OnOk r (l ≡ counting a k) → OnOk r (n ≡ names a)
         → IfErr r (IsUnanswered a) → OnErr r (l ≡ k) → OnErr r (n ≡ c.names)
-        → IfOk r (λ t. IsAnsweredBy accepts callers c command does names says (text_of t) (record c { names = n; client = l }))
-        × IfErr r (IsStopped accepts callers (IsAnsweredBy accepts callers c command does names says) c (record c { names = n; client = l }))
-    finished a k l n (Ok t) asked moves said count named why same kept = (
-      answered a k (text_of t) _ asked said (ap₂ (λ m x. record c { names = m; client = x }) named count),
+        → IfOk r (λ t. IsAnsweredBy accepts callers c command does names staged says (text_of t) (record c { names = n; client = l; staged = s }))
+        × IfErr r (IsStopped accepts callers (IsAnsweredBy accepts callers c command does names staged says) c (record c { names = n; client = l; staged = s }))
+    finished a k l n s (Ok t) asked moves stays left said count named why same kept = (
+      answered a k (text_of t) _ asked said
+          (ap₂ (λ m x. record c { names = m; client = x; staged = s }) named count ∙ ap (λ (y : Staged). record c { names = names a; client = counting a k; staged = y }) left),
       tt,
     )
-    finished a k l n (Err stop) asked moves said count named why same kept = (
+    finished a k l n s (Err stop) asked moves stays left said count named why same kept = (
       tt,
-      stopped a k _ stop asked (ap₂ (λ m x. record c { names = m; client = x }) kept same) moves why,
+      stopped a k _ stop asked (ap₂ (λ m x. record c { names = m; client = x; staged = s }) kept same ∙ ap (λ (y : Staged). record c { client = k; staged = y }) left) moves stays why,
     )
 
   -- the ledger state after a block is adopted
-  pub extended : (c : Conversation N) (txs : List Transaction) (wanted : Result LedgerState (ℕ × Invalid)) (l : LedgerState) (r : Result Answer Stop) (u : Conversation N) → wanted ≡ Ok l
-      → IfOk r (λ t. IsSynced accepts callers c l (text_of t) u)
-      → IfErr r (IsStopped accepts callers (IsSynced accepts callers c l) c u)
-      → IfOk r (λ t. IsExtended accepts callers c txs wanted (text_of t) u) × IfErr r (IsStopped accepts callers (IsExtended accepts callers c txs wanted) c u)
-  extended c txs wanted l r u e ok err =
-      subst (λ (w : Result LedgerState (ℕ × Invalid)). IfOk r (λ t. IsExtended accepts callers c txs w (text_of t) u) × IfErr r (IsStopped accepts callers (IsExtended accepts callers c txs w) c u)) (sym e) (ok, err)
+  pub extended : (c : Conversation N) (used : Used) (txs : List Transaction) (wanted : Result LedgerState (ℕ × Invalid)) (l : LedgerState) (r : Result Answer Stop) (u : Conversation N) → wanted ≡ Ok l
+      → IfOk r (λ t. IsSynced accepts callers c l used (text_of t) u)
+      → IfErr r (IsStopped accepts callers (IsSynced accepts callers c l used) c u)
+      → IfOk r (λ t. IsExtended accepts callers c used txs wanted (text_of t) u) × IfErr r (IsStopped accepts callers (IsExtended accepts callers c used txs wanted) c u)
+  extended c used txs wanted l r u e ok err =
+      subst (λ (w : Result LedgerState (ℕ × Invalid)). IfOk r (λ t. IsExtended accepts callers c used txs w (text_of t) u) × IfErr r (IsStopped accepts callers (IsExtended accepts callers c used txs w) c u)) (sym e) (ok, err)
 
   -- a former ledger state is adopted
   pub returned : (c : Conversation N) (count : ℕ) (wanted : Option LedgerState) (l : LedgerState) (r : Result Answer Stop) (u : Conversation N) → wanted ≡ Some l

@@ -18,5 +18,7 @@ abbrev pub alone_at : {N : Type 0} → Accepts → Conversation N → Log → al
 alone_at accepts c log = record {
   signatures = c.client.signatures;
   session = record { names = c.names; settings = arc_value c.settings; stage = Open (served_at accepts c.client log) };
+  staged = c.staged;
+  most_names = c.most_names;
   line = c.line;
 }

@@ -23,11 +23,15 @@ use Rattle.mp_names.specs.Names.{Names}
 use Rattle.mp_lines.specs.Lines.{Submit, Remove, Sync}
 use Rattle.mp_session.specs.Ledgers.{ledger_at}
 use Rattle.mp_answers.specs.AnswerText.{answer_text, given_text}
-use Rattle.mp_serve.specs.Ask.{Ask, NewBlock, Does, Submits, SubmitsBytes, Extends, Returns}
+use Rattle.mp_serve.specs.Ask.{Ask, NewBlock, Does, Submits, SubmitsBytes, Extends, Syncs, Returns}
 use Rattle.mp_serve.specs.Refused.{counted_if}
 use Rattle.mp_serve.specs.Refused.{one_more}
 use Rattle.mp_serve.specs.Request.{Block, reported_if, one_adopt_more, one_back_more}
-use Rattle.mp_serve.specs.TxWord.{put_meant}
+use Rattle.mp_session.specs.Settings.{salt_of}
+use Rattle.mp_serve.specs.TxWord.{TxWord}
+use Rattle.mp_serve.specs.declared.used.Used.{Used}
+use Rattle.mp_serve.specs.declared.used.Used.TheVariants.{Nothing, Txs, Outputs}
+use Rattle.mp_serve.specs.Staged.{Staged, no_outputs, without, staged_ledger}
 use Rattle.mp_serve.specs.ServedPool.{latest, state_back}
 use Rattle.mp_serve.specs.Served.{IsBadLine}
 use Rattle.mp_serve.specs.Talk as alone
@@ -66,6 +70,20 @@ counting a k = record k { refused = counted_if k.refused (result_err a) }
 abbrev pub same_names : {N : Type 0} → Conversation N → Result Reply Refusal → Names
 same_names c a = c.names
 
+-- what is staged stays
+abbrev pub same_staged : {N : Type 0} → Conversation N → Result Reply Refusal → Staged
+same_staged c a = c.staged
+
+-- what the change used isn't staged any more, if it is made
+abbrev pub unstaged : Staged → Used → Result Reply Refusal → Staged
+unstaged s used (Ok reply) = without s used
+unstaged s used (Err refusal) = s
+
+-- what a block uses: without words, the staged transactions
+abbrev pub used_by : List TxWord → Used
+used_by [] = Txs
+used_by (word ∷ words) = Nothing
+
 abbrev pub with_client : {N : Type 0} → Conversation N → Client → Conversation N
 with_client c k = record c { client = k }
 
@@ -100,53 +118,62 @@ module _ (accepts : Accepts) (callers : ℕ) where
       pub step : alone.take (alone_at accepts c u.client.pass.front) ask ≡ Some (alone_at accepts u u.client.pass.front, text)
       pub ledger : u.client.ledger ≡ c.client.ledger
 
-    -- The line makes a change, and the text is the pool's answer. An accepted transaction may get a name.
+    -- The line makes a change, and the text is the pool's answer. An accepted transaction may get a name, and what was staged may be
+    -- used.
     pub record IsAnsweredBy (c : Conversation N) (command : Command) (does : Result Reply Refusal → Pass → Client)
-        (names : Result Reply Refusal → Names) (says : Result Reply Refusal → List ℕ) (text : List ℕ) (u : Conversation N)
-        : Type 0 where
+        (names : Result Reply Refusal → Names) (staged : Result Reply Refusal → Staged) (says : Result Reply Refusal → List ℕ)
+        (text : List ℕ) (u : Conversation N) : Type 0 where
       pub answer : Result Reply Refusal
       pub pass : Pass
       pub asked : IsAsked c.client command does answer (does answer pass)
       pub text_is : text ≡ says answer
-      pub after : u ≡ record c { names = names answer; client = counting answer (does answer pass) }
+      pub after : u ≡ record c { names = names answer; client = counting answer (does answer pass); staged = staged answer }
 
-    -- the same if the names stay and the text is that of the answer alone
+    -- the same if the names and what is staged stay, and the text is that of the answer alone
     abbrev pub IsDone : Conversation N → Command → (Result Reply Refusal → Pass → Client) → List ℕ → Conversation N → Type 0
-    IsDone c command does text u = IsAnsweredBy c command does (same_names c) (answer_text c.names) text u
+    IsDone c command does text u = IsAnsweredBy c command does (same_names c) (same_staged c) (answer_text c.names) text u
 
     -- the transaction is submitted under a name
     abbrev pub IsSubmitted : Conversation N → List ℕ → Transaction → List ℕ → Conversation N → Type 0
     IsSubmitted c name t text u =
-        IsAnsweredBy c (commands.Submit t) (moved c.client) (reported_if c.names name t) (answer_text c.names) text u
+        IsAnsweredBy c (commands.Submit t) (moved c.client) (reported_if c.names name t) (same_staged c) (answer_text c.names) text u
 
     -- the transaction with these bytes is submitted, if there is one; it has no name
     abbrev pub IsGiven : Conversation N → Result Transaction TxFault → List ℕ → Conversation N → Type 0
     IsGiven c (Ok t) text u =
-        IsAnsweredBy c (commands.Submit t) (moved c.client) (same_names c) (λ a. given_text c.names a (id_of t)) text u
+        IsAnsweredBy c (commands.Submit t) (moved c.client) (same_names c) (same_staged c) (λ a. given_text c.names a (id_of t)) text u
     IsGiven c (Err fault) text u = (text ≡ bytes_text (Err fault)) × (u ≡ c)
 
-    -- a ledger state is adopted
-    abbrev pub IsSynced : Conversation N → LedgerState → List ℕ → Conversation N → Type 0
-    IsSynced c l text u = IsDone c (commands.Sync l) (gone_on c.client l) text u
+    -- a ledger state is adopted, which uses some of what is staged
+    abbrev pub IsSynced : Conversation N → LedgerState → Used → List ℕ → Conversation N → Type 0
+    IsSynced c l used text u =
+        IsAnsweredBy c (commands.Sync l) (gone_on c.client l) (same_names c) (unstaged c.staged used) (answer_text c.names) text u
 
     -- the ledger state after the block is adopted, if it has one
-    abbrev pub IsExtended : Conversation N → List Transaction → Result LedgerState (ℕ × Invalid) → List ℕ → Conversation N → Type 0
-    IsExtended c txs (Ok l) text u = IsSynced c l text u
-    IsExtended c txs (Err r) text u =
+    abbrev pub IsExtended : Conversation N → Used → List Transaction → Result LedgerState (ℕ × Invalid) → List ℕ → Conversation N → Type 0
+    IsExtended c used txs (Ok l) text u = IsSynced c l used text u
+    IsExtended c used txs (Err r) text u =
         (text ≡ block_refused_text c.names txs r.0 r.1)
         × (u ≡ with_client c (record c.client { refused = one_adopt_more c.client.refused }))
 
-    abbrev pub IsExtendedBy : Conversation N → Block → List ℕ → Conversation N → Type 0
-    IsExtendedBy c b text u =
-        IsExtended c b.txs (apply_block accepts c.client.ledger b.tick b.block_bytes b.txs) text u
+    abbrev pub IsExtendedBy : Conversation N → Used → Block → List ℕ → Conversation N → Type 0
+    IsExtendedBy c used b text u =
+        IsExtended c used b.txs (apply_block accepts c.client.ledger b.tick b.block_bytes b.txs) text u
 
-    -- The words of the block mean these transactions, by the pool that the conversation has first looked at.
+    -- The words of the block mean these transactions, by the pool that the conversation has first looked at. Without words they are
+    -- those that are staged.
     pub record IsExtendedAt (c : Conversation N) (b : NewBlock) (text : List ℕ) (u : Conversation N) : Type 0 where
       pub client : Client
       pub txs : List Transaction
       pub looked : HasLooked c.client client
-      pub meant : put_meant (stage_of accepts client) [] b.txs ≡ Some txs
-      pub extended : IsExtendedBy (with_client c client) (alone.block_at (arc_value c.settings) b txs) text u
+      pub meant : alone.block_txs c.staged (stage_of accepts client) b.txs ≡ Some txs
+      pub extended : IsExtendedBy (with_client c client) (used_by b.txs) (alone.block_at (arc_value c.settings) b txs) text u
+
+    -- the ledger state that has the staged outputs is adopted
+    abbrev pub IsSyncedStaged : Conversation N → ℕ → Option ℕ → List ℕ → Conversation N → Type 0
+    IsSyncedStaged c tick block_bytes text u =
+        IsSynced c (staged_ledger (arc_value c.settings) c.staged tick block_bytes)
+        (Outputs (no_outputs (salt_of (arc_value c.settings)))) text u
 
     -- the ledger state this many steps ago is adopted, if it is kept
     abbrev pub IsReturned : Conversation N → ℕ → Option LedgerState → List ℕ → Conversation N → Type 0
@@ -159,10 +186,11 @@ module _ (accepts : Accepts) (callers : ℕ) where
     abbrev pub IsTaken : Conversation N → Ask → List ℕ → Conversation N → Type 0
     IsTaken c (Does (Submit t)) text u = IsDone c (commands.Submit t) (moved c.client) text u
     IsTaken c (Does (Remove ids)) text u = IsDone c (commands.Remove ids) (moved c.client) text u
-    IsTaken c (Does (Sync l)) text u = IsSynced c (ledger_at (arc_value c.settings) l) text u
+    IsTaken c (Does (Sync l)) text u = IsSynced c (ledger_at (arc_value c.settings) l) Nothing text u
     IsTaken c (Submits name t) text u = IsSubmitted c name t text u
     IsTaken c (SubmitsBytes bytes) text u = IsGiven c (transaction_of bytes) text u
     IsTaken c (Extends block) text u = IsExtendedAt c block text u
+    IsTaken c (Syncs tick block_bytes) text u = IsSyncedStaged c tick block_bytes text u
     IsTaken c (Returns count) text u = IsReturned c count (state_back c.client.former c.client.ledger count) text u
     IsTaken c ask text u = IsAnsweredAlone c ask text u
 

@@ -18,8 +18,8 @@ IsBefore (Before b) = Unit {0}
 IsBefore (Open p) = ⊥
 
 -- the line asks for something that opens the pool
-abbrev pub Opens : Names → List ℕ → Type 0
-Opens names line = IsSomeAnd (ask_of names line) (λ ask. opens ask ≡ true)
+abbrev pub Opens : Names → ℕ → List ℕ → Type 0
+Opens names most line = IsSomeAnd (ask_of names most line) (λ ask. opens ask ≡ true)
 
 -- Some first lines were answered, and the next one opens the pool. The bytes after it are left.
 pub record HasCome (start : Conversation) (bytes : List ℕ) (old new : Option (List ℕ)) (line : List ℕ) (u : Conversation)
@@ -30,7 +30,7 @@ pub record HasCome (start : Conversation) (bytes : List ℕ) (old new : Option (
   pub whole : lines_of bytes ≡ lines ++ line ∷ lines_of rest
   pub told : AreAnswers start lines text u
   pub wrote : Appends old new text
-  pub opens_it : Opens u.session.names line
+  pub opens_it : Opens u.session.names u.most_names line
   pub left_is : left ≡ Some rest
 
 -- all lines were answered

@@ -7,7 +7,9 @@ use Rattle.mp_mempool.specs.Answers.{IsForeign}
 use Rattle.mp_mempool.specs.Successor.{IsKnownTo}
 use Rattle.mp_names.specs.Names.{Names}
 use Rattle.mp_session.specs.declared.settings.Settings.{Settings}
+use Rattle.mp_session.specs.Settings.{salt_of}
 use Rattle.mp_serve.specs.declared.conversation.Conversation as alone
+use Rattle.mp_serve.specs.Staged.{Staged, nothing_staged}
 use Rattle.mp_clients.specs.declared.connected.Connected.{Connected}
 use Rattle.mp_clients.specs.declared.conversation.Conversation.{Conversation}
 use Rattle.mp_clients.specs.declared.opening.Seat.{Seat}
@@ -16,11 +18,14 @@ use Rattle.mp_clients.specs.Answers.{IsTurn, IsBroken}
 use Rattle.mp_clients.specs.Told.{Ended}
 use Rattle.mp_clients.specs.Waiting.{line_in, lines_with}
 
--- A conversation with these names, settings, seat and line number.
-pub record IsWith {N : Type 0} (names : Names) (settings : Settings) (seat : Seat N) (line : ℕ) (c : Conversation N) : Type 0 where
+-- A conversation with these names and settings, this seat, what is staged, and the line number.
+pub record IsWith {N : Type 0} (names : Names) (settings : Settings) (seat : Seat N) (staged : Staged) (line : ℕ) (c : Conversation N)
+    : Type 0 where
   pub names_are : c.names ≡ names
   pub settings_are : arc_value c.settings ≡ settings
   pub client : c.client ≡ seat.client
+  pub staged_is : c.staged ≡ staged
+  pub most_is : c.most_names ≡ seat.most_names
   pub line_is : c.line ≡ line
 
 -- what the conversation has seen is a prefix of this history
@@ -49,7 +54,7 @@ module _ {N D : Type 0} (accepts : Accepts) (callers : ℕ) (input output : D �
   -- the conversation of the client with this seat and device, from its first line on
   abbrev pub IsServed : Settings → Seat N → D → Finished N D → Type 0
   IsServed settings seat device f =
-      (c : Conversation N) × IsWith seat.names settings seat 1 c × IsFinishedFrom c None device f
+      (c : Conversation N) × IsWith seat.names settings seat (nothing_staged (salt_of settings)) 1 c × IsFinishedFrom c None device f
 
   -- those of the clients with these seats and devices, in order
   abbrev pub AreClientsServed : Settings → List (Seat N) → List D → List (Finished N D) → Type 0
@@ -61,7 +66,7 @@ module _ {N D : Type 0} (accepts : Accepts) (callers : ℕ) (input output : D �
   -- the operator's, from the line that opened the pool on, and then those of the clients
   abbrev pub AreServed : alone.Conversation → List ℕ → D → List (Seat N) → List D → List (Finished N D) → Type 0
   AreServed operator line device (seat ∷ seats) devices (f ∷ fs) =
-      ((c : Conversation N) × IsWith operator.session.names operator.session.settings seat operator.line c
+      ((c : Conversation N) × IsWith operator.session.names operator.session.settings seat operator.staged operator.line c
       × IsFinishedFrom c (Some line) device f)
       × AreClientsServed operator.session.settings seats devices fs
   AreServed operator line device (seat ∷ seats) devices [] = ⊥

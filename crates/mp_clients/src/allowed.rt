@@ -46,6 +46,11 @@ pub fn forbids<'a>(caller: u32, ask: &Ask) -> Option<Reason<'a>>
         Ask::Does(line) => forbids_line(caller, line),
         Ask::Holds(_, _) => Some(Reason::LateOutput),
         Ask::Extends(_) => unless_operator(caller),
+        Ask::Stages(_) => unless_operator(caller),
+        Ask::StagesHeld(_) => unless_operator(caller),
+        Ask::StagesOutput(_, _) => unless_operator(caller),
+        Ask::Unstages => unless_operator(caller),
+        Ask::Syncs(_, _) => unless_operator(caller),
         Ask::Returns(_) => unless_operator(caller),
         _ => None,
     }
@@ -75,6 +80,7 @@ pub fn is_alone(ask: &Ask) -> bool
         Ask::SubmitsBytes(_) => false,
         Ask::Holds(_, _) => false,
         Ask::Extends(_) => false,
+        Ask::Syncs(_, _) => false,
         Ask::Returns(_) => false,
         _ => true,
     }
@@ -123,6 +129,7 @@ pub fn opens(ask: &Ask) -> bool
         Ask::Checks(word) => is_named(word),
         Ask::Counts => true,
         Ask::Extends(block) => all_named(&block.txs),
+        Ask::Syncs(_, _) => true,
         Ask::Returns(_) => true,
         _ => false,
     }

@@ -61,7 +61,7 @@ pub fn answer_line<N: PoolName, V: Verifier>(
         conversation.old line.now (text_of answer) conversation.new) }
     ensures err { IfErr result (IsBroken N.accepts N.callers conversation.old conversation.new) }
 {
-    match Ask::parse(memory, &conversation.names, line) {
+    match Ask::parse(memory, &conversation.names, conversation.most_names, line) {
         Ok(ask) => answer_ask(conversation, rt, shared, memory, ask),
         Err(LineFault::NoMemory) => Ok(Answer::NoMemory),
         Err(LineFault::Bad(reason)) => Ok(answer_bad(memory, conversation.line, reason)),

@@ -41,12 +41,18 @@ fn answer_ask(conversation: &mut Conversation, memory: Memory, ask: Ask) -> Answ
 fn answer_line(conversation: &mut Conversation, memory: Memory, line: &[u8]) -> Option<Answer>
     ensures some { IfSome result (λ answer. IsAnswer conversation.old.line
         conversation.old line.now (text_of answer) conversation.new) }
-    ensures none { IfNone result (Opens conversation.old.session.names line.now
+    ensures none { IfNone result (Opens conversation.old.session.names
+        conversation.old.most_names line.now
         × (conversation.new ≡ conversation.old)) }
     ensures before { IsBefore conversation.old.session.stage
         → IsBefore conversation.new.session.stage }
 {
-    match Ask::parse(memory, &conversation.session.names, line) {
+    match Ask::parse(
+        memory,
+        &conversation.session.names,
+        conversation.most_names,
+        line,
+    ) {
         Ok(ask) => {
             if opens(&ask) {
                 None
@@ -80,7 +86,7 @@ fn answer_found(
         → IsLine longest bytes found kept.now → IsAnswer conversation.old.line
         conversation.old (first_line bytes) (text_of answer) conversation.new) }
     ensures none { IfNone result ((found ≡ LineRead.Whole)
-        × Opens conversation.old.session.names kept.now
+        × Opens conversation.old.session.names conversation.old.most_names kept.now
         × (conversation.new ≡ conversation.old)) }
     ensures before { IsBefore conversation.old.session.stage
         → IsBefore conversation.new.session.stage }

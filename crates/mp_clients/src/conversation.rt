@@ -1,17 +1,14 @@
 //! The state of a conversation, line by line.
 
-ghost use Rattle.std.specs.Prelude.{◌≡◌, [], IfOk, IfErr, OnOk, OnErr};
-ghost use Rattle.mp_tx.specs.Spelling.{id_of};
-ghost use Rattle.mp_answers.specs.AnswerText.{answer_text, given_text};
-ghost use Rattle.mp_serve.specs.Request.{reported_if};
-ghost use Rattle.mp_serve.specs.Inside.Answer.{text_of};
-ghost use Rattle.mp_clients.specs.Answers.{counting};
-ghost use Rattle.mp_clients.specs.Inside.Asked.{answer_in, IsUnanswered};
+ghost use Rattle.std.specs.Prelude.{◌≡◌, map};
+ghost use Rattle.mp_serve.specs.Inside.Ask.{to_tx_word};
+ghost use Rattle.mp_clients.specs.Answers.{used_by};
 
 use crate::allowed::{is_alone, is_note};
-use crate::asking::{Asked, asked_line, given_line, make_given_room, make_room};
+use crate::asking::{make_given_room, make_room};
 use crate::bad::answer_bad;
 use crate::client::Client;
+use crate::finishing::{finish, finish_given, finish_submit, forget_used};
 use crate::forgetting::names_to_go;
 use crate::meaning::{tx_meant, txs_meant};
 use crate::shared::Shared;
@@ -19,109 +16,25 @@ use crate::stop::Stop;
 use mp_history::PoolName;
 use mp_lines::Line;
 use mp_memory::{Memory, NoMemory};
-use mp_names::{Binding, DeclaredTx, LineFault, Name, Names};
+use mp_names::{Binding, BlockBytes, DeclaredTx, LineFault, Name, Names};
 use mp_rules::{AppliedBlock, Verifier};
 use mp_seqpool::{Command, Ids};
 use mp_serve::{
-    Answer, Ask, Block, Extended, NewBlock, Text, TxWord, back_refused_line, extend,
-    forgotten_line, read_line, report_under, show_line, undecodable_line,
+    Answer, Ask, Block, Extended, NewBlock, Staged, Text, TxWord, Txs, Used, back_refused_line,
+    extend, forgotten_line, no_outputs, read_line, show_line, undecodable_line,
 };
 use mp_session::{Settings, ledger_at};
-use mp_tx::{Ledger, Tx, TxFault};
+use mp_tx::{Ledger, OutRef, Output, Tx, TxFault};
 use std::sync::{Arc, Wait};
 
-// If the submit was accepted, the transaction is reported under the name from now on.
-fn report_if(names: &mut Names, name: &Name, tx: &Tx, asked: &Asked) -> Result<(), Stop>
-    ensures ok { OnOk result
-        (names.new ≡ reported_if names.old name.now tx.now (answer_in asked.now)) }
-    ensures err { IfErr result (IsUnanswered (answer_in asked.now)) }
-    ensures same { OnErr result (names.new ≡ names.old) }
+// What a block uses: without words, the staged transactions.
+fn used_by(words: &[TxWord]) -> Used
+    ensures { result ≡ used_by (map to_tx_word words.now) }
 {
-    match asked {
-        Ok(_) => match report_under(names, name, tx) {
-            Ok(()) => Ok(()),
-            Err(_) => Err(Stop::Untold),
-        },
-        Err(_) => Ok(()),
-    }
-}
-
-// The line of the answer. A refusal is counted.
-fn finish<N: PoolName>(
-    memory: Memory,
-    names: &Names,
-    client: &mut Client<N>,
-    room: Text,
-    asked: &Asked,
-) -> Result<Answer, Stop>
-    requires { room.items ≡ [] }
-    ensures ok { IfOk result (λ a. text_of a ≡ answer_text names.now (answer_in asked.now)) }
-    ensures client { OnOk result (client.new ≡ counting (answer_in asked.now) client.old) }
-    ensures err { IfErr result (IsUnanswered (answer_in asked.now)) }
-    ensures same { OnErr result (client.new ≡ client.old) }
-{
-    match asked_line(memory, names, room, asked) {
-        Ok(text) => {
-            client.count_refusal(asked);
-            Ok(Answer::Line(text))
-        }
-        Err(stop) => Err(stop),
-    }
-}
-
-// The same for a transaction without a name.
-fn finish_given<N: PoolName>(
-    memory: Memory,
-    names: &Names,
-    client: &mut Client<N>,
-    room: Text,
-    tx: &Tx,
-    asked: &Asked,
-) -> Result<Answer, Stop>
-    requires { room.items ≡ [] }
-    ensures ok { IfOk result (λ a.
-        text_of a ≡ given_text names.now (answer_in asked.now) (id_of tx.now)) }
-    ensures client { OnOk result (client.new ≡ counting (answer_in asked.now) client.old) }
-    ensures err { IfErr result (IsUnanswered (answer_in asked.now)) }
-    ensures same { OnErr result (client.new ≡ client.old) }
-{
-    match given_line(memory, names, room, asked, tx.id()) {
-        Ok(text) => {
-            client.count_refusal(asked);
-            Ok(Answer::Line(text))
-        }
-        Err(stop) => Err(stop),
-    }
-}
-
-// The same for a transaction with a name. If it was accepted, it is reported under the name from now on.
-fn finish_submit<N: PoolName>(
-    memory: Memory,
-    names: &mut Names,
-    client: &mut Client<N>,
-    room: Text,
-    name: &Name,
-    tx: &Tx,
-    asked: &Asked,
-) -> Result<Answer, Stop>
-    requires { room.items ≡ [] }
-    ensures ok { IfOk result (λ a. text_of a ≡ answer_text names.old (answer_in asked.now)) }
-    ensures client { OnOk result (client.new ≡ counting (answer_in asked.now) client.old) }
-    ensures names { OnOk result
-        (names.new ≡ reported_if names.old name.now tx.now (answer_in asked.now)) }
-    ensures err { IfErr result (IsUnanswered (answer_in asked.now)) }
-    ensures same { OnErr result (client.new ≡ client.old) }
-    ensures kept { OnErr result (names.new ≡ names.old) }
-{
-    match asked_line(memory, names, room, asked) {
-        Ok(text) => match report_if(names, name, tx, asked) {
-            Ok(()) => {
-                client.count_refusal(asked);
-                Ok(Answer::Line(text))
-            }
-            Err(stop) => Err(stop),
-        },
-        Err(stop) => Err(stop),
+    if words.is_empty() {
+        Used::Txs
+    } else {
+        Used::Nothing
     }
 }
 
@@ -131,12 +44,16 @@ pub struct Conversation<N: PoolName> {
     pub names: Names,
     pub settings: Arc<Settings, Memory>,
     pub client: Client<N>,
+    /// What is staged for the next ledger state.
+    pub staged: Staged,
+    /// How many names may be declared.
+    pub most_names: u64,
     /// The number of the next line, from 1, or from the last reset.
     pub line: u64,
 }
 
 impl<N: PoolName> Conversation<N> {
-    ghost use Rattle.std.specs.Prelude.{◌≡◌, ◌≤◌, ℕ, length, true, false, Some, None, Ok, Err, IfOk, IfErr, OnErr};
+    ghost use Rattle.std.specs.Prelude.{◌≡◌, ◌≤◌, ℕ, length, map, true, false, Some, None, Ok, Err, IfOk, IfErr, OnErr};
     ghost use Rattle.std.specs.Arc.{arc_value};
     ghost use Rattle.mp_tx.specs.Reading.{transaction_of};
     ghost use Rattle.mp_seqpool.specs.Command.{Submit};
@@ -144,14 +61,15 @@ impl<N: PoolName> Conversation<N> {
     ghost use Rattle.mp_names.specs.Fault as lines;
     ghost use Rattle.mp_lines.specs.Inside.Line.{to_line};
     ghost use Rattle.mp_serve.specs.Talk as alone;
-    ghost use Rattle.mp_serve.specs.Ask.{Does, Extends};
+    ghost use Rattle.mp_serve.specs.Ask.{Does, Extends, Syncs};
     ghost use Rattle.mp_serve.specs.ServedPool.{state_back};
     ghost use Rattle.mp_serve.specs.Inside.Ask.{to_ask, to_block, to_tx_word};
     ghost use Rattle.mp_serve.specs.Inside.Answer.{text_of};
     ghost use Rattle.mp_clients.specs.declared.stop.Stop.TheVariants as stops;
+    ghost use Rattle.mp_clients.specs.Alone.{stage_of};
     ghost use Rattle.mp_clients.specs.Asking.{may_do, may_ask};
     ghost use Rattle.mp_clients.specs.Inside.Notes.{is_note, is_change, is_alone};
-    ghost use Rattle.mp_clients.specs.Answers.{IsDone, IsSubmitted, IsGiven, IsSynced, IsExtendedBy, IsReturned, IsTaken, IsHeard, moved, gone_back, counted};
+    ghost use Rattle.mp_clients.specs.Answers.{IsDone, IsSubmitted, IsGiven, IsSynced, IsExtendedBy, IsReturned, IsTaken, IsHeard, moved, gone_back, used_by, counted};
     ghost use Rattle.mp_clients.specs.Inside.Steps.{IsStopped, IsToldAlone, IsBadAlone, IsMeantBlock};
 
     /// Counts the line that was answered. Its number stays at 2^64 - 1.
@@ -270,24 +188,28 @@ impl<N: PoolName> Conversation<N> {
         }
     }
 
-    // Adopts a new ledger state.
+    // Adopts a new ledger state. Once it is adopted, what it used isn't staged any more.
     fn go_on<V: Verifier>(
         &mut self,
         rt: &impl Wait,
         shared: &Shared<N, V>,
         memory: Memory,
         ledger: Ledger,
+        used: Used,
     ) -> Result<Answer, Stop>
-        ensures ok { IfOk result (λ a. IsSynced N.accepts N.callers self.old ledger
+        ensures ok { IfOk result (λ a. IsSynced N.accepts N.callers self.old ledger used
             (text_of a) self.new) }
         ensures err { IfErr result (IsStopped N.accepts N.callers (IsSynced N.accepts N.callers
-            self.old ledger) self.old self.new) }
+            self.old ledger used) self.old self.new) }
     {
         let Ok(room) = make_room(memory) else {
             return Err(Stop::NoMemory);
         };
         match self.client.go_on(rt, &shared.pool, ledger) {
-            Ok(asked) => finish(memory, &self.names, &mut self.client, room, &asked),
+            Ok(asked) => {
+                forget_used(&mut self.staged, used, &asked);
+                finish(memory, &self.names, &mut self.client, room, &asked)
+            }
             Err(stop) => Err(stop),
         }
     }
@@ -299,24 +221,42 @@ impl<N: PoolName> Conversation<N> {
         shared: &Shared<N, V>,
         memory: Memory,
         block: &Block,
+        used: Used,
     ) -> Result<Answer, Stop>
-        ensures ok { IfOk result (λ a. IsExtendedBy N.accepts N.callers self.old block.now
+        ensures ok { IfOk result (λ a. IsExtendedBy N.accepts N.callers self.old used block.now
             (text_of a) self.new) }
         ensures err { IfErr result (IsStopped N.accepts N.callers (IsExtendedBy N.accepts N.callers
-            self.old block.now) self.old self.new) }
+            self.old used block.now) self.old self.new) }
     {
         let client = &self.client;
         let (signatures, ledger) = (client.signatures(), client.ledger());
         match extend(memory, &self.names, signatures, ledger, block) {
             Ok(Extended::To(applied)) => {
                 let AppliedBlock { ledger, undo: _ } = applied;
-                self.go_on(rt, shared, memory, ledger)
+                self.go_on(rt, shared, memory, ledger, used)
             }
             Ok(Extended::Refused(text)) => {
                 self.client.count_adopt();
                 Ok(Answer::Line(text))
             }
             Err(_) => Err(Stop::NoMemory),
+        }
+    }
+
+    // The transactions of a block's words, by the pool that was seen. Without words they are those that are staged.
+    fn block_txs<'a>(
+        &self,
+        memory: Memory,
+        words: Vec<TxWord, Memory>,
+    ) -> Result<Txs, LineFault<'a>>
+        ensures { lines.Gives (λ txs. map arc_value txs.items)
+            (alone.block_txs self.now.staged (stage_of N.accepts self.now.client)
+            (map to_tx_word words.items)) result }
+    {
+        if words.is_empty() {
+            Ok(self.staged.txs(memory)?)
+        } else {
+            txs_meant(memory, &self.client, words)
         }
     }
 
@@ -331,7 +271,7 @@ impl<N: PoolName> Conversation<N> {
             block_bytes,
             txs,
         } = block;
-        let txs = txs_meant(memory, &self.client, txs)?;
+        let txs = self.block_txs(memory, txs)?;
         Ok(Block::at(&self.settings, tick, &block_bytes, txs))
     }
 
@@ -349,11 +289,38 @@ impl<N: PoolName> Conversation<N> {
             self.old (Extends (to_block block))) self.old self.new) }
     {
         self.client.look(&shared.reader);
+        let used = used_by(&block.txs);
         match self.block_meant(memory, block) {
-            Ok(block) => self.adopt_block(rt, shared, memory, &block),
+            Ok(block) => self.adopt_block(rt, shared, memory, &block, used),
             Err(LineFault::NoMemory) => Err(Stop::NoMemory),
             Err(LineFault::Bad(reason)) => Ok(answer_bad(memory, self.line, reason)),
         }
+    }
+
+    // Adopts the ledger state that has the staged outputs.
+    fn sync_staged<V: Verifier>(
+        &mut self,
+        rt: &impl Wait,
+        shared: &Shared<N, V>,
+        memory: Memory,
+        tick: u64,
+        block_bytes: &Option<BlockBytes>,
+    ) -> Result<Answer, Stop>
+        ensures ok { IfOk result (λ a. IsTaken N.accepts N.callers self.old
+            (Syncs tick block_bytes.now) (text_of a) self.new) }
+        ensures err { IfErr result (IsStopped N.accepts N.callers (IsTaken N.accepts N.callers
+            self.old (Syncs tick block_bytes.now)) self.old self.new) }
+    {
+        let Ok(none) = no_outputs(memory, self.settings.salt()) else {
+            return Err(Stop::NoMemory);
+        };
+        let Ok(ledger) = self
+            .staged
+            .ledger_at(memory, &self.settings, tick, block_bytes)
+        else {
+            return Err(Stop::NoMemory);
+        };
+        self.go_on(rt, shared, memory, ledger, Used::Outputs(none))
     }
 
     // Adopts the ledger state this many steps ago, which is given.
@@ -480,13 +447,66 @@ impl<N: PoolName> Conversation<N> {
         Answer::Done
     }
 
-    // Forgets all names. The peer is offered all again, and the next line has number 1.
+    // Stages the transaction with these bytes.
+    fn stage_bytes(&mut self, memory: Memory, bytes: &[u8]) -> Result<Text, NoMemory>
+        ensures ok { IfOk result (λ text. IsToldAlone N.accepts self.old
+            (λ c. Some (alone.stage_bytes c (transaction_of bytes.now))) text.items self.new) }
+        ensures err { OnErr result (self.new ≡ self.old) }
+    {
+        self.staged.read(memory, bytes)
+    }
+
+    // Stages the transactions that the words mean.
+    fn stage_held<'a>(
+        &mut self,
+        memory: Memory,
+        words: Vec<TxWord, Memory>,
+    ) -> Result<Text, LineFault<'a>>
+        ensures ok { IfOk result (λ text. IsToldAlone N.accepts self.old
+            (λ c. alone.stage_held c (map to_tx_word words.items)) text.items self.new) }
+        ensures bad { lines.IsBad result → IsBadAlone N.accepts self.old
+            (λ c. alone.stage_held c (map to_tx_word words.items)) }
+        ensures err { OnErr result (self.new ≡ self.old) }
+    {
+        let txs = txs_meant(memory, &self.client, words)?;
+        Ok(self.staged.add_txs(memory, txs)?)
+    }
+
+    // Stages the output.
+    fn stage_output<'a>(
+        &mut self,
+        memory: Memory,
+        reference: OutRef,
+        output: Output,
+    ) -> Result<Text, LineFault<'a>>
+        ensures ok { IfOk result (λ text. IsToldAlone N.accepts self.old
+            (λ c. alone.stage_output c reference output) text.items self.new) }
+        ensures bad { lines.IsBad result → IsBadAlone N.accepts self.old
+            (λ c. alone.stage_output c reference output) }
+        ensures err { OnErr result (self.new ≡ self.old) }
+    {
+        self.staged.add_output(memory, reference, output)
+    }
+
+    // Forgets all that is staged.
+    fn unstage(&mut self, memory: Memory) -> Result<Answer, NoMemory>
+        ensures ok { IfOk result (λ a. IsToldAlone N.accepts self.old
+            (λ c. Some (alone.unstage c)) (text_of a) self.new) }
+        ensures err { OnErr result (self.new ≡ self.old) }
+    {
+        self.staged = Staged::new(memory, self.settings.salt())?;
+        Ok(Answer::Done)
+    }
+
+    // Forgets all names and all that is staged. The peer is offered all again, and the next line has number 1.
     fn reset(&mut self, memory: Memory) -> Result<Answer, NoMemory>
         ensures ok { IfOk result (λ a. IsToldAlone N.accepts self.old
             (λ c. alone.reset_at c c.session.stage) (text_of a) self.new) }
         ensures err { OnErr result (self.new ≡ self.old) }
     {
+        let staged = Staged::new(memory, self.settings.salt())?;
         self.names = Names::new(memory, self.settings.salt())?;
+        self.staged = staged;
         self.client.offer_again();
         self.line = 0;
         Ok(Answer::Done)
@@ -546,7 +566,7 @@ impl<N: PoolName> Conversation<N> {
                 let Ok(ledger) = ledger_at(memory, &self.settings, ledger) else {
                     return Err(Stop::NoMemory);
                 };
-                self.go_on(rt, shared, memory, ledger)
+                self.go_on(rt, shared, memory, ledger, Used::Nothing)
             }
             Line::Blank => unreachable!(),
             Line::Sets(_) => unreachable!(),
@@ -599,12 +619,19 @@ impl<N: PoolName> Conversation<N> {
             Ask::Counts => Ok(Answer::Line(self.client.count(memory, &self.names)?)),
             Ask::Forgets(names) => Ok(Answer::Line(self.forget(memory, names)?)),
             Ask::ReportsById(by_id) => Ok(self.report_by_id(by_id)),
+            Ask::Stages(bytes) => Ok(Answer::Line(self.stage_bytes(memory, &bytes)?)),
+            Ask::StagesHeld(words) => Ok(Answer::Line(self.stage_held(memory, words)?)),
+            Ask::StagesOutput(reference, output) => {
+                Ok(Answer::Line(self.stage_output(memory, reference, output)?))
+            }
+            Ask::Unstages => Ok(self.unstage(memory)?),
             Ask::Resets => Ok(self.reset(memory)?),
             Ask::Does(_) => unreachable!(),
             Ask::Submits(_, _) => unreachable!(),
             Ask::SubmitsBytes(_) => unreachable!(),
             Ask::Holds(_, _) => unreachable!(),
             Ask::Extends(_) => unreachable!(),
+            Ask::Syncs(_, _) => unreachable!(),
             Ask::Returns(_) => unreachable!(),
         }
     }
@@ -650,12 +677,19 @@ impl<N: PoolName> Conversation<N> {
             Ask::Submits(name, tx) => self.submit(rt, shared, memory, &name, tx),
             Ask::SubmitsBytes(bytes) => self.give(rt, shared, memory, &bytes),
             Ask::Extends(block) => self.extend(rt, shared, memory, block),
+            Ask::Syncs(tick, block_bytes) => {
+                self.sync_staged(rt, shared, memory, tick, &block_bytes)
+            }
             Ask::Returns(count) => self.return_by(rt, shared, memory, count),
             Ask::Reads(_, _) => unreachable!(),
             Ask::Shows(_) => unreachable!(),
             Ask::Checks(_) => unreachable!(),
             Ask::Counts => unreachable!(),
             Ask::Holds(_, _) => unreachable!(),
+            Ask::Stages(_) => unreachable!(),
+            Ask::StagesHeld(_) => unreachable!(),
+            Ask::StagesOutput(_, _) => unreachable!(),
+            Ask::Unstages => unreachable!(),
             Ask::Forgets(_) => unreachable!(),
             Ask::ReportsById(_) => unreachable!(),
             Ask::Resets => unreachable!(),

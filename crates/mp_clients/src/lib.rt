@@ -14,6 +14,7 @@ mod connected;
 mod conversation;
 mod conversing;
 mod fault;
+mod finishing;
 mod forgetting;
 mod former;
 mod meaning;

@@ -26,6 +26,8 @@ use std::sync::{Arc, Wait};
 #[derive(Drop)]
 pub struct Seat<N: PoolName> {
     pub names: Names,
+    /// How many names may be declared.
+    pub most_names: u64,
     pub client: Client<N>,
 }
 
@@ -45,16 +47,19 @@ fn seat_of<N: PoolName>(
     limit: u64,
     ledger: &Ledger,
     salt: Salt,
+    most_names: u64,
 ) -> Result<Seat<N>, NoMemory>
     requires verifier { accepted_by signatures.now ≡ N.accepts }
     requires limit { limit ≡ pass.front.opening.limit }
-    ensures { IfOk result (λ seat. seat ≡ seat_of signatures.now ledger.now pass) }
+    ensures { IfOk result (λ seat. seat
+        ≡ seat_of signatures.now ledger.now most_names pass) }
 {
     let names = Names::new(memory, salt)?;
     let signatures = signatures.share()?;
     let ledger = ledger.share()?;
     Ok(Seat {
         names,
+        most_names,
         client: Client::new(memory, pass, signatures, limit, ledger),
     })
 }
@@ -67,15 +72,17 @@ fn seats_of<N: PoolName>(
     limit: u64,
     ledger: &Ledger,
     salt: Salt,
+    most_names: u64,
 ) -> Result<Vec<Seat<N>, Memory>, NoMemory>
     requires verifier { accepted_by signatures.now ≡ N.accepts }
     requires limit { All (λ p. limit ≡ p.front.opening.limit) passes.items }
     ensures { IfOk result (λ seats. seats.items
-        ≡ map (seat_of signatures.now ledger.now) passes.items) }
+        ≡ map (seat_of signatures.now ledger.now most_names) passes.items) }
 {
     let mut seats = Vec::new(memory);
     for pass in passes {
-        seats.push(seat_of(memory, pass, signatures, limit, ledger, salt)?)?;
+        let seat = seat_of(memory, pass, signatures, limit, ledger, salt, most_names)?;
+        seats.push(seat)?;
     }
     Ok(seats)
 }
@@ -100,6 +107,7 @@ fn open_on<N: PoolName>(
     settings: &Settings,
     ledger: &Ledger,
     callers: u32,
+    most_names: u64,
 ) -> Result<Opened<N>, NoMemory>
     requires name { name ≡ head_of N.book N.root }
     requires number { callers ≡ N.callers }
@@ -107,7 +115,7 @@ fn open_on<N: PoolName>(
     requires some { 1 ≤ callers }
     requires most { callers ≤ 64 }
     ensures { IfOk result (λ o. HasOpenedOn N.accepts N.callers signatures.now
-        (empty_pool (limit_of settings.now) (last_of settings.now) ledger.now)
+        (empty_pool (limit_of settings.now) (last_of settings.now) ledger.now) most_names
         o.front o.seats.items) }
 {
     let verifier = Arc::new(memory, signatures.share()?)?;
@@ -120,7 +128,7 @@ fn open_on<N: PoolName>(
         Ok((pool, reader, passes)) => {
             let front = first_front(&passes);
             let salt = settings.salt();
-            let seats = seats_of(memory, passes, signatures, limit, ledger, salt)?;
+            let seats = seats_of(memory, passes, signatures, limit, ledger, salt, most_names)?;
             let shared = Shared { pool, reader };
             Ok(Opened {
                 shared,
@@ -145,6 +153,7 @@ fn open_with<N: PoolName>(
     settings: &Settings,
     beginning: &Beginning,
     callers: u32,
+    most_names: u64,
 ) -> Result<Opened<N>, NoMemory>
     requires name { name ≡ head_of N.book N.root }
     requires number { callers ≡ N.callers }
@@ -153,10 +162,12 @@ fn open_with<N: PoolName>(
     requires most { callers ≤ 64 }
     ensures { IfOk result (λ o. HasOpenedOn N.accepts N.callers signatures.now
         (empty_pool (limit_of settings.now) (last_of settings.now)
-        (opening_ledger settings.now beginning.now)) o.front o.seats.items) }
+        (opening_ledger settings.now beginning.now)) most_names o.front o.seats.items) }
 {
     let ledger = beginning.open(memory, settings)?;
-    open_on(rt, memory, name, signatures, settings, &ledger, callers)
+    open_on(
+        rt, memory, name, signatures, settings, &ledger, callers, most_names,
+    )
 }
 
 /// Opens the pool under the name, as the operator's conversation would alone, for the operator and `callers - 1` clients.
@@ -189,6 +200,7 @@ pub fn open<N: PoolName>(
             settings,
             beginning,
             callers,
+            operator.most_names,
         ),
         Stage::Open(_) => unreachable!(),
     }

@@ -5,6 +5,8 @@ ghost use Rattle.std.specs.Arc.{arc_value};
 ghost use Rattle.mp_history.specs.Log.{Begins, IsLegalLog};
 ghost use Rattle.mp_clients.specs.declared.connected.Connected.{Connected};
 ghost use Rattle.mp_clients.specs.declared.service.Finished.{Finished};
+ghost use Rattle.mp_session.specs.Settings.{salt_of};
+ghost use Rattle.mp_serve.specs.Staged.{nothing_staged};
 ghost use Rattle.mp_clients.specs.Service.{IsFinished, HasSeenOf, KnowsAllOf, LacksOneOf, AreServed};
 ghost use Rattle.mp_clients.specs.Inside.Connecting.{IsReady, IsOperator, IsClientOf, AreClientsOf, AreConnected};
 
@@ -22,7 +24,7 @@ use mp_mempool::{Job, run_all};
 use mp_names::Names;
 use mp_rules::Verifier;
 use mp_serve as alone;
-use mp_serve::{Device, Turn};
+use mp_serve::{Device, Staged, Turn};
 use mp_session::{Session, Settings};
 use std::sync::{Arc, Wait};
 use std::thread::Threads;
@@ -163,17 +165,24 @@ fn connect_operator<N: PoolName, D: Device>(
     seat: Seat<N>,
     names: Names,
     settings: Arc<Settings, Memory>,
+    staged: Staged,
     number: u64,
     line: Vec<u8, Memory>,
     device: D,
 ) -> Connected<N, D>
-    ensures { IsOperator names (arc_value settings) seat number line.items device result }
+    ensures { IsOperator names (arc_value settings) seat staged number line.items device result }
 {
-    let Seat { names: _, client } = seat;
+    let Seat {
+        names: _,
+        most_names,
+        client,
+    } = seat;
     let conversation = Conversation {
         names,
         settings,
         client,
+        staged,
+        most_names,
         line: number,
     };
     Connected {
@@ -187,15 +196,23 @@ fn connect_operator<N: PoolName, D: Device>(
 fn connect_client<N: PoolName, D: Device>(
     seat: Seat<N>,
     settings: Arc<Settings, Memory>,
+    staged: Staged,
     device: D,
 ) -> Connected<N, D>
+    requires { staged ≡ nothing_staged (salt_of (arc_value settings)) }
     ensures { IsClientOf (arc_value settings) seat device result }
 {
-    let Seat { names, client } = seat;
+    let Seat {
+        names,
+        most_names,
+        client,
+    } = seat;
     let conversation = Conversation {
         names,
         settings,
         client,
+        staged,
+        most_names,
         line: 1,
     };
     Connected {
@@ -207,6 +224,7 @@ fn connect_client<N: PoolName, D: Device>(
 
 // Adds the conversations of the clients that have these devices.
 fn connect_clients<N: PoolName, D: Device + Drop>(
+    memory: Memory,
     all: &mut Vec<Connected<N, D>, Memory>,
     seats: Vec<Seat<N>, Memory>,
     settings: &Arc<Settings, Memory>,
@@ -220,7 +238,9 @@ fn connect_clients<N: PoolName, D: Device + Drop>(
         let Some(seat) = seats.next() else {
             return Ok(());
         };
-        all.push(connect_client(seat, Arc::try_clone(settings)?, device))?;
+        let staged = Staged::new(memory, settings.salt())?;
+        let shared = Arc::try_clone(settings)?;
+        all.push(connect_client(seat, shared, staged, device))?;
     }
     Ok(())
 }
@@ -239,6 +259,7 @@ fn connect_all<N: PoolName, D: Device + Drop>(
 {
     let alone::Conversation {
         session,
+        staged,
         line: number,
         ..
     } = operator;
@@ -255,8 +276,8 @@ fn connect_all<N: PoolName, D: Device + Drop>(
     }
     let first = seats.remove(0);
     let shared = Arc::try_clone(&settings)?;
-    all.push(connect_operator(first, names, shared, number, line, device))?;
-    connect_clients(&mut all, seats, &settings, clients)?;
+    all.push(connect_operator(first, names, shared, staged, number, line, device))?;
+    connect_clients(memory, &mut all, seats, &settings, clients)?;
     Ok(all)
 }
 

@@ -88,7 +88,7 @@ pub record Comes (g : Conversation) (bytes : List ℕ) (old now : Option (List �
   pub left : after ≡ Some rest
   pub m : ℕ
   pub most : n ≤ m
-  pub opens_it : Opens u.session.names line
+  pub opens_it : Opens u.session.names u.most_names line
   pub progress : Progress g old now (lines_of bytes) (line ∷ lines_of rest) u m
 
 module _ (g : Conversation) (old mid now : Option (List ℕ)) (bytes rest : List ℕ) (s : Conversation) (n : ℕ) (line : List ℕ)

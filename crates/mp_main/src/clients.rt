@@ -140,13 +140,14 @@ fn callers_of<D>(clients: &[D]) -> u32
 }
 
 /// Answers the lines of the operator's device and of those of the clients, until all inputs have ended. The pool opens at the
-/// operator's first request, and the clients' lines wait for that.
+/// operator's first request, and the clients' lines wait for that. In each conversation at most `names` names may be declared.
 pub fn converse_over_all<R: Threads + Wait + Sync, D: Device + Close + Send + Drop>(
     rt: &HostRuntime,
     threads: &R,
     memory: Memory,
     signatures: Signatures,
     salt: Salt,
+    names: u64,
     device: D,
     clients: Vec<D, Memory>,
 ) -> ExitCode
@@ -155,11 +156,11 @@ pub fn converse_over_all<R: Threads + Wait + Sync, D: Device + Close + Send + Dr
     requires most { length clients.items ≤ 63 }
     ensures { IfSome (D.input device) (λ bytes. EndsShared Brand
         (length clients.items + 1) D.input D.output
-        (new_conversation signatures salt) bytes device clients.items
+        (new_conversation signatures salt names) bytes device clients.items
         (exit_status result)) }
 {
     let callers = callers_of(&clients);
-    match Conversation::new(memory, signatures, salt) {
+    match Conversation::new(memory, signatures, salt, names) {
         Ok(operator) => converse_from(rt, threads, memory, operator, device, clients, callers),
         Err(NoMemory) => end_fault(rt, Fault::NoMemory),
     }
@@ -171,6 +172,7 @@ pub fn converse_with<R: Threads + Wait + Sync>(
     threads: &R,
     signatures: SchemeName,
     salt: Option<u64>,
+    names: u64,
     clients: &[ClientFiles<'_>],
 ) -> ExitCode
     requires { length clients.now ≤ 63 }
@@ -185,7 +187,9 @@ pub fn converse_with<R: Threads + Wait + Sync>(
     let device = Channel::Operator(Streams::new(reader, rt.stdout()));
     match channels_of(rt, memory, clients) {
         Ok(channels) => {
-            converse_over_all(rt, threads, memory, signatures, salt, device, channels)
+            converse_over_all(
+                rt, threads, memory, signatures, salt, names, device, channels,
+            )
         }
         Err(NoMemory) => end_fault(rt, Fault::NoMemory),
     }

@@ -18,21 +18,22 @@ use mp_tx::Salt;
 use std::io::BufReader;
 use std::process::ExitCode;
 
-/// Answers each line of the device's input, until the input ends.
+/// Answers each line of the device's input, until the input ends. At most `names` names may be declared.
 pub fn converse_over<D: Device>(
     rt: &HostRuntime,
     memory: Memory,
     signatures: Signatures,
     salt: Salt,
+    names: u64,
     device: &mut D,
 ) -> ExitCode
     requires { D.turn device.old ≡ Turn.Listens }
     ensures { EndsAs (λ ended. IfSome (D.input device.old) (λ bytes.
-        Ended (new_conversation signatures salt) bytes
+        Ended (new_conversation signatures salt names) bytes
         (D.output device.old) (D.output device.new) ended)
         × EndsAt ended (D.turn device.new)) (exit_status result) }
 {
-    match serve(memory, signatures, salt, device) {
+    match serve(memory, signatures, salt, names, device) {
         Ok(()) => ExitCode::SUCCESS,
         Err(fault) => end_fault(rt, fault),
     }
@@ -55,7 +56,12 @@ pub fn prepare(
 }
 
 /// Answers each line of standard input on standard output, until the input ends. The salt is random if none is given.
-pub fn converse(rt: &HostRuntime, signatures: SchemeName, salt: Option<u64>) -> ExitCode {
+pub fn converse(
+    rt: &HostRuntime,
+    signatures: SchemeName,
+    salt: Option<u64>,
+    names: u64,
+) -> ExitCode {
     let (memory, signatures, salt) = match prepare(rt, signatures, salt) {
         Ok(prepared) => prepared,
         Err(code) => return code,
@@ -64,5 +70,5 @@ pub fn converse(rt: &HostRuntime, signatures: SchemeName, salt: Option<u64>) -> 
         return end_fault(rt, Fault::NoMemory);
     };
     let mut device = Streams::new(reader, rt.stdout());
-    converse_over(rt, memory, signatures, salt, &mut device)
+    converse_over(rt, memory, signatures, salt, names, &mut device)
 }

@@ -4,7 +4,7 @@
 //! - `race --workers N [--explain] [FILE]` lets N threads race over it and writes the report, and if asked the history and a
 //! picture.
 //! - `audit SCENARIO HISTORY` says whether such a history is legal.
-//! - `serve [--signatures WHICH] [--salt N] [--client IN OUT]..` holds a conversation, and one with each client.
+//! - `serve [--signatures WHICH] [--salt N] [--names N] [--client IN OUT]..` holds a conversation, and one with each client.
 #![tactic(auto)]
 
 mod audits;
@@ -56,13 +56,14 @@ fn main(rt: HostRuntime) -> ExitCode {
                 Asked::Serve {
                     signatures,
                     salt,
+                    names,
                     clients,
                 },
             ) => {
                 if clients.is_empty() {
-                    converse(&rt, signatures, salt)
+                    converse(&rt, signatures, salt, names)
                 } else {
-                    converse_with(&rt, &rt, signatures, salt, &clients)
+                    converse_with(&rt, &rt, signatures, salt, names, &clients)
                 }
             }
             Err(error) => end_unparsed(&rt, error),

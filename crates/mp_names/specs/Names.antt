@@ -1,5 +1,5 @@
 -- What the names of a scenario denote.
-use Rattle.std.specs.Prelude.{ℕ, ◌&&◌, ◌++◌, Bool, false, not, nat_eq, List, [], ◌∷◌, find, filter, codes, is_none, Option, None, Some, option_map, option_and_then, unwrap_or, replicate, if◌then◌else◌}
+use Rattle.std.specs.Prelude.{ℕ, ◌+◌, ◌&&◌, ◌++◌, Bool, false, not, nat_eq, nat_le, List, [], ◌∷◌, length, find, filter, codes, is_none, Option, None, Some, option_map, option_and_then, unwrap_or, replicate, if◌then◌else◌}
 use Rattle.std.specs.Option.{option_or, option_map_or}
 use Rattle.std.specs.List.{list_any}
 use Rattle.std.specs.FinMap.{get, insert, retain_keys}
@@ -73,6 +73,10 @@ with_script names named = record names { scripts = names.scripts ++ named ∷ []
 
 abbrev pub with_datum : Names → NamedDatum → Names
 with_datum names named = record names { datums = names.datums ++ named ∷ [] }
+
+-- whether this many names are declared, apart from `yes`, `no` and `unit`
+abbrev pub has_many : Names → ℕ → Bool
+has_many names most = nat_le (most + 3) (length names.bindings + length names.scripts + length names.datums)
 
 -- from then on answers report transactions by their ids, or not
 abbrev pub reporting_by_id : Names → Bool → Names

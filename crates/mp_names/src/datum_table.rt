@@ -43,7 +43,7 @@ fn datum_at(datums: &[NamedDatum], place: Option<usize>) -> Option<&NamedDatum>
 }
 
 impl DatumTable {
-    ghost use Rattle.std.specs.Prelude.{◌≡◌, [], ◌∷◌, ◌++◌, find, nat_eq, option_copied, OnOk, OnErr};
+    ghost use Rattle.std.specs.Prelude.{◌≡◌, [], ◌∷◌, ◌++◌, length, find, nat_eq, option_copied, OnOk, OnErr};
     ghost use Rattle.std.specs.Cmp.Lexicographic.{pointwise};
 
     /// A table without data.
@@ -54,6 +54,13 @@ impl DatumTable {
             datums: Vec::new(memory),
             names: no_places(memory, salt),
         }
+    }
+
+    /// How many data there are.
+    pub fn len(&self) -> usize
+        ensures { result ≡ length self.now }
+    {
+        self.datums.len()
     }
 
     /// The first datum with this name.

@@ -21,6 +21,9 @@ use std::marker::Model;
 /// The word for the policy of coin. It can't be the name of a script.
 pub const COIN: &[u8] = b"coin";
 
+// How many names are declared from the start.
+const FIRST_NAMES: u128 = 3;
+
 /// A name.
 pub struct Name {
     bytes: Vec<u8, Memory>,
@@ -207,7 +210,7 @@ pub fn refused_name(word: &[u8]) -> Reason<'_> {
 impl Names {
     ghost use Rattle.std.specs.Prelude.{◌≡◌, ◌+◌, [], ◌∷◌, ◌++◌, length, IfOk, OnOk, OnErr, option_copied, option_map, unwrap_or};
     ghost use Rattle.std.specs.Result.{result_ok};
-    ghost use Rattle.mp_names.specs.Names.{first_names, binding_named, script_named, datum_named, tx_named, is_new_binding, is_new_script, is_new_datum, first_name_of, name_of, policy_name, with_binding, with_script, with_datum, with_reported, reporting_by_id, without_bindings};
+    ghost use Rattle.mp_names.specs.Names.{first_names, binding_named, script_named, datum_named, tx_named, is_new_binding, is_new_script, is_new_datum, first_name_of, name_of, policy_name, has_many, with_binding, with_script, with_datum, with_reported, reporting_by_id, without_bindings};
     ghost use Rattle.mp_tx.specs.Spelling.{id_of};
 
     /// The names that are declared from the start. The layout of the tables depends on the salt, and no answer does.
@@ -241,6 +244,15 @@ impl Names {
         ensures { result ≡ length self.now.bindings }
     {
         self.bindings.len()
+    }
+
+    /// Whether this many names are declared, apart from those that are declared from the start.
+    pub fn has_many(&self, most: u64) -> bool
+        ensures { result ≡ has_many self.now most }
+    {
+        let bindings = self.bindings.len() as u128;
+        let count = bindings + self.scripts.len() as u128 + self.datums.len() as u128;
+        most as u128 + FIRST_NAMES <= count
     }
 
     // The word then denotes no output and no transaction.

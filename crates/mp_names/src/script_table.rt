@@ -47,7 +47,7 @@ fn script_at(scripts: &[NamedScript], place: Option<usize>) -> Option<&NamedScri
 }
 
 impl ScriptTable {
-    ghost use Rattle.std.specs.Prelude.{◌≡◌, [], ◌∷◌, ◌++◌, find, nat_eq, option_copied, OnOk, OnErr};
+    ghost use Rattle.std.specs.Prelude.{◌≡◌, [], ◌∷◌, ◌++◌, length, find, nat_eq, option_copied, OnOk, OnErr};
     ghost use Rattle.std.specs.Cmp.Lexicographic.{pointwise};
     ghost use Rattle.mp_names.specs.Names.{has_hash};
 
@@ -60,6 +60,13 @@ impl ScriptTable {
             names: no_places(memory, salt),
             hashes: no_places(memory, salt),
         }
+    }
+
+    /// How many scripts there are.
+    pub fn len(&self) -> usize
+        ensures { result ≡ length self.now }
+    {
+        self.scripts.len()
     }
 
     /// The first script with this name.

@@ -4,7 +4,7 @@ ghost use Rattle.mp_serve.specs.declared.device.Turn.TheVariants.{Listens};
 
 use crate::holding::{Ended, Held, LOST, hold};
 use crate::streams::{Bytes, Fails, NEVER, held_failures, streams, written};
-use crate::talks::{BLOCKS, GIVEN, READS, REPORTS, Talk};
+use crate::talks::{BLOCKS, GIVEN, READS, REPORTS, STAGED, Talk};
 use crate::ways::{Holder, Way, converse};
 use mp_clients::Close;
 use mp_memory::Memory;
@@ -315,13 +315,14 @@ const LONG: Talk = Talk {
 
 // Conversations, and at how many of their lines an answer may be lost. A submit under another name than the first of its id
 // stores that name.
-const GROWING: [(Talk, u64); 6] = [
+const GROWING: [(Talk, u64); 7] = [
     (CHANGES, 0),
     (LONG, 4),
     (READS, 0),
     (BLOCKS, 0),
     (REPORTS, 1),
     (GIVEN, 0),
+    (STAGED, 0),
 ];
 
 // The least number of allocations of these conversations.

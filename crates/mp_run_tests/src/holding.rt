@@ -4,6 +4,7 @@ ghost use Rattle.mp_history.specs.PoolName.{head_of};
 ghost use Rattle.mp_signatures.specs.Scheme.{accepted_by};
 ghost use Rattle.mp_clients.specs.Beginning.{IsBefore};
 
+use crate::talks::MOST_NAMES;
 use mp_clients::{Close, Fault, Finished, Service, begin, open, refuse, serve};
 use mp_history::{NewName, PoolName};
 use mp_memory::{Memory, NoMemory};
@@ -195,7 +196,7 @@ pub fn hold<D: Device + Close + Send + Drop, R: Threads + Wait + Sync>(
 {
     let callers = clients.len() as u32 + 1;
     let signatures = Signatures::new(memory, Scheme::Trial).ok()?;
-    match Conversation::new(memory, signatures, Salt::new(7)) {
+    match Conversation::new(memory, signatures, Salt::new(7), MOST_NAMES) {
         Ok(start) => {
             memory.refuse(refused);
             hold_from(rt, memory, alloc, start, device, clients, callers)

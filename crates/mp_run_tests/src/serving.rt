@@ -1,5 +1,6 @@
 //! Conversations over devices that fail, and with allocations that fail, also while a line is read.
 use crate::streams::{Fails, NEVER, held_failures, streams, written};
+use crate::talks::MOST_NAMES;
 use crate::ways::{Holder, Way};
 use mp_memory::Memory;
 use mp_serve::{Fault, serve};
@@ -38,7 +39,7 @@ pub fn hold(
     };
     let mut device = streams;
     memory.refuse(refused);
-    let ended = serve(memory, signatures, Salt::new(7), &mut device);
+    let ended = serve(memory, signatures, Salt::new(7), MOST_NAMES, &mut device);
     (number_of(ended), written(device))
 }
 

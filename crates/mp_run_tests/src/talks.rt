@@ -9,6 +9,9 @@ use mp_tx::Salt;
 use std::alloc::Global;
 use std::io;
 
+/// How many names may be declared.
+pub const MOST_NAMES: u64 = 65_536;
+
 /// Lines and their answers, in which `bad` is short for that to a bad line.
 #[derive(Clone, Copy)]
 pub struct Talk {
@@ -180,16 +183,79 @@ pub const GIVEN: Talk = Talk {
         kept dropped\nremoved dropped\nhas no\nstats 0 0 1000000 1 4 already 1 missing 1\nok\nsnapshot 0 0 1\n",
 };
 
-const TALKS: [Talk; 5] = [CHANGES, READS, BLOCKS, REPORTS, GIVEN];
+// The transaction that spends output 0 of the id of zeros and pays 100, staged or given by its bytes.
+const STAGE: &[u8] =
+    b"stage 010001000000000000000000000000000000000000000000000000000000000000000000000001010003030000000303\
+    000000014bf5122f344554c53bde2ebb8cd2b7e3d1600ad631c385a5d7cce23c7785459a3e4479e6b5a0a3bed1440325\
+    ca4bb09327a1dfb39c28bdd59de53a687ade010500010000000000000000000000000000000000000000000000000000\
+    0000000000000000000000000000640000000000000000ffffffffffffffff000000000000";
+
+const GIVE: &[u8] =
+    b"give 010001000000000000000000000000000000000000000000000000000000000000000000000001010003030000000303\
+    000000014bf5122f344554c53bde2ebb8cd2b7e3d1600ad631c385a5d7cce23c7785459a3e4479e6b5a0a3bed1440325\
+    ca4bb09327a1dfb39c28bdd59de53a687ade010500010000000000000000000000000000000000000000000000000000\
+    0000000000000000000000000000640000000000000000ffffffffffffffff000000000000";
+
+// That output, and another.
+const STAGE_SPENT: &[u8] =
+    b"stage utxo 0000000000000000000000000000000000000000000000000000000000000000#0 \
+    4bf5122f344554c53bde2ebb8cd2b7e3d1600ad631c385a5d7cce23c7785459a3e4479e6b5a0a3bed1440325ca4bb093\
+    27a1dfb39c28bdd59de53a687ade01050001000000000000000000000000000000000000000000000000000000000000\
+    0000000000000000000064";
+
+const STAGE_OUTPUT: &[u8] =
+    b"stage utxo 1111111111111111111111111111111111111111111111111111111111111111#0 \
+    4bf5122f344554c53bde2ebb8cd2b7e3d1600ad631c385a5d7cce23c7785459a3e4479e6b5a0a3bed1440325ca4bb093\
+    27a1dfb39c28bdd59de53a687ade01050001000000000000000000000000000000000000000000000000000000000000\
+    0000000000000000000009";
+
+/// Blocks and ledger states of what is staged: adopted, refused and forgotten.
+pub const STAGED: Talk = Talk {
+    name: "what is staged at refused growths",
+    lines: &[
+        b"out g0 100",
+        STAGE,
+        b"stage 00",
+        b"adopt 1",
+        GIVE,
+        b"adopt 1",
+        STAGE,
+        b"adopt 2",
+        b"unstage",
+        b"back 2",
+        GIVE,
+        b"stage #f8f11283a19134b80b18f90f8ab47ef21a315808b705b442408dadb4fffe20b1",
+        STAGE_OUTPUT,
+        STAGE_OUTPUT,
+        b"adopt 3 block=300",
+        b"sync 3 staged",
+        STAGE_SPENT,
+        b"sync 4 staged",
+        GIVE,
+        STAGE,
+        b"reset",
+        b"adopt 5",
+        b"stats",
+    ],
+    answers: b"ok\nstaged 1\nundecodable version\nkept dropped\n\
+        refused missing 0 f8f11283a19134b80b18f90f8ab47ef21a315808b705b442408dadb4fffe20b1\nkept dropped\nstaged 1\n\
+        refused adopt f8f11283a19134b80b18f90f8ab47ef21a315808b705b442408dadb4fffe20b1 missing 0\nok\nkept dropped\n\
+        accepted 1 f8f11283a19134b80b18f90f8ab47ef21a315808b705b442408dadb4fffe20b1\nstaged 1\nstaged 1\nbad\nkept dropped 1\n\
+        kept dropped\nstaged 1\nkept dropped\n\
+        accepted 2 f8f11283a19134b80b18f90f8ab47ef21a315808b705b442408dadb4fffe20b1\nstaged 1\nok\nkept 2 dropped\n\
+        stats 1 181 999819 2 9 missing 1 adopt 1\n",
+};
+
+const TALKS: [Talk; 6] = [CHANGES, READS, BLOCKS, REPORTS, GIVEN, STAGED];
 
 // The least number of allocations of these conversations.
 const FEWEST: u64 = 20;
 
 fn begin(memory: Memory) -> Result<Conversation, NoMemory> {
     let signatures = Signatures::new(memory, Scheme::Trial)?;
-    match Conversation::new(memory, signatures.share()?, Salt::new(7)) {
+    match Conversation::new(memory, signatures.share()?, Salt::new(7), MOST_NAMES) {
         Ok(conversation) => Ok(conversation),
-        Err(_) => Conversation::new(memory, signatures, Salt::new(7)),
+        Err(_) => Conversation::new(memory, signatures, Salt::new(7), MOST_NAMES),
     }
 }
 

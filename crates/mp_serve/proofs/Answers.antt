@@ -5,7 +5,7 @@ use Rattle.std.specs.Io.KnownBytes.{Appends, Keeps}
 use Rattle.std.proofs.lemmas.List.{take_all}
 use Rattle.mp_text.specs.Output.{AppendsFront}
 use Rattle.mp_serve.specs.declared.conversation.Conversation.{Conversation}
-use Rattle.mp_serve.specs.Ask.{longest, ask_within, ask_of}
+use Rattle.mp_serve.specs.Ask.{longest, within, ask_within, ask_of}
 use Rattle.mp_serve.specs.Texts.{no_memory_text}
 use Rattle.mp_serve.specs.Talk.{Step, take as taken_by, line_step}
 use Rattle.mp_serve.specs.Served.{IsBadLine, IsTold, IsAnswer, AppendsUpTo}
@@ -13,7 +13,7 @@ use Rattle.mp_serve.specs.Served.{IsBadLine, IsTold, IsAnswer, AppendsUpTo}
 -- a line of more than `longest` bytes is bad
 pub too_long : (s : Conversation) (line : List ℕ) → longest < length line → line_step s line ≡ None
 unfolding line_step ask_of
-too_long s line lt = ap (λ b. option_and_then (taken_by s) (cond b None (ask_within s.session.names line))) (lt-ltb longest (length line) lt)
+too_long s line lt = ap (λ b. option_and_then (taken_by s) (cond b None (option_and_then (within s.session.names s.most_names) (ask_within s.session.names line)))) (lt-ltb longest (length line) lt)
 
 pub answered_long : (n : ℕ) (s : Conversation) (line text : List ℕ) → longest < length line
     → IsBadLine n text ⊎ (text ≡ no_memory_text) → IsAnswer n s line text s

@@ -37,6 +37,7 @@ use Rattle.mp_serve.specs.declared.conversation.Conversation.{Conversation}
 use Rattle.mp_serve.specs.declared.refused.Counts.{Counts}
 use Rattle.mp_serve.specs.Refused.{none_counted, counted_if}
 use Rattle.mp_serve.specs.ServedPool.{ServedPool, latest}
+use Rattle.mp_serve.specs.Staged.{nothing_staged}
 use Rattle.mp_serve.specs.Request.{Plain, answer_to, reported_if, respond_plainly, respond}
 use Rattle.mp_serve.specs.Ask.{Does, ask_of}
 use Rattle.mp_serve.specs.Talk as talk
@@ -104,8 +105,8 @@ stage_with (Open p) f r = Open (served p f r)
 abbrev pub session_with : Session ScenarioPool → List LedgerState → Counts → Session ServedPool
 session_with s f r = record { names = s.names; settings = s.settings; stage = stage_with s.stage f r }
 
-abbrev pub conversation_with : Scene → List LedgerState → Counts → Conversation
-conversation_with s f r = record { signatures = s.signatures; session = session_with s.session f r; line = 1 }
+abbrev pub conversation_with : ℕ → Scene → List LedgerState → Counts → Conversation
+conversation_with most s f r = record { signatures = s.signatures; session = session_with s.session f r; staged = nothing_staged 0; most_names = most; line = 1 }
 
 abbrev pub former_in : Stage ScenarioPool → List LedgerState → List LedgerState
 former_in (Before b) f = []
@@ -121,16 +122,16 @@ opens scheme g (Before b) f r = refl
 opens scheme g (Open p) f r = refl
 
 -- a request leads to the same pool and the same text
-record AsksAlike (s : Scene) (f : List LedgerState) (r : Counts) (request : Request) : Type 0 where
+record AsksAlike (most : ℕ) (s : Scene) (f : List LedgerState) (r : Counts) (request : Request) : Type 0 where
   pub former : List LedgerState
   pub counts : Counts
-  pub same : talk.ask (conversation_with s f r) (Plain request) ≡ (conversation_with (runs.ask s request).0 former counts, (runs.ask s request).1)
+  pub same : talk.ask (conversation_with most s f r) (Plain request) ≡ (conversation_with most (runs.ask s request).0 former counts, (runs.ask s request).1)
 
-asks_alike : (s : Scene) (f : List LedgerState) (r : Counts) (request : Request) → HasRoom (runs.ask s request).0.session.stage → AsksAlike s f r request
-asks_alike s f r request room =
+asks_alike : (most : ℕ) (s : Scene) (f : List LedgerState) (r : Counts) (request : Request) → HasRoom (runs.ask s request).0.session.stage → AsksAlike most s f r request
+asks_alike most s f r request room =
     let stage : Stage ScenarioPool = s.session.stage in
     let p : ScenarioPool = runs.pool_at s.signatures s.session.settings stage in
-    let c : Conversation = conversation_with s f r in
+    let c : Conversation = conversation_with most s f r in
     record {
       former = former_after p (former_in stage f) request;
       counts = counts_after p (counts_in stage r) request;
@@ -179,28 +180,28 @@ takes s f r (Asks query) = refl
 -- ---- lines
 
 -- the conversation answers as the run, and goes on like it
-record FollowsLine (step : Option (Conversation × List ℕ)) (text : List ℕ) (t : Scene) : Type 0 where
+record FollowsLine (most : ℕ) (step : Option (Conversation × List ℕ)) (text : List ℕ) (t : Scene) : Type 0 where
   pub former : List LedgerState
   pub counts : Counts
-  pub same : step ≡ Some (conversation_with t former counts, or_ok text)
+  pub same : step ≡ Some (conversation_with most t former counts, or_ok text)
 
 -- what the line asks
-asks_if : (s : Scene) (f : List LedgerState) (r : Counts) (request : Option Request) (text : List ℕ) (t : Scene) → runs.ask_if s request ≡ (t, text)
-    → HasRoom t.session.stage → FollowsLine (Some (talk.ask_if (conversation_with s f r) request)) text t
-asks_if s f r None text t e room = record {
+asks_if : (most : ℕ) (s : Scene) (f : List LedgerState) (r : Counts) (request : Option Request) (text : List ℕ) (t : Scene) → runs.ask_if s request ≡ (t, text)
+    → HasRoom t.session.stage → FollowsLine most (Some (talk.ask_if (conversation_with most s f r) request)) text t
+asks_if most s f r None text t e room = record {
   former = f;
   counts = r;
-  same = ap (λ (x : Scene × List ℕ). Some (conversation_with x.0 f r, or_ok x.1)) e;
+  same = ap (λ (x : Scene × List ℕ). Some (conversation_with most x.0 f r, or_ok x.1)) e;
 }
-asks_if s f r (Some request) text t e room =
-    let alike = asks_alike s f r request (subst (λ (x : Scene × List ℕ). HasRoom x.0.session.stage) (sym e) room) in
+asks_if most s f r (Some request) text t e room =
+    let alike = asks_alike most s f r request (subst (λ (x : Scene × List ℕ). HasRoom x.0.session.stage) (sym e) room) in
     let p : ScenarioPool = runs.pool_at s.signatures s.session.settings s.session.stage in
     record {
       former = alike.former;
       counts = alike.counts;
       same = ap Some (
-          alike.same ∙ ap (λ (x : List ℕ). (conversation_with (runs.ask s request).0 alike.former alike.counts, x)) (sym (told_all s.session.names p request))
-          ∙ ap (λ (x : Scene × List ℕ). (conversation_with x.0 alike.former alike.counts, or_ok x.1)) e
+          alike.same ∙ ap (λ (x : List ℕ). (conversation_with most (runs.ask s request).0 alike.former alike.counts, x)) (sym (told_all s.session.names p request))
+          ∙ ap (λ (x : Scene × List ℕ). (conversation_with most x.0 alike.former alike.counts, or_ok x.1)) e
           );
     }
 
@@ -208,17 +209,17 @@ asks_if s f r (Some request) text t e room =
 abbrev pub doing : Conversation → Option (Session ServedPool × Option Request) → Option (Conversation × List ℕ)
 doing c o = option_map (λ q. talk.ask_if (talk.with_session c q.0) q.1) o
 
-does_taken : (s : Scene) (f : List LedgerState) (r : Counts) (text : List ℕ) (t : Scene) → HasRoom t.session.stage → (o : Option (Session ScenarioPool × Option Request))
+does_taken : (most : ℕ) (s : Scene) (f : List LedgerState) (r : Counts) (text : List ℕ) (t : Scene) → HasRoom t.session.stage → (o : Option (Session ScenarioPool × Option Request))
     → option_map (λ q. runs.ask_if (record s { session = q.0 }) q.1) o ≡ Some (t, text)
-    → FollowsLine (doing (conversation_with s f r) (option_map (λ q. (session_with q.0 f r, q.1)) o)) text t
-does_taken s f r text t room None e = absurd (nothing (t, text) e)
-does_taken s f r text t room (Some (session, request)) e =
-    asks_if (record s { session = session }) f r request text t (same_some (runs.ask_if (record s { session = session }) request) (t, text) e) room
+    → FollowsLine most (doing (conversation_with most s f r) (option_map (λ q. (session_with q.0 f r, q.1)) o)) text t
+does_taken most s f r text t room None e = absurd (nothing (t, text) e)
+does_taken most s f r text t room (Some (session, request)) e =
+    asks_if most (record s { session = session }) f r request text t (same_some (runs.ask_if (record s { session = session }) request) (t, text) e) room
 
-does : (s : Scene) (f : List LedgerState) (r : Counts) (l : Line) (text : List ℕ) (t : Scene) → runs.take s l ≡ Some (t, text) → HasRoom t.session.stage
-    → FollowsLine (talk.does (conversation_with s f r) l) text t
-does s f r l text t e room =
-    subst (λ o. FollowsLine (doing (conversation_with s f r) o) text t) (sym (takes s.session f r l)) (does_taken s f r text t room (sessions.take s.session l) e)
+does : (most : ℕ) (s : Scene) (f : List LedgerState) (r : Counts) (l : Line) (text : List ℕ) (t : Scene) → runs.take s l ≡ Some (t, text) → HasRoom t.session.stage
+    → FollowsLine most (talk.does (conversation_with most s f r) l) text t
+does most s f r l text t e room =
+    subst (λ o. FollowsLine (doing (conversation_with most s f r) o) text t) (sym (takes s.session f r l)) (does_taken most s f r text t room (sessions.take s.session l) e)
 
 -- a submit under the name that the transaction is reported under changes no name
 itself : (word : List ℕ) → pointwise nat_eq word word ≡ true
@@ -229,10 +230,10 @@ reported names word t (Ok reply) is =
     ap (λ (w : List ℕ). cond (pointwise nat_eq word w) names (with_reported names word)) is ∙ ap (λ b. cond b names (with_reported names word)) (itself word)
 reported names word t (Err refusal) is = refl
 
-submits : (s : Scene) (f : List LedgerState) (r : Counts) (word : List ℕ) (tx : Transaction) → name_of (id_of tx) s.session.names ≡ word
-    → talk.submit (conversation_with s f r) word tx ≡ talk.ask (conversation_with s f r) (Plain (Change (commands.Submit tx)))
-submits s f r word tx is =
-    let c : Conversation = conversation_with s f r in
+submits : (most : ℕ) (s : Scene) (f : List LedgerState) (r : Counts) (word : List ℕ) (tx : Transaction) → name_of (id_of tx) s.session.names ≡ word
+    → talk.submit (conversation_with most s f r) word tx ≡ talk.ask (conversation_with most s f r) (Plain (Change (commands.Submit tx)))
+submits most s f r word tx is =
+    let c : Conversation = conversation_with most s f r in
     ap (λ (names : Names). talk.with_response (talk.with_names c names) (respond s.session.names (talk.served_in c) (Plain (Change (commands.Submit tx)))))
     (reported s.session.names word tx (answer_to (talk.served_in c) (commands.Submit tx)) is)
 
@@ -246,48 +247,48 @@ stepped s line x = by (line_of s.session.names line) refl
     by None is e = absurd (nothing x e)
     by (Some l) is e = (l, is, e)
 
-submitted : (s : Scene) (f : List LedgerState) (r : Counts) (line : List ℕ) (l : Line) (text : List ℕ) (t : Scene) → IsSubmit s.session.names line l
+submitted : (most : ℕ) (s : Scene) (f : List LedgerState) (r : Counts) (line : List ℕ) (l : Line) (text : List ℕ) (t : Scene) → IsSubmit s.session.names most line l
     → UsesReportedName s.session.names line → runs.take s l ≡ Some (t, text) → HasRoom t.session.stage
-    → FollowsLine (talk.line_step (conversation_with s f r) line) text t
+    → FollowsLine most (talk.line_step (conversation_with most s f r) line) text t
 unfolding talk.line_step
-submitted s f r line l text t is uses e room =
-    let c : Conversation = conversation_with s f r in
+submitted most s f r line l text t is uses e room =
+    let c : Conversation = conversation_with most s f r in
     let name : name_of (id_of is.tx.tx) s.session.names ≡ is.word = uses is.word is.tx is.words is.named in
-    subst (λ o. FollowsLine o text t)
-    (sym (ap (option_and_then (talk.take c)) is.ask ∙ ap Some (submits s f r is.word is.tx.tx name)))
-    (does s f r (Submit is.tx.tx) text t (ap (runs.take s) (sym is.submit) ∙ e) room)
+    subst (λ o. FollowsLine most o text t)
+    (sym (ap (option_and_then (talk.take c)) is.ask ∙ ap Some (submits most s f r is.word is.tx.tx name)))
+    (does most s f r (Submit is.tx.tx) text t (ap (runs.take s) (sym is.submit) ∙ e) room)
 
-plain_line : (s : Scene) (f : List LedgerState) (r : Counts) (line : List ℕ) (text : List ℕ) (t : Scene) → IsPlainLine s line text t
-    → FollowsLine (talk.line_step (conversation_with s f r) line) text t
+plain_line : (most : ℕ) (s : Scene) (f : List LedgerState) (r : Counts) (line : List ℕ) (text : List ℕ) (t : Scene) → IsPlainLine most s line text t
+    → FollowsLine most (talk.line_step (conversation_with most s f r) line) text t
 unfolding talk.line_step
-plain_line s f r line text t plain =
+plain_line most s f r line text t plain =
     let found = stepped s line (t, text) plain.step in
     by found.0 found.1 found.2 (words_of line) refl
   where
     c : Conversation
-    c = conversation_with s f r
+    c = conversation_with most s f r
 
-    done : (l : Line) → runs.take s l ≡ Some (t, text) → ask_of s.session.names line ≡ Some (Does l) → FollowsLine (talk.line_step c line) text t
-    done l e asks = subst (λ o. FollowsLine o text t) (sym (ap (option_and_then (talk.take c)) asks)) (does s f r l text t e plain.room)
+    done : (l : Line) → runs.take s l ≡ Some (t, text) → ask_of s.session.names most line ≡ Some (Does l) → FollowsLine most (talk.line_step c line) text t
+    done l e asks = subst (λ o. FollowsLine most o text t) (sym (ap (option_and_then (talk.take c)) asks)) (does most s f r l text t e plain.room)
 
     by : (l : Line) → line_of s.session.names line ≡ Some l → runs.take s l ≡ Some (t, text) → (words : List (List ℕ)) → words_of line ≡ words
-        → FollowsLine (talk.line_step c line) text t
-    by l is e [] none = done l e (blank_line s.session.names line l none is)
+        → FollowsLine most (talk.line_step c line) text t
+    by l is e [] none = done l e (blank_line s.session.names most line l plain.few none is)
     by l is e (word ∷ words) first = with (pointwise nat_eq word (codes "submit")) refl
       where
-        with : (b : Bool) → pointwise nat_eq word (codes "submit") ≡ b → FollowsLine (talk.line_step c line) text t
-        with true same = submitted s f r line l text t (submits_line s.session.names line word words l first is same) plain.name e plain.room
-        with false other = done l e (does_line s.session.names line word words l first is other)
+        with : (b : Bool) → pointwise nat_eq word (codes "submit") ≡ b → FollowsLine most (talk.line_step c line) text t
+        with true same = submitted most s f r line l text t (submits_line s.session.names most line word words l plain.few first is same) plain.name e plain.room
+        with false other = done l e (does_line s.session.names most line word words l plain.few first is other)
 
-pub plain_run : (s : Scene) (f : List LedgerState) (r : Counts) (lines texts : List (List ℕ)) → IsPlainRun s lines texts
-    → Answers (conversation_with s f r) lines (map or_ok texts)
-plain_run s f r [] texts none = ap (map or_ok) none
-plain_run s f r (line ∷ lines) texts (text, others, t, all, plain, more) =
-    let follows = plain_line s f r line text t plain in (
+pub plain_run : (most : ℕ) (s : Scene) (f : List LedgerState) (r : Counts) (lines texts : List (List ℕ)) → IsPlainRun most s lines texts
+    → Answers (conversation_with most s f r) lines (map or_ok texts)
+plain_run most s f r [] texts none = ap (map or_ok) none
+plain_run most s f r (line ∷ lines) texts (text, others, t, all, plain, more) =
+    let follows = plain_line most s f r line text t plain in (
       or_ok text,
       map or_ok others,
-      conversation_with t follows.former follows.counts,
+      conversation_with most t follows.former follows.counts,
       ap (map or_ok) all,
       follows.same,
-      plain_run t follows.former follows.counts lines others more,
+      plain_run most t follows.former follows.counts lines others more,
     )

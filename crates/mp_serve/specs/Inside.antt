@@ -8,3 +8,4 @@ pub mod Extended
 pub mod Former
 pub mod Answer
 pub mod KeepsLedger
+pub mod Staged

@@ -4,6 +4,7 @@ pub mod Texts
 pub mod Refused
 pub mod ServedPool
 pub mod TxWord
+pub mod Staged
 pub mod Request
 pub mod Talk
 pub mod Device

@@ -1,9 +1,9 @@
 -- Runs of a scenario to which a conversation answers alike.
-use Rattle.std.specs.Prelude.{◌≡◌, ◌<◌, ℕ, List, [], ◌∷◌, codes, Some}
+use Rattle.std.specs.Prelude.{◌≡◌, ◌<◌, ℕ, false, List, [], ◌∷◌, codes, Some}
 use Rattle.mp_text.specs.Words.{words_of}
 use Rattle.mp_tx.specs.Spelling.{id_of}
 use Rattle.mp_names.specs.DeclaredTx.{DeclaredTx}
-use Rattle.mp_names.specs.Names.{Names, tx_named, name_of}
+use Rattle.mp_names.specs.Names.{Names, tx_named, name_of, has_many}
 use Rattle.mp_session.specs.declared.session.Stage.{Stage}
 use Rattle.mp_session.specs.declared.session.Stage.TheVariants.{Before, Open}
 use Rattle.mp_session.specs.Pool.{ScenarioPool}
@@ -28,17 +28,18 @@ abbrev pub UsesReportedName : Names → List ℕ → Type 0
 UsesReportedName names line =
     (word : List ℕ) (t : DeclaredTx) → words_of line ≡ codes "submit" ∷ word ∷ [] → tx_named word names ≡ Some t → name_of (id_of t.tx) names ≡ word
 
--- The run does the line, which isn't bad, and writes this text.
-pub record IsPlainLine (s : Scene) (line text : List ℕ) (t : Scene) : Type 0 where
+-- The run does the line, which isn't bad, and writes this text. There may be a further name.
+pub record IsPlainLine (most : ℕ) (s : Scene) (line text : List ℕ) (t : Scene) : Type 0 where
   pub step : runs.line_step s line ≡ Some (t, text)
   pub room : HasRoom t.session.stage
   pub name : UsesReportedName s.session.names line
+  pub few : has_many s.session.names most ≡ false
 
 -- the run does these lines, and writes these texts, one for each line
-abbrev pub IsPlainRun : Scene → List (List ℕ) → List (List ℕ) → Type 0
-IsPlainRun s [] texts = texts ≡ []
-IsPlainRun s (line ∷ lines) texts =
-    (text : List ℕ) × (others : List (List ℕ)) × (t : Scene) × (texts ≡ text ∷ others) × IsPlainLine s line text t × IsPlainRun t lines others
+abbrev pub IsPlainRun : ℕ → Scene → List (List ℕ) → List (List ℕ) → Type 0
+IsPlainRun most s [] texts = texts ≡ []
+IsPlainRun most s (line ∷ lines) texts =
+    (text : List ℕ) × (others : List (List ℕ)) × (t : Scene) × (texts ≡ text ∷ others) × IsPlainLine most s line text t × IsPlainRun most t lines others
 
 -- the conversation answers these lines so, and none of them is bad
 abbrev pub Answers : Conversation → List (List ℕ) → List (List ℕ) → Type 0

@@ -1,5 +1,5 @@
 -- Requests to the pool, and its responses.
-use Rattle.std.specs.Prelude.{ℕ, ◌-◌, nat_eq, List, [], ◌∷◌, ◌++◌, length, take, Option, None, Some, Result, Ok, Err, if◌then◌else◌}
+use Rattle.std.specs.Prelude.{ℕ, ◌-◌, Bool, nat_eq, List, [], ◌∷◌, ◌++◌, length, take, Option, None, Some, Result, Ok, Err, is_ok, if◌then◌else◌}
 use Rattle.std.specs.Cmp.Lexicographic.{pointwise}
 use Rattle.std.specs.Result.{result_err}
 use Rattle.mp_tx.specs.Transaction.{Transaction}
@@ -35,8 +35,6 @@ pub record Block : Type 0 where
 pub data Request : Type 0 where
   -- what a line of a scenario asks
   Plain : sessions.Request → Request
-  -- adopt the ledger state after the block
-  Extend : Block → Request
   -- adopt the ledger state this many steps ago
   Return : ℕ → Request
   -- what the submit of the transaction would answer
@@ -101,6 +99,16 @@ abbrev pub extend : Names → ServedPool → List Transaction → Result LedgerS
 extend names p txs (Ok l) = go_on names p l
 extend names p txs (Err refused) = (record p { refused = one_adopt_more p.refused }, block_refused_text names txs refused.0 refused.1)
 
+-- the ledger state after the block, or the first of its transactions that isn't valid after those before it
+abbrev pub after_block : ServedPool → Block → Result LedgerState (ℕ × Invalid)
+after_block p b = apply_block (accepted_by p.signatures) p.pool.ledger b.tick b.block_bytes b.txs
+
+abbrev pub adopt_block : Names → ServedPool → Block → Response
+adopt_block names p b = extend names p b.txs (after_block p b)
+
+abbrev pub is_adopted : ServedPool → Block → Bool
+is_adopted p b = is_ok (after_block p b)
+
 -- a former ledger state, with those before it; or it isn't kept, which is counted
 abbrev pub go_back : Names → ServedPool → ℕ → Option LedgerState → Response
 go_back names p count None = (record p { refused = one_back_more p.refused }, back_refused_text (length p.former))
@@ -127,8 +135,6 @@ respond_plainly names p (sessions.Read query) = read names p query
 
 abbrev pub respond : Names → ServedPool → Request → Response
 respond names p (Plain request) = respond_plainly names p request
-respond names p (Extend block) =
-    extend names p block.txs (apply_block (accepted_by p.signatures) p.pool.ledger block.tick block.block_bytes block.txs)
 respond names p (Return count) = go_back names p count (state_back p.former p.pool.ledger count)
 respond names p (Check t) = (p, answered names p (commands.Submit t))
 respond names p (Give t) = give names p t

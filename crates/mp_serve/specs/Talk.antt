@@ -1,5 +1,5 @@
 -- How a line changes the state of a conversation.
-use Rattle.std.specs.Prelude.{ℕ, ◌&&◌, nat_eq, Bool, not, true, false, List, [], filter, length, Option, Some, None, is_some, option_map, option_and_then, unwrap_or, Result, Ok, Err}
+use Rattle.std.specs.Prelude.{ℕ, ◌&&◌, nat_eq, Bool, not, true, false, List, [], ◌∷◌, filter, length, Option, Some, None, is_some, option_map, option_and_then, unwrap_or, Result, Ok, Err, if◌then◌else◌}
 use Rattle.std.specs.Cmp.Lexicographic.{pointwise}
 use Rattle.mp_tx.specs.declared.reference.OutRef.{OutRef}
 use Rattle.mp_tx.specs.declared.output.Output.{Output}
@@ -18,22 +18,31 @@ use Rattle.mp_session.specs.Beginning.{Beginning, opening_ledger}
 use Rattle.mp_session.specs.declared.session.Session.{Session}
 use Rattle.mp_session.specs.declared.session.Stage.{Stage}
 use Rattle.mp_session.specs.declared.session.Stage.TheVariants.{Before, Open}
-use Rattle.mp_session.specs.Settings.{block_bytes_of, limit_of, last_of}
+use Rattle.mp_session.specs.Settings.{block_bytes_of, limit_of, last_of, salt_of}
 use Rattle.mp_session.specs.Session.{new_session, hold_at}
 use Rattle.mp_session.specs.Session as sessions
 use Rattle.mp_session.specs.Request as requests
 use Rattle.mp_signatures.specs.declared.scheme.Scheme.{Scheme}
 use Rattle.mp_serve.specs.declared.conversation.Conversation.{Conversation}
-use Rattle.mp_serve.specs.Ask.{Ask, NewBlock, Does, Reads, Submits, SubmitsBytes, Shows, Checks, Counts, Holds, Extends, Returns, Forgets, ReportsById, Resets, ask_of}
+use Rattle.mp_serve.specs.Ask.{Ask, NewBlock, Does, Reads, Submits, SubmitsBytes, Shows, Checks, Counts, Holds, Extends, Stages, StagesHeld, StagesOutput, Unstages, Syncs, Returns, Forgets, ReportsById, Resets, ask_of}
 use Rattle.mp_serve.specs.Refused.{none_counted, one_more}
 use Rattle.mp_serve.specs.ServedPool.{ServedPool}
 use Rattle.mp_serve.specs.TxWord.{TxWord, tx_meant, put_meant}
-use Rattle.mp_serve.specs.Request.{Block, Request, Response, Plain, Extend, Return, Check, Give, Count, do_command, respond, answer_to, reported_if}
+use Rattle.mp_serve.specs.declared.used.Used.TheVariants.{Txs, Outputs}
+use Rattle.mp_serve.specs.Staged.{Staged, no_outputs, nothing_staged, add_txs, add_read, add_output, staged_ledger}
+use Rattle.mp_serve.specs.Staged as staged
+use Rattle.mp_serve.specs.Request.{Block, Request, Response, Plain, Return, Check, Give, Count, do_command, respond, adopt_block, is_adopted, answer_to, reported_if}
 use Rattle.mp_serve.specs.Texts.{ok_text, bytes_text, show_text, forgotten_text}
 
 -- before the first line
-abbrev pub new_conversation : Scheme → ℕ → Conversation
-new_conversation signatures salt = record { signatures = signatures; session = new_session salt; line = 1 }
+abbrev pub new_conversation : Scheme → ℕ → ℕ → Conversation
+new_conversation signatures salt most_names = record {
+  signatures = signatures;
+  session = new_session salt;
+  staged = nothing_staged salt;
+  most_names = most_names;
+  line = 1;
+}
 
 -- after one more line, whose number is at most 2^64 - 1
 abbrev pub counted : Conversation → Conversation
@@ -65,6 +74,9 @@ served_at signatures g (Open p) = p
 
 abbrev pub served_in : Conversation → ServedPool
 served_in c = served_at c.signatures c.session.settings c.session.stage
+
+abbrev pub with_staged : Conversation → Staged → Conversation
+with_staged c s = record c { staged = s }
 
 abbrev pub with_response : Conversation → Response → Conversation × List ℕ
 with_response c r = (with_session c (record c.session { stage = Open r.0 }), r.1)
@@ -127,10 +139,18 @@ give c (Err fault) = (c, bytes_text (Err fault))
 abbrev pub report_by_id : Conversation → Bool → Conversation × List ℕ
 report_by_id c by_id = (with_names c (reporting_by_id c.session.names by_id), ok_text)
 
--- all names are forgotten, the peer is offered all again, and the next line has number 1; allowed from the first request on
+-- all names and all that is staged are forgotten, the peer is offered all again, and the next line has number 1; allowed from the
+-- first request on
 abbrev pub reset_at : Conversation → Stage ServedPool → Step
 reset_at c (Before b) = None
-reset_at c (Open p) = Some (record c { session = record c.session { names = first_names; stage = Open (record p { cursor = 0 }) }; line = 0 }, ok_text)
+reset_at c (Open p) = Some (
+  record c {
+    session = record c.session { names = first_names; stage = Open (record p { cursor = 0 }) };
+    staged = nothing_staged (salt_of c.session.settings);
+    line = 0;
+  },
+  ok_text,
+)
 
 -- ---- words for transactions
 
@@ -144,8 +164,51 @@ check c word = option_map (λ t. ask c (Check t)) (tx_meant c.session.stage word
 abbrev pub block_at : Settings → NewBlock → List Transaction → Block
 block_at g b txs = record { tick = b.tick; block_bytes = unwrap_or b.block_bytes (block_bytes_of g); txs = txs }
 
+-- the pool adopts the ledger state after the block, if it has one
+abbrev pub adopt : Conversation → Block → Conversation × List ℕ
+adopt c b = with_response c (adopt_block c.session.names (served_in c) b)
+
+-- the same for the block of all staged transactions, which then aren't staged any more
+abbrev pub adopt_staged : Conversation → Block → Conversation × List ℕ
+adopt_staged c b =
+    adopt (with_staged c (if is_adopted (served_in c) b then staged.without c.staged Txs else c.staged)) b
+
+-- the transactions of a block's words; without words, those that are staged
+abbrev pub block_txs : Staged → Stage ServedPool → List TxWord → Option (List Transaction)
+block_txs s stage [] = Some s.txs
+block_txs s stage (word ∷ words) = put_meant stage [] (word ∷ words)
+
+abbrev pub adopt_by : Conversation → List TxWord → Block → Conversation × List ℕ
+adopt_by c [] b = adopt_staged c b
+adopt_by c (word ∷ words) b = adopt c b
+
 abbrev pub extend : Conversation → NewBlock → Step
-extend c b = option_map (λ txs. ask c (Extend (block_at c.session.settings b txs))) (put_meant c.session.stage [] b.txs)
+extend c b = option_map (λ txs. adopt_by c b.txs (block_at c.session.settings b txs)) (block_txs c.staged c.session.stage b.txs)
+
+-- ---- what is staged
+
+-- what is staged then, and the answer
+abbrev pub with_staging : Conversation → Staged × List ℕ → Conversation × List ℕ
+with_staging c r = (with_staged c r.0, r.1)
+
+abbrev pub stage_bytes : Conversation → Result Transaction TxFault → Conversation × List ℕ
+stage_bytes c found = with_staging c (add_read c.staged found)
+
+abbrev pub stage_held : Conversation → List TxWord → Step
+stage_held c words = option_map (λ txs. with_staging c (add_txs c.staged txs)) (put_meant c.session.stage [] words)
+
+abbrev pub stage_output : Conversation → OutRef → Output → Step
+stage_output c r o = option_map (with_staging c) (add_output c.staged r o)
+
+abbrev pub unstage : Conversation → Conversation × List ℕ
+unstage c = (with_staged c (nothing_staged (salt_of c.session.settings)), ok_text)
+
+-- the pool adopts the ledger state that has the staged outputs, which then aren't staged any more; it never refuses one
+abbrev pub sync_staged : Conversation → ℕ → Option ℕ → Conversation × List ℕ
+sync_staged c tick block_bytes =
+    ask
+    (with_staged c (staged.without c.staged (Outputs (no_outputs (salt_of c.session.settings)))))
+    (Plain (requests.Change (commands.Sync (staged_ledger c.session.settings c.staged tick block_bytes))))
 
 -- ---- lines
 
@@ -172,6 +235,11 @@ take c (Checks word) = check c word
 take c Counts = Some (ask c Count)
 take c (Holds r o) = hold c r o
 take c (Extends block) = extend c block
+take c (Stages bytes) = Some (stage_bytes c (transaction_of bytes))
+take c (StagesHeld words) = stage_held c words
+take c (StagesOutput r o) = stage_output c r o
+take c Unstages = Some (unstage c)
+take c (Syncs tick block_bytes) = Some (sync_staged c tick block_bytes)
 take c (Returns count) = Some (ask c (Return count))
 take c (Forgets names) = Some (forget c names)
 take c (ReportsById by_id) = Some (report_by_id c by_id)
@@ -179,4 +247,4 @@ take c Resets = reset_at c c.session.stage
 
 -- the state and the answer after a line, unless it is bad
 unfoldable pub line_step : Conversation → List ℕ → Step
-line_step c line = option_and_then (take c) (ask_of c.session.names line)
+line_step c line = option_and_then (take c) (ask_of c.session.names c.most_names line)

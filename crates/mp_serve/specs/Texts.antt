@@ -77,6 +77,10 @@ block_refused_text names txs place fault =
 unfoldable pub back_refused_text : ℕ → List ℕ
 back_refused_text kept = (codes "refused back" ++ number_text kept) ++ 10 ∷ []
 
+-- this many transactions or outputs are staged
+unfoldable pub staged_text : ℕ → List ℕ
+staged_text count = (codes "staged" ++ number_text count) ++ 10 ∷ []
+
 -- this many names were forgotten
 unfoldable pub forgotten_text : ℕ → List ℕ
 forgotten_text count = (codes "forgotten" ++ number_text count) ++ 10 ∷ []

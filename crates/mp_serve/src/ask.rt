@@ -4,19 +4,20 @@ ghost use Rattle.std.specs.Prelude.{◌≡◌, [], Some, None, map, option_map, 
 ghost use Rattle.mp_text.specs.Words.{words_of};
 ghost use Rattle.mp_lines.specs.Lines.{line_of};
 ghost use Rattle.mp_lines.specs.Inside.LedgerHead.{to_head};
-ghost use Rattle.mp_names.specs.Fault.{Gives, IsBad};
+ghost use Rattle.mp_names.specs.Fault.{Gives, Reads, IsBad};
 ghost use Rattle.mp_names.specs.Names.{is_among};
-ghost use Rattle.mp_serve.specs.Ask.{Does, Shows, Checks, Forgets, bytes_by, bytes_ask, give_ask, submit_by, submit_ask, one_tx, utxo_by, utxo_ask, put_txs, block_behind, adopt_ask, back_ask, put_names, forget_ask, names_ask, ledger_ask, clean_ask, words_ask, hex_ask, long_ask, ask_within};
+ghost use Rattle.mp_serve.specs.Ask.{Does, Shows, Checks, Forgets, bytes_by, bytes_ask, give_ask, submit_by, submit_ask, one_tx, entry_by, entry_of, utxo_ask, put_txs, block_behind, adopt_ask, put_ids, is_marked, stage_held_ask, stage_bytes_ask, stage_output_ask, stage_ask, staged_behind, staged_ask, sync_ask, staging_ask, back_ask, put_names, forget_ask, names_ask, ledger_ask, clean_ask, words_ask, hex_ask, long_ask, does_declare, declares, within, ask_within};
+ghost use Rattle.mp_lines.specs.Inside.Line.{to_line};
 ghost use Rattle.mp_serve.specs.Inside.Ask.{to_ask, to_tx_word};
 
 use crate::block::NewBlock;
 use crate::output::{AROUND_BYTES, output_in, ref_in};
-use crate::tx_word::{TxWord, tx_word_of};
+use crate::tx_word::{TxWord, pooled, tx_word_of};
 use mp_lines::{
     Form, LedgerHead, Line, bytes_of, no_word, one_word, read_head, two_words, unclean,
 };
 use mp_memory::Memory;
-use mp_names::{LineFault, Name, Names, Reason, any_number, refused_name};
+use mp_names::{BlockBytes, LineFault, Name, Names, Reason, any_number, refused_name};
 use mp_text::{first_word, is_clean};
 use mp_tx::{MAX_BYTES, OutRef, Output, Tx};
 use std::sync::Arc;
@@ -42,6 +43,16 @@ pub enum Ask {
     Holds(OutRef, Output),
     /// Adopt the ledger state after the block.
     Extends(NewBlock),
+    /// Stage the transaction that has these bytes.
+    Stages(Vec<u8, Memory>),
+    /// Stage the transactions of these words.
+    StagesHeld(Vec<TxWord, Memory>),
+    /// Stage the output.
+    StagesOutput(OutRef, Output),
+    /// Forget what is staged.
+    Unstages,
+    /// Adopt the ledger state that has the staged outputs, with the tick, and the block bytes if the line gives them.
+    Syncs(u64, Option<BlockBytes>),
     /// Adopt the ledger state this many steps ago.
     Returns(u64),
     /// Forget these names.
@@ -91,6 +102,25 @@ const ADOPT: Form = Form {
     word: b"adopt",
     text: b"adopt TICK TX ..' or 'adopt TICK block=N TX ..",
 };
+
+const STAGE: Form = Form {
+    word: b"stage",
+    text: b"stage HEX' or 'stage #ID ..' or 'stage utxo ID#INDEX HEX",
+};
+
+const UNSTAGE: Form = Form {
+    word: b"unstage",
+    text: b"unstage",
+};
+
+// Another form of the line with which scenarios sync.
+const SYNC: Form = Form {
+    word: b"sync",
+    text: b"sync TICK staged' or 'sync TICK block=N staged",
+};
+
+// The last word of that form.
+const STAGED: &[u8] = b"staged";
 
 const BACK: Form = Form {
     word: b"back",
@@ -184,23 +214,39 @@ fn check_ask<'a>(names: &Names, words: &'a [u8]) -> Result<Ask, LineFault<'a>>
     Ok(Ask::Checks(one_tx(names, CHECK.text, words)?))
 }
 
-fn utxo_by<'a>(memory: Memory, word: &'a [u8], digits: &'a [u8]) -> Result<Ask, LineFault<'a>>
-    ensures { Gives to_ask (utxo_by (word.now, digits.now)) result }
+fn entry_by<'a>(
+    memory: Memory,
+    word: &'a [u8],
+    digits: &'a [u8],
+) -> Result<(OutRef, Output), LineFault<'a>>
+    ensures { Reads (entry_by (word.now, digits.now)) result }
 {
     let reference = ref_in(memory, word)?;
     let bytes = bytes_of(memory, digits)?;
     match output_in(memory, &bytes)? {
-        Some(output) => Ok(Ask::Holds(reference, output)),
+        Some(output) => Ok((reference, output)),
         None => Err(LineFault::Bad(Reason::NoOutput(digits))),
     }
+}
+
+// ID#INDEX HEX, the last words of a line of this form.
+fn entry_of<'a>(
+    memory: Memory,
+    form: &'static [u8],
+    words: &'a [u8],
+) -> Result<(OutRef, Output), LineFault<'a>>
+    ensures { Reads (entry_of (words_of words.now)) result }
+{
+    let (word, digits) = two_words(form, words)?;
+    entry_by(memory, word, digits)
 }
 
 // utxo ID#INDEX HEX
 fn utxo_ask<'a>(memory: Memory, words: &'a [u8]) -> Result<Ask, LineFault<'a>>
     ensures { Gives to_ask (utxo_ask (words_of words.now)) result }
 {
-    let (word, digits) = two_words(UTXO.text, words)?;
-    utxo_by(memory, word, digits)
+    let (reference, output) = entry_of(memory, UTXO.text, words)?;
+    Ok(Ask::Holds(reference, output))
 }
 
 // Adds the words, which are for transactions.
@@ -250,6 +296,119 @@ fn adopt_ask<'a>(memory: Memory, names: &Names, words: &'a [u8]) -> Result<Ask, 
 {
     let head = read_head(ADOPT.text, words)?;
     block_behind(memory, names, head)
+}
+
+// Adds words for the transactions with these ids.
+fn put_ids<'a>(txs: &mut Vec<TxWord, Memory>, words: &'a [u8]) -> Result<(), LineFault<'a>>
+    ensures ok { OnOk result
+        (put_ids (map to_tx_word txs.old.items) (words_of words.now)
+        ≡ Some (map to_tx_word txs.new.items)) }
+    ensures bad { IsBad result
+        → put_ids (map to_tx_word txs.old.items) (words_of words.now) ≡ None }
+{
+    let mut rest = words;
+    while let Some((word, others)) = first_word(rest) {
+        txs.push(pooled(word)?)?;
+        rest = others;
+    }
+    Ok(())
+}
+
+fn stage_held_ask<'a>(memory: Memory, words: &'a [u8]) -> Result<Ask, LineFault<'a>>
+    ensures { Gives to_ask (stage_held_ask (words_of words.now)) result }
+{
+    let mut txs = Vec::new(memory);
+    put_ids(&mut txs, words)?;
+    Ok(Ask::StagesHeld(txs))
+}
+
+fn stage_bytes_ask<'a>(memory: Memory, words: &'a [u8]) -> Result<Ask, LineFault<'a>>
+    ensures { Gives to_ask (stage_bytes_ask (words_of words.now)) result }
+{
+    let digits = one_word(STAGE.text, words)?;
+    Ok(Ask::Stages(bytes_of(memory, digits)?))
+}
+
+fn stage_output_ask<'a>(memory: Memory, words: &'a [u8]) -> Result<Ask, LineFault<'a>>
+    ensures { Gives to_ask (stage_output_ask (words_of words.now)) result }
+{
+    let (reference, output) = entry_of(memory, STAGE.text, words)?;
+    Ok(Ask::StagesOutput(reference, output))
+}
+
+// Whether the word begins with the number sign.
+fn is_marked(word: &[u8]) -> bool
+    ensures { result ≡ is_marked word.now }
+{
+    match word.split_first() {
+        Some((first, _)) => *first == b'#',
+        None => false,
+    }
+}
+
+// stage utxo ID#INDEX HEX, stage #ID .., stage HEX
+fn stage_ask<'a>(memory: Memory, words: &'a [u8]) -> Result<Ask, LineFault<'a>>
+    ensures { Gives to_ask (stage_ask (words_of words.now)) result }
+{
+    let Some((word, others)) = first_word(words) else {
+        return Err(LineFault::Bad(Reason::FewWords(STAGE.text)));
+    };
+    if word == UTXO.word {
+        stage_output_ask(memory, others)
+    } else if is_marked(word) {
+        stage_held_ask(memory, words)
+    } else {
+        stage_bytes_ask(memory, words)
+    }
+}
+
+fn staged_behind(head: LedgerHead<'_>) -> Option<Ask>
+    ensures { option_map to_ask result ≡ staged_behind (to_head head.entry) }
+{
+    let LedgerHead {
+        tick,
+        block_bytes,
+        rest,
+    } = head;
+    match one_word(SYNC.text, rest) {
+        Ok(word) => {
+            if word == STAGED {
+                Some(Ask::Syncs(tick, block_bytes))
+            } else {
+                None
+            }
+        }
+        Err(_) => None,
+    }
+}
+
+// TICK [block=N] staged
+fn staged_ask(words: &[u8]) -> Option<Ask>
+    ensures { option_map to_ask result ≡ staged_ask (words_of words.now) }
+{
+    match read_head(SYNC.text, words) {
+        Ok(head) => staged_behind(head),
+        Err(_) => None,
+    }
+}
+
+// A line of scenarios. Otherwise sync TICK [block=N] staged.
+fn sync_ask<'a>(
+    memory: Memory,
+    names: &Names,
+    line: &'a [u8],
+    words: &'a [u8],
+) -> Result<Ask, LineFault<'a>>
+    ensures { Gives to_ask (sync_ask names.now line.now (words_of words.now)) result }
+{
+    match scenario_ask(memory, names, line) {
+        Ok(ask) => Ok(ask),
+        Err(LineFault::NoMemory) => Err(LineFault::NoMemory),
+        Err(LineFault::Bad(reason)) => match staged_ask(words) {
+            Some(ask) => Ok(ask),
+            None => Err(LineFault::Bad(reason)),
+        },
+    }
 }
 
 // back COUNT
@@ -334,6 +493,27 @@ fn names_ask<'a>(
     }
 }
 
+fn staging_ask<'a>(
+    memory: Memory,
+    names: &Names,
+    line: &'a [u8],
+    word: &'a [u8],
+    words: &'a [u8],
+) -> Result<Ask, LineFault<'a>>
+    ensures { Gives to_ask (staging_ask names.now line.now word.now (words_of words.now)) result }
+{
+    if word == STAGE.word {
+        stage_ask(memory, words)
+    } else if word == UNSTAGE.word {
+        no_word(UNSTAGE.text, words)?;
+        Ok(Ask::Unstages)
+    } else if word == SYNC.word {
+        sync_ask(memory, names, line, words)
+    } else {
+        names_ask(memory, names, line, word, words)
+    }
+}
+
 fn ledger_ask<'a>(
     memory: Memory,
     names: &Names,
@@ -350,7 +530,7 @@ fn ledger_ask<'a>(
     } else if word == BACK.word {
         back_ask(words)
     } else {
-        names_ask(memory, names, line, word, words)
+        staging_ask(memory, names, line, word, words)
     }
 }
 
@@ -390,7 +570,7 @@ fn words_ask<'a>(memory: Memory, names: &Names, line: &'a [u8]) -> Result<Ask, L
     }
 }
 
-// A line of a transaction's bytes, or of an output.
+// A line of a transaction's bytes, of an output, or of what is staged.
 fn hex_ask<'a>(
     memory: Memory,
     names: &Names,
@@ -406,6 +586,8 @@ fn hex_ask<'a>(
         give_ask(memory, words)
     } else if word == UTXO.word {
         utxo_ask(memory, words)
+    } else if word == STAGE.word {
+        stage_ask(memory, words)
     } else {
         Err(LineFault::Bad(unclean(line)))
     }
@@ -424,9 +606,9 @@ fn long_ask<'a>(memory: Memory, names: &Names, line: &'a [u8]) -> Result<Ask, Li
     }
 }
 
-/// The most bytes of a line: those of `utxo` with an output that fills the largest transaction. They are the word, the id, the
-/// number sign, 20 digits of an index, two spaces, and two digits for each byte of the output.
-pub const MAX_LINE_BYTES: usize = 4 + 64 + 1 + 20 + 2 + 2 * (MAX_BYTES - AROUND_BYTES);
+/// The most bytes of a line: those of `stage utxo` with an output that fills the largest transaction. They are the two words, the
+/// id, the number sign, 20 digits of an index, three spaces, and two digits for each byte of the output.
+pub const MAX_LINE_BYTES: usize = 9 + 64 + 1 + 20 + 3 + 2 * (MAX_BYTES - AROUND_BYTES);
 
 // What the line asks for, if it isn't too long.
 fn ask_within<'a>(memory: Memory, names: &Names, line: &'a [u8]) -> Result<Ask, LineFault<'a>>
@@ -439,22 +621,62 @@ fn ask_within<'a>(memory: Memory, names: &Names, line: &'a [u8]) -> Result<Ask, 
     }
 }
 
+// Whether a line of scenarios declares a name.
+fn does_declare(line: &Line) -> bool
+    ensures { result ≡ does_declare (to_line line.now) }
+{
+    match line {
+        Line::Script(_) => true,
+        Line::Data(_) => true,
+        Line::Out(_, _) => true,
+        Line::Tx(_, _) => true,
+        _ => false,
+    }
+}
+
+fn declares(ask: &Ask) -> bool
+    ensures { result ≡ declares (to_ask ask.now) }
+{
+    match ask {
+        Ask::Does(line) => does_declare(line),
+        Ask::Reads(_, _) => true,
+        _ => false,
+    }
+}
+
+// Once there are this many names, no other is declared.
+fn within<'a>(names: &Names, most_names: u64, ask: Ask) -> Result<Ask, LineFault<'a>>
+    ensures { Gives to_ask (within names.now most_names (to_ask ask)) result }
+{
+    if declares(&ask) && names.has_many(most_names) {
+        Err(LineFault::Bad(Reason::ManyNames(most_names)))
+    } else {
+        Ok(ask)
+    }
+}
+
 impl Ask {
     ghost use Rattle.mp_names.specs.Fault.{Gives};
     ghost use Rattle.mp_serve.specs.Ask.{ask_of};
     ghost use Rattle.mp_serve.specs.Inside.Ask.{to_ask};
 
-    /// What the line, without its line feed, asks for, given the declared names.
+    /// What the line, without its line feed, asks for, given the declared names. At most `most_names` may be declared.
     ///
     /// # Errors
-    /// `Bad` if the line isn't in the language. `NoMemory` may replace any other answer.
+    /// `Bad` if the line isn't in the language, or if it declares a name too many. `NoMemory` may replace any other answer.
     #[tactic(auto, unfolding(crate::specs::Ask::ask_of))]
-    pub fn parse<'a>(memory: Memory, names: &Names, line: &'a [u8]) -> Result<Ask, LineFault<'a>>
-        ensures { Gives to_ask (ask_of names.now line.now) result }
+    pub fn parse<'a>(
+        memory: Memory,
+        names: &Names,
+        most_names: u64,
+        line: &'a [u8],
+    ) -> Result<Ask, LineFault<'a>>
+        ensures { Gives to_ask (ask_of names.now most_names line.now) result }
     {
         if line.len() > MAX_LINE_BYTES {
             return Err(LineFault::Bad(Reason::LongLine));
         }
-        ask_within(memory, names, line)
+        let ask = ask_within(memory, names, line)?;
+        within(names, most_names, ask)
     }
 }

@@ -19,8 +19,10 @@ mod pool;
 mod refused;
 mod request;
 mod serving;
+mod staged;
 mod texts;
 mod tx_word;
+mod used;
 
 pub use answer::Answer;
 pub use answering::tell;
@@ -34,7 +36,9 @@ pub use laws::answers_as_a_run;
 pub use obeying::report_under;
 pub use refused::{Counts, count_if_refused, count_one, none_counted, put_counts};
 pub use serving::serve;
+pub use staged::{Staged, no_outputs};
 pub use texts::{
     Text, back_refused_line, bad_line, forgotten_line, read_line, show_line, undecodable_line,
 };
 pub use tx_word::TxWord;
+pub use used::Used;

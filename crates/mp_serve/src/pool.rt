@@ -21,6 +21,9 @@ use mp_tx::{Ledger, Tx, TxId};
 use std::marker::Model;
 use std::sync::Arc;
 
+/// The line that answers, and whether the ledger state is adopted.
+pub type Adopted = (Text, bool);
+
 /// The pool of a conversation, used by one thread, with what leads back to its former ledger states, at most 2,160. After as many
 /// changes as it may make, it counts them from 0 again and goes on. Its last ticket stays.
 pub struct ServedPool {
@@ -69,7 +72,7 @@ impl ServedPool {
     ghost use Rattle.mp_seqpool.specs.Command.{Submit};
     ghost use Rattle.mp_seqpool.specs.Inside.Command.{command_of};
     ghost use Rattle.mp_session.specs.Inside.Request as sessions;
-    ghost use Rattle.mp_serve.specs.Request.{Extend, Return, Check, answer_to, reported_if, do_command, go_on, change, read, give, respond_plainly, respond};
+    ghost use Rattle.mp_serve.specs.Request.{Return, Check, answer_to, reported_if, do_command, go_on, adopt_block, is_adopted, change, read, give, respond_plainly, respond};
     ghost use Rattle.mp_serve.specs.Inside.KeepsLedger.{KeepsLedger};
     ghost use Rattle.mp_serve.specs.Inside.Request.{to_request};
 
@@ -201,21 +204,25 @@ impl ServedPool {
         )
     }
 
-    // Adopts the ledger state after the block, or answers which of its transactions isn't valid after those before it.
-    fn adopt_block(
+    /// Adopts the ledger state after the block, or answers which of its transactions isn't valid after those before it.
+    ///
+    /// # Errors
+    /// `NoMemory`. Then nothing has changed.
+    pub fn adopt_block(
         &mut self,
         memory: Memory,
         names: &Names,
         block: &Block,
-    ) -> Result<Text, NoMemory>
-        ensures ok { IfOk result (λ text.
-            respond names.now self.old (Extend block.now) ≡ (self.new, text.items)) }
+    ) -> Result<Adopted, NoMemory>
+        ensures ok { IfOk result (λ r.
+            adopt_block names.now self.old block.now ≡ (self.new, r.0.items)) }
+        ensures adopted { IfOk result (λ r. r.1 ≡ is_adopted self.old block.now) }
         ensures err { OnErr result (self.new ≡ self.old) }
     {
         match extend(memory, names, &self.signatures, self.pool.ledger(), block)? {
             Extended::To(applied) => {
                 let AppliedBlock { ledger, undo } = applied;
-                go_on(
+                let text = go_on(
                     memory,
                     names,
                     &self.signatures,
@@ -223,11 +230,12 @@ impl ServedPool {
                     &mut self.former,
                     ledger,
                     Former::Block(undo),
-                )
+                )?;
+                Ok((text, true))
             }
             Extended::Refused(text) => {
                 count_one(&mut self.refused.adopts);
-                Ok(text)
+                Ok((text, false))
             }
         }
     }
@@ -330,7 +338,6 @@ impl ServedPool {
     {
         match request {
             Request::Plain(request) => self.respond_plainly(memory, names, request),
-            Request::Extend(block) => self.adopt_block(memory, names, block),
             Request::Return(count) => self.return_by(memory, names, *count),
             Request::Check(tx) => self.check(memory, names, tx),
             Request::Give(tx) => self.give(memory, names, tx),

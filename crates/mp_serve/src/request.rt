@@ -1,6 +1,5 @@
 //! Requests to the pool.
 
-use crate::block::Block;
 use mp_memory::Memory;
 use mp_session as session;
 use mp_tx::Tx;
@@ -11,8 +10,6 @@ use std::sync::Arc;
 pub enum Request {
     /// What a line of a scenario asks.
     Plain(session::Request),
-    /// Adopt the ledger state after the block.
-    Extend(Block),
     /// Adopt the ledger state this many steps ago.
     Return(u64),
     /// What the submit of the transaction would answer.

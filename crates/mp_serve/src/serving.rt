@@ -45,7 +45,7 @@ fn answer_all<D: Device>(
 }
 
 /// Answers each line of the input as it comes, until the input ends. The next line is read once the answer is written and
-/// flushed. A line that is too long, or for which an allocation fails, is read to its end, and the answer says so. The host picks
+/// flushed. At most `most_names` may be declared. A line that is too long, or for which an allocation fails, is read to its end, and the answer says so. The host picks
 /// the salt at random and keeps it secret. No answer depends on it.
 ///
 /// # Errors
@@ -54,15 +54,16 @@ pub fn serve<D: Device>(
     memory: Memory,
     signatures: Signatures,
     salt: Salt,
+    most_names: u64,
     device: &mut D,
 ) -> Result<(), Fault>
     requires { D.turn device.old ≡ Turn.Listens }
     ensures answers { IfSome (D.input device.old) (λ bytes.
-        Ended (new_conversation signatures salt) bytes
+        Ended (new_conversation signatures salt most_names) bytes
         (D.output device.old) (D.output device.new) result) }
     ensures turn { EndsAt result (D.turn device.new) }
 {
-    match Conversation::new(memory, signatures, salt) {
+    match Conversation::new(memory, signatures, salt, most_names) {
         Ok(mut conversation) => {
             let mut line = Vec::new(memory);
             answer_all(memory, &mut conversation, &mut line, device)

@@ -4,7 +4,7 @@ ghost use Rattle.std.specs.Prelude.{◌≡◌, ◌++◌, ◌∷◌, [], ℕ, Lis
 ghost use Rattle.hex.specs.Hex.{encode_lower};
 ghost use Rattle.std.specs.Prelude.{map, option_copied, option_map, slice_get};
 ghost use Rattle.std.specs.Arc.{arc_value};
-ghost use Rattle.mp_serve.specs.Texts.{bad_text, fault_name, tx_words, bytes_text, show_text, pool_numbers, stats_text, name_if_any, block_refused_text, back_refused_text, forgotten_text};
+ghost use Rattle.mp_serve.specs.Texts.{bad_text, fault_name, tx_words, bytes_text, show_text, pool_numbers, stats_text, name_if_any, block_refused_text, back_refused_text, staged_text, forgotten_text};
 
 use crate::refused::{Counts, put_counts};
 use mp_answers::{put_id, put_number, put_refusal, put_tx_name, put_word};
@@ -200,6 +200,18 @@ pub fn back_refused_line(memory: Memory, kept: u64) -> Result<Text, NoMemory>
     let mut text = Vec::new(memory);
     put_word(&mut text, b"refused back")?;
     put_number(&mut text, kept)?;
+    text.push(b'\n')?;
+    Ok(text)
+}
+
+/// The line that says how many transactions or outputs are staged.
+#[tactic(auto, unfolding(crate::specs::Texts::staged_text))]
+pub fn staged_line(memory: Memory, count: u64) -> Result<Text, NoMemory>
+    ensures { IfOk result (λ text. text.items ≡ staged_text count) }
+{
+    let mut text = Vec::new(memory);
+    put_word(&mut text, b"staged")?;
+    put_number(&mut text, count)?;
     text.push(b'\n')?;
     Ok(text)
 }

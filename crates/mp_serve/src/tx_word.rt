@@ -3,7 +3,8 @@
 ghost use Rattle.std.specs.Prelude.{◌≡◌, None, Some, [], ◌∷◌, ◌++◌, map, option_map, IfOk};
 ghost use Rattle.std.specs.Arc.{arc_value};
 ghost use Rattle.mp_names.specs.Fault.{Gives, IsBad};
-ghost use Rattle.mp_serve.specs.TxWord.{tx_word_of, tx_held, tx_meant, put_meant};
+ghost use Rattle.mp_names.specs.Ids.{id_in};
+ghost use Rattle.mp_serve.specs.TxWord.{Pooled, tx_word_of, tx_held, tx_meant, put_meant};
 ghost use Rattle.mp_serve.specs.Inside.Ask.{to_tx_word};
 
 use crate::block::Txs;
@@ -32,6 +33,16 @@ pub fn tx_word_of<'a>(names: &Names, word: &'a [u8]) -> Result<TxWord, LineFault
     }
     let declared = names.tx(word)?;
     Ok(TxWord::Named(Arc::try_clone(declared.tx())?))
+}
+
+/// The word `#ID` for a transaction that the pool holds.
+pub fn pooled<'a>(word: &'a [u8]) -> Result<TxWord, LineFault<'a>>
+    ensures { Gives to_tx_word (option_map Pooled (id_in word.now)) result }
+{
+    match id_in(word) {
+        Some(id) => Ok(TxWord::Pooled(id)),
+        None => Err(LineFault::Bad(Reason::NoTransaction(word))),
+    }
 }
 
 // The transaction with this id that the pool holds.

@@ -98,8 +98,8 @@ fn with_made(
     }
 }
 
-// The ledger state with these outputs too.
-fn add_all(
+/// The ledger state with these outputs too.
+pub fn add_all(
     memory: Memory,
     ledger: &Ledger,
     tick: u64,
@@ -117,8 +117,8 @@ fn add_all(
     }
 }
 
-// The ledger state with one more output, unless its reference is taken.
-fn put_in(
+/// The ledger state with one more output, unless its reference is taken.
+pub fn put_in(
     memory: Memory,
     ledger: &Ledger,
     reference: OutRef,

@@ -12,9 +12,9 @@ mod session;
 mod settings;
 mod stop;
 
-pub use beginning::Beginning;
+pub use beginning::{Beginning, add_all, put_in};
 pub use fault::Fault;
-pub use ledgers::{block_bytes_at, ledger_at};
+pub use ledgers::{block_bytes_at, ledger_at, make_ledger};
 pub use request::Request;
 pub use running::{answer_text, run};
 pub use session::{Session, Stage};

@@ -2,7 +2,9 @@
 use Rattle.std.specs.Prelude.{◌≡◌, ℕ, List, [], ◌∷◌, None, Some}
 use Rattle.mp_names.specs.Names.{Names}
 use Rattle.mp_session.specs.declared.settings.Settings.{Settings}
+use Rattle.mp_session.specs.Settings.{salt_of}
 use Rattle.mp_serve.specs.declared.device.Turn.{Turn}
+use Rattle.mp_serve.specs.Staged.{Staged, nothing_staged}
 use Rattle.mp_serve.specs.declared.conversation.Conversation as alone
 use Rattle.mp_clients.specs.declared.connected.Connected.{Connected}
 use Rattle.mp_clients.specs.declared.opening.Seat.{Seat}
@@ -15,15 +17,15 @@ module _ {N D : Type 0} where
   IsReady turn k = turn k.device ≡ turn_with (line_in k.line)
 
   -- the operator's conversation, with the line that opened the pool
-  pub record IsOperator (names : Names) (settings : Settings) (seat : Seat N) (number : ℕ) (line : List ℕ) (device : D)
+  pub record IsOperator (names : Names) (settings : Settings) (seat : Seat N) (staged : Staged) (number : ℕ) (line : List ℕ) (device : D)
       (k : Connected N D) : Type 0 where
-    pub state : IsWith names settings seat number k.conversation
+    pub state : IsWith names settings seat staged number k.conversation
     pub device_is : k.device ≡ device
     pub line_is : line_in k.line ≡ Some line
 
   -- a client's, before its first line
   pub record IsClientOf (settings : Settings) (seat : Seat N) (device : D) (k : Connected N D) : Type 0 where
-    pub state : IsWith seat.names settings seat 1 k.conversation
+    pub state : IsWith seat.names settings seat (nothing_staged (salt_of settings)) 1 k.conversation
     pub device_is : k.device ≡ device
     pub line_is : line_in k.line ≡ None
 
@@ -37,7 +39,7 @@ module _ {N D : Type 0} where
   -- the operator's and those of the clients
   abbrev pub AreConnected : alone.Conversation → List ℕ → D → List (Seat N) → List D → List (Connected N D) → Type 0
   AreConnected operator line device (seat ∷ seats) devices (k ∷ ks) =
-      IsOperator operator.session.names operator.session.settings seat operator.line line device k
+      IsOperator operator.session.names operator.session.settings seat operator.staged operator.line line device k
       × AreClientsOf operator.session.settings seats devices ks
   AreConnected operator line device (seat ∷ seats) devices [] = ⊥
   AreConnected operator line device [] devices ks = ks ≡ []

@@ -1,7 +1,7 @@
 -- Which lines and asks make no change of the pool.
 use Rattle.std.specs.Prelude.{Bool, true, false}
 use Rattle.mp_lines.specs.Lines.{Line, Sets, Out, Submit, Remove, Sync}
-use Rattle.mp_serve.specs.Ask.{Ask, Does, Submits, SubmitsBytes, Holds, Extends, Returns}
+use Rattle.mp_serve.specs.Ask.{Ask, Does, Submits, SubmitsBytes, Holds, Extends, Syncs, Returns}
 
 abbrev pub is_note : Line → Bool
 is_note (Sets setting) = false
@@ -23,5 +23,6 @@ is_alone (Submits name t) = false
 is_alone (SubmitsBytes bytes) = false
 is_alone (Holds reference output) = false
 is_alone (Extends block) = false
+is_alone (Syncs tick block_bytes) = false
 is_alone (Returns count) = false
 is_alone ask = true

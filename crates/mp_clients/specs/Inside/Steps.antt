@@ -5,11 +5,10 @@ use Rattle.mp_rules.specs.Verifier.{Accepts}
 use Rattle.mp_tx.specs.Transaction.{Transaction}
 use Rattle.mp_names.specs.Names.{Names}
 use Rattle.mp_serve.specs.Ask.{NewBlock}
-use Rattle.mp_serve.specs.TxWord.{put_meant}
 use Rattle.mp_serve.specs.Request.{Request, Block, respond}
 use Rattle.mp_clients.specs.declared.conversation.Conversation.{Conversation}
 use Rattle.mp_serve.specs.declared.conversation.Conversation as alone
-use Rattle.mp_serve.specs.Talk.{Step, block_at}
+use Rattle.mp_serve.specs.Talk.{Step, block_at, block_txs}
 use Rattle.mp_clients.specs.declared.stop.Stop.{Stop}
 use Rattle.mp_clients.specs.declared.stop.Stop.TheVariants.{NoMemory, Untold, Foreign}
 use Rattle.mp_clients.specs.Client.{Client, served_at}
@@ -38,7 +37,7 @@ IsBadAlone accepts c does = does (alone_at accepts c c.client.pass.front) ≡ No
 -- With that pool, the block of the line is this one.
 abbrev pub IsMeantBlock : {N : Type 0} → Accepts → Conversation N → NewBlock → Block → Type 0
 IsMeantBlock accepts c b block =
-    (txs : List Transaction) × (put_meant (stage_of accepts c.client) [] b.txs ≡ Some txs) × (block ≡ block_at (arc_value c.settings) b txs)
+    (txs : List Transaction) × (block_txs c.staged (stage_of accepts c.client) b.txs ≡ Some txs) × (block ≡ block_at (arc_value c.settings) b txs)
 
 module _ {N : Type 0} (accepts : Accepts) (callers : ℕ) where
   -- After an allocation failure nothing has changed but what the conversation has seen; or the change was made, and only its answer

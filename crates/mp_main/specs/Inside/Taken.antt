@@ -22,9 +22,10 @@ pub record IsAudit (rows : List Row) : Type 0 where
   pub scenario : is_some (first_of (codes "FILE") rows) ≡ true
   pub history : is_some (first_of (codes "history") rows) ≡ true
 
--- one of the names for signatures or none, a salt or none, no file and no flag
+-- one of the names for signatures or none, a salt or none, a number of names or none, no file and no flag
 pub record IsServe (rows : List Row) : Type 0 where
   pub salt : IsWide (one_of (codes "salt") rows)
+  pub names : IfSome (one_of (codes "names") rows) (IsUnsignedIn 1 4294967296)
   pub file : first_of (codes "FILE") rows ≡ None
   pub explain : one_of (codes "explain") rows ≡ None
 

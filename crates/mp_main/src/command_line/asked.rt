@@ -18,6 +18,9 @@ use std::convert::AsStr;
 
 const MAX_CLIENTS: usize = 63;
 
+// How many names a conversation may declare by default.
+const MOST_NAMES: u64 = 65_536;
+
 /// What the command line asks for.
 #[derive(Drop)]
 pub enum Asked<'a> {
@@ -46,6 +49,8 @@ pub enum Asked<'a> {
         signatures: SchemeName,
         /// The salt of the pool's tables, or `None` if none is given.
         salt: Option<u64>,
+        /// How many names a conversation may declare: 1 to 2^32, by default 65,536.
+        names: u64,
         /// At most 63.
         clients: Vec<ClientFiles<'a>>,
     },
@@ -115,6 +120,8 @@ pub fn parse_words<'a, S: AsStr>(alloc: Global, words: &'a [S]) -> Result<Asked<
         (spec.signatures_of (spec.met_in (map S.text words.now))) (spec.scheme_of asked)) }
     ensures salt { IfOk result
         (spec.HasSalt (spec.salt_of (spec.met_in (map S.text words.now)))) }
+    ensures names { IfOk result
+        (spec.HasNames (spec.most_names_of (spec.met_in (map S.text words.now)))) }
     ensures clients { IfOk result
         (spec.HasClients (spec.clients_of (spec.met_in (map S.text words.now)))) }
     ensures passes { IfErr result (λ e. takes spec.program (map S.text words.now) ≡ true
@@ -194,6 +201,7 @@ fn read_matches<'a>(matches: &ArgMatches<'a>, clients: Vec<ClientFiles<'a>>) -> 
     ensures signatures { spec.IsChoice (spec.signatures_of (subcommand_rows_of matches.now))
         (spec.scheme_of result) }
     ensures salt { spec.HasSalt (spec.salt_of (subcommand_rows_of matches.now)) result }
+    ensures names { spec.HasNames (spec.most_names_of (subcommand_rows_of matches.now)) result }
     ensures clients { spec.HasClients (spec.clients_of (subcommand_rows_of matches.now)) result }
 {
     match matches.subcommand() {
@@ -216,6 +224,7 @@ fn read_matches<'a>(matches: &ArgMatches<'a>, clients: Vec<ClientFiles<'a>>) -> 
                 Asked::Serve {
                     signatures: scheme_of(given),
                     salt: wide_number_of(given, "salt"),
+                    names: names_of(given),
                     clients,
                 }
             } else {
@@ -255,6 +264,15 @@ fn wishes_of<'a>(given: &ArgMatches<'a>) -> Wishes<'a>
         picture: file_of(given, "svg"),
         verify_us: number_of(given, "verify-us").unwrap_or(0),
     }
+}
+
+fn names_of(given: &ArgMatches<'_>) -> u64
+    requires taken { IfSome (one_of (codes "names") (rows_of (found_of given.now)))
+        (IsUnsignedIn 1 4294967296) }
+    ensures { result ≡ unwrap_or
+        (option_map spec.number_of (one_of (codes "names") (rows_of (found_of given.now)))) 65536 }
+{
+    wide_number_of(given, "names").unwrap_or(MOST_NAMES)
 }
 
 fn workers_of(given: &ArgMatches<'_>) -> u32

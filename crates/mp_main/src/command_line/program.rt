@@ -145,7 +145,8 @@ fn serve_command<'a>(alloc: Global, names: &'a [&'a str]) -> Result<Command<'a>,
         "Hold a conversation with a pool: answer each line of standard input on standard output";
     let command = new_command(alloc, "serve", about).arg(signatures_option(alloc, names));
     let salted = add_arg(command, salt_option(alloc));
-    add_arg(salted, client_option(alloc))
+    let named = add_arg(salted, names_option(alloc));
+    add_arg(named, client_option(alloc))
 }
 
 /// That more clients are named than a conversation may have.
@@ -221,6 +222,16 @@ fn salt_option<'a>(alloc: Global) -> Arg<'a>
 {
     let help = "A number that salts the pool's tables; random if it is left out";
     value_option(alloc, "salt", "N", help).value_parser(value_parser!(u64))
+}
+
+fn names_option<'a>(alloc: Global) -> Arg<'a>
+    ensures rule { rule_of result ≡ spec.names_rule }
+    ensures local { result.global ≡ false }
+{
+    let help = "How many names a conversation may declare; 65536 if it is left out";
+    value_option(alloc, "names", "N", help).value_parser(value_parser!(u64).range(
+        1..=4_294_967_296,
+    ))
 }
 
 fn client_option<'a>(alloc: Global) -> Arg<'a>

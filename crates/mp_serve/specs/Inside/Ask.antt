@@ -8,7 +8,7 @@ use Rattle.mp_serve.specs.declared.block.NewBlock as blocks
 use Rattle.mp_serve.specs.declared.tx_word.TxWord as words
 use Rattle.mp_serve.specs.declared.tx_word.TxWord.TheVariants as tx_words
 use Rattle.mp_serve.specs.TxWord.{TxWord, Named, Pooled}
-use Rattle.mp_serve.specs.Ask.{Ask, NewBlock, Does, Reads, Submits, SubmitsBytes, Shows, Checks, Counts, Holds, Extends, Returns, Forgets, ReportsById, Resets}
+use Rattle.mp_serve.specs.Ask.{Ask, NewBlock, Does, Reads, Submits, SubmitsBytes, Shows, Checks, Counts, Holds, Extends, Stages, StagesHeld, StagesOutput, Unstages, Syncs, Returns, Forgets, ReportsById, Resets}
 
 abbrev pub to_tx_word : words.TxWord → TxWord
 to_tx_word (tx_words.Named tx) = Named (arc_value tx)
@@ -27,6 +27,11 @@ to_ask (asks.Checks word) = Checks (to_tx_word word)
 to_ask asks.Counts = Counts
 to_ask (asks.Holds reference output) = Holds reference output
 to_ask (asks.Extends block) = Extends (to_block block)
+to_ask (asks.Stages bytes) = Stages bytes.items
+to_ask (asks.StagesHeld words) = StagesHeld (map to_tx_word words.items)
+to_ask (asks.StagesOutput reference output) = StagesOutput reference output
+to_ask asks.Unstages = Unstages
+to_ask (asks.Syncs tick block_bytes) = Syncs tick block_bytes
 to_ask (asks.Returns count) = Returns count
 to_ask (asks.Forgets names) = Forgets names.items
 to_ask (asks.ReportsById by_id) = ReportsById by_id

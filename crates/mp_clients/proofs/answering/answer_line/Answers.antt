@@ -8,7 +8,7 @@ use Rattle.mp_clients.proofs.Hearing.{bad_line, asked_lines, no_answer}
 use Rattle.mp_clients.proofs.answering.answer_line.Goals as goal
 
 pub returns-in-Err-Bad-clause-ok : goal.returns-in-Err-Bad-clause-ok
-returns-in-Err-Bad-clause-ok g c = bad_line g.N.PoolName.accepts g.N.PoolName.callers c.args.conversation.now c.args.line.now _ (subst (λ (f : LineFault). Gives to_ask (ask_of c.args.conversation.now.names c.args.line.now) (Err f)) c.in-Err-Bad.field-0-is c.in-Err-Bad.ensures) c.answer_bad.ensures
+returns-in-Err-Bad-clause-ok g c = bad_line g.N.PoolName.accepts g.N.PoolName.callers c.args.conversation.now c.args.line.now _ (subst (λ (f : LineFault). Gives to_ask (ask_of c.args.conversation.now.names c.args.conversation.now.most_names c.args.line.now) (Err f)) c.in-Err-Bad.field-0-is c.in-Err-Bad.ensures) c.answer_bad.ensures
 
 pub returns-in-Err-NoMemory-clause-ok : goal.returns-in-Err-NoMemory-clause-ok
 returns-in-Err-NoMemory-clause-ok g c = no_answer g.N.PoolName.accepts g.N.PoolName.callers c.args.conversation.now c.args.line.now _ refl

@@ -27,5 +27,5 @@ returns-in-Ok g c =
     let log : Log = new_log (empty_pool c.limit-limit.result c.last.result c.args.ledger.now) in
     let are : c.in-Ok.passes.items ≡ fresh_passes c.args.callers log = cc (c.in-Ok.ensures.passes) in
     let same : c.first_front-front.result ≡ log = c.first_front-front.ensures.same log (subst (All (λ (p : Pass). p.front ≡ log)) (sym (c.deref.ensures.value ∙ are)) (fronts c.args.callers log)) in
-    opened_on g.N.PoolName.accepts g.N.PoolName.callers c.args.callers c.args.signatures.now c.args.ledger.now c.limit-limit.result c.last.result (limit_of c.args.settings.now) (last_of c.args.settings.now)
+    opened_on g.N.PoolName.accepts g.N.PoolName.callers c.args.callers c.args.signatures.now c.args.ledger.now c.limit-limit.result c.last.result (limit_of c.args.settings.now) (last_of c.args.settings.now) c.args.most_names
     c.first_front-front.result c.in_ok-seats-in-Ok.seats.items c.in-Ok.passes.items c.limit-limit.ensures.same c.last.ensures c.requires.number same c.first_front-front.ensures.legal are c.in_ok-seats-in-Ok.ensures

@@ -21,7 +21,7 @@ pub loop-device-preserved : goal.loop-device-preserved
 loop-device-preserved g c =
     connects-next (arc_value c.args.settings.now) c.args.all.now.items c.args.seats.items c.args.devices.items c.loop-device.all.items (into_iter_items c.loop-device.seats) (into_iter_items c.loop-device.device-iterator)
     c.in-Some-next.seat (into_iter_items c.next-in-loop-device.new.self) c.in-Some.device (into_iter_items c.next.new.self) c.connect_client.result c.push.new.self.items c.loop-device.invariant c.in-Some-next.ensures.cases.0 c.in-Some.ensures.steps.0
-    (subst (λ (s : Settings). IsClientOf s c.in-Some-next.seat c.in-Some.device c.connect_client.result) c.in_ok-try_clone.ensures c.connect_client.ensures) c.in_ok-push.ensures.items
+    (subst (λ (s : Settings). IsClientOf s c.in-Some-next.seat c.in-Some.device c.connect_client.result) c.in_ok-shared.ensures c.connect_client.ensures) c.in_ok-push.ensures.items
 
 pub returns : goal.returns
 returns g c =

@@ -12,7 +12,7 @@ returns-in-Ok g c = same_start Brand _ _ g.D.Device.input g.D.Device.output c.in
 
 pub returns-in-Err : goal.returns-in-Err
 returns-in-Err g c =
-    let start = new_conversation c.args.signatures c.args.salt in
+    let start = new_conversation c.args.signatures c.args.salt c.args.names in
     let all = g.D.Device.input c.args.device in
     ends_early Brand _ g.D.Device.input g.D.Device.output start c.args.device c.args.device c.args.clients.items _ (Err NoMemory) all
     (none_answered start all (g.D.Device.output c.args.device)) c.end_fault.ensures

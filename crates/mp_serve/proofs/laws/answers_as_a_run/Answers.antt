@@ -5,4 +5,4 @@ use Rattle.mp_serve.proofs.PlainRuns.{plain_run}
 use Rattle.mp_serve.proofs.laws.answers_as_a_run.Goals as goal
 
 pub returns : goal.returns
-returns c scheme lines texts plain = plain_run (empty_scene scheme) [] none_counted lines texts plain
+returns c scheme most lines texts plain = plain_run most (empty_scene scheme) [] none_counted lines texts plain

@@ -38,3 +38,9 @@ returns-in-SubmitsBytes-clause-err g c =
     let same : c.deref.result.now ≡ c.in-SubmitsBytes.bytes.items = search rules in
     let given = subst (λ (b : List ℕ). IfErr c.give.result (IsStopped accepts callers (IsGiven accepts callers c.args.self.now (transaction_of b)) c.args.self.now c.give.new.self)) same c.give.ensures.err in
     subst (λ (a : code.Ask). IfErr c.give.result (IsStopped accepts callers (IsTaken accepts callers c.args.self.now (to_ask a)) c.args.self.now c.give.new.self)) (sym c.in-SubmitsBytes.is) given
+
+pub returns-in-Syncs-clause-err : goal.returns-in-Syncs-clause-err
+returns-in-Syncs-clause-err g c =
+    let accepts = g.N.PoolName.accepts in
+    let callers = g.N.PoolName.callers in
+    subst (λ (a : code.Ask). IfErr c.sync_staged.result (IsStopped accepts callers (IsTaken accepts callers c.args.self.now (to_ask a)) c.args.self.now c.sync_staged.new.self)) (sym c.in-Syncs.is) c.sync_staged.ensures.err

@@ -10,5 +10,5 @@ returns-in-Ok-To g c =
     let b = c.args.block.now in
     let found = apply_block g.N.PoolName.accepts s.client.ledger b.tick b.block_bytes b.txs in
     let is : found ≡ Ok c.in-Ok-To.applied.ledger = search rules in
-    let both = extended g.N.PoolName.accepts g.N.PoolName.callers s b.txs found c.in-Ok-To.applied.ledger c.go_on.result c.go_on.new.self is c.go_on.ensures.ok c.go_on.ensures.err in
+    let both = extended g.N.PoolName.accepts g.N.PoolName.callers s c.args.used b.txs found c.in-Ok-To.applied.ledger c.go_on.result c.go_on.new.self is c.go_on.ensures.ok c.go_on.ensures.err in
     record { ok = both.0; err = both.1 }

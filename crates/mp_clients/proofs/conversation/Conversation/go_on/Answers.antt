@@ -4,7 +4,7 @@ use Rattle.mp_answers.specs.AnswerText.{answer_text, given_text}
 use Rattle.mp_serve.proofs.Answers.{on_ok, on_err}
 use Rattle.mp_clients.specs.declared.conversation.Conversation.{Conversation}
 use Rattle.mp_clients.specs.Client.{Client}
-use Rattle.mp_clients.specs.Answers.{moved, gone_on, gone_back, same_names}
+use Rattle.mp_clients.specs.Answers.{moved, gone_on, gone_back, same_names, unstaged}
 use Rattle.mp_clients.specs.Inside.Asked.{answer_in}
 use Rattle.mp_clients.proofs.Steps.{finished, stopped_before}
 use Rattle.mp_clients.proofs.conversation.Conversation.go_on.Goals as goal
@@ -12,8 +12,8 @@ use Rattle.mp_clients.proofs.conversation.Conversation.go_on.Goals as goal
 pub returns-in-Ok-go_on : goal.returns-in-Ok-go_on
 returns-in-Ok-go_on g c =
     let s = c.args.self.now in
-    let both = finished g.N.PoolName.accepts g.N.PoolName.callers s (Sync c.args.ledger) (gone_on s.client c.args.ledger) (same_names s) (answer_text s.names) (answer_in c.in-Ok-go_on.asked) c.go_on.new.self c.finish.new.client s.names c.finish.result
-    c.in-Ok-go_on.ensures.ok (λ f p. refl) c.finish.ensures.ok c.finish.ensures.client (on_ok c.finish.result _ refl) c.finish.ensures.err c.finish.ensures.same (on_err c.finish.result _ refl) in
+    let both = finished g.N.PoolName.accepts g.N.PoolName.callers s (Sync c.args.ledger) (gone_on s.client c.args.ledger) (same_names s) (unstaged s.staged c.args.used) (answer_text s.names) (answer_in c.in-Ok-go_on.asked) c.go_on.new.self c.finish.new.client s.names c.forget_used.new.staged c.finish.result
+    c.in-Ok-go_on.ensures.ok (λ f p. refl) (λ f. refl) c.forget_used.ensures c.finish.ensures.ok c.finish.ensures.client (on_ok c.finish.result _ refl) c.finish.ensures.err c.finish.ensures.same (on_err c.finish.result _ refl) in
     record { ok = both.0; err = both.1 }
 
 pub returns-in-Err : goal.returns-in-Err

@@ -1,5 +1,5 @@
 use Rattle.std.proofs.Common.{◌≡◌, sym, subst, rules}
-use Rattle.std.specs.Prelude.{IfErr, List, ℕ}
+use Rattle.std.specs.Prelude.{IfOk, IfErr, List, ℕ}
 use Rattle.std.specs.Arc.{arc_value}
 use Rattle.mp_tx.specs.Ledger.{LedgerState}
 use Rattle.mp_seqpool.specs.Command.{Remove}
@@ -7,6 +7,8 @@ use Rattle.mp_lines.specs.declared.line.Line as code
 use Rattle.mp_lines.specs.Inside.Line.{to_line}
 use Rattle.mp_session.specs.Ledgers.{ledger_at}
 use Rattle.mp_serve.specs.Ask.{Does}
+use Rattle.mp_serve.specs.Inside.Answer.{text_of}
+use Rattle.mp_serve.specs.declared.used.Used.TheVariants.{Nothing}
 use Rattle.mp_clients.specs.Answers.{IsTaken, IsDone, IsSynced, moved}
 use Rattle.mp_clients.specs.Inside.Steps.{IsStopped}
 use Rattle.mp_clients.proofs.conversation.Conversation.obey.Goals as goal
@@ -32,5 +34,14 @@ returns-in-Ok-ledger_at-clause-err g c =
     let callers = g.N.PoolName.callers in
     let s = c.args.self.now in
     let same : c.in-Ok-ledger_at.ledger ≡ ledger_at (arc_value s.settings) c.in-Sync.ledger = search rules in
-    let made = subst (λ (l : LedgerState). IfErr c.go_on.result (IsStopped accepts callers (IsSynced accepts callers s l) s c.go_on.new.self)) same c.go_on.ensures.err in
+    let made = subst (λ (l : LedgerState). IfErr c.go_on.result (IsStopped accepts callers (IsSynced accepts callers s l Nothing) s c.go_on.new.self)) same c.go_on.ensures.err in
     subst (λ (l : code.Line). IfErr c.go_on.result (IsStopped accepts callers (IsTaken accepts callers s (Does (to_line l))) s c.go_on.new.self)) (sym c.in-Sync.is) made
+
+pub returns-in-Ok-ledger_at-clause-ok : goal.returns-in-Ok-ledger_at-clause-ok
+returns-in-Ok-ledger_at-clause-ok g c =
+    let accepts = g.N.PoolName.accepts in
+    let callers = g.N.PoolName.callers in
+    let s = c.args.self.now in
+    let same : c.in-Ok-ledger_at.ledger ≡ ledger_at (arc_value s.settings) c.in-Sync.ledger = search rules in
+    let made = subst (λ (l : LedgerState). IfOk c.go_on.result (λ a. IsSynced accepts callers s l Nothing (text_of a) c.go_on.new.self)) same c.go_on.ensures.ok in
+    subst (λ (l : code.Line). IfOk c.go_on.result (λ a. IsTaken accepts callers s (Does (to_line l)) (text_of a) c.go_on.new.self)) (sym c.in-Sync.is) made

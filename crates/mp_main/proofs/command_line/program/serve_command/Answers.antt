@@ -13,5 +13,8 @@ returns c =
     c.arg-command.result c.new_command.ensures c.signatures_option.ensures.rule c.signatures_option.ensures.local c.arg-command.ensures in
     let by_salt = ruled c.add_arg-salted.result signed (rule_of c.salt_option.result) spec.salt_rule
     c.salt_option.ensures.rule (c.add_arg-salted.ensures signed by_signatures) in
-    ruled c.add_arg.result salted (rule_of c.client_option.result) spec.client_rule c.client_option.ensures.rule
-    (c.add_arg.ensures salted by_salt)
+    let named = with_rule salted spec.names_rule in
+    let by_names = ruled c.add_arg-named.result salted (rule_of c.names_option.result) spec.names_rule
+    c.names_option.ensures.rule (c.add_arg-named.ensures salted by_salt) in
+    ruled c.add_arg.result named (rule_of c.client_option.result) spec.client_rule c.client_option.ensures.rule
+    (c.add_arg.ensures named by_names)

@@ -1,0 +1,126 @@
+//! The answers of changes, and what they make of a conversation.
+
+ghost use Rattle.std.specs.Prelude.{◌≡◌, [], IfOk, IfErr, OnOk, OnErr};
+ghost use Rattle.mp_tx.specs.Spelling.{id_of};
+ghost use Rattle.mp_answers.specs.AnswerText.{answer_text, given_text};
+ghost use Rattle.mp_serve.specs.Request.{reported_if};
+ghost use Rattle.mp_serve.specs.Inside.Answer.{text_of};
+ghost use Rattle.mp_clients.specs.Answers.{counting, unstaged};
+ghost use Rattle.mp_clients.specs.Inside.Asked.{answer_in, IsUnanswered};
+
+use crate::asking::{Asked, asked_line, given_line};
+use crate::client::Client;
+use crate::stop::Stop;
+use mp_history::PoolName;
+use mp_memory::Memory;
+use mp_names::{Name, Names};
+use mp_serve::{Answer, Staged, Text, Used, report_under};
+use mp_tx::Tx;
+
+// If the submit was accepted, the transaction is reported under the name from now on.
+fn report_if(names: &mut Names, name: &Name, tx: &Tx, asked: &Asked) -> Result<(), Stop>
+    ensures ok { OnOk result
+        (names.new ≡ reported_if names.old name.now tx.now (answer_in asked.now)) }
+    ensures err { IfErr result (IsUnanswered (answer_in asked.now)) }
+    ensures same { OnErr result (names.new ≡ names.old) }
+{
+    match asked {
+        Ok(_) => match report_under(names, name, tx) {
+            Ok(()) => Ok(()),
+            Err(_) => Err(Stop::Untold),
+        },
+        Err(_) => Ok(()),
+    }
+}
+
+/// The line of the answer. A refusal is counted.
+///
+/// # Errors
+/// `Untold` if the change was made, and `NoMemory` if it was refused.
+pub fn finish<N: PoolName>(
+    memory: Memory,
+    names: &Names,
+    client: &mut Client<N>,
+    room: Text,
+    asked: &Asked,
+) -> Result<Answer, Stop>
+    requires { room.items ≡ [] }
+    ensures ok { IfOk result (λ a. text_of a ≡ answer_text names.now (answer_in asked.now)) }
+    ensures client { OnOk result (client.new ≡ counting (answer_in asked.now) client.old) }
+    ensures err { IfErr result (IsUnanswered (answer_in asked.now)) }
+    ensures same { OnErr result (client.new ≡ client.old) }
+{
+    match asked_line(memory, names, room, asked) {
+        Ok(text) => {
+            client.count_refusal(asked);
+            Ok(Answer::Line(text))
+        }
+        Err(stop) => Err(stop),
+    }
+}
+
+/// The same for a transaction without a name.
+pub fn finish_given<N: PoolName>(
+    memory: Memory,
+    names: &Names,
+    client: &mut Client<N>,
+    room: Text,
+    tx: &Tx,
+    asked: &Asked,
+) -> Result<Answer, Stop>
+    requires { room.items ≡ [] }
+    ensures ok { IfOk result (λ a.
+        text_of a ≡ given_text names.now (answer_in asked.now) (id_of tx.now)) }
+    ensures client { OnOk result (client.new ≡ counting (answer_in asked.now) client.old) }
+    ensures err { IfErr result (IsUnanswered (answer_in asked.now)) }
+    ensures same { OnErr result (client.new ≡ client.old) }
+{
+    match given_line(memory, names, room, asked, tx.id()) {
+        Ok(text) => {
+            client.count_refusal(asked);
+            Ok(Answer::Line(text))
+        }
+        Err(stop) => Err(stop),
+    }
+}
+
+/// The same for a transaction with a name. If it was accepted, it is reported under the name from now on.
+pub fn finish_submit<N: PoolName>(
+    memory: Memory,
+    names: &mut Names,
+    client: &mut Client<N>,
+    room: Text,
+    name: &Name,
+    tx: &Tx,
+    asked: &Asked,
+) -> Result<Answer, Stop>
+    requires { room.items ≡ [] }
+    ensures ok { IfOk result (λ a. text_of a ≡ answer_text names.old (answer_in asked.now)) }
+    ensures client { OnOk result (client.new ≡ counting (answer_in asked.now) client.old) }
+    ensures names { OnOk result
+        (names.new ≡ reported_if names.old name.now tx.now (answer_in asked.now)) }
+    ensures err { IfErr result (IsUnanswered (answer_in asked.now)) }
+    ensures same { OnErr result (client.new ≡ client.old) }
+    ensures kept { OnErr result (names.new ≡ names.old) }
+{
+    match asked_line(memory, names, room, asked) {
+        Ok(text) => match report_if(names, name, tx, asked) {
+            Ok(()) => {
+                client.count_refusal(asked);
+                Ok(Answer::Line(text))
+            }
+            Err(stop) => Err(stop),
+        },
+        Err(stop) => Err(stop),
+    }
+}
+
+/// If the change was made, what it used isn't staged any more.
+pub fn forget_used(staged: &mut Staged, used: Used, asked: &Asked)
+    ensures { staged.new ≡ unstaged staged.old used (answer_in asked.now) }
+{
+    match asked {
+        Ok(_) => staged.forget(used),
+        Err(_) => {}
+    }
+}
