@@ -131,8 +131,9 @@ fn put_entries(out: &mut Vec<u8, Memory>, entries: &[Entry]) -> Result<(), NoMem
     Ok(())
 }
 
+/// Appends the bytes of an output, as a transaction has them.
 #[tactic(auto, unfolding(crate::specs::Spelling::output_bytes))]
-fn put_output(out: &mut Vec<u8, Memory>, output: &Output) -> Result<(), NoMemory>
+pub fn put_output(out: &mut Vec<u8, Memory>, output: &Output) -> Result<(), NoMemory>
     ensures { OnOk result (out.new.items ≡ out.old.items ++ output_bytes output.now) }
 {
     out.extend_from_slice(&output.address)?;

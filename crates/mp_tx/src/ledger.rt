@@ -1,6 +1,6 @@
 //! Ledger states.
 
-ghost use Rattle.std.specs.Prelude.{◌≡◌, ◌↔◌, [], IsTrue, OnOk, IfErr};
+ghost use Rattle.std.specs.Prelude.{◌≡◌, ◌↔◌, [], IsTrue, IfOk, OnOk, IfErr};
 ghost use Rattle.mp_tx.specs.Ledger.{refs, AreDistinct, HasBlockBytes};
 ghost use Rattle.mp_tx.specs.Inside.LedgerFault.{HasRepeat};
 ghost use Rattle.indexmap.specs.IndexMap.{hasher_of};
@@ -87,9 +87,20 @@ fn put_outputs(map: &mut Base, outputs: Vec<Entry, Memory>) -> Result<(), Ledger
     Ok(())
 }
 
+// The entries of a table.
+fn entries_of(memory: Memory, table: Base) -> Result<Vec<Entry, Memory>, NoMemory>
+    ensures { IfOk result (λ o. o.items ≡ table.entries) }
+{
+    let mut outputs = Vec::with_capacity(memory, table.len())?;
+    for (reference, output) in table {
+        outputs.push((reference, output))?;
+    }
+    Ok(outputs)
+}
+
 impl Ledger {
     ghost use Rattle.std.specs.Prelude.{◌≡◌, IfOk, IfErr, OnOk, option_copied};
-    ghost use Rattle.std.specs.FinMap.{get};
+    ghost use Rattle.std.specs.FinMap.{get, from_entries};
     ghost use Rattle.mp_tx.specs.Ledger.{HasBlockBytes, ledger_of, refs, AreDistinct};
     ghost use Rattle.mp_tx.specs.LedgerFault.{HasFault};
     ghost use Rattle.mp_tx.specs.Ledger.{ledger_after, without, AreThere, AreFree};
@@ -186,6 +197,13 @@ impl Ledger {
         ensures { option_copied result ≡ get self.now.utxo reference.now }
     {
         self.outputs.get(reference)
+    }
+
+    /// All outputs with their references, in an order that isn't said. It takes time and memory in proportion to them.
+    pub fn outputs(&self, memory: Memory) -> Result<Vec<Entry, Memory>, NoMemory>
+        ensures { IfOk result (λ o. from_entries o.items ≡ self.now.utxo) }
+    {
+        entries_of(memory, self.outputs.settled(memory)?)
     }
 
     /// The same ledger state. The outputs are shared and not copied. Returns `NoMemory` if there are too many owners.

@@ -22,6 +22,7 @@ mod typed;
 mod undo;
 
 pub use block_fault::BlockFault;
+pub use encoding::put_output;
 pub use fault::TxFault;
 pub use few::Few;
 pub use input::Input;

@@ -124,6 +124,15 @@ impl Outputs {
         })
     }
 
+    /// A table of the same outputs, without layers.
+    pub fn settled(&self, memory: Memory) -> Result<Base, NoMemory>
+        ensures { IfOk result (λ b. from_entries b.entries ≡ self.now.utxo) }
+    {
+        let mut changes = IndexMap::with_capacity_and_hasher(memory, 0, self.salt())?;
+        join_all(&mut changes, self.layers.as_slice())?;
+        settled(memory, &self.base, changes)
+    }
+
     // Whether the reference leads to an output after the changes.
     fn is_there(&self, changes: &Changes, reference: &OutRef) -> bool
         ensures { result
