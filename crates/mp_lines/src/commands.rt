@@ -44,7 +44,11 @@ fn put_ids<'a>(
     Ok(())
 }
 
-/// remove TX ..
+/// What `remove` asks with these words, of which each is `#` and an id's digits or a declared transaction's name. There may be
+/// more of them than fit on a line.
+///
+/// # Errors
+/// `Bad` if there is no word, or if one means no id. `NoMemory` may be returned instead of any answer.
 pub fn remove_line<'a>(
     memory: Memory,
     names: &Names,

@@ -15,6 +15,7 @@ mod signing;
 mod subjects;
 mod words;
 
+pub use commands::remove_line;
 pub use declarations::bytes_of;
 pub use forms::{BLOCK, Form, LAST, LIMIT, TICK};
 pub use ledgers::{LedgerHead, read_head};
