@@ -3,9 +3,11 @@
 from __future__ import annotations
 
 import contextlib
+import fcntl
 import os
-import tempfile
+import termios
 import time
+from io import FileIO
 from types import TracebackType
 
 from . import words
@@ -16,9 +18,8 @@ from .process import Process
 MOST_CLIENTS = 63
 """How many clients a program takes."""
 
-# How often, in seconds, the end looks for what the program waits for.
-_OFTEN = 0.05
-_CHUNK = 1 << 16
+# How many seconds a conversation has to end when the time of all is over.
+_LEAST_SECONDS = 0.001
 
 
 class Clients:
@@ -58,15 +59,14 @@ class Clients:
         command = make_command(program, signatures, salt, names)
         self._owner = os.getpid()
         with contextlib.ExitStack() as stack:
-            folder = stack.enter_context(tempfile.TemporaryDirectory(prefix="keltuvar-"))
-            self._pipes = [make_pipes(folder, place) for place in range(number)]
-            for pair in self._pipes:
-                command += ["--client", *pair]
+            pipes = [stack.enter_context(contextlib.closing(Pipes())) for _ in range(number)]
+            for pair in pipes:
+                command += pair.words
             self._process = process = Process(command)
             self.operator = stack.enter_context(Pool._over(process.channel, process, limit))
             self.clients = tuple(
-                stack.enter_context(_Client.over_pipes(*pair, self.operator, process, limit))
-                for pair in self._pipes
+                stack.enter_context(_Client.over_pipes(pair, self.operator, process, limit))
+                for pair in pipes
             )
             self._open = stack.pop_all()
 
@@ -94,75 +94,91 @@ class Clients:
     def close(self, timeout: float = 5.0) -> None:
         """Ends all conversations and the program, as `Pool.close` does."""
         if os.getpid() != self._owner:
-            for pool in (*self.clients, self.operator):
-                pool.close()
+            self._open.close()
             return
         until = time.monotonic() + timeout
-
-        def left() -> float:
-            return max(until - time.monotonic(), 0.001)
-
         # What is open closes the rest if one of these is interrupted.
-        with self._open, Pipes(self._pipes) as pipes:
-            for client in self.clients:
-                client.close(left())
-            with contextlib.suppress(NoTurn):
-                self.operator._in_turn(left(), self._process.channel.end_lines)
-            while not self._process.has_ended(min(left(), _OFTEN)) and time.monotonic() < until:
-                pipes.let_go()
-            self.operator.close(left())
+        with self._open:
+            for pool in (*self.clients, self.operator):
+                pool.close(max(until - time.monotonic(), _LEAST_SECONDS))
 
 
 class Pipes:
-    """The named pipes of clients whose conversations end, also those that the program opens late.
+    """The pipes of a client's conversation: one for its lines, and one for their answers.
 
-    A program that opens a pipe waits until the other end is open.
+    The program opens its ends itself, as `/proc` has those of this process. They stay open here
+    until it has. After `let_go` each side notices when the other closes a pipe or ends.
     """
 
-    def __init__(self, pipes: list[tuple[str, str]]) -> None:
-        self._pipes = pipes
-        self._kept: list[int] = []
-
-    def __enter__(self) -> Pipes:
-        """Keeps the pipes for answers open, so that the program doesn't wait for a reader."""
-        for _, answers in self._pipes:
-            with contextlib.suppress(OSError):
-                self._kept.append(os.open(answers, os.O_RDONLY | os.O_NONBLOCK))
-        return self
-
-    def __exit__(self, *error: object) -> None:
-        for descriptor in self._kept:
-            os.close(descriptor)
+    def __init__(self) -> None:
+        read_lines, self.lines = _open_pipe()
+        self.answers, write_answers = _open_pipe()
+        self._of_program = (read_lines, write_answers)
+        # The words of the program's command line.
+        self.words = ["--client"]
+        self.words += [f"/proc/{os.getpid()}/fd/{end.fileno()}" for end in self._of_program]
 
     def let_go(self) -> None:
-        """Ends the program's waits for a writer of lines, and for room for answers."""
-        for lines, _ in self._pipes:
-            with contextlib.suppress(OSError):
-                os.close(os.open(lines, os.O_WRONLY | os.O_NONBLOCK))
-        for descriptor in self._kept:
-            with contextlib.suppress(OSError):
-                while os.read(descriptor, _CHUNK):
-                    continue
+        """Closes the program's ends here, once it has opened them."""
+        for end in self._of_program:
+            end.close()
+
+    def close(self) -> None:
+        """Closes all ends."""
+        self.let_go()
+        self.lines.close()
+        self.answers.close()
+
+
+def _open_pipe() -> tuple[FileIO, FileIO]:
+    """Makes a pipe, and returns the end that is read and the one that is written."""
+    read, write = os.pipe()
+    return open(read, "rb", buffering=0), open(write, "wb", buffering=0)
+
+
+class _Channel(Channel):
+    """A channel over a client's pipes."""
+
+    def __init__(self, pipes: Pipes, process: Process) -> None:
+        super().__init__(pipes.answers, pipes.lines, has_ended=lambda: process.has_ended(0))
+        self._pipes: Pipes | None = pipes
+
+    def _let_go(self) -> None:
+        if self._pipes:
+            self._pipes.let_go()
+            self._pipes = None
+
+    def _receive(self) -> list[bytes]:
+        # The program has written, so it has opened both.
+        self._let_go()
+        return super()._receive()
+
+    def _wait(self, sending: bool, until: float) -> bool:
+        if self._pipes and not sending and self._is_read():
+            # It has opened both, and may end the conversation without an answer.
+            self._let_go()
+        return super()._wait(sending, until)
+
+    def _is_read(self) -> bool:
+        """Returns whether the program has read all that was written."""
+        try:
+            unread = fcntl.ioctl(self._lines_fd, termios.FIONREAD, bytes(4))
+        except (OSError, ValueError):
+            # Another thread has closed it.
+            return False
+        return not any(unread)
 
 
 class _Client(Pool):
-    """A conversation over named pipes, with a program that the operator's pool ends."""
+    """A conversation over pipes, with a program that the operator's pool ends."""
 
     _operator: Pool
     _shared: Process
 
     @classmethod
-    def over_pipes(
-        cls, lines: str, answers: str, operator: Pool, process: Process, limit: float
-    ) -> _Client:
+    def over_pipes(cls, pipes: Pipes, operator: Pool, process: Process, limit: float) -> _Client:
         """Returns the conversation over the pipes, which the program may open later."""
-        # Opened like this neither waits for the program, and the program waits for neither.
-        channel = Channel(
-            open(os.open(answers, os.O_RDONLY | os.O_NONBLOCK), "rb", buffering=0),
-            open(os.open(lines, os.O_RDWR | os.O_NONBLOCK), "wb", buffering=0),
-            has_ended=lambda: process.has_ended(0),
-        )
-        client = cls._over(channel, None, limit)
+        client = cls._over(_Channel(pipes, process), None, limit)
         client._operator, client._shared = operator, process
         return client
 
@@ -184,11 +200,3 @@ class _Client(Pool):
         with contextlib.suppress(NoTurn):
             return self._operator._in_turn(LAST_WORDS, self._operator._error_text)
         return ""
-
-
-def make_pipes(folder: str, place: int) -> tuple[str, str]:
-    """Makes the named pipes of a client, and returns that of its lines and that of its answers."""
-    pipes = (f"{folder}/{place}.lines", f"{folder}/{place}.answers")
-    for pipe in pipes:
-        os.mkfifo(pipe, 0o600)
-    return pipes

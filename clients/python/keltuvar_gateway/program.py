@@ -6,13 +6,11 @@ import asyncio
 import contextlib
 import os
 import subprocess
-import tempfile
 from collections import deque
 from collections.abc import Callable, Sequence
-from itertools import chain
-from typing import Any, BinaryIO, cast
+from typing import Any, cast
 
-from keltuvar.clients import make_pipes
+from keltuvar.clients import Pipes
 
 _ERROR_BYTES = 4096
 _CHUNK = 1 << 16
@@ -151,31 +149,6 @@ class _Client(asyncio.Protocol):
         self._lose()
 
 
-class _Pipes:
-    """The named pipes of clients, which are needed until the process has opened them."""
-
-    def __init__(self, count: int) -> None:
-        self._folder = tempfile.TemporaryDirectory(prefix="keltuvar-") if count else None
-        name = self._folder.name if self._folder else ""
-        self.pairs = [make_pipes(name, place) for place in range(count)]
-        # With these the pipes can be opened before the process opens them.
-        self._kept = [os.open(path, os.O_RDWR) for pair in self.pairs for path in pair]
-        self.ends = [_open_ends(*pair) for pair in self.pairs]
-
-    def close(self) -> None:
-        """Leaves the pipes to those who have opened them."""
-        while self._kept:
-            os.close(self._kept.pop())
-        if self._folder:
-            self._folder.cleanup()
-
-
-def _open_ends(lines: str, answers: str) -> tuple[BinaryIO, BinaryIO]:
-    """Opens a client's pipes, to write lines and to read answers."""
-    writer = open(os.open(lines, os.O_WRONLY | os.O_NONBLOCK), "wb", buffering=0)
-    return writer, open(os.open(answers, os.O_RDONLY | os.O_NONBLOCK), "rb", buffering=0)
-
-
 class Program(asyncio.SubprocessProtocol):
     """A process that holds a conversation with the operator, and one with each of some clients.
 
@@ -186,7 +159,7 @@ class Program(asyncio.SubprocessProtocol):
         self.ended: asyncio.Future[str] = asyncio.get_running_loop().create_future()
         self.operator = Conversation(self.kill)
         self.clients: list[Conversation] = []
-        self._pipes = _Pipes(0)
+        self._pipes: list[Pipes] = []
         self._readers: list[tuple[Conversation, asyncio.ReadTransport]] = []
         self._error_end = b""
         self._fault = ""
@@ -196,44 +169,42 @@ class Program(asyncio.SubprocessProtocol):
     async def start(cls, command: Sequence[str], clients: int = 0) -> Program:
         """Starts the process, in a group of its own. Raises an OSError if it can't be run.
 
-        The pipes of clients are there until `forget_pipes`.
+        It may open the pipes of clients until `forget_pipes`.
         """
-        pipes = _Pipes(clients)
-        words = [word for pair in pipes.pairs for word in ("--client", *pair)]
         loop = asyncio.get_running_loop()
-        try:
+        with contextlib.ExitStack() as stack:
+            pipes = [stack.enter_context(contextlib.closing(Pipes())) for _ in range(clients)]
+            words = [word for pair in pipes for word in pair.words]
             _, program = await loop.subprocess_exec(cls, *command, *words, start_new_session=True)
-        except BaseException:
-            pipes.close()
-            for end in chain.from_iterable(pipes.ends):
-                end.close()
-            raise
+            stack.pop_all()
         program._pipes = pipes
         try:
-            for writer, reader in pipes.ends:
-                await program._connect(writer, reader)
+            for pair in pipes:
+                await program._connect(pair)
         except BaseException:
             program.kill()
             raise
         if program.ended.done():
+            program.forget_pipes()
             program._fail_all(program.ended.result())
         return program
 
-    async def _connect(self, writer: BinaryIO, reader: BinaryIO) -> None:
+    async def _connect(self, pipes: Pipes) -> None:
         """Begins a client's conversation."""
         loop = asyncio.get_running_loop()
         conversation = Conversation(self.kill)
         client, _ = await loop.connect_read_pipe(
-            lambda: _Client(conversation, self._lose_client), reader
+            lambda: _Client(conversation, self._lose_client), pipes.answers
         )
-        transport, _ = await loop.connect_write_pipe(asyncio.BaseProtocol, writer)
+        transport, _ = await loop.connect_write_pipe(asyncio.BaseProtocol, pipes.lines)
         conversation.connect(transport)
         self._readers.append((conversation, client))
         self.clients.append(conversation)
 
     def forget_pipes(self) -> None:
-        """Removes the pipes from the file system, once the process has opened them."""
-        self._pipes.close()
+        """Notices from now on what the process closes, as it has opened the pipes."""
+        for pair in self._pipes:
+            pair.let_go()
 
     @property
     def pid(self) -> int:
@@ -253,7 +224,6 @@ class Program(asyncio.SubprocessProtocol):
     async def end(self, patience: float) -> None:
         """Closes the process's inputs, waits this long for its end, and then kills it."""
         self._is_ending = True
-        self._pipes.close()
         for one in (self.operator, *self.clients):
             one.end()
         await asyncio.wait([self.ended], timeout=patience)
@@ -306,7 +276,7 @@ class Program(asyncio.SubprocessProtocol):
         """Fails what still waits: the process has ended, and all that it wrote was read."""
         status = self._transport.get_returncode()
         self._transport.close()
-        self._pipes.close()
+        self.forget_pipes()
         details = [self._fault, self._error_end.decode("utf-8", "backslashreplace").strip()]
         reason = ": ".join(
             [f"the pool's process ended with status {status}", *filter(None, details)]

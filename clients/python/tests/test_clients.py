@@ -2,13 +2,16 @@
 
 from __future__ import annotations
 
+import contextlib
 import os
 import signal
 import subprocess
+import sys
 import threading
 import time
 import unittest
 from concurrent.futures import ThreadPoolExecutor
+from pathlib import Path
 
 from example import transaction_bytes
 from keltuvar import BadLine, Broken, Clients, Closed, Pool, Refused, Timeout
@@ -23,6 +26,35 @@ def knows_clients() -> bool:
         return False
     told = subprocess.run([PROGRAM, "serve", "--help"], capture_output=True, timeout=LONG)
     return b"--client" in told.stdout
+
+
+def kill_with_clients(program: object, calls: str) -> int:
+    """Has a process start the program for two clients, make some calls and be killed.
+
+    Returns the number of the program's process.
+    """
+    begins = f"from keltuvar import Clients; pools = Clients({str(program)!r}, 2)"
+    ends = "import os; print(pools.pid, flush=True); os.kill(os.getpid(), 9)"
+    words = [sys.executable, "-c", "; ".join([begins, *calls.split("; "), ends])]
+    folder = Path(__file__).parents[1]
+    return int(subprocess.run(words, cwd=folder, stdout=subprocess.PIPE, timeout=LONG).stdout)
+
+
+def wait_for_end(pid: int) -> bool:
+    """Waits until a process has ended that needn't be a child, and returns whether it has."""
+    until = time.monotonic() + LONG
+    with contextlib.suppress(OSError):
+        while time.monotonic() < until:
+            state = Path(f"/proc/{pid}/stat").read_text(encoding="ascii").rpartition(")")[2]
+            if state.split()[0] == "Z":
+                return True
+            time.sleep(0.02)
+        return False
+    return True
+
+
+# What a process asks before it is killed: nothing, what opens the pool, and what a client asks.
+CALLS = ("pass", "pools.operator.lookup(0)", "pools.operator.lookup(0); pools.clients[1].lookup(1)")
 
 
 class Fake(unittest.TestCase):
@@ -48,9 +80,20 @@ class Fake(unittest.TestCase):
             self.assertEqual(pools.operator.ask("arguments"), expected)
         words = self.pools.operator.ask("arguments").split(" ")
         self.assertEqual(words[1::3], ["--client"] * 3)
-        folders = {os.path.dirname(word) for word in words[2::3] + words[3::3]}
-        self.pools.close()
-        self.assertEqual([os.path.exists(folder) for folder in folders], [False])
+        ends = [os.path.dirname(word) for word in words[2::3] + words[3::3]]
+        self.assertEqual(ends, [f"/proc/{os.getpid()}/fd"] * 6)
+
+    def test_nothing_stays_open(self) -> None:
+        before = len(os.listdir("/proc/self/fd"))
+        with Clients(FAKE, 3, timeout=LONG) as pools:
+            pools.operator.lookup(0)
+            pools.clients[0].lookup(1)
+            pools.clients[1].close()
+        self.assertEqual(len(os.listdir("/proc/self/fd")), before)
+
+    def test_a_process_that_is_killed(self) -> None:
+        for calls in CALLS:
+            self.assertTrue(wait_for_end(kill_with_clients(FAKE, calls)), calls)
 
     def test_a_call_waits_for_no_other(self) -> None:
         first, second, _ = self.pools.clients
@@ -194,6 +237,10 @@ class Program(unittest.TestCase):
                 pools.clients[0].back(0)
             self.assertEqual(caught.exception.number, 1)
             self.assertEqual(pools.operator.back(0).kept, ())
+
+    def test_a_process_that_is_killed(self) -> None:
+        for calls in CALLS:
+            self.assertTrue(wait_for_end(kill_with_clients(PROGRAM, calls)), calls)
 
     def test_a_close_before_the_pool_is_open(self) -> None:
         assert PROGRAM
