@@ -93,7 +93,7 @@ class Limited:
             child = subprocess.Popen(
                 [*self._command, *words], bufsize=0, stdin=subprocess.PIPE, stdout=subprocess.PIPE, stderr=errors
             )
-            ends = [StandardPipes(child), *pipes]
+            ends: list[StandardPipes | Pipes] = [StandardPipes(child), *pipes]
             pumps = [Pump(Talk(pair.lines, pair.answers), lines) for pair, lines in zip(ends, self._lines)]
             for pump in pumps:
                 pump.start()

@@ -131,7 +131,7 @@ class Stage:
             [program, "serve", *words], bufsize=0, stdin=subprocess.PIPE, stdout=subprocess.PIPE, stderr=self._errors
         )
         pipes[0] = StandardPipes(self.child)
-        self.accounts = [Account(number, OUTPUTS, rng) for number in range(CLIENTS + 1)]
+        self.accounts = [Account(number, OUTPUTS, Random(rng.random())) for number in range(CLIENTS + 1)]
         self.conversations = {number: Conversation(number, self.accounts[number], pipes[number]) for number in sorted(pipes)}
         self._workers: list[Worker] = []
 
