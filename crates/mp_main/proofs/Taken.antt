@@ -108,12 +108,12 @@ not_given (Some t) h = absurd (true≢false (sym h))
 
 serve_taken : (words : List Text) → level_fault serve [] nothing_held words false [] ≡ [] → IsServe (rows_after serve.rules [] words)
 serve_taken words none = record {
-  salt = if_given (codes "salt") (vp.Unsigned 0 18446744073709551615) refl serve (inl refl, (inr refl, (inl refl, (inl refl, (inl refl, tt))))) words none;
-  names = if_given (codes "names") (vp.Unsigned 1 4294967296) refl serve (inl refl, (inl refl, (inr refl, (inl refl, (inl refl, tt))))) words none;
+  salt = if_given (codes "salt") (vp.Unsigned 0 18446744073709551615) refl serve (inl refl, (inr refl, (inl refl, (inl refl, (inl refl, (inl refl, tt)))))) words none;
+  names = if_given (codes "names") (vp.Unsigned 1 4294967296) refl serve (inl refl, (inl refl, (inr refl, (inl refl, (inl refl, (inl refl, tt)))))) words none;
   file = not_given (first_of (codes "FILE") rows)
-      (if_first (codes "FILE") never refl serve (inl refl, (inl refl, (inl refl, (inl refl, (inl refl, tt))))) words none);
+      (if_first (codes "FILE") never refl serve (inl refl, (inl refl, (inl refl, (inl refl, (inl refl, (inl refl, tt)))))) words none);
   explain = not_given (one_of (codes "explain") rows)
-      (if_given (codes "explain") never refl serve (inl refl, (inl refl, (inl refl, (inl refl, (inl refl, tt))))) words none);
+      (if_given (codes "explain") never refl serve (inl refl, (inl refl, (inl refl, (inl refl, (inl refl, (inl refl, tt)))))) words none);
 }
   where
     rows : List Row
@@ -156,7 +156,7 @@ met_taken (Some p) none met =
     )
     go false false false true n m = (
       inr (inr (inr (refl, serve_taken p.1 n))),
-      signed serve (inr refl, (inl refl, (inl refl, (inl refl, (inl refl, tt))))) p.1 n,
+      signed serve (inr refl, (inl refl, (inl refl, (inl refl, (inl refl, (inl refl, tt)))))) p.1 n,
     )
     go false false false false n m = absurd (true≢false (sym m))
 

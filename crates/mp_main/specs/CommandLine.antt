@@ -1,7 +1,7 @@
 -- The command lines that the program accepts: `keltuvar run [--explain] [--signatures WHICH] [FILE]`,
 -- `keltuvar race --workers N [--history FILE] [--svg FILE] [--verify-us MICROSECONDS] [--explain] [--signatures WHICH] [FILE]`,
 -- `keltuvar audit [--explain] [--signatures WHICH] SCENARIO HISTORY`,
--- `keltuvar serve [--signatures WHICH] [--salt N] [--names N] [--client IN OUT]..`, `--help` and `--version`.
+-- `keltuvar serve [--signatures WHICH] [--salt N] [--names N] [--history FILE] [--client IN OUT]..`, `--help` and `--version`.
 use Rattle.std.specs.Prelude.{◌≡◌, ◌≤◌, ◌⊎◌, ⊤, ℕ, Bool, true, false, List, [], ◌∷◌, map, length, Option, None, Some, codes}
 use Rattle.std.specs.Prelude.{if◌then◌else◌, nat_lt, option_and_then, option_map, unwrap_or}
 use Rattle.std.specs.Borrow.{Bor}
@@ -102,10 +102,10 @@ abbrev pub audit_command : Bor (List (Bor Text)) → App
 audit_command names = with_rule (with_rule (with_rule (with_rule (new_app (codes "audit"))
     explain_rule) (signatures_rule names)) (input_rule (codes "FILE"))) (input_rule (codes "history"))
 
--- `serve`, with or without one of these names, two numbers and the files of clients
+-- `serve`, with or without one of these names, two numbers, a file and the files of clients
 abbrev pub serve_command : Bor (List (Bor Text)) → App
-serve_command names = with_rule (with_rule (with_rule (with_rule (new_app (codes "serve"))
-    (signatures_rule names)) salt_rule) names_rule) client_rule
+serve_command names = with_rule (with_rule (with_rule (with_rule (with_rule (new_app (codes "serve"))
+    (signatures_rule names)) salt_rule) names_rule) (output_rule (codes "history"))) client_rule
 
 -- the program without its commands, of which one is required
 abbrev pub bare_program : App
@@ -159,7 +159,7 @@ value_of id command = option_and_then (first_of id) (option_map (λ c. c.1) comm
 abbrev pub file_of : Option (Text × List Row) → Option Text
 file_of = value_of (codes "FILE")
 
--- the history's file, which has this name in a race and an audit
+-- the history's file, which has this name in a race, an audit and a conversation
 abbrev pub history_of : Option (Text × List Row) → Option Text
 history_of = value_of (codes "history")
 
@@ -236,7 +236,7 @@ abbrev pub name_of : Asked → Text
 name_of (Run input signatures) = codes "run"
 name_of (Race input workers signatures wishes) = codes "race"
 name_of (Audit scenario history signatures explains) = codes "audit"
-name_of (Serve signatures salt names clients) = codes "serve"
+name_of (Serve signatures salt names history clients) = codes "serve"
 
 abbrev pub file_text : Option (Bor Text) → Option Text
 file_text = option_map (λ s. s.now)
@@ -246,20 +246,20 @@ abbrev pub scenario_of : Asked → Option Text
 scenario_of (Run input signatures) = file_text input.file
 scenario_of (Race input workers signatures wishes) = file_text input.file
 scenario_of (Audit scenario history signatures explains) = Some scenario.now
-scenario_of (Serve signatures salt names clients) = None
+scenario_of (Serve signatures salt names history clients) = None
 
 abbrev pub explains_of : Asked → Bool
 explains_of (Run input signatures) = input.explains
 explains_of (Race input workers signatures wishes) = input.explains
 explains_of (Audit scenario history signatures explains) = explains
-explains_of (Serve signatures salt names clients) = false
+explains_of (Serve signatures salt names history clients) = false
 
 -- the signatures that are accepted
 abbrev pub scheme_of : Asked → SchemeName
 scheme_of (Run input signatures) = signatures
 scheme_of (Race input workers signatures wishes) = signatures
 scheme_of (Audit scenario history signatures explains) = signatures
-scheme_of (Serve signatures salt names clients) = signatures
+scheme_of (Serve signatures salt names history clients) = signatures
 
 -- a race has the given number of workers, from 1 to 64
 abbrev pub HasWorkers : Option ℕ → Asked → Type 0
@@ -271,7 +271,7 @@ abbrev pub HasHistory : Option Text → Asked → Type 0
 HasHistory given (Run input signatures) = ⊤
 HasHistory given (Race input workers signatures wishes) = file_text wishes.history ≡ given
 HasHistory given (Audit scenario history signatures explains) = Some history.now ≡ given
-HasHistory given (Serve signatures salt names clients) = ⊤
+HasHistory given (Serve signatures salt names history clients) = file_text history ≡ given
 
 -- the file for a race's picture is the given one, or none
 abbrev pub HasPicture : Option Text → Asked → Type 0
@@ -288,15 +288,15 @@ files_of client = (client.input.now, client.output.now)
 
 -- a conversation's clients have the given files, and are at most 63
 abbrev pub HasClients : List (Text × Text) → Asked → Type 0
-HasClients given (Serve signatures salt names clients) = (map files_of clients.items ≡ given) × (length given ≤ 63)
+HasClients given (Serve signatures salt names history clients) = (map files_of clients.items ≡ given) × (length given ≤ 63)
 HasClients given asked = ⊤
 
 -- a conversation may declare the given number of names, from 1 to 2^32, or 65,536
 abbrev pub HasNames : Option ℕ → Asked → Type 0
-HasNames given (Serve signatures salt names clients) = names ≡ unwrap_or given 65536
+HasNames given (Serve signatures salt names history clients) = names ≡ unwrap_or given 65536
 HasNames given asked = ⊤
 
 -- a conversation has the given salt, or none
 abbrev pub HasSalt : Option ℕ → Asked → Type 0
-HasSalt given (Serve signatures salt names clients) = salt ≡ given
+HasSalt given (Serve signatures salt names history clients) = salt ≡ given
 HasSalt given asked = ⊤

@@ -4,7 +4,8 @@
 //! - `race --workers N [--explain] [FILE]` lets N threads race over it and writes the report, and if asked the history and a
 //! picture.
 //! - `audit SCENARIO HISTORY` says whether such a history is legal.
-//! - `serve [--signatures WHICH] [--salt N] [--names N] [--client IN OUT]..` holds a conversation, and one with each client.
+//! - `serve [--signatures WHICH] [--salt N] [--names N] [--history FILE] [--client IN OUT]..` holds a conversation, and one with each
+//! client.
 #![tactic(auto)]
 
 mod audits;
@@ -23,9 +24,8 @@ mod schemes;
 mod slow;
 
 use audits::audit_files;
-use clients::converse_with;
+use clients::converse_as;
 use command_line::{Asked, parse_words};
-use conversation::converse;
 use ending::{end_unparsed, end_unworded};
 use races::race_scenario;
 use runs::run_scenario;
@@ -57,15 +57,10 @@ fn main(rt: HostRuntime) -> ExitCode {
                     signatures,
                     salt,
                     names,
+                    history,
                     clients,
                 },
-            ) => {
-                if clients.is_empty() {
-                    converse(&rt, signatures, salt, names)
-                } else {
-                    converse_with(&rt, &rt, signatures, salt, names, &clients)
-                }
-            }
+            ) => converse_as(&rt, &rt, signatures, salt, names, history, &clients),
             Err(error) => end_unparsed(&rt, error),
         },
         Err(error) => end_unworded(&rt, error),

@@ -51,6 +51,8 @@ pub enum Asked<'a> {
         salt: Option<u64>,
         /// How many names a conversation may declare: 1 to 2^32, by default 65,536.
         names: u64,
+        /// The file for the pool's history.
+        history: Option<&'a str>,
         /// At most 63.
         clients: Vec<ClientFiles<'a>>,
     },
@@ -221,10 +223,12 @@ fn read_matches<'a>(matches: &ArgMatches<'a>, clients: Vec<ClientFiles<'a>>) -> 
                     explains: explains_of(given),
                 }
             } else if name == "serve" {
+                let history = file_of(given, "history");
                 Asked::Serve {
                     signatures: scheme_of(given),
                     salt: wide_number_of(given, "salt"),
                     names: names_of(given),
+                    history,
                     clients,
                 }
             } else {

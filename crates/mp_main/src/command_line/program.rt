@@ -146,7 +146,14 @@ fn serve_command<'a>(alloc: Global, names: &'a [&'a str]) -> Result<Command<'a>,
     let command = new_command(alloc, "serve", about).arg(signatures_option(alloc, names));
     let salted = add_arg(command, salt_option(alloc));
     let named = add_arg(salted, names_option(alloc));
-    add_arg(named, client_option(alloc))
+    let history = value_option(
+        alloc,
+        "history",
+        "FILE",
+        "Also write each change of the pool to this file, for audit",
+    );
+    let recorded = add_arg(named, history);
+    add_arg(recorded, client_option(alloc))
 }
 
 /// That more clients are named than a conversation may have.
