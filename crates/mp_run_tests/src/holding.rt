@@ -122,7 +122,7 @@ fn open_and_serve<
                 device,
                 clients,
             } = waiting;
-            match serve(rt, memory, opened, operator, line, device, clients) {
+            match serve(rt, memory, opened, None, operator, line, device, clients) {
                 Ok(service) => Ok(all_ended(alloc, service)),
                 Err(NoMemory) => Ok(None),
             }
