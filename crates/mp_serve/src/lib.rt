@@ -32,6 +32,7 @@ pub use conversation::Conversation;
 pub use device::{Device, Streams, Turn};
 pub use extending::{Extended, extend};
 pub use fault::Fault;
+pub use former::{Former, Formers, earliest};
 pub use laws::answers_as_a_run;
 pub use obeying::report_under;
 pub use refused::{Counts, count_if_refused, count_one, none_counted, put_counts};
