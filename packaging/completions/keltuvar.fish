@@ -21,4 +21,5 @@ complete -c keltuvar -n '__fish_seen_subcommand_from race' -l verify-us -x -d 'H
 complete -c keltuvar -n "__fish_seen_subcommand_from $commands" -l signatures -x -a 'trial checked ed25519' -d 'Which signatures to accept'
 complete -c keltuvar -n '__fish_seen_subcommand_from serve' -l salt -x -d "A number that salts the pool's tables"
 complete -c keltuvar -n '__fish_seen_subcommand_from serve' -l names -x -d 'How many names a conversation may declare'
+complete -c keltuvar -n '__fish_seen_subcommand_from serve' -l history -r -F -d 'Also write each change of the pool, for audit'
 complete -c keltuvar -n '__fish_seen_subcommand_from serve' -l client -r -F -d 'Also answer the lines of a file in another file'

@@ -40,6 +40,7 @@ _keltuvar() {
           _arguments '(- *)'{-h,--help}'[write help]' $signatures \
             "--salt=[a number that salts the pool's tables]:number: " \
             '--names=[how many names a conversation may declare]:number: ' \
+            '--history=[also write each change of the pool, for audit]:file:_files' \
             '*--client[also answer the lines of a file in another file]:lines:_files:answers:_files' && ret=0
           ;;
       esac
