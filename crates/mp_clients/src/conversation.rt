@@ -5,6 +5,7 @@ ghost use Rattle.mp_serve.specs.Inside.Ask.{to_tx_word};
 ghost use Rattle.mp_clients.specs.Answers.{used_by};
 
 use crate::allowed::{is_alone, is_note};
+use crate::asking::{GIVEN_ROOM, ROOM};
 use crate::bad::answer_bad;
 use crate::client::Client;
 use crate::finishing::{finish, finish_given, finish_submit, forget_used};
@@ -100,7 +101,7 @@ impl<N: PoolName> Conversation<N> {
         ensures err { IfErr result (IsStopped N.accepts N.callers (IsDone N.accepts N.callers
             self.old (command_of command.now) (moved self.old.client)) self.old self.new) }
     {
-        let Ok(room) = shared.prepare(memory, Change::of(command)) else {
+        let Ok(room) = shared.prepare(memory, ROOM, Change::of(command)) else {
             return Err(Stop::NoMemory);
         };
         match self.client.change(rt, &shared.pool, command) {
@@ -128,7 +129,7 @@ impl<N: PoolName> Conversation<N> {
         let Ok(named) = Arc::try_clone(&tx) else {
             return Err(Stop::NoMemory);
         };
-        let Ok(room) = shared.prepare(memory, Change::Submit(&named)) else {
+        let Ok(room) = shared.prepare(memory, ROOM, Change::Submit(&named)) else {
             return Err(Stop::NoMemory);
         };
         match self.client.change(rt, &shared.pool, &Command::Submit(tx)) {
@@ -166,7 +167,7 @@ impl<N: PoolName> Conversation<N> {
         let Ok(given) = Arc::try_clone(&tx) else {
             return Err(Stop::NoMemory);
         };
-        let Ok(room) = shared.prepare(memory, Change::Submit(&given)) else {
+        let Ok(room) = shared.prepare(memory, GIVEN_ROOM, Change::Submit(&given)) else {
             return Err(Stop::NoMemory);
         };
         match self.client.change(rt, &shared.pool, &Command::Submit(tx)) {
@@ -222,7 +223,7 @@ impl<N: PoolName> Conversation<N> {
         ensures err { IfErr result (IsStopped N.accepts N.callers (IsSynced N.accepts N.callers
             self.old ledger used) self.old self.new) }
     {
-        let Ok(room) = shared.prepare(memory, adopting(&ledger, block)) else {
+        let Ok(room) = shared.prepare(memory, ROOM, adopting(&ledger, block)) else {
             return Err(Stop::NoMemory);
         };
         match self.client.go_on(rt, &shared.pool, ledger) {
@@ -358,7 +359,7 @@ impl<N: PoolName> Conversation<N> {
         ensures err { IfErr result (IsStopped N.accepts N.callers (IsReturned N.accepts N.callers
             self.old count (Some ledger)) self.old self.new) }
     {
-        let Ok(room) = shared.prepare(memory, Change::Back(count)) else {
+        let Ok(room) = shared.prepare(memory, ROOM, Change::Back(count)) else {
             return Err(Stop::NoMemory);
         };
         match self.client.go_back(rt, &shared.pool, count, ledger) {

@@ -34,7 +34,7 @@ impl<N: PoolName, V: Verifier + Drop> Drop for Shared<N, V> {
 /// What is allocated before a change is made.
 #[derive(Drop)]
 pub struct Room {
-    /// Room for the line of an accepted submit.
+    /// Room for the answer.
     pub answer: Text,
     /// The change's lines in the history.
     pub lines: Text,
@@ -64,8 +64,13 @@ impl<N: PoolName, V: Verifier> Shared<N, V> {
     ghost use Rattle.std.specs.Prelude.{◌≡◌, [], IfOk, IfErr};
     ghost use Rattle.mp_clients.specs.Inside.Asked.{answer_in, IsUnanswered};
 
-    /// What is to be allocated before the change is made.
-    pub(crate) fn prepare(&self, memory: Memory, change: Change<'_>) -> Result<Room, NoMemory>
+    /// What is to be allocated before the change is made, with room for an answer of this many bytes.
+    pub(crate) fn prepare(
+        &self,
+        memory: Memory,
+        bytes: usize,
+        change: Change<'_>,
+    ) -> Result<Room, NoMemory>
         ensures { IfOk result (λ room. room.answer.items ≡ []) }
     {
         let lines = match &self.journal {
@@ -73,7 +78,7 @@ impl<N: PoolName, V: Verifier> Shared<N, V> {
             None => Vec::new(memory),
         };
         Ok(Room {
-            answer: make_room(memory)?,
+            answer: make_room(memory, bytes)?,
             lines,
         })
     }
