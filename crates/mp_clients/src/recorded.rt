@@ -127,7 +127,10 @@ fn put_back(text: &mut Text, count: u64) -> Result<(), NoMemory> {
     put_word(text, b"\n")
 }
 
-/// The lines that ask for the change, and the answers of all but the last.
+// The entry of an accepted submit has at most this many bytes.
+const ENTRY_ROOM: usize = 140;
+
+/// The lines that ask for the change, and the answers of all but the last. There is room for the entry of an accepted submit.
 pub fn change_lines(memory: Memory, change: Change<'_>) -> Result<Text, NoMemory> {
     let mut text = Vec::new(memory);
     match change {
@@ -137,6 +140,7 @@ pub fn change_lines(memory: Memory, change: Change<'_>) -> Result<Text, NoMemory
         Change::State(ledger) => put_state(memory, &mut text, ledger)?,
         Change::Back(count) => put_back(&mut text, count as u64)?,
     }
+    text.reserve(ENTRY_ROOM)?;
     Ok(text)
 }
 
