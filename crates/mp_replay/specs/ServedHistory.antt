@@ -67,7 +67,7 @@ IsStep s line answer t =
     (text : List ℕ) × (replay_line s.conversation line ≡ Some (t.conversation, text)) × Records s.entries text answer t.entries
 
 -- these lines are steps that lead from s to t
-unfoldable pub AreSteps : Replayed → List (List ℕ) → Replayed → Type 0
+abbrev pub AreSteps : Replayed → List (List ℕ) → Replayed → Type 0
 AreSteps s [] t = t ≡ s
 AreSteps s (line ∷ []) t = ⊥
 AreSteps s (line ∷ answer ∷ lines) t = (u : Replayed) × IsStep s line answer u × AreSteps u lines t

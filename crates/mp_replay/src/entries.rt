@@ -1,6 +1,6 @@
 //! The lines that record answers.
 
-ghost use Rattle.std.specs.Prelude.{◌≡◌, ◌×◌, ℕ, ◌+◌, ◌-◌, ◌^◌, ◌<◌, ◌++◌, List, true, IfOk, IfErr, IfSome, IfNone};
+ghost use Rattle.std.specs.Prelude.{◌≡◌, ℕ, ◌+◌, ◌-◌, ◌^◌, ◌<◌, ◌≤◌, ◌++◌, true, IfOk, IfErr, IfSome, IfNone};
 ghost use Rattle.mp_replay.specs.ServedHistory.{IsLineOf, Records, number_front, entry_line};
 ghost use Rattle.mp_replay.specs.ReplayFault.{HasFront, IsNoEntry, IsMisrecorded};
 
@@ -87,6 +87,7 @@ pub fn count_entry<'a>(
 ) -> Result<u64, Fault<'a>>
     requires { entries < 2 ^ 64 - 1 }
     ensures ok { IfOk result (Records entries text.now line.now) }
+    ensures few { IfOk result (λ more. more ≤ entries + 1) }
     ensures err { IfErr result (IsMisrecorded number entries text.now line.now) }
 {
     if is_line_of(text, line) {

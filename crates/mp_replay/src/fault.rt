@@ -39,11 +39,12 @@ impl fmt::Display for Fault<'_> {
     fn fmt<W: fmt::Write>(&self, f: &mut fmt::Formatter<W>) -> fmt::Result {
         match self {
             Fault::NoMemory => write!(f, "fault: no memory"),
-            Fault::BadLine(number, _) => write!(f, "fault: bad line {number}"),
+            Fault::BadLine(number, _) | Fault::BadCaller(number) => {
+                write!(f, "fault: bad line {number}")
+            }
             Fault::NoAnswer(number) => write!(f, "fault: missing answer {number}"),
             Fault::WrongAnswer(number) => write!(f, "fault: audit {number}"),
             Fault::WrongPlace(number) => write!(f, "fault: missing entry {number}"),
-            Fault::BadCaller(number) => write!(f, "fault: bad entry {number}"),
         }
     }
 }

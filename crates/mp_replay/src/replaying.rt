@@ -1,6 +1,6 @@
 //! The replay of a history, step by step.
 
-ghost use Rattle.std.specs.Prelude.{◌≡◌, ◌×◌, ℕ, ◌+◌, ◌-◌, ◌^◌, ◌<◌, ◌≤◌, List, ◌∷◌, length, IfOk, IfErr, OnOk};
+ghost use Rattle.std.specs.Prelude.{◌≡◌, ℕ, ◌+◌, ◌-◌, ◌^◌, ◌<◌, ◌≤◌, List, ◌∷◌, length, IfOk, IfErr, OnOk};
 ghost use Rattle.mp_text.specs.Lines.{lines_of};
 ghost use Rattle.mp_replay.specs.declared.fault.Fault.TheVariants as faults;
 ghost use Rattle.mp_replay.specs.ServedHistory.{IsServedHistory, IsStep, replayed};
@@ -27,6 +27,7 @@ fn replay_step<'a>(
     requires within { number < 2 ^ 64 - 1 }
     ensures ok { IfOk result (λ more. IsStep (replayed conversation.old entries)
         line.now answer.now (replayed conversation.new more)) }
+    ensures few { IfOk result (λ more. more ≤ entries + 1) }
     ensures err { IfErr result
         (IsWrongStep (replayed conversation.old entries) number line.now answer.now) }
 {
@@ -53,6 +54,7 @@ fn replay_from<'a>(
         × (lines_of behind.now ≡ answer ∷ lines_of r.1.now)
         × IsStep (replayed conversation.old entries) line.now answer
         (replayed conversation.new r.0)) }
+    ensures few { IfOk result (λ r. r.0 ≤ entries + 1) }
     ensures shorter { IfOk result (λ r. length r.1.now < length behind.now) }
     ensures err { IfErr result (IsWrongThere (replayed conversation.old entries) number
         (line.now ∷ lines_of behind.now)) }
