@@ -10,6 +10,7 @@ mod holding;
 mod long;
 mod meeting;
 mod picture;
+mod replays;
 mod reports;
 mod runs;
 mod serving;
@@ -38,6 +39,7 @@ fn check_all<R: Print + Threads + Wait + Sync>(
     println!(rt; "devices {}", devices::held(rt, memory, alloc)?)?;
     println!(rt; "serving {}", serving::held(rt, memory, alloc)?)?;
     println!(rt; "clients {}", clients::held(rt, memory, alloc)?)?;
+    println!(rt; "replays {}", replays::held(rt, memory)?)?;
     println!(rt; "texts {}", texts::held(rt, alloc)?)?;
     Ok(())
 }
