@@ -80,7 +80,7 @@ output_rule name = record (new_rule name) { long = Some name; value_names = 1 }
 
 -- a required file
 abbrev pub audited_rule : Rule
-audited_rule = record (new_rule (codes "FILE")) { required = true }
+audited_rule = record (new_rule (codes "FILE")) { value_names = 1; required = true }
 
 -- another file
 abbrev pub history_rule : Rule

@@ -166,7 +166,7 @@ fn wrong_line(fault: &mp_replay::Fault<'_>) -> Option<&'static str> {
 fn end_fault_in(rt: &HostRuntime, found: mp_replay::Fault<'_>) -> ExitCode
     ensures { exit_status result ≡ 1 }
 {
-    let _ = rt.eprintln(found);
+    let _ = rt.eprintln(format_args!("{found}"));
     explain(rt, true, found.bad_line());
     if let Some(wrong) = wrong_line(&found) {
         let _ = rt.eprintln(wrong);

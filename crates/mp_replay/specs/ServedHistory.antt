@@ -64,7 +64,8 @@ Records entries text line more =
 -- the line is asked, and the next one records its answer
 abbrev pub IsStep : Replayed → List ℕ → List ℕ → Replayed → Type 0
 IsStep s line answer t =
-    (text : List ℕ) × (replay_line s.conversation line ≡ Some (t.conversation, text)) × Records s.entries text answer t.entries
+    (text : List ℕ) × (replay_line s.conversation line ≡ Some (t.conversation, text))
+    × Records s.entries text answer t.entries
 
 -- these lines are steps that lead from s to t
 abbrev pub AreSteps : Replayed → List (List ℕ) → Replayed → Type 0

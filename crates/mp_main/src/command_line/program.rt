@@ -281,6 +281,7 @@ fn audited_file<'a>(alloc: Global) -> Arg<'a>
     ensures local { result.global ≡ false }
 {
     Arg::new(alloc, "FILE")
+        .value_name("FILE")
         .required(true)
         .help("The scenario of the history; the history of a served pool if there is no HISTORY")
 }
