@@ -16,7 +16,7 @@ steps-more s [] t line answer u same is = (u, subst (λ (v : Replayed). IsStep v
 steps-more s (l ∷ []) t line answer u are is = absurd are
 steps-more s (l ∷ a ∷ ls) t line answer u (v, step, more) is = (v, step, steps-more v ls t line answer u more is)
 
--- Steps lead to this conversation, after so many entries. These lines are left, of which the first has this number.
+-- Steps lead to this conversation and number of entries. These lines are left, of which the first has this number.
 pub record Progress (start : Conversation) (all : List (List ℕ)) (c : Conversation) (entries number : ℕ) (left : List (List ℕ)) : Type 0 where
   pub steps : List (List ℕ)
   pub whole : all ≡ steps ++ left

@@ -25,7 +25,7 @@ HasNoCaller place line =
     HasFront line (entry_front place)
     × ((caller : ℕ) (answer : List ℕ) → caller < 64 → line ≡ entry_line place caller answer → ⊥)
 
--- why the line, which has this number, isn't right after so many entries
+-- why the line, which has this number, isn't right after `entries` entries
 abbrev pub IsWhy : ℕ → ℕ → List ℕ → Fault → Type 0
 IsWhy n entries line NoMemory = ⊥
 IsWhy n entries line (BadLine at reason) = ⊥
@@ -39,7 +39,7 @@ abbrev pub IsNoEntry : ℕ → ℕ → List ℕ → Fault → Type 0
 IsNoEntry n place line (WrongAnswer at) = (at ≡ n) × (HasFront line (codes "entry ") → ⊥)
 IsNoEntry n place line fault = IsWhy n place line fault
 
--- After so many entries the line, which has this number, doesn't record the answer with this text.
+-- After `entries` entries the line, which has this number, doesn't record the answer with this text.
 pub record IsMisrecorded (n entries : ℕ) (text line : List ℕ) (fault : Fault) : Type 0 where
   pub no_answer : IsLineOf text line → ⊥
   pub no_entry : IsEntry entries text line → ⊥

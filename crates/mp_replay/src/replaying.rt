@@ -38,8 +38,8 @@ fn replay_step<'a>(
     }
 }
 
-// Replays the step of the line, which has this number. What is behind it begins with the line of the answer. Returns the number
-// of entries then, and what is behind the step.
+// Replays the step of the line, which has this number. The text that follows it begins with the line of the answer. Returns the
+// number of entries then, and the text that follows the step.
 fn replay_from<'a>(
     conversation: &mut Conversation,
     memory: Memory,
