@@ -7,7 +7,7 @@ complete -c keltuvar -s h -l help -d 'Write help'
 complete -c keltuvar -n "not __fish_seen_subcommand_from $commands" -s V -l version -d 'Write the version'
 complete -c keltuvar -n "not __fish_seen_subcommand_from $commands" -a run -d 'Run a scenario and write its answers'
 complete -c keltuvar -n "not __fish_seen_subcommand_from $commands" -a race -d 'Deal a scenario to workers that race for one pool'
-complete -c keltuvar -n "not __fish_seen_subcommand_from $commands" -a audit -d 'Report whether a history is legal over a scenario'
+complete -c keltuvar -n "not __fish_seen_subcommand_from $commands" -a audit -d 'Report whether a history is legal'
 complete -c keltuvar -n "not __fish_seen_subcommand_from $commands" -a serve -d 'Hold a conversation with a pool'
 
 complete -c keltuvar -n '__fish_seen_subcommand_from run race audit' -F

@@ -11,6 +11,7 @@ mod holding;
 mod long;
 mod meeting;
 mod picture;
+mod replays;
 mod reports;
 mod runs;
 mod serving;
@@ -38,6 +39,7 @@ fn check_all(
     println!(rt; "serving {}", serving::held(rt, memory, alloc)?)?;
     println!(rt; "clients {}", clients::held(rt, memory, alloc)?)?;
     println!(rt; "histories {}", histories::held(rt, rt, memory, alloc)?)?;
+    println!(rt; "replays {}", replays::held(rt, memory)?)?;
     println!(rt; "texts {}", texts::held(rt, alloc)?)?;
     Ok(())
 }
