@@ -26,7 +26,7 @@ _keltuvar() {
   fi
   local command=${COMP_WORDS[1]}
   case $command:$option in
-    race:--history | race:--svg | serve:--client) _keltuvar_offer_files && return ;;
+    race:--history | race:--svg | serve:--history | serve:--client) _keltuvar_offer_files && return ;;
     race:--workers | race:--verify-us | serve:--salt | serve:--names) return ;;
     *:--signatures) _keltuvar_offer 'trial checked ed25519' && return ;;
   esac
@@ -37,7 +37,7 @@ _keltuvar() {
       if ((COMP_CWORD > 2)) && [[ ${COMP_WORDS[COMP_CWORD - 2]} == --client ]]; then
         _keltuvar_offer_files
       else
-        _keltuvar_offer '--signatures --salt --names --client --help'
+        _keltuvar_offer '--signatures --salt --names --history --client --help'
       fi
       ;;
     run:* | race:* | audit:*) _keltuvar_offer_files ;;

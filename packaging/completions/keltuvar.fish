@@ -7,7 +7,7 @@ complete -c keltuvar -s h -l help -d 'Write help'
 complete -c keltuvar -n "not __fish_seen_subcommand_from $commands" -s V -l version -d 'Write the version'
 complete -c keltuvar -n "not __fish_seen_subcommand_from $commands" -a run -d 'Run a scenario and write its answers'
 complete -c keltuvar -n "not __fish_seen_subcommand_from $commands" -a race -d 'Deal a scenario to workers that race for one pool'
-complete -c keltuvar -n "not __fish_seen_subcommand_from $commands" -a audit -d 'Report whether a history is legal over a scenario'
+complete -c keltuvar -n "not __fish_seen_subcommand_from $commands" -a audit -d 'Report whether a history is legal'
 complete -c keltuvar -n "not __fish_seen_subcommand_from $commands" -a serve -d 'Hold a conversation with a pool'
 
 complete -c keltuvar -n '__fish_seen_subcommand_from run race audit' -F
@@ -21,4 +21,5 @@ complete -c keltuvar -n '__fish_seen_subcommand_from race' -l verify-us -x -d 'H
 complete -c keltuvar -n "__fish_seen_subcommand_from $commands" -l signatures -x -a 'trial checked ed25519' -d 'Which signatures to accept'
 complete -c keltuvar -n '__fish_seen_subcommand_from serve' -l salt -x -d "A number that salts the pool's tables"
 complete -c keltuvar -n '__fish_seen_subcommand_from serve' -l names -x -d 'How many names a conversation may declare'
+complete -c keltuvar -n '__fish_seen_subcommand_from serve' -l history -r -F -d 'Also write each change of the pool, for audit'
 complete -c keltuvar -n '__fish_seen_subcommand_from serve' -l client -r -F -d 'Also answer the lines of a file in another file'

@@ -8,7 +8,7 @@ _keltuvar() {
   commands=(
     'run:run a scenario and write its answers'
     'race:deal a scenario to workers that race for one pool, and audit the history'
-    'audit:report whether a history is legal over a scenario'
+    'audit:report whether a history is legal'
     'serve:hold a conversation with a pool'
   )
   explain=(
@@ -35,11 +35,12 @@ _keltuvar() {
             '--verify-us=[how long each check of a signature takes]:microseconds: ' \
             '1:scenario:_files' && ret=0
           ;;
-        (audit) _arguments $explain $signatures '1:scenario:_files' '2:history:_files' && ret=0 ;;
+        (audit) _arguments $explain $signatures '1:scenario or history:_files' '2:history:_files' && ret=0 ;;
         (serve)
           _arguments '(- *)'{-h,--help}'[write help]' $signatures \
             "--salt=[a number that salts the pool's tables]:number: " \
             '--names=[how many names a conversation may declare]:number: ' \
+            '--history=[also write each change of the pool, for audit]:file:_files' \
             '*--client[also answer the lines of a file in another file]:lines:_files:answers:_files' && ret=0
           ;;
       esac

@@ -8,6 +8,7 @@ import subprocess
 import tempfile
 import time
 from collections.abc import Callable
+from pathlib import Path
 from typing import IO, NamedTuple
 
 # A program that answers nothing for so many seconds is ended.
@@ -20,6 +21,7 @@ class Held(NamedTuple):
 
     answers: list[list[str]]
     fault: str  # Whatever a program must not do but answer lines; nothing if it did that.
+    history: bytes  # What the program wrote of its history.
 
 
 class Ends:
@@ -135,25 +137,33 @@ def hold(program: str, lines: list[list[bytes]], rounds: list[list[int]]) -> Hel
     with tempfile.TemporaryDirectory(prefix="keltuvar-") as folder, tempfile.TemporaryFile() as errors:
         pipes = [_make_pipes(folder, number) for number in range(1, len(lines))]
         words = [word for pair in pipes for word in ("--client", *pair)]
-        child = _start([program, "serve", *words], errors)
+        history = f"{folder}/history"
+        child = _start([program, "serve", "--history", history, *words], errors)
         try:
             assert child.stdin and child.stdout
             operator = Ends(os.dup(child.stdin.fileno()), os.dup(child.stdout.fileno()))
             child.stdin.close()
             child.stdout.close()
             ends = [operator, *map(_open_pipes, pipes)]
-            fault = Conversations(child, ends).hold(lines, rounds) or _fault_at_end(child, ends, lines)
+            fault = Conversations(child, ends).hold(lines, rounds) or _fault_at_end(child, ends, lines) or _fault_of_audit(program, history)
         finally:
             child.kill()
             child.wait()
         errors.seek(0)
         told = errors.read().decode("latin-1")
+        written = Path(history).read_bytes() if os.path.exists(history) else b""
     fault = fault and f"{fault}, status {child.returncode}, standard error {told!r}"
-    return Held([one.got for one in ends], fault or (told and f"standard error {told!r}"))
+    return Held([one.got for one in ends], fault or (told and f"standard error {told!r}"), written)
 
 
 def _start(words: list[str], errors: IO[bytes]) -> subprocess.Popen[bytes]:
     return subprocess.Popen(words, bufsize=0, stdin=subprocess.PIPE, stdout=subprocess.PIPE, stderr=errors)
+
+
+def _fault_of_audit(program: str, history: str) -> str:
+    """Says what the audit of a history finds, if it isn't legal."""
+    audited = subprocess.run([program, "audit", history], capture_output=True, text=True)
+    return "" if audited.stdout == "audit legal\n" and not audited.returncode else f"the audit found {audited.stdout + audited.stderr!r}"
 
 
 def _fault_at_end(child: subprocess.Popen[bytes], ends: list[Ends], lines: list[list[bytes]]) -> str:

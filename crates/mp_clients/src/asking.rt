@@ -57,24 +57,17 @@ pub fn count_refusal(counts: &mut Counts, asked: &Asked)
     }
 }
 
-// The line of an accepted submit has at most this many bytes.
-const ACCEPTED_ROOM: usize = 32;
+/// The line of an accepted submit has at most this many bytes.
+pub const ROOM: usize = 32;
 
-// With the transaction's id it has at most this many.
-const GIVEN_ROOM: usize = 96;
+/// With the transaction's id it has at most this many.
+pub const GIVEN_ROOM: usize = 96;
 
-/// Room for the line of an accepted submit.
-pub fn make_room(memory: Memory) -> Result<Text, NoMemory>
+/// Room for a line of this many bytes.
+pub fn make_room(memory: Memory, bytes: usize) -> Result<Text, NoMemory>
     ensures { IfOk result (λ text. text.items ≡ []) }
 {
-    Ok(Vec::with_capacity(memory, ACCEPTED_ROOM)?)
-}
-
-/// The same for an accepted submit whose line has the transaction's id.
-pub fn make_given_room(memory: Memory) -> Result<Text, NoMemory>
-    ensures { IfOk result (λ text. text.items ≡ []) }
-{
-    Ok(Vec::with_capacity(memory, GIVEN_ROOM)?)
+    Ok(Vec::with_capacity(memory, bytes)?)
 }
 
 // Writes the line of the reply into the room.

@@ -5,12 +5,13 @@ ghost use Rattle.mp_serve.specs.Inside.Ask.{to_tx_word};
 ghost use Rattle.mp_clients.specs.Answers.{used_by};
 
 use crate::allowed::{is_alone, is_note};
-use crate::asking::{make_given_room, make_room};
+use crate::asking::{GIVEN_ROOM, ROOM};
 use crate::bad::answer_bad;
 use crate::client::Client;
 use crate::finishing::{finish, finish_given, finish_submit, forget_used};
 use crate::forgetting::names_to_go;
 use crate::meaning::{tx_meant, txs_meant};
+use crate::recorded::Change;
 use crate::shared::Shared;
 use crate::stop::Stop;
 use mp_history::PoolName;
@@ -35,6 +36,14 @@ fn used_by(words: &[TxWord]) -> Used
         Used::Txs
     } else {
         Used::Nothing
+    }
+}
+
+// What the adoption of a ledger state asks.
+fn adopting<'a>(ledger: &'a Ledger, block: Option<&'a Block>) -> Change<'a> {
+    match block {
+        Some(block) => Change::Block(block),
+        None => Change::State(ledger),
     }
 }
 
@@ -92,11 +101,13 @@ impl<N: PoolName> Conversation<N> {
         ensures err { IfErr result (IsStopped N.accepts N.callers (IsDone N.accepts N.callers
             self.old (command_of command.now) (moved self.old.client)) self.old self.new) }
     {
-        let Ok(room) = make_room(memory) else {
+        let Ok(room) = shared.prepare(memory, ROOM, Change::of(command)) else {
             return Err(Stop::NoMemory);
         };
         match self.client.change(rt, &shared.pool, command) {
-            Ok(asked) => finish(memory, &self.names, &mut self.client, room, &asked),
+            Ok(asked) => {
+                finish(rt, shared, memory, &self.names, &mut self.client, room, &asked)
+            }
             Err(stop) => Err(stop),
         }
     }
@@ -118,11 +129,13 @@ impl<N: PoolName> Conversation<N> {
         let Ok(named) = Arc::try_clone(&tx) else {
             return Err(Stop::NoMemory);
         };
-        let Ok(room) = make_room(memory) else {
+        let Ok(room) = shared.prepare(memory, ROOM, Change::Submit(&named)) else {
             return Err(Stop::NoMemory);
         };
         match self.client.change(rt, &shared.pool, &Command::Submit(tx)) {
             Ok(asked) => finish_submit(
+                rt,
+                shared,
                 memory,
                 &mut self.names,
                 &mut self.client,
@@ -154,13 +167,20 @@ impl<N: PoolName> Conversation<N> {
         let Ok(given) = Arc::try_clone(&tx) else {
             return Err(Stop::NoMemory);
         };
-        let Ok(room) = make_given_room(memory) else {
+        let Ok(room) = shared.prepare(memory, GIVEN_ROOM, Change::Submit(&given)) else {
             return Err(Stop::NoMemory);
         };
         match self.client.change(rt, &shared.pool, &Command::Submit(tx)) {
-            Ok(asked) => {
-                finish_given(memory, &self.names, &mut self.client, room, &given, &asked)
-            }
+            Ok(asked) => finish_given(
+                rt,
+                shared,
+                memory,
+                &self.names,
+                &mut self.client,
+                room,
+                &given,
+                &asked,
+            ),
             Err(stop) => Err(stop),
         }
     }
@@ -188,13 +208,14 @@ impl<N: PoolName> Conversation<N> {
         }
     }
 
-    // Adopts a new ledger state. Once it is adopted, what it used isn't staged any more.
+    // Adopts a new ledger state: that after the block, if one is given. Once it is adopted, what it used isn't staged any more.
     fn go_on<V: Verifier>(
         &mut self,
         rt: &impl Wait,
         shared: &Shared<N, V>,
         memory: Memory,
         ledger: Ledger,
+        block: Option<&Block>,
         used: Used,
     ) -> Result<Answer, Stop>
         ensures ok { IfOk result (λ a. IsSynced N.accepts N.callers self.old ledger used
@@ -202,13 +223,13 @@ impl<N: PoolName> Conversation<N> {
         ensures err { IfErr result (IsStopped N.accepts N.callers (IsSynced N.accepts N.callers
             self.old ledger used) self.old self.new) }
     {
-        let Ok(room) = make_room(memory) else {
+        let Ok(room) = shared.prepare(memory, ROOM, adopting(&ledger, block)) else {
             return Err(Stop::NoMemory);
         };
         match self.client.go_on(rt, &shared.pool, ledger) {
             Ok(asked) => {
                 forget_used(&mut self.staged, used, &asked);
-                finish(memory, &self.names, &mut self.client, room, &asked)
+                finish(rt, shared, memory, &self.names, &mut self.client, room, &asked)
             }
             Err(stop) => Err(stop),
         }
@@ -233,7 +254,7 @@ impl<N: PoolName> Conversation<N> {
         match extend(memory, &self.names, signatures, ledger, block) {
             Ok(Extended::To(applied)) => {
                 let AppliedBlock { ledger, undo: _ } = applied;
-                self.go_on(rt, shared, memory, ledger, used)
+                self.go_on(rt, shared, memory, ledger, Some(block), used)
             }
             Ok(Extended::Refused(text)) => {
                 self.client.count_adopt();
@@ -320,7 +341,7 @@ impl<N: PoolName> Conversation<N> {
         else {
             return Err(Stop::NoMemory);
         };
-        self.go_on(rt, shared, memory, ledger, Used::Outputs(none))
+        self.go_on(rt, shared, memory, ledger, None, Used::Outputs(none))
     }
 
     // Adopts the ledger state this many steps ago, which is given.
@@ -338,11 +359,13 @@ impl<N: PoolName> Conversation<N> {
         ensures err { IfErr result (IsStopped N.accepts N.callers (IsReturned N.accepts N.callers
             self.old count (Some ledger)) self.old self.new) }
     {
-        let Ok(room) = make_room(memory) else {
+        let Ok(room) = shared.prepare(memory, ROOM, Change::Back(count)) else {
             return Err(Stop::NoMemory);
         };
         match self.client.go_back(rt, &shared.pool, count, ledger) {
-            Ok(asked) => finish(memory, &self.names, &mut self.client, room, &asked),
+            Ok(asked) => {
+                finish(rt, shared, memory, &self.names, &mut self.client, room, &asked)
+            }
             Err(stop) => Err(stop),
         }
     }
@@ -566,7 +589,7 @@ impl<N: PoolName> Conversation<N> {
                 let Ok(ledger) = ledger_at(memory, &self.settings, ledger) else {
                     return Err(Stop::NoMemory);
                 };
-                self.go_on(rt, shared, memory, ledger, Used::Nothing)
+                self.go_on(rt, shared, memory, ledger, None, Used::Nothing)
             }
             Line::Blank => unreachable!(),
             Line::Sets(_) => unreachable!(),

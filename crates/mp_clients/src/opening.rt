@@ -129,7 +129,11 @@ fn open_on<N: PoolName>(
             let front = first_front(&passes);
             let salt = settings.salt();
             let seats = seats_of(memory, passes, signatures, limit, ledger, salt, most_names)?;
-            let shared = Shared { pool, reader };
+            let shared = Shared {
+                pool,
+                reader,
+                journal: None,
+            };
             Ok(Opened {
                 shared,
                 front,

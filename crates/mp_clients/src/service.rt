@@ -15,6 +15,7 @@ use crate::connected::Connected;
 use crate::conversation::Conversation;
 use crate::conversing::answer_from;
 use crate::fault::Fault;
+use crate::journal::Journal;
 use crate::opening::{Opened, Seat};
 use crate::settling::{Settled, settle};
 use crate::shared::Shared;
@@ -26,6 +27,7 @@ use mp_rules::Verifier;
 use mp_serve as alone;
 use mp_serve::{Device, Staged, Turn};
 use mp_session::{Session, Settings};
+use std::fs::File;
 use std::sync::{Arc, Wait};
 use std::thread::Threads;
 
@@ -281,6 +283,22 @@ fn connect_all<N: PoolName, D: Device + Drop>(
     Ok(all)
 }
 
+// The file of the history of the pool, which opened for these seats.
+fn journal_of<N: PoolName>(
+    memory: Memory,
+    history: Option<File>,
+    settings: &Settings,
+    seats: &[Seat<N>],
+) -> Result<Option<Journal>, NoMemory> {
+    match (history, seats.first()) {
+        (Some(file), Some(seat)) => {
+            let journal = Journal::begin(memory, file, settings, seat.client.ledger())?;
+            Ok(Some(journal))
+        }
+        _ => Ok(None),
+    }
+}
+
 /// Answers the line that opened the pool in the operator's conversation, and all lines of all conversations from then on. Each
 /// conversation is on a thread of its own if one can be made. The clients have the devices `clients`, in order.
 ///
@@ -288,12 +306,16 @@ fn connect_all<N: PoolName, D: Device + Drop>(
 /// has seen is a prefix of it, and each line was answered as the pool would at a point of that. If `is_known` holds, no
 /// conversation has an entry there after the last that it knows.
 ///
+/// If there is a file for the history, each change is written there before it is answered, in the order of places. If that fails,
+/// the conversation ends with `Untold`, and so does each later change.
+///
 /// # Errors
 /// `NoMemory`. Then some conversations may not have gone on.
 pub fn serve<N: PoolName + Send + Sync, D: Device + Close + Send + Drop, R: Threads + Wait + Sync>(
     rt: &R,
     memory: Memory,
     opened: Opened<N>,
+    history: Option<File>,
     operator: alone::Conversation,
     line: Vec<u8, Memory>,
     device: D,
@@ -313,10 +335,11 @@ pub fn serve<N: PoolName + Send + Sync, D: Device + Close + Send + Drop, R: Thre
         operator line.items device opened.seats.items clients.items s.finished.items) }
 {
     let Opened {
-        shared,
+        mut shared,
         front,
         seats,
     } = opened;
+    shared.journal = journal_of(memory, history, &operator.session.settings, &seats)?;
     let all = connect_all(memory, seats, operator, line, device, clients)?;
     serve_all(rt, &shared, memory, front, all)
 }

@@ -1,6 +1,7 @@
 pub mod Ends
 pub mod Running
 pub mod Auditing
+pub mod Replaying
 pub mod Racing
 pub mod NamedFiles
 pub mod Holding

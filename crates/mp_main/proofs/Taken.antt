@@ -1,4 +1,4 @@
--- Accepted words name a run, a race with its numbers in range, an audit of two files, or a conversation. They name signatures.
+-- Accepted words name a run, a race with its numbers in range, an audit of a file, or a conversation. They name signatures.
 use Rattle.std.proofs.Common.{◌≡◌, ◌||◌, Bool, cond, not, true, false, true≢false, refl, sym, inl, inr, List, [], ◌∷◌}
 use Rattle.std.proofs.Common.{Option, Some, None, IfSome, is_some, codes}
 use Rattle.std.specs.Option.{option_map, option_map_or}
@@ -73,25 +73,18 @@ race_taken words none = record {
 abbrev audit : Shape
 audit = leaf (audit_command which)
 
-has_files : (rows : List Row) → check_fault audit rows false ≡ []
-    → (is_given (codes "FILE") rows ≡ true) × (is_given (codes "history") rows ≡ true)
-has_files rows none = go (is_given (codes "FILE") rows) (is_given (codes "history") rows) none
+has_file : (rows : List Row) → check_fault audit rows false ≡ [] → is_given (codes "FILE") rows ≡ true
+has_file rows none = go (is_given (codes "FILE") rows) none
   where
-    go : (b c : Bool) → cond (not b || (not c || false)) (MissingRequiredArgument ∷ []) [] ≡ [] → (b ≡ true) × (c ≡ true)
-    go true true n = (refl, refl)
-    go true false n = not_none _ _ n
-    go false c n = not_none _ _ n
+    go : (b : Bool) → cond (not b || false) (MissingRequiredArgument ∷ []) [] ≡ [] → b ≡ true
+    go true n = refl
+    go false n = not_none _ _ n
 
 audit_taken : (words : List Text) → level_fault audit [] nothing_held words false [] ≡ []
     → IsAudit (rows_after audit.rules [] words)
-audit_taken words none = record {
-  scenario = (where_given (codes "FILE") vp.String refl audit
-      (inl refl, (inl refl, (inr refl, (inl refl, (inl refl, tt)))))
-      words none (λ n. (has_files (rows_after audit.rules [] words) n).0)).1;
-  history = (where_given (codes "history") vp.String refl audit
-      (inl refl, (inl refl, (inl refl, (inr refl, (inl refl, tt)))))
-      words none (λ n. (has_files (rows_after audit.rules [] words) n).1)).1;
-}
+audit_taken words none =
+    (where_given (codes "FILE") vp.String refl audit (inl refl, (inl refl, (inr refl, (inl refl, (inl refl, tt)))))
+    words none (has_file (rows_after audit.rules [] words))).1
 
 -- ---- a conversation
 
@@ -108,12 +101,12 @@ not_given (Some t) h = absurd (true≢false (sym h))
 
 serve_taken : (words : List Text) → level_fault serve [] nothing_held words false [] ≡ [] → IsServe (rows_after serve.rules [] words)
 serve_taken words none = record {
-  salt = if_given (codes "salt") (vp.Unsigned 0 18446744073709551615) refl serve (inl refl, (inr refl, (inl refl, (inl refl, (inl refl, tt))))) words none;
-  names = if_given (codes "names") (vp.Unsigned 1 4294967296) refl serve (inl refl, (inl refl, (inr refl, (inl refl, (inl refl, tt))))) words none;
+  salt = if_given (codes "salt") (vp.Unsigned 0 18446744073709551615) refl serve (inl refl, (inr refl, (inl refl, (inl refl, (inl refl, (inl refl, tt)))))) words none;
+  names = if_given (codes "names") (vp.Unsigned 1 4294967296) refl serve (inl refl, (inl refl, (inr refl, (inl refl, (inl refl, (inl refl, tt)))))) words none;
   file = not_given (first_of (codes "FILE") rows)
-      (if_first (codes "FILE") never refl serve (inl refl, (inl refl, (inl refl, (inl refl, (inl refl, tt))))) words none);
+      (if_first (codes "FILE") never refl serve (inl refl, (inl refl, (inl refl, (inl refl, (inl refl, (inl refl, tt)))))) words none);
   explain = not_given (one_of (codes "explain") rows)
-      (if_given (codes "explain") never refl serve (inl refl, (inl refl, (inl refl, (inl refl, (inl refl, tt))))) words none);
+      (if_given (codes "explain") never refl serve (inl refl, (inl refl, (inl refl, (inl refl, (inl refl, (inl refl, tt)))))) words none);
 }
   where
     rows : List Row
@@ -156,7 +149,7 @@ met_taken (Some p) none met =
     )
     go false false false true n m = (
       inr (inr (inr (refl, serve_taken p.1 n))),
-      signed serve (inr refl, (inl refl, (inl refl, (inl refl, (inl refl, tt))))) p.1 n,
+      signed serve (inr refl, (inl refl, (inl refl, (inl refl, (inl refl, (inl refl, tt)))))) p.1 n,
     )
     go false false false false n m = absurd (true≢false (sym m))
 

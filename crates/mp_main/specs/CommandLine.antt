@@ -1,7 +1,7 @@
 -- The command lines that the program accepts: `keltuvar run [--explain] [--signatures WHICH] [FILE]`,
 -- `keltuvar race --workers N [--history FILE] [--svg FILE] [--verify-us MICROSECONDS] [--explain] [--signatures WHICH] [FILE]`,
--- `keltuvar audit [--explain] [--signatures WHICH] SCENARIO HISTORY`,
--- `keltuvar serve [--signatures WHICH] [--salt N] [--names N] [--client IN OUT]..`, `--help` and `--version`.
+-- `keltuvar audit [--explain] [--signatures WHICH] FILE [HISTORY]`,
+-- `keltuvar serve [--signatures WHICH] [--salt N] [--names N] [--history FILE] [--client IN OUT]..`, `--help` and `--version`.
 use Rattle.std.specs.Prelude.{◌≡◌, ◌≤◌, ◌⊎◌, ⊤, ℕ, Bool, true, false, List, [], ◌∷◌, map, length, Option, None, Some, codes}
 use Rattle.std.specs.Prelude.{if◌then◌else◌, nat_lt, option_and_then, option_map, unwrap_or}
 use Rattle.std.specs.Borrow.{Bor}
@@ -79,8 +79,12 @@ abbrev pub output_rule : Text → Rule
 output_rule name = record (new_rule name) { long = Some name; value_names = 1 }
 
 -- a required file
-abbrev pub input_rule : Text → Rule
-input_rule id = record (new_rule id) { value_names = 1; required = true }
+abbrev pub audited_rule : Rule
+audited_rule = record (new_rule (codes "FILE")) { value_names = 1; required = true }
+
+-- another file
+abbrev pub history_rule : Rule
+history_rule = record (new_rule (codes "history")) { value_names = 1 }
 
 -- `run`, with or without the flag and a file
 abbrev pub run_command : Bor (List (Bor Text)) → App
@@ -97,15 +101,15 @@ race_command names =
     with_rule (with_rule (with_rule (with_wishes (with_rule (new_app (codes "race")) workers_rule)) explain_rule)
     (signatures_rule names)) file_rule
 
--- `audit` of a scenario and a history, with or without the flag
+-- `audit` of one or two files, with or without the flag
 abbrev pub audit_command : Bor (List (Bor Text)) → App
 audit_command names = with_rule (with_rule (with_rule (with_rule (new_app (codes "audit"))
-    explain_rule) (signatures_rule names)) (input_rule (codes "FILE"))) (input_rule (codes "history"))
+    explain_rule) (signatures_rule names)) audited_rule) history_rule
 
--- `serve`, with or without one of these names, two numbers and the files of clients
+-- `serve`, with or without one of these names, two numbers, a file and the files of clients
 abbrev pub serve_command : Bor (List (Bor Text)) → App
-serve_command names = with_rule (with_rule (with_rule (with_rule (new_app (codes "serve"))
-    (signatures_rule names)) salt_rule) names_rule) client_rule
+serve_command names = with_rule (with_rule (with_rule (with_rule (with_rule (new_app (codes "serve"))
+    (signatures_rule names)) salt_rule) names_rule) (output_rule (codes "history"))) client_rule
 
 -- the program without its commands, of which one is required
 abbrev pub bare_program : App
@@ -155,11 +159,11 @@ command_in words = option_map (λ c. c.0) (met_in words)
 abbrev pub value_of : Text → Option (Text × List Row) → Option Text
 value_of id command = option_and_then (first_of id) (option_map (λ c. c.1) command)
 
--- the scenario's file, named FILE in each command
+-- the scenario's file, named FILE in each command; that of the history in an audit of one file
 abbrev pub file_of : Option (Text × List Row) → Option Text
 file_of = value_of (codes "FILE")
 
--- the history's file, which has this name in a race and an audit
+-- the history's file, which has this name in a race, an audit and a conversation
 abbrev pub history_of : Option (Text × List Row) → Option Text
 history_of = value_of (codes "history")
 
@@ -235,43 +239,43 @@ IsChoice (Some name) scheme = IsNamed name scheme
 abbrev pub name_of : Asked → Text
 name_of (Run input signatures) = codes "run"
 name_of (Race input workers signatures wishes) = codes "race"
-name_of (Audit scenario history signatures explains) = codes "audit"
-name_of (Serve signatures salt names clients) = codes "serve"
+name_of (Audit file history signatures explains) = codes "audit"
+name_of (Serve signatures salt names history clients) = codes "serve"
 
 abbrev pub file_text : Option (Bor Text) → Option Text
 file_text = option_map (λ s. s.now)
 
--- the scenario's file
+-- the scenario's file, or the only file of an audit
 abbrev pub scenario_of : Asked → Option Text
 scenario_of (Run input signatures) = file_text input.file
 scenario_of (Race input workers signatures wishes) = file_text input.file
-scenario_of (Audit scenario history signatures explains) = Some scenario.now
-scenario_of (Serve signatures salt names clients) = None
+scenario_of (Audit file history signatures explains) = Some file.now
+scenario_of (Serve signatures salt names history clients) = None
 
 abbrev pub explains_of : Asked → Bool
 explains_of (Run input signatures) = input.explains
 explains_of (Race input workers signatures wishes) = input.explains
-explains_of (Audit scenario history signatures explains) = explains
-explains_of (Serve signatures salt names clients) = false
+explains_of (Audit file history signatures explains) = explains
+explains_of (Serve signatures salt names history clients) = false
 
 -- the signatures that are accepted
 abbrev pub scheme_of : Asked → SchemeName
 scheme_of (Run input signatures) = signatures
 scheme_of (Race input workers signatures wishes) = signatures
-scheme_of (Audit scenario history signatures explains) = signatures
-scheme_of (Serve signatures salt names clients) = signatures
+scheme_of (Audit file history signatures explains) = signatures
+scheme_of (Serve signatures salt names history clients) = signatures
 
 -- a race has the given number of workers, from 1 to 64
 abbrev pub HasWorkers : Option ℕ → Asked → Type 0
 HasWorkers given (Race input workers signatures wishes) = (given ≡ Some workers) × (1 ≤ workers) × (workers ≤ 64)
 HasWorkers given asked = ⊤
 
--- the file for a race's history is the given one, or none; an audit is of the given one
+-- the file for a race's history is the given one, or none, and so is the second file of an audit
 abbrev pub HasHistory : Option Text → Asked → Type 0
 HasHistory given (Run input signatures) = ⊤
 HasHistory given (Race input workers signatures wishes) = file_text wishes.history ≡ given
-HasHistory given (Audit scenario history signatures explains) = Some history.now ≡ given
-HasHistory given (Serve signatures salt names clients) = ⊤
+HasHistory given (Audit file history signatures explains) = file_text history ≡ given
+HasHistory given (Serve signatures salt names history clients) = file_text history ≡ given
 
 -- the file for a race's picture is the given one, or none
 abbrev pub HasPicture : Option Text → Asked → Type 0
@@ -288,15 +292,15 @@ files_of client = (client.input.now, client.output.now)
 
 -- a conversation's clients have the given files, and are at most 63
 abbrev pub HasClients : List (Text × Text) → Asked → Type 0
-HasClients given (Serve signatures salt names clients) = (map files_of clients.items ≡ given) × (length given ≤ 63)
+HasClients given (Serve signatures salt names history clients) = (map files_of clients.items ≡ given) × (length given ≤ 63)
 HasClients given asked = ⊤
 
 -- a conversation may declare the given number of names, from 1 to 2^32, or 65,536
 abbrev pub HasNames : Option ℕ → Asked → Type 0
-HasNames given (Serve signatures salt names clients) = names ≡ unwrap_or given 65536
+HasNames given (Serve signatures salt names history clients) = names ≡ unwrap_or given 65536
 HasNames given asked = ⊤
 
 -- a conversation has the given salt, or none
 abbrev pub HasSalt : Option ℕ → Asked → Type 0
-HasSalt given (Serve signatures salt names clients) = salt ≡ given
+HasSalt given (Serve signatures salt names history clients) = salt ≡ given
 HasSalt given asked = ⊤

@@ -2,6 +2,7 @@ pub mod Status
 pub mod Channel
 pub mod Held
 pub mod Legal
+pub mod Replay
 pub mod Told
 pub mod Picture
 pub mod Salt

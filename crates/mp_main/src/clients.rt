@@ -11,14 +11,15 @@ ghost use Rattle.mp_main.specs.Held.{EndsHeld, EndsShared};
 
 use crate::channel::{Channel, channels_of};
 use crate::command_line::{ClientFiles, SchemeName};
-use crate::conversation::prepare;
-use crate::ending::{end_conversations, end_fault};
+use crate::conversation::{converse, prepare};
+use crate::ending::{end_conversations, end_fault, end_unwritten};
 use mp_clients::{Close, begin, open, refuse, serve};
 use mp_history::{NewName, PoolName};
 use mp_memory::{Memory, NoMemory};
 use mp_serve::{Conversation, Device, Fault, Streams, Turn};
 use mp_signatures::Signatures;
 use mp_tx::Salt;
+use std::fs::File;
 use std::io::BufReader;
 use std::marker::Brand;
 use std::process::ExitCode;
@@ -35,7 +36,8 @@ pub struct Waiting<D: Device> {
     clients: Vec<D, Memory>,
 }
 
-// Opens the pool for the operator's line, and holds all conversations. Gives back what waits if an allocation failed before.
+// Opens the pool for the operator's line, and holds all conversations. Gives back what waits if an allocation failed before, and
+// takes the history's file otherwise.
 fn open_and_serve<
     N: PoolName + Send + Sync,
     D: Device + Close + Send + Drop,
@@ -46,6 +48,7 @@ fn open_and_serve<
     memory: Memory,
     name: NewName,
     waiting: Waiting<D>,
+    history: &mut Option<File>,
     callers: u32,
 ) -> Result<ExitCode, Waiting<D>>
     requires name { name ≡ head_of N.book N.root }
@@ -69,7 +72,10 @@ fn open_and_serve<
                 device,
                 clients,
             } = waiting;
-            match serve(threads, memory, opened, operator, line, device, clients) {
+            let history = history.take();
+            match serve(
+                threads, memory, opened, history, operator, line, device, clients,
+            ) {
                 Ok(service) => Ok(end_conversations(rt, &service)),
                 Err(NoMemory) => Ok(end_fault(rt, Fault::NoMemory)),
             }
@@ -84,6 +90,7 @@ fn converse_from<R: Threads + Wait + Sync, D: Device + Close + Send + Drop>(
     threads: &R,
     memory: Memory,
     start: Conversation,
+    history: Option<File>,
     device: D,
     clients: Vec<D, Memory>,
     callers: u32,
@@ -98,6 +105,7 @@ fn converse_from<R: Threads + Wait + Sync, D: Device + Close + Send + Drop>(
         (exit_status result)) }
 {
     let mut operator = start;
+    let mut history = history;
     let mut line = Vec::new(memory);
     let mut device = device;
     let mut clients = clients;
@@ -114,7 +122,15 @@ fn converse_from<R: Threads + Wait + Sync, D: Device + Close + Send + Drop>(
             device,
             clients,
         };
-        match open_and_serve::<Brand, D, R>(rt, threads, memory, name, waiting, callers) {
+        match open_and_serve::<Brand, D, R>(
+            rt,
+            threads,
+            memory,
+            name,
+            waiting,
+            &mut history,
+            callers,
+        ) {
             Ok(code) => return code,
             Err(back) => {
                 operator = back.operator;
@@ -140,7 +156,8 @@ fn callers_of<D>(clients: &[D]) -> u32
 }
 
 /// Answers the lines of the operator's device and of those of the clients, until all inputs have ended. The pool opens at the
-/// operator's first request, and the clients' lines wait for that. In each conversation at most `names` names may be declared.
+/// operator's first request, and the clients' lines wait for that. In each conversation at most `names` names may be declared. The
+/// pool's history is written to the file `history`.
 pub fn converse_over_all<R: Threads + Wait + Sync, D: Device + Close + Send + Drop>(
     rt: &HostRuntime,
     threads: &R,
@@ -148,6 +165,7 @@ pub fn converse_over_all<R: Threads + Wait + Sync, D: Device + Close + Send + Dr
     signatures: Signatures,
     salt: Salt,
     names: u64,
+    history: Option<File>,
     device: D,
     clients: Vec<D, Memory>,
 ) -> ExitCode
@@ -161,24 +179,45 @@ pub fn converse_over_all<R: Threads + Wait + Sync, D: Device + Close + Send + Dr
 {
     let callers = callers_of(&clients);
     match Conversation::new(memory, signatures, salt, names) {
-        Ok(operator) => converse_from(rt, threads, memory, operator, device, clients, callers),
+        Ok(operator) => converse_from(
+            rt, threads, memory, operator, history, device, clients, callers,
+        ),
         Err(NoMemory) => end_fault(rt, Fault::NoMemory),
     }
 }
 
-/// Answers the lines of standard input and of each client's file, until all have ended. The salt is random if none is given.
+// Creates the file, or empties it.
+fn create_file(rt: &HostRuntime, path: Option<&str>) -> Result<Option<File>, ExitCode>
+    ensures { IfErr result (λ code. exit_status code ≡ 1) }
+{
+    let Some(path) = path else {
+        return Ok(None);
+    };
+    match File::create(rt, path) {
+        Ok(file) => Ok(Some(file)),
+        Err(error) => Err(end_unwritten(rt, path, error)),
+    }
+}
+
+/// Answers the lines of standard input and of each client's file, until all have ended. The salt is random if none is given. The
+/// file of the history is created, or emptied.
 pub fn converse_with<R: Threads + Wait + Sync>(
     rt: &HostRuntime,
     threads: &R,
     signatures: SchemeName,
     salt: Option<u64>,
     names: u64,
+    history: Option<&str>,
     clients: &[ClientFiles<'_>],
 ) -> ExitCode
     requires { length clients.now ≤ 63 }
 {
     let (memory, signatures, salt) = match prepare(rt, signatures, salt) {
         Ok(prepared) => prepared,
+        Err(code) => return code,
+    };
+    let history = match create_file(rt, history) {
+        Ok(history) => history,
         Err(code) => return code,
     };
     let Ok(reader) = BufReader::new(memory, rt.stdin()) else {
@@ -188,9 +227,28 @@ pub fn converse_with<R: Threads + Wait + Sync>(
     match channels_of(rt, memory, clients) {
         Ok(channels) => {
             converse_over_all(
-                rt, threads, memory, signatures, salt, names, device, channels,
+                rt, threads, memory, signatures, salt, names, history, device, channels,
             )
         }
         Err(NoMemory) => end_fault(rt, Fault::NoMemory),
+    }
+}
+
+/// `keltuvar serve`: shares the pool if it has clients or a file for its history.
+pub fn converse_as<R: Threads + Wait + Sync>(
+    rt: &HostRuntime,
+    threads: &R,
+    signatures: SchemeName,
+    salt: Option<u64>,
+    names: u64,
+    history: Option<&str>,
+    clients: &[ClientFiles<'_>],
+) -> ExitCode
+    requires { length clients.now ≤ 63 }
+{
+    if clients.is_empty() && history.is_none() {
+        converse(rt, signatures, salt, names)
+    } else {
+        converse_with(rt, threads, signatures, salt, names, history, clients)
     }
 }

@@ -3,4 +3,4 @@
 mod asked;
 mod program;
 
-pub use asked::{Asked, ClientFiles, Input, SchemeName, Wishes, parse_words};
+pub use asked::{Asked, ClientFiles, Input, MOST_NAMES, SchemeName, Wishes, parse_words};

@@ -8,6 +8,7 @@ ghost use Rattle.std.specs.declared.io.ErrorKind.TheVariants as kinds;
 ghost use Rattle.clap.specs.Words.{kind_of};
 ghost use Rattle.mp_main.specs.Status.{status_of, status_of_all, EndsAs};
 ghost use Rattle.mp_main.specs.Legal.{IsSaid};
+ghost use Rattle.mp_main.specs.Replay.{IsReplaySaid};
 
 use clap::Error;
 use clap::error::ErrorKind;
@@ -22,6 +23,8 @@ use std::process::ExitCode;
 use std::{fmt, io};
 
 const REFUSED: u8 = 2;
+
+const LEGAL: &[u8] = b"audit legal\n";
 
 /// After a run or a race that ends with a fault: 1, and the fault's line.
 pub fn end_fault<F: fmt::Display + Drop>(rt: &HostRuntime, fault: F) -> ExitCode
@@ -148,6 +151,47 @@ fn end_fault_there(rt: &HostRuntime, found: Fault) -> ExitCode
     ExitCode::FAILURE
 }
 
+// What is wrong in the line of the fault.
+fn wrong_line(fault: &mp_replay::Fault<'_>) -> Option<&'static str> {
+    match fault {
+        mp_replay::Fault::NoAnswer(_) => Some("the history ends before the answer to this line"),
+        mp_replay::Fault::WrongAnswer(_) => Some("the pool answers otherwise there"),
+        mp_replay::Fault::WrongPlace(_) => Some("the entry has another place"),
+        mp_replay::Fault::BadCaller(_) => Some("the entry has no caller from 0 to 63"),
+        _ => None,
+    }
+}
+
+// If the replay of a history finds a fault: 1, and the fault's line. A second line says what is wrong.
+fn end_fault_in(rt: &HostRuntime, found: mp_replay::Fault<'_>) -> ExitCode
+    ensures { exit_status result ≡ 1 }
+{
+    let _ = rt.eprintln(format_args!("{found}"));
+    explain(rt, true, found.bad_line());
+    if let Some(wrong) = wrong_line(&found) {
+        let _ = rt.eprintln(wrong);
+    }
+    ExitCode::FAILURE
+}
+
+/// After the replay of a served pool's history: 0 and that the history is legal, or 1 and the fault's line.
+pub fn end_replay<W: io::Write>(
+    rt: &HostRuntime,
+    ended: Result<(), mp_replay::Fault<'_>>,
+    writer: &mut W,
+) -> ExitCode
+    ensures { EndsAs (IsReplaySaid (W.contents writer.old) (W.contents writer.new) ended.entry)
+        (exit_status result) }
+{
+    match ended {
+        Ok(()) => match write_all(writer, LEGAL) {
+            Ok(()) => ExitCode::SUCCESS,
+            Err(WriteFault) => end_fault(rt, Fault::WriteFault),
+        },
+        Err(fault) => end_fault_in(rt, fault),
+    }
+}
+
 /// After an audit: 0 and that the history is legal, or 1 and the fault's line.
 pub fn end_audit<W: io::Write>(
     rt: &HostRuntime,
@@ -158,7 +202,7 @@ pub fn end_audit<W: io::Write>(
         (exit_status result) }
 {
     match ended {
-        Ok(()) => match write_all(writer, b"audit legal\n") {
+        Ok(()) => match write_all(writer, LEGAL) {
             Ok(()) => ExitCode::SUCCESS,
             Err(WriteFault) => end_fault(rt, Fault::WriteFault),
         },

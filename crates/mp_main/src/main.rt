@@ -3,8 +3,9 @@
 //! - `run [--explain] [FILE]` reads a scenario and writes its answers to standard output.
 //! - `race --workers N [--explain] [FILE]` lets N threads race over it and writes the report, and if asked the history and a
 //! picture.
-//! - `audit SCENARIO HISTORY` says whether such a history is legal.
-//! - `serve [--signatures WHICH] [--salt N] [--names N] [--client IN OUT]..` holds a conversation, and one with each client.
+//! - `audit SCENARIO HISTORY` says whether such a history is legal, and `audit HISTORY` whether that of a served pool is.
+//! - `serve [--signatures WHICH] [--salt N] [--names N] [--history FILE] [--client IN OUT]..` holds a conversation, and one with each
+//! client.
 #![tactic(auto)]
 
 mod audits;
@@ -16,6 +17,7 @@ mod ending;
 mod files;
 mod pictures;
 mod races;
+mod replays;
 mod runs;
 mod salt;
 mod scenarios;
@@ -23,11 +25,11 @@ mod schemes;
 mod slow;
 
 use audits::audit_files;
-use clients::converse_with;
+use clients::converse_as;
 use command_line::{Asked, parse_words};
-use conversation::converse;
 use ending::{end_unparsed, end_unworded};
 use races::race_scenario;
+use replays::replay_file;
 use runs::run_scenario;
 use std::process::ExitCode;
 use std::{env, io};
@@ -46,26 +48,24 @@ fn main(rt: HostRuntime) -> ExitCode {
             ) => race_scenario(&rt, &rt, input, workers, signatures, wishes),
             Ok(
                 Asked::Audit {
-                    scenario,
+                    file,
                     history,
                     signatures,
                     explains,
                 },
-            ) => audit_files(&rt, scenario, history, signatures, explains),
+            ) => match history {
+                Some(history) => audit_files(&rt, file, history, signatures, explains),
+                None => replay_file(&rt, file, signatures),
+            },
             Ok(
                 Asked::Serve {
                     signatures,
                     salt,
                     names,
+                    history,
                     clients,
                 },
-            ) => {
-                if clients.is_empty() {
-                    converse(&rt, signatures, salt, names)
-                } else {
-                    converse_with(&rt, &rt, signatures, salt, names, &clients)
-                }
-            }
+            ) => converse_as(&rt, &rt, signatures, salt, names, history, &clients),
             Err(error) => end_unparsed(&rt, error),
         },
         Err(error) => end_unworded(&rt, error),

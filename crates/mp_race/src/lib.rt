@@ -26,7 +26,7 @@ pub use auditing::{audit_history, text_if_legal};
 pub use fault::Fault;
 pub use gate::{Gate, NoGate};
 pub use history::History;
-pub use input::MAX_HISTORY_BYTES;
+pub use input::{MAX_HISTORY_BYTES, read_history_text};
 pub use laws::one_worker_runs;
 pub use racing::{Raced, race};
 pub use report::Report;

@@ -12,6 +12,7 @@ use mp_serve::{Device, Turn};
 use mp_testing::{FailingReader, MAX_GROWTHS, Seen, count};
 use mp_text::{LineRead, ReadFault, WriteFault};
 use std::alloc::Global;
+use std::fs::File;
 use std::sync::Wait;
 use std::thread::Threads;
 use std::{io, str};
@@ -146,7 +147,7 @@ pub fn hold_operator<R: Threads + Wait + Sync>(
     let Some(device) = streams(alloc, lines, at_once, fails) else {
         return (1, Vec::new(alloc));
     };
-    let held = hold(rt, memory, alloc, device, Vec::new(memory), 0);
+    let held = hold(rt, memory, alloc, None, device, Vec::new(memory), 0);
     match only_one(held) {
         Some(Ended { fault, device }) => (fault, written(device)),
         None => (1, Vec::new(alloc)),
@@ -260,8 +261,8 @@ impl Close for Patient {
     }
 }
 
-// The answers with changes fit the room that is made before the change.
-const CHANGES: Talk = Talk {
+/// The answers with changes fit the room that is made before the change.
+pub const CHANGES: Talk = Talk {
     name: "changes over a shared pool at refused growths",
     lines: &[
         b"block 400",
@@ -325,23 +326,25 @@ const GROWING: [(Talk, u64); 7] = [
     (STAGED, 0),
 ];
 
-// The least number of allocations of these conversations.
-const FEWEST: u64 = 20;
+/// The least number of allocations of these conversations.
+pub const FEWEST: u64 = 20;
 
 // The greatest number of allocations outside of answers: when all conversations go on, and when they come back.
 const MOST_OUTSIDE: u64 = 3;
 
-// The fault's number and what is written; none if an allocation failed outside of the answers.
-type Told = Option<(u64, Vec<u8, Global>)>;
+/// The fault's number and what is written; none if an allocation failed outside of the answers.
+pub type Told = Option<(u64, Vec<u8, Global>)>;
 
 // No fault has this number: the device was left open, or couldn't keep an answer.
 const NOT_HELD: u64 = 100;
 
-// How the conversation of these lines ended, and the answers. Its device must have been closed.
-fn hold_patiently<R: Threads + Wait + Sync>(
+/// How the conversation of these lines ended, and the answers. Its device must have been closed. The pool's history is written to
+/// the file, if there is one. The allocation with the number `nth` fails.
+pub fn hold_patiently<R: Threads + Wait + Sync>(
     rt: &R,
     memory: Memory,
     alloc: Global,
+    history: Option<File>,
     lines: &'static [&'static [u8]],
     nth: u64,
 ) -> Told {
@@ -353,7 +356,7 @@ fn hold_patiently<R: Threads + Wait + Sync>(
         is_lost: false,
         is_closed: false,
     };
-    let held = hold(rt, memory, alloc, device, Vec::new(memory), nth);
+    let held = hold(rt, memory, alloc, history, device, Vec::new(memory), nth);
     let Ended { fault, device } = only_one(held)?;
     let Patient {
         lines: _,
@@ -377,7 +380,8 @@ fn is_front(told: &[u8], answers: &[u8]) -> bool {
         && (told.is_empty() || told.ends_with(b"\n"))
 }
 
-fn is_right(answers: &[u8], told: &Told, is_met: bool) -> bool {
+/// Whether these are the answers, or those before a line whose answer is lost.
+pub fn is_right(answers: &[u8], told: &Told, is_met: bool) -> bool {
     match told {
         Some((0, told)) => told.as_slice() == answers,
         Some((LOST, told)) => is_met && is_front(told, answers),
@@ -386,25 +390,26 @@ fn is_right(answers: &[u8], told: &Told, is_met: bool) -> bool {
     }
 }
 
-// The conversations so far in which an allocation failed.
+/// The conversations so far in which an allocation failed.
 #[derive(Clone, Copy)]
-struct Failed {
-    // How many of the allocations were outside of the answers.
-    outside: u64,
-    // At how many lines the answer was lost.
-    lost: u64,
+pub struct Failed {
+    /// How many of the allocations were outside of the answers.
+    pub outside: u64,
+    /// At how many lines the answer was lost.
+    pub lost: u64,
     // What was written before the last of these.
     before: Option<usize>,
 }
 
-const NONE_FAILED: Failed = Failed {
+/// No conversation yet.
+pub const NONE_FAILED: Failed = Failed {
     outside: 0,
     lost: 0,
     before: None,
 };
 
-// One more conversation.
-fn after(failed: Failed, told: &Told) -> Failed {
+/// One more conversation.
+pub fn after(failed: Failed, told: &Told) -> Failed {
     let Some((fault, told)) = told else {
         let outside = failed.outside.saturating_add(1);
         return Failed { outside, ..failed };
@@ -430,7 +435,7 @@ fn see_growths<R: Threads + Wait + Sync>(
 ) -> Option<Seen> {
     let mut failed = NONE_FAILED;
     for nth in 1..MAX_GROWTHS {
-        let told = hold_patiently(rt, memory, alloc, talk.lines, nth);
+        let told = hold_patiently(rt, memory, alloc, None, talk.lines, nth);
         let is_met = !memory.waits();
         memory.refuse(0);
         if !is_right(talk.answers, &told, is_met) {
@@ -574,7 +579,7 @@ fn hold_three<R: Threads + Wait + Sync>(
 ) -> Held<Bytes> {
     let operator = streams(alloc, FailingReader::of(OPERATOR), 4096, NEVER)?;
     let clients = clients(memory, alloc, fails)?;
-    hold(rt, memory, alloc, operator, clients, 0)
+    hold(rt, memory, alloc, None, operator, clients, 0)
 }
 
 // Whether the conversations ended like this. Prints what those wrote that didn't.

@@ -13,6 +13,7 @@ use mp_serve::{Conversation, Device, Turn};
 use mp_signatures::{Scheme, Signatures};
 use mp_tx::Salt;
 use std::alloc::Global;
+use std::fs::File;
 use std::marker::Brand;
 use std::sync::Wait;
 use std::thread::Threads;
@@ -102,6 +103,7 @@ fn open_and_serve<
     alloc: Global,
     name: NewName,
     waiting: Waiting<D>,
+    history: &mut Option<File>,
     callers: u32,
 ) -> Result<Held<D>, Waiting<D>>
     requires name { name ≡ head_of N.book N.root }
@@ -122,7 +124,8 @@ fn open_and_serve<
                 device,
                 clients,
             } = waiting;
-            match serve(rt, memory, opened, operator, line, device, clients) {
+            let history = history.take();
+            match serve(rt, memory, opened, history, operator, line, device, clients) {
                 Ok(service) => Ok(all_ended(alloc, service)),
                 Err(NoMemory) => Ok(None),
             }
@@ -137,6 +140,7 @@ fn hold_from<D: Device + Close + Send + Drop, R: Threads + Wait + Sync>(
     memory: Memory,
     alloc: Global,
     start: Conversation,
+    history: Option<File>,
     device: D,
     clients: Vec<D, Memory>,
     callers: u32,
@@ -148,6 +152,7 @@ fn hold_from<D: Device + Close + Send + Drop, R: Threads + Wait + Sync>(
     requires most { callers ≤ 64 }
 {
     let mut operator = start;
+    let mut history = history;
     let mut line = Vec::new(memory);
     let mut device = device;
     let mut clients = clients;
@@ -164,7 +169,15 @@ fn hold_from<D: Device + Close + Send + Drop, R: Threads + Wait + Sync>(
             device,
             clients,
         };
-        match open_and_serve::<Brand, D, R>(rt, memory, alloc, name, waiting, callers) {
+        match open_and_serve::<Brand, D, R>(
+            rt,
+            memory,
+            alloc,
+            name,
+            waiting,
+            &mut history,
+            callers,
+        ) {
             Ok(held) => return held,
             Err(back) => {
                 operator = back.operator;
@@ -181,11 +194,12 @@ fn hold_from<D: Device + Close + Send + Drop, R: Threads + Wait + Sync>(
 }
 
 /// Holds the conversations of an operator and of clients with these devices. The allocation with the number `refused` fails,
-/// counted from the operator's first line.
+/// counted from the operator's first line. The pool's history is written to the file, if there is one.
 pub fn hold<D: Device + Close + Send + Drop, R: Threads + Wait + Sync>(
     rt: &R,
     memory: Memory,
     alloc: Global,
+    history: Option<File>,
     device: D,
     clients: Vec<D, Memory>,
     refused: u64,
@@ -199,7 +213,7 @@ pub fn hold<D: Device + Close + Send + Drop, R: Threads + Wait + Sync>(
     match Conversation::new(memory, signatures, Salt::new(7), MOST_NAMES) {
         Ok(start) => {
             memory.refuse(refused);
-            hold_from(rt, memory, alloc, start, device, clients, callers)
+            hold_from(rt, memory, alloc, start, history, device, clients, callers)
         }
         Err(NoMemory) => None,
     }

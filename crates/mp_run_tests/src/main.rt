@@ -6,10 +6,12 @@
 mod cases;
 mod clients;
 mod devices;
+mod histories;
 mod holding;
 mod long;
 mod meeting;
 mod picture;
+mod replays;
 mod reports;
 mod runs;
 mod serving;
@@ -21,11 +23,9 @@ mod ways;
 use mp_memory::Memory;
 use std::alloc::Global;
 use std::io;
-use std::sync::Wait;
-use std::thread::Threads;
 
-fn check_all<R: Print + Threads + Wait + Sync>(
-    rt: &R,
+fn check_all(
+    rt: &HostRuntime,
     memory: Memory,
     alloc: Global,
 ) -> io::Result<()> {
@@ -38,6 +38,8 @@ fn check_all<R: Print + Threads + Wait + Sync>(
     println!(rt; "devices {}", devices::held(rt, memory, alloc)?)?;
     println!(rt; "serving {}", serving::held(rt, memory, alloc)?)?;
     println!(rt; "clients {}", clients::held(rt, memory, alloc)?)?;
+    println!(rt; "histories {}", histories::held(rt, rt, memory, alloc)?)?;
+    println!(rt; "replays {}", replays::held(rt, memory)?)?;
     println!(rt; "texts {}", texts::held(rt, alloc)?)?;
     Ok(())
 }

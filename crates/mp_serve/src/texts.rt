@@ -41,8 +41,8 @@ pub fn bad_line(memory: Memory, number: u64, reason: Reason<'_>) -> Result<Text,
     Ok(text)
 }
 
-// Each byte as two digits.
-fn put_hex(memory: Memory, text: &mut Text, bytes: &[u8]) -> Result<(), NoMemory>
+/// Appends each byte as two digits.
+pub fn put_hex(memory: Memory, text: &mut Text, bytes: &[u8]) -> Result<(), NoMemory>
     ensures { OnOk result (text.new.items ≡ text.old.items ++ encode_lower bytes.now) }
 {
     let digits = hex::encode(memory, bytes)?;

@@ -17,10 +17,9 @@ pub record IsRace (rows : List Row) : Type 0 where
   pub workers : IsSomeAnd (one_of (codes "workers") rows) (IsUnsignedIn 1 64)
   pub verify_us : IfSome (one_of (codes "verify-us") rows) (IsUnsignedIn 0 1000000)
 
--- a scenario and a history
-pub record IsAudit (rows : List Row) : Type 0 where
-  pub scenario : is_some (first_of (codes "FILE") rows) ≡ true
-  pub history : is_some (first_of (codes "history") rows) ≡ true
+-- a file
+abbrev pub IsAudit : List Row → Type 0
+IsAudit rows = is_some (first_of (codes "FILE") rows) ≡ true
 
 -- one of the names for signatures or none, a salt or none, a number of names or none, no file and no flag
 pub record IsServe (rows : List Row) : Type 0 where

@@ -18,8 +18,8 @@ use std::convert::AsStr;
 
 const MAX_CLIENTS: usize = 63;
 
-// How many names a conversation may declare by default.
-const MOST_NAMES: u64 = 65_536;
+/// How many names a conversation may declare by default.
+pub const MOST_NAMES: u64 = 65_536;
 
 /// What the command line asks for.
 #[derive(Drop)]
@@ -36,10 +36,12 @@ pub enum Asked<'a> {
         signatures: SchemeName,
         wishes: Wishes<'a>,
     },
-    /// An audit of a pool's history over a scenario, given the names of their files.
+    /// An audit of a pool's history over a scenario, or of a served pool's history.
     Audit {
-        scenario: &'a str,
-        history: &'a str,
+        /// The file of the scenario, or of the served pool's history.
+        file: &'a str,
+        /// The file of the history over the scenario.
+        history: Option<&'a str>,
         signatures: SchemeName,
         /// Whether to say what is wrong with a bad line.
         explains: bool,
@@ -51,6 +53,8 @@ pub enum Asked<'a> {
         salt: Option<u64>,
         /// How many names a conversation may declare: 1 to 2^32, by default 65,536.
         names: u64,
+        /// The file for the pool's history.
+        history: Option<&'a str>,
         /// At most 63.
         clients: Vec<ClientFiles<'a>>,
     },
@@ -215,16 +219,18 @@ fn read_matches<'a>(matches: &ArgMatches<'a>, clients: Vec<ClientFiles<'a>>) -> 
                 }
             } else if name == "audit" {
                 Asked::Audit {
-                    scenario: value_of(given, "FILE"),
-                    history: value_of(given, "history"),
+                    file: value_of(given, "FILE"),
+                    history: file_of(given, "history"),
                     signatures: scheme_of(given),
                     explains: explains_of(given),
                 }
             } else if name == "serve" {
+                let history = file_of(given, "history");
                 Asked::Serve {
                     signatures: scheme_of(given),
                     salt: wide_number_of(given, "salt"),
                     names: names_of(given),
+                    history,
                     clients,
                 }
             } else {

@@ -31,6 +31,7 @@ Examples:
                                     also write the history of the race and a picture
   keltuvar audit scenario.scn race.log
                                     report whether that history is legal over the scenario
+  keltuvar audit pool.log           report whether the history of a served pool is legal
   keltuvar serve                    answer each line of standard input before reading the next
   keltuvar serve --signatures ed25519
                                     accept Ed25519 signatures
@@ -128,13 +129,13 @@ fn audit_command<'a>(alloc: Global, names: &'a [&'a str]) -> Result<Command<'a>,
         × ((fields_of c).has_globals ≡ false)) }
 {
     let about =
-        "Replay a history that a pool wrote over a scenario, and report whether it is legal";
+        "Replay a history that a pool wrote, and report whether it is legal";
     let command = new_command(alloc, "audit", about).arg(explain_flag(alloc));
     let command = add_arg(command, signatures_option(alloc, names));
-    let scenario = input_file(alloc, "FILE", "SCENARIO", "The scenario");
-    let history_help = "The history, as race --history writes it";
-    let history = input_file(alloc, "history", "HISTORY", history_help);
-    add_arg(add_arg(command, scenario), history)
+    add_arg(
+        add_arg(command, audited_file(alloc)),
+        scenario_history(alloc),
+    )
 }
 
 fn serve_command<'a>(alloc: Global, names: &'a [&'a str]) -> Result<Command<'a>, AllocError>
@@ -146,7 +147,14 @@ fn serve_command<'a>(alloc: Global, names: &'a [&'a str]) -> Result<Command<'a>,
     let command = new_command(alloc, "serve", about).arg(signatures_option(alloc, names));
     let salted = add_arg(command, salt_option(alloc));
     let named = add_arg(salted, names_option(alloc));
-    add_arg(named, client_option(alloc))
+    let history = value_option(
+        alloc,
+        "history",
+        "FILE",
+        "Also write each change of the pool to this file, for audit",
+    );
+    let recorded = add_arg(named, history);
+    add_arg(recorded, client_option(alloc))
 }
 
 /// That more clients are named than a conversation may have.
@@ -275,12 +283,21 @@ fn scenario_file<'a>(alloc: Global) -> Arg<'a>
     Arg::new(alloc, "FILE").help("The scenario; standard input if it is left out")
 }
 
-fn input_file<'a>(alloc: Global, id: &'a str, name: &'a str, help: &'a str) -> Arg<'a>
-    ensures rule { rule_of result ≡ spec.input_rule id.now }
+fn audited_file<'a>(alloc: Global) -> Arg<'a>
+    ensures rule { rule_of result ≡ spec.audited_rule }
     ensures local { result.global ≡ false }
 {
-    Arg::new(alloc, id)
-        .value_name(name)
+    Arg::new(alloc, "FILE")
+        .value_name("FILE")
         .required(true)
-        .help(help)
+        .help("The scenario of the history; the history of a served pool if there is no HISTORY")
+}
+
+fn scenario_history<'a>(alloc: Global) -> Arg<'a>
+    ensures rule { rule_of result ≡ spec.history_rule }
+    ensures local { result.global ≡ false }
+{
+    Arg::new(alloc, "history")
+        .value_name("HISTORY")
+        .help("The history over a scenario, as race --history writes it")
 }

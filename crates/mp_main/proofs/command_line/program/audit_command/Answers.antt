@@ -10,13 +10,12 @@ returns c =
     let explained = with_rule bare spec.explain_rule in
     let rule = spec.signatures_rule c.args.names in
     let signed = with_rule explained rule in
-    let scenario = spec.input_rule (codes "FILE") in
-    let with_scenario = with_rule signed scenario in
+    let with_file = with_rule signed spec.audited_rule in
     let by_flag = added c.new_command.result c.explain_flag.result bare spec.explain_rule c.arg-command.result
     c.new_command.ensures c.explain_flag.ensures.rule c.explain_flag.ensures.local c.arg-command.ensures in
     let by_signatures = ruled c.add_arg-command.result explained (rule_of c.signatures_option.result) rule
     c.signatures_option.ensures.rule (c.add_arg-command.ensures explained by_flag) in
-    let by_scenario = ruled c.add_arg.result signed (rule_of c.input_file-scenario.result) scenario
-    c.input_file-scenario.ensures.rule (c.add_arg.ensures signed by_signatures) in
-    ruled c.add_arg-2.result with_scenario (rule_of c.input_file-history.result) (spec.input_rule (codes "history"))
-    c.input_file-history.ensures.rule (c.add_arg-2.ensures with_scenario by_scenario)
+    let by_file = ruled c.add_arg.result signed (rule_of c.audited_file.result) spec.audited_rule
+    c.audited_file.ensures.rule (c.add_arg.ensures signed by_signatures) in
+    ruled c.add_arg-2.result with_file (rule_of c.scenario_history.result) spec.history_rule
+    c.scenario_history.ensures.rule (c.add_arg-2.ensures with_file by_file)

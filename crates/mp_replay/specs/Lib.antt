@@ -1,0 +1,2 @@
+pub mod ServedHistory
+pub mod ReplayFault
