@@ -3,13 +3,14 @@
 from __future__ import annotations
 
 import os
+import select
 import time
 from collections.abc import Callable
 from pathlib import Path
 from random import Random
 from typing import NamedTuple
 
-from .pipes import LONG, LatePipes, Wrong
+from .pipes import LONG, LatePipes, Wrong, open_to_read, open_to_write, wait_for
 from .stage import READ, WELL, WRITE, Faults, Files, Stage
 
 LATE = Files("late.lines", "late.answers")
@@ -66,9 +67,11 @@ def open_half(stage: Stage, rng: Random) -> Faults:
     """A client opens the pipe of its lines, and closes it. Later somebody opens that of the answers."""
     make_late_pipes(stage)
     stage.begin()
-    open(f"{stage.folder}/{LATE.lines}", "wb", buffering=0).close()
+    open_to_write(f"{stage.folder}/{LATE.lines}").close()
     stage.watch_others()
-    with open(f"{stage.folder}/{LATE.answers}", "rb") as answers:
+    with open_to_read(f"{stage.folder}/{LATE.answers}") as answers:
+        if not wait_for(answers, select.POLLIN, LONG):
+            raise Wrong(f"the answers haven't ended for {LONG:.0f} seconds")
         rest = answers.read()
     if rest:
         raise Wrong(f"without a line {rest!r:.100} is answered")

@@ -3,6 +3,7 @@
 from __future__ import annotations
 
 import contextlib
+import errno
 import math
 import os
 import select
@@ -46,11 +47,11 @@ class NamedPipes:
 
 
 class LatePipes:
-    """The named pipes of a client, which are opened as a shell does: lines first. Each waits until the program opens it too."""
+    """The named pipes of a client, which are opened as a shell does: lines first, when the program has opened them too."""
 
     def __init__(self, folder: str, names: tuple[str, str]) -> None:
-        self.lines = open(f"{folder}/{names[0]}", "wb", buffering=0)
-        self.answers = open(f"{folder}/{names[1]}", "rb", buffering=0)
+        self.lines = open_to_write(f"{folder}/{names[0]}")
+        self.answers = open_to_read(f"{folder}/{names[1]}")
 
     def let_go(self) -> None:
         """We have opened only our ends."""
@@ -73,6 +74,24 @@ class StandardPipes:
     def close(self) -> None:
         self.lines.close()
         self.answers.close()
+
+
+def open_to_write(path: str) -> FileIO:
+    """Opens a named pipe, once the program has opened it to read."""
+    until = time.monotonic() + LONG
+    while time.monotonic() < until:
+        try:
+            return open(os.open(path, os.O_WRONLY | os.O_NONBLOCK), "wb", buffering=0)
+        except OSError as error:
+            if error.errno != errno.ENXIO:
+                raise
+        time.sleep(0.002)
+    raise Wrong(f"a named pipe isn't opened for {LONG:.0f} seconds")
+
+
+def open_to_read(path: str) -> FileIO:
+    """Opens a named pipe. Until the program opens it too nothing can be read, and it doesn't seem to be at its end."""
+    return open(os.open(path, os.O_RDONLY | os.O_NONBLOCK), "rb", buffering=0)
 
 
 def wait_for(end: FileIO, event: int, seconds: float) -> bool:
@@ -138,7 +157,7 @@ class Talk:
             if left:
                 poll.register(self.lines.fileno(), select.POLLOUT)
             ready = [descriptor for descriptor, _ in poll.poll(1000)]
-            if self.lines.fileno() in ready:
+            if left and self.lines.fileno() in ready:
                 left = left[self._write(left[:CHUNK]) :]
             if self.answers.fileno() in ready:
                 self._read()

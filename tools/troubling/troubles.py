@@ -19,8 +19,8 @@ from .stage import WELL, WRITE, Conversation, Faults, Stage
 FULL = 0.2
 MEGABYTE = 1 << 20
 LONG_LINE = 100 * MEGABYTE
-# So much may the program's memory grow meanwhile, in kB: by what the others do.
-MOST_GROWN = 4096
+# So much may the program's memory grow meanwhile, in kB: at first, and by each answer of the others.
+FIRST_GROWN, GROWN_BY_ANSWER = 4096, 0.1
 # So many lines and answers don't fit into the pipes.
 MANY_LINES = 2500
 
@@ -202,12 +202,12 @@ def write_long_line(stage: Stage, rng: Random) -> Faults:
     """A client writes a line of 100 MB, which is read, not stored, and bad. The memory of the program doesn't grow by it."""
     victim = stage.victim
     stage.watch_others()
-    before, part = stage.memory(), b"x" * MEGABYTE
+    before, heard, part = stage.memory(), stage.count_heard(), b"x" * MEGABYTE
     for _ in range(LONG_LINE // MEGABYTE):
         if victim.talk.pour(part) < len(part):
             raise Wrong(f"a long line isn't read on for {LONG:.0f} seconds")
     grown = stage.memory() - before
-    if grown > MOST_GROWN:
+    if grown > FIRST_GROWN + GROWN_BY_ANSWER * (stage.count_heard() - heard):
         raise Wrong(f"a line of {LONG_LINE // MEGABYTE} MB takes {grown} kB")
     (answer,) = victim.talk.exchange(b"\n", 1)
     victim.account.hear(victim.account.say("x"), answer)

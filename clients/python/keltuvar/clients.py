@@ -3,6 +3,7 @@
 from __future__ import annotations
 
 import contextlib
+import errno
 import fcntl
 import os
 import termios
@@ -20,6 +21,8 @@ MOST_CLIENTS = 63
 
 # How many seconds a conversation has to end when the time of all is over.
 _LEAST_SECONDS = 0.001
+# What this process has open.
+_ENDS = "/proc/self/fd"
 
 
 class Clients:
@@ -51,9 +54,10 @@ class Clients:
         names: int | None = None,
         timeout: float | None = None,
     ) -> None:
-        """Starts `PROGRAM serve` for so many clients, 0 to 63. Raises an OSError if it can't be run.
+        """Starts `PROGRAM serve` for so many clients, 0 to 63.
 
-        The other arguments are those of `Pool`.
+        The other arguments are those of `Pool`. Raises an OSError if the program can't be run, or
+        may not open the pipes of this process.
         """
         limit, number = read_limit(timeout), int(words.format_number(count, MOST_CLIENTS))
         command = make_command(program, signatures, salt, names)
@@ -111,6 +115,8 @@ class Pipes:
     """
 
     def __init__(self) -> None:
+        """Makes them. Raises an OSError if the program may not open what this process has."""
+        _check_dumpable()
         read_lines, self.lines = _open_pipe()
         self.answers, write_answers = _open_pipe()
         self._of_program = (read_lines, write_answers)
@@ -128,6 +134,13 @@ class Pipes:
         self.let_go()
         self.lines.close()
         self.answers.close()
+
+
+def _check_dumpable() -> None:
+    """Raises an OSError if only a privileged process may open what this one has."""
+    if os.stat(_ENDS).st_uid != os.geteuid():
+        reason = "no program may open a pipe of this process, as it isn't dumpable: see prctl(2)"
+        raise PermissionError(errno.EACCES, reason, _ENDS)
 
 
 def _open_pipe() -> tuple[FileIO, FileIO]:

@@ -19,6 +19,9 @@ from keltuvar import BadLine, Broken, Clients, Closed, Pool, Refused, Timeout
 from . import FAKE, LONG, PROGRAM, SHORT, is_running
 from .test_program import PLAIN, PLAIN_ID, PLAIN_OUTPUT
 
+# The folder of the package.
+HERE = Path(__file__).parents[1]
+
 
 def knows_clients() -> bool:
     """Returns whether the program has the option `--client`."""
@@ -36,8 +39,7 @@ def kill_with_clients(program: object, calls: str) -> int:
     begins = f"from keltuvar import Clients; pools = Clients({str(program)!r}, 2)"
     ends = "import os; print(pools.pid, flush=True); os.kill(os.getpid(), 9)"
     words = [sys.executable, "-c", "; ".join([begins, *calls.split("; "), ends])]
-    folder = Path(__file__).parents[1]
-    return int(subprocess.run(words, cwd=folder, stdout=subprocess.PIPE, timeout=LONG).stdout)
+    return int(subprocess.run(words, cwd=HERE, stdout=subprocess.PIPE, timeout=LONG).stdout)
 
 
 def wait_for_end(pid: int) -> bool:
@@ -52,6 +54,23 @@ def wait_for_end(pid: int) -> bool:
         return False
     return True
 
+
+# Makes pipes in a process that changes its user, if it may, or else forbids others to look at it.
+UNDUMPABLE = """
+import os
+from keltuvar.clients import Pipes
+
+if os.geteuid() == 0:
+    os.setuid(65534)
+else:
+    import ctypes
+
+    ctypes.CDLL(None).prctl(4, 0)
+try:
+    Pipes()
+except OSError as error:
+    print(error.strerror)
+"""
 
 # What a process asks before it is killed: nothing, what opens the pool, and what a client asks.
 CALLS = ("pass", "pools.operator.lookup(0)", "pools.operator.lookup(0); pools.clients[1].lookup(1)")
@@ -94,6 +113,11 @@ class Fake(unittest.TestCase):
     def test_a_process_that_is_killed(self) -> None:
         for calls in CALLS:
             self.assertTrue(wait_for_end(kill_with_clients(FAKE, calls)), calls)
+
+    def test_a_process_whose_pipes_cannot_be_opened(self) -> None:
+        words = [sys.executable, "-c", UNDUMPABLE]
+        told = subprocess.run(words, cwd=HERE, stdout=subprocess.PIPE, timeout=LONG).stdout
+        self.assertIn(b"isn't dumpable", told)
 
     def test_a_call_waits_for_no_other(self) -> None:
         first, second, _ = self.pools.clients
