@@ -23,9 +23,12 @@ mod ways;
 use mp_memory::Memory;
 use std::alloc::Global;
 use std::io;
+use std::sync::Wait;
+use std::thread::Threads;
 
-fn check_all(
-    rt: &HostRuntime,
+fn check_all<R: Print + Threads + Wait + Sync>(
+    host: &HostRuntime,
+    rt: &R,
     memory: Memory,
     alloc: Global,
 ) -> io::Result<()> {
@@ -38,7 +41,7 @@ fn check_all(
     println!(rt; "devices {}", devices::held(rt, memory, alloc)?)?;
     println!(rt; "serving {}", serving::held(rt, memory, alloc)?)?;
     println!(rt; "clients {}", clients::held(rt, memory, alloc)?)?;
-    println!(rt; "histories {}", histories::held(rt, rt, memory, alloc)?)?;
+    println!(rt; "histories {}", histories::held(host, rt, memory, alloc)?)?;
     println!(rt; "replays {}", replays::held(rt, memory)?)?;
     println!(rt; "texts {}", texts::held(rt, alloc)?)?;
     Ok(())
@@ -46,7 +49,7 @@ fn check_all(
 
 fn main(rt: HostRuntime) -> io::Result<()> {
     match Memory::new(rt.alloc()) {
-        Ok(memory) => check_all(&rt, memory, rt.alloc()),
+        Ok(memory) => check_all(&rt, &rt, memory, rt.alloc()),
         Err(_) => println!(rt; "no memory"),
     }
 }

@@ -219,7 +219,7 @@ does_taken most s f r text t room (Some (session, request)) e =
 does : (most : ℕ) (s : Scene) (f : List LedgerState) (r : Counts) (l : Line) (text : List ℕ) (t : Scene) → runs.take s l ≡ Some (t, text) → HasRoom t.session.stage
     → FollowsLine most (talk.does (conversation_with most s f r) l) text t
 does most s f r l text t e room =
-    subst (λ o. FollowsLine (doing (conversation_with most s f r) o) text t) (sym (takes s.session f r l)) (does_taken most s f r text t room (sessions.take s.session l) e)
+    subst (λ o. FollowsLine most (doing (conversation_with most s f r) o) text t) (sym (takes s.session f r l)) (does_taken most s f r text t room (sessions.take s.session l) e)
 
 -- a submit under the name that the transaction is reported under changes no name
 itself : (word : List ℕ) → pointwise nat_eq word word ≡ true
