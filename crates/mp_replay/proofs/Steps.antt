@@ -6,7 +6,7 @@ use Rattle.mp_replay.specs.declared.fault.Fault.{Fault}
 use Rattle.mp_replay.specs.declared.fault.Fault.TheVariants.{NoMemory, BadLine, NoAnswer, WrongAnswer, WrongPlace, BadCaller}
 use Rattle.mp_replay.specs.ServedHistory.{Replayed, replayed, replay_line, Records, IsStep, AreSteps, IsServedHistory}
 use Rattle.mp_replay.specs.ReplayFault.{HasWrongAnswer, IsWrongStep, IsWrongThere, IsReplayFault}
-use Rattle.mp_replay.proofs.Entries.{one_number}
+use Rattle.mp_replay.proofs.EntryLines.{one_number}
 
 -- ---- progress
 

@@ -107,23 +107,23 @@ no_caller place line after is none = (
 -- ---- lines that don't record the answer
 
 pub mis_entry : (n place : ℕ) (text line : List ℕ) (fault : Fault) → (IsLineOf text line → ⊥) → IsNoEntry n place line fault → IsMisrecorded n place text line fault
-mis_entry n place text line NoMemory other no = absurd no
-mis_entry n place text line (BadLine at reason) other no = absurd no
-mis_entry n place text line (NoAnswer at) other no = absurd no
-mis_entry n place text line (WrongAnswer at) other no = record {
+mis_entry n place text line NoMemory other is = absurd is
+mis_entry n place text line (BadLine at reason) other is = absurd is
+mis_entry n place text line (NoAnswer at) other is = absurd is
+mis_entry n place text line (WrongAnswer at) other is = record {
   no_answer = other;
-  no_entry = λ e. no.1 (begun place line (placed place text line e));
-  why = (no.0, λ h. no.1 h.0, λ h. no.1 (begun place line h.0));
+  no_entry = λ e. is.1 (begun place line (placed place text line e));
+  why = (is.0, λ h. is.1 h.0, λ h. is.1 (begun place line h.0));
 }
-mis_entry n place text line (WrongPlace at) other no = record {
+mis_entry n place text line (WrongPlace at) other is = record {
   no_answer = other;
-  no_entry = λ e. no.1.1 (placed place text line e);
-  why = no;
+  no_entry = λ e. is.1.1 (placed place text line e);
+  why = is;
 }
-mis_entry n place text line (BadCaller at) other no = record {
+mis_entry n place text line (BadCaller at) other is = record {
   no_answer = other;
-  no_entry = λ (caller, answer, few, is, of). no.1.1 caller answer few is;
-  why = no;
+  no_entry = λ (caller, answer, few, same, of). is.1.1 caller answer few same;
+  why = is;
 }
 
 pub mis_answer : (n place : ℕ) (text line answer : List ℕ) → (IsLineOf text line → ⊥)
