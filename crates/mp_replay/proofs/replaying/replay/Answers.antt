@@ -1,4 +1,4 @@
-use Rattle.std.proofs.Common.{ap, arith, ◌∷◌, ◌∙◌}
+use Rattle.std.proofs.Common.{refl, ap, arith, ◌∷◌, ◌∙◌}
 use Rattle.mp_text.specs.Lines.{lines_of}
 use Rattle.mp_replay.specs.ServedHistory.{IsServedHistory}
 use Rattle.mp_replay.specs.ReplayFault.{IsReplayFault}
@@ -18,7 +18,7 @@ loop-line-preserved c =
     record {
       so_far = goes_on c.args.conversation.now (lines_of c.args.text.now) c.loop-line.conversation c.loop-line.entries c.loop-line.number (lines_of c.loop-line.rest.now)
           c.in-Some.line.now step.0 (lines_of c.in_ok-more.after.now) c.replay_from.new.conversation c.in_ok-more.more c.loop-line.invariant.so_far
-          (c.in-Some.ensures.first ∙ ap (λ l. c.in-Some.line.now ∷ l) step.1.0) step.1.1;
+          (c.in-Some.ensures.first ∙ ap (λ l. c.in-Some.line.now ∷ l) step.1) step.2;
       few = omega (arith, few, so_few);
       within = omega (arith, shorter, behind, within);
     }
@@ -40,6 +40,5 @@ returns-in_err-more-clause-illegal c =
 
 pub returns-clause-legal : goal.returns-clause-legal
 returns-clause-legal c =
-    let h = c.in_default.is in
-    let n = c.in_default.not-Some in
-    let k = c.in_default.ensures.none in ?
+    legal c.args.conversation.now c.args.text.now c.loop-line.conversation c.loop-line.entries c.loop-line.number (lines_of c.loop-line.rest.now) c.loop-line.invariant.so_far
+    (c.in_default.ensures.none.0 refl)
