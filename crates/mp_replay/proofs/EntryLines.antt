@@ -1,5 +1,5 @@
 -- Lines that begin with a word or a number.
-use Rattle.std.proofs.Common.{◌≡◌, ◌≢◌, ℕ, ◌+◌, ◌/◌, ◌%◌, ◌^◌, ◌<◌, ◌≤◌, List, [], ◌∷◌, ◌++◌, length, refl, sym, ap, subst, ◌∙◌, arith, append_assoc, length-append, codes, decimal, MatchOption, Option, None, Some, IfSome, inl, inr, Bool, true, false}
+use Rattle.std.proofs.Common.{◌≡◌, ◌≢◌, ℕ, ◌+◌, ◌%◌, ◌^◌, ◌<◌, List, [], ◌∷◌, ◌++◌, length, refl, sym, ap, subst, ◌∙◌, arith, append_assoc, length-append, codes, decimal, MatchOption, Option, None, Some, IfSome, inl, inr, Bool, true, false}
 use Rattle.std.specs.Prelude.{IfNone}
 use Rattle.std.specs.Borrow.{Bor}
 use Rattle.std.proofs.lemmas.Fmt.{decimal_by_steps}
@@ -7,7 +7,7 @@ use Rattle.std.proofs.lemmas.Bool.{cases_lt}
 use Rattle.mp_replay.specs.declared.fault.Fault.{Fault}
 use Rattle.mp_replay.specs.declared.fault.Fault.TheVariants.{NoMemory, BadLine, NoAnswer, WrongAnswer, WrongPlace, BadCaller}
 use Rattle.mp_replay.specs.ServedHistory.{IsLineOf, IsEntry, Records, number_front, entry_front, entry_line}
-use Rattle.mp_replay.specs.ReplayFault.{HasFront, HasOtherPlace, HasNoCaller, IsWhy, IsNoEntry, IsMisrecorded}
+use Rattle.mp_replay.specs.ReplayFault.{HasFront, HasOtherPlace, HasNoCaller, IsNoEntry, IsMisrecorded}
 
 -- ---- what follows a prefix
 
