@@ -106,8 +106,11 @@ begun place line (rest, is) = (number_front place ++ rest, is ∙ append_assoc (
 pub other_place : (place : ℕ) (line rest : List ℕ) → line ≡ codes "entry " ++ rest → (HasFront rest (number_front place) → ⊥) → HasOtherPlace place line
 other_place place line rest is apart = (
   (rest, is),
-  λ has. apart (has.0, same_rest (codes "entry ") rest (number_front place ++ has.0)
-      (sym is ∙ has.1 ∙ append_assoc (codes "entry ") (number_front place) has.0)),
+  λ has. apart (
+    has.0,
+    same_rest (codes "entry ") rest (number_front place ++ has.0)
+        (sym is ∙ has.1 ∙ append_assoc (codes "entry ") (number_front place) has.0),
+  ),
 )
 
 -- what follows the word and the place

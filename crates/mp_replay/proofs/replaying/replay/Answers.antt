@@ -28,15 +28,15 @@ returns-in_err-more-clause-fault c =
     let fault = c.in_err-more.field-0.0 in
     passed_on c.from_residual.result (IsReplayFault c.args.conversation.now c.args.text.now) fault c.from_residual.ensures.1
     (faulty c.args.conversation.now c.args.text.now c.loop-line.conversation c.loop-line.entries c.loop-line.number (lines_of c.loop-line.rest.now)
-        (c.in-Some.line.now ∷ lines_of c.in-Some.behind.now) fault c.loop-line.invariant.so_far c.in-Some.ensures.first c.in_err-more.ensures.err)
+    (c.in-Some.line.now ∷ lines_of c.in-Some.behind.now) fault c.loop-line.invariant.so_far c.in-Some.ensures.first c.in_err-more.ensures.err)
 
 pub returns-in_err-more-clause-illegal : goal.returns-in_err-more-clause-illegal
 returns-in_err-more-clause-illegal c =
     let fault = c.in_err-more.field-0.0 in
     passed_on c.from_residual.result (λ e. IsServedHistory c.args.conversation.now c.args.text.now → e ≡ faults.NoMemory) fault c.from_residual.ensures.1
     (illegal c.args.conversation.now c.args.text.now fault
-        (faulty c.args.conversation.now c.args.text.now c.loop-line.conversation c.loop-line.entries c.loop-line.number (lines_of c.loop-line.rest.now)
-            (c.in-Some.line.now ∷ lines_of c.in-Some.behind.now) fault c.loop-line.invariant.so_far c.in-Some.ensures.first c.in_err-more.ensures.err))
+    (faulty c.args.conversation.now c.args.text.now c.loop-line.conversation c.loop-line.entries c.loop-line.number (lines_of c.loop-line.rest.now)
+    (c.in-Some.line.now ∷ lines_of c.in-Some.behind.now) fault c.loop-line.invariant.so_far c.in-Some.ensures.first c.in_err-more.ensures.err))
 
 pub returns-clause-legal : goal.returns-clause-legal
 returns-clause-legal c =
