@@ -1,12 +1,13 @@
 -- How far a replay has come, and that a wrong step can't be a right one.
-use Rattle.std.proofs.Common.{◌≡◌, ℕ, ◌+◌, List, [], ◌∷◌, ◌++◌, length, refl, sym, ap, ap₂, subst, ◌∙◌, arith, append_assoc, append-nil, length-append, None, Some, inl, inr}
+use Rattle.std.proofs.Common.{◌≡◌, ℕ, ◌+◌, List, [], ◌∷◌, ◌++◌, length, refl, sym, ap, ap₂, subst, ◌∙◌, arith, append_assoc, append-nil, length-append, Some, inl, inr}
+use Rattle.std.specs.Prelude.{Result, Ok, Err, IfErr, IsErrAnd}
 use Rattle.mp_text.specs.Lines.{lines_of}
 use Rattle.mp_serve.specs.declared.conversation.Conversation.{Conversation}
 use Rattle.mp_replay.specs.declared.fault.Fault.{Fault}
 use Rattle.mp_replay.specs.declared.fault.Fault.TheVariants.{NoMemory, BadLine, NoAnswer, WrongAnswer, WrongPlace, BadCaller}
 use Rattle.mp_replay.specs.ServedHistory.{Replayed, replayed, replay_line, Records, IsStep, AreSteps, IsServedHistory}
-use Rattle.mp_replay.specs.ReplayFault.{HasWrongAnswer, IsWrongStep, IsWrongThere, IsReplayFault}
-use Rattle.mp_replay.proofs.Entries.{one_number}
+use Rattle.mp_replay.specs.ReplayFault.{IsMisrecorded, HasWrongAnswer, IsWrongStep, IsWrongThere, IsReplayFault}
+use Rattle.mp_replay.proofs.EntryLines.{one_number}
 
 -- ---- progress
 
@@ -56,6 +57,27 @@ module _ (start : Conversation) (text : List ℕ) (c : Conversation) (entries nu
     right = p.right;
     wrong = subst (λ n. IsWrongThere (replayed c entries) n lines fault) p.count wrong;
   }
+
+-- ---- what an exit says of its fault
+
+pub passed_on : {A : Type 0} (r : Result A Fault) (P : Fault → Type 0) (fault : Fault) → IsErrAnd r (λ e. e ≡ fault) → P fault → IfErr r P
+passed_on (Ok x) P fault is holds = tt
+passed_on (Err e) P fault is holds = subst P (sym is) holds
+
+wrong_answer_at : (s : Replayed) (n : ℕ) (line answer text : List ℕ) (c : Conversation) (fault : Fault) → replay_line s.conversation line ≡ Some (c, text)
+    → IsMisrecorded (n + 1) s.entries text answer fault → IsWrongStep s n line answer fault
+wrong_answer_at s n line answer text c NoMemory is mis = tt
+wrong_answer_at s n line answer text c (BadLine at reason) is mis = absurd mis.why
+wrong_answer_at s n line answer text c (NoAnswer at) is mis = absurd mis.why
+wrong_answer_at s n line answer text c (WrongAnswer at) is mis = (c, text, is, mis)
+wrong_answer_at s n line answer text c (WrongPlace at) is mis = (c, text, is, mis)
+wrong_answer_at s n line answer text c (BadCaller at) is mis = (c, text, is, mis)
+
+-- the line was asked, and the answer is wrong
+pub wrong_answer : (s : Replayed) (n : ℕ) (line answer text : List ℕ) (c : Conversation) (r : Result ℕ Fault) → replay_line s.conversation line ≡ Some (c, text)
+    → IfErr r (IsMisrecorded (n + 1) s.entries text answer) → IfErr r (IsWrongStep s n line answer)
+wrong_answer s n line answer text c (Ok more) is mis = tt
+wrong_answer s n line answer text c (Err fault) is mis = wrong_answer_at s n line answer text c fault is mis
 
 -- ---- a wrong step
 

@@ -5,7 +5,7 @@ use Rattle.mp_names.specs.declared.reason.Reason.{Reason}
 use Rattle.mp_serve.specs.declared.conversation.Conversation.{Conversation}
 use Rattle.mp_replay.specs.declared.fault.Fault.{Fault}
 use Rattle.mp_replay.specs.declared.fault.Fault.TheVariants.{NoMemory, BadLine, NoAnswer, WrongAnswer, WrongPlace, BadCaller}
-use Rattle.mp_replay.specs.ServedHistory.{Replayed, replayed, replay_line, IsLineOf, IsEntry, IsStep, AreSteps, entry_front, entry_line}
+use Rattle.mp_replay.specs.ServedHistory.{Replayed, replayed, replay_line, IsLineOf, IsEntry, AreSteps, entry_front, entry_line}
 
 abbrev pub bad_line_of : Fault → Option (ℕ × Reason)
 bad_line_of (BadLine number reason) = Some (number, reason)

@@ -47,7 +47,7 @@ entry_front place = codes "entry " ++ number_front place
 
 -- an entry: its place, its caller, and the answer
 abbrev pub entry_line : ℕ → ℕ → List ℕ → List ℕ
-entry_line place caller answer = entry_front place ++ number_front caller ++ answer
+entry_line place caller answer = entry_front place ++ (number_front caller ++ answer)
 
 -- the line is the entry with this place, by one of at most 64 callers, for the answer with this text
 abbrev pub IsEntry : ℕ → List ℕ → List ℕ → Type 0

@@ -1,6 +1,6 @@
 use Rattle.std.proofs.lemmas.Bool.Decides.{Decides-eqb}
 use Rattle.std.proofs.lemmas.Slice.Eq.{strip_prefix_is}
-use Rattle.mp_replay.proofs.Entries.{some_behind, none_behind}
+use Rattle.mp_replay.proofs.EntryLines.{some_behind, none_behind}
 use Rattle.mp_replay.proofs.entries.behind.Goals as goal
 
 pub returns-clause-some : goal.returns-clause-some

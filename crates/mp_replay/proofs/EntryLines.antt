@@ -1,12 +1,13 @@
 -- Lines that begin with a word or a number.
-use Rattle.std.proofs.Common.{◌≡◌, ◌≢◌, ℕ, ◌+◌, ◌/◌, ◌%◌, ◌^◌, ◌<◌, ◌≤◌, List, [], ◌∷◌, ◌++◌, length, refl, sym, ap, subst, ◌∙◌, arith, append_assoc, length-append, codes, decimal, MatchOption, Option, None, Some, IfSome, inl, inr}
+use Rattle.std.proofs.Common.{◌≡◌, ◌≢◌, ℕ, ◌+◌, ◌%◌, ◌^◌, ◌<◌, List, [], ◌∷◌, ◌++◌, length, refl, sym, ap, subst, ◌∙◌, arith, append_assoc, length-append, codes, decimal, MatchOption, Option, None, Some, IfSome, inl, inr, Bool, true, false}
 use Rattle.std.specs.Prelude.{IfNone}
 use Rattle.std.specs.Borrow.{Bor}
 use Rattle.std.proofs.lemmas.Fmt.{decimal_by_steps}
+use Rattle.std.proofs.lemmas.Bool.{cases_lt}
 use Rattle.mp_replay.specs.declared.fault.Fault.{Fault}
 use Rattle.mp_replay.specs.declared.fault.Fault.TheVariants.{NoMemory, BadLine, NoAnswer, WrongAnswer, WrongPlace, BadCaller}
 use Rattle.mp_replay.specs.ServedHistory.{IsLineOf, IsEntry, Records, number_front, entry_front, entry_line}
-use Rattle.mp_replay.specs.ReplayFault.{HasFront, HasOtherPlace, HasNoCaller, IsWhy, IsNoEntry, IsMisrecorded}
+use Rattle.mp_replay.specs.ReplayFault.{HasFront, HasOtherPlace, HasNoCaller, IsNoEntry, IsMisrecorded}
 
 -- ---- what follows a prefix
 
@@ -21,6 +22,9 @@ some_behind text front (Some rest) is = is
 pub none_behind : (text front : List ℕ) (o : Option (Bor (List ℕ))) → MatchOption o ((rest : List ℕ) → text ≢ front ++ rest) (λ x. text ≡ front ++ x.now) → IfNone o (HasFront text front → ⊥)
 none_behind text front None is = λ has. is has.0 has.1
 none_behind text front (Some rest) is = tt
+
+false_is_true : false ≡ true → ⊥
+false_is_true same = absurd (Prim.cc)
 
 -- ---- a text and its line
 
@@ -43,6 +47,21 @@ no_space text rest n is apart has = apart (has.0, same_rest (decimal n) rest (32
 
 pub behind_both : (text rest after : List ℕ) (n : ℕ) → text ≡ decimal n ++ rest → rest ≡ 32 ∷ after → text ≡ number_front n ++ after
 behind_both text rest after n is space = is ∙ ap (λ r. decimal n ++ r) space ∙ sym (number_split n after)
+
+pub none_behind_number : (text digits rest : List ℕ) (n : ℕ) (o : Option (Bor (List ℕ))) → digits ≡ decimal n → text ≡ digits ++ rest
+    → IfNone o (HasFront rest (32 ∷ []) → ⊥) → IfNone o (HasFront text (number_front n) → ⊥)
+none_behind_number text digits rest n None are is apart = no_space text rest n (is ∙ ap (λ d. d ++ rest) are) apart
+none_behind_number text digits rest n (Some after) are is apart = tt
+
+-- none of the callers so far comes first
+abbrev pub NoneOf : List ℕ → ℕ → Type 0
+NoneOf text count = (caller : ℕ) → caller < count → HasFront text (number_front caller) → ⊥
+
+pub none_more : (text : List ℕ) (count : ℕ) → NoneOf text count → (HasFront text (number_front count) → ⊥) → NoneOf text (count + 1)
+none_more text count before last caller few = elim (cases_lt caller count) [
+  | inl less ↦ before caller less
+  | inr least ↦ subst (λ k. HasFront text (number_front k) → ⊥) (omega (arith, few, least)) last
+]
 
 -- ---- a number ends at its space
 
@@ -87,8 +106,11 @@ begun place line (rest, is) = (number_front place ++ rest, is ∙ append_assoc (
 pub other_place : (place : ℕ) (line rest : List ℕ) → line ≡ codes "entry " ++ rest → (HasFront rest (number_front place) → ⊥) → HasOtherPlace place line
 other_place place line rest is apart = (
   (rest, is),
-  λ has. apart (has.0, same_rest (codes "entry ") rest (number_front place ++ has.0)
-      (sym is ∙ has.1 ∙ append_assoc (codes "entry ") (number_front place) has.0)),
+  λ has. apart (
+    has.0,
+    same_rest (codes "entry ") rest (number_front place ++ has.0)
+        (sym is ∙ has.1 ∙ append_assoc (codes "entry ") (number_front place) has.0),
+  ),
 )
 
 -- what follows the word and the place
@@ -107,24 +129,27 @@ no_caller place line after is none = (
 -- ---- lines that don't record the answer
 
 pub mis_entry : (n place : ℕ) (text line : List ℕ) (fault : Fault) → (IsLineOf text line → ⊥) → IsNoEntry n place line fault → IsMisrecorded n place text line fault
-mis_entry n place text line NoMemory other no = absurd no
-mis_entry n place text line (BadLine at reason) other no = absurd no
-mis_entry n place text line (NoAnswer at) other no = absurd no
-mis_entry n place text line (WrongAnswer at) other no = record {
+mis_entry n place text line NoMemory other is = absurd is
+mis_entry n place text line (BadLine at reason) other is = absurd is
+mis_entry n place text line (NoAnswer at) other is = absurd is
+mis_entry n place text line (WrongAnswer at) other is = record {
   no_answer = other;
-  no_entry = λ e. no.1 (begun place line (placed place text line e));
-  why = (no.0, λ h. no.1 h.0, λ h. no.1 (begun place line h.0));
+  no_entry = λ e. is.1 (begun place line (placed place text line e));
+  why = (is.0, λ h. is.1 h.0, λ h. is.1 (begun place line h.0));
 }
-mis_entry n place text line (WrongPlace at) other no = record {
+mis_entry n place text line (WrongPlace at) other is = record {
   no_answer = other;
-  no_entry = λ e. no.1.1 (placed place text line e);
-  why = no;
+  no_entry = λ e. is.1.1 (placed place text line e);
+  why = is;
 }
-mis_entry n place text line (BadCaller at) other no = record {
+mis_entry n place text line (BadCaller at) other is = record {
   no_answer = other;
-  no_entry = λ (caller, answer, few, is, of). no.1.1 caller answer few is;
-  why = no;
+  no_entry = λ (caller, answer, few, same, of). is.1.1 caller answer few same;
+  why = is;
 }
+
+pub not_line : (text line : List ℕ) (found : Bool) → found ≡ false → (IsLineOf text line → found ≡ true) → IsLineOf text line → ⊥
+not_line text line found is if_line of = absurd (false_is_true (sym is ∙ if_line of))
 
 pub mis_answer : (n place : ℕ) (text line answer : List ℕ) → (IsLineOf text line → ⊥)
     → (caller : ℕ) × (caller < 64) × (line ≡ entry_line place caller answer) → (IsLineOf text answer → ⊥)
