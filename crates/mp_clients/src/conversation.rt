@@ -106,7 +106,15 @@ impl<N: PoolName> Conversation<N> {
         };
         match self.client.change(rt, &shared.pool, command) {
             Ok(asked) => {
-                finish(rt, shared, memory, &self.names, &mut self.client, room, &asked)
+                finish(
+                    rt,
+                    shared,
+                    memory,
+                    &self.names,
+                    &mut self.client,
+                    room,
+                    &asked,
+                )
             }
             Err(stop) => Err(stop),
         }
@@ -229,7 +237,15 @@ impl<N: PoolName> Conversation<N> {
         match self.client.go_on(rt, &shared.pool, ledger) {
             Ok(asked) => {
                 forget_used(&mut self.staged, used, &asked);
-                finish(rt, shared, memory, &self.names, &mut self.client, room, &asked)
+                finish(
+                    rt,
+                    shared,
+                    memory,
+                    &self.names,
+                    &mut self.client,
+                    room,
+                    &asked,
+                )
             }
             Err(stop) => Err(stop),
         }
@@ -364,7 +380,15 @@ impl<N: PoolName> Conversation<N> {
         };
         match self.client.go_back(rt, &shared.pool, count, ledger) {
             Ok(asked) => {
-                finish(rt, shared, memory, &self.names, &mut self.client, room, &asked)
+                finish(
+                    rt,
+                    shared,
+                    memory,
+                    &self.names,
+                    &mut self.client,
+                    room,
+                    &asked,
+                )
             }
             Err(stop) => Err(stop),
         }

@@ -41,12 +41,7 @@ pub struct Room {
 }
 
 // Writes the entry of the change, whose lines are given.
-fn enter_in(
-    rt: &impl Wait,
-    journal: &Journal,
-    lines: Text,
-    receipt: &Receipt,
-) -> Result<(), Stop>
+fn enter_in(rt: &impl Wait, journal: &Journal, lines: Text, receipt: &Receipt) -> Result<(), Stop>
     ensures { IfErr result (λ stop. stop ≡ Stop.Untold) }
 {
     let mut lines = lines;

@@ -77,10 +77,20 @@ pub fn held<R: Print + Threads + Wait + Sync>(
 ) -> io::Result<u64> {
     let told = hold(host, rt, memory, alloc, NOWHERE, 0);
     let seen = see_end(&told, 0, CHANGES.answers);
-    let kept = count(rt, "a history that is kept nowhere", seen, [1, 1, 0, 0, 0, 0])?;
+    let kept = count(
+        rt,
+        "a history that is kept nowhere",
+        seen,
+        [1, 1, 0, 0, 0, 0],
+    )?;
     let told = hold(host, rt, memory, alloc, FULL, 0);
     let seen = see_end(&told, LOST, BEFORE_CHANGES);
-    let lost = count(rt, "a history that can't be written", seen, [1, 1, 0, 0, 0, 0])?;
+    let lost = count(
+        rt,
+        "a history that can't be written",
+        seen,
+        [1, 1, 0, 0, 0, 0],
+    )?;
     let seen = see_growths(host, rt, memory, alloc);
     let name = "changes with a history at refused growths";
     let grown = count(rt, name, seen, [1, 0, 1, 0, 0, 0])?;

@@ -128,8 +128,7 @@ fn audit_command<'a>(alloc: Global, names: &'a [&'a str]) -> Result<Command<'a>,
     ensures { IfOk result (λ c. (app_of c ≡ spec.audit_command names.entry)
         × ((fields_of c).has_globals ≡ false)) }
 {
-    let about =
-        "Replay a history that a pool wrote, and report whether it is legal";
+    let about = "Replay a history that a pool wrote, and report whether it is legal";
     let command = new_command(alloc, "audit", about).arg(explain_flag(alloc));
     let command = add_arg(command, signatures_option(alloc, names));
     add_arg(

@@ -11,5 +11,5 @@ use Rattle.mp_main.proofs.replays.replay_over.Goals as goal
 pub returns-in-Ok : goal.returns-in-Ok
 returns-in-Ok g c =
     let P = λ (bytes : List ℕ). EndsAs (IsReplayAudited (new_conversation c.args.signatures c.args.salt 65536) bytes
-        (g.W.Write.contents c.args.writer.now) (g.W.Write.contents c.replay_text.new.writer)) (exit_status c.replay_text.result) in
+    (g.W.Write.contents c.args.writer.now) (g.W.Write.contents c.replay_text.new.writer)) (exit_status c.replay_text.result) in
     of_bytes P (g.R.Read.remaining c.args.reader.now) c.in-Ok.text.items c.in-Ok.ensures (subst P c.deref.ensures.value c.replay_text.ensures)
