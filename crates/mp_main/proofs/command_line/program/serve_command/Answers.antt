@@ -17,7 +17,7 @@ returns c =
     let by_names = ruled c.add_arg-named.result salted (rule_of c.names_option.result) spec.names_rule
     c.names_option.ensures.rule (c.add_arg-named.ensures salted by_salt) in
     let recorded = with_rule named (spec.output_rule (codes "history")) in
-    let by_history = ruled c.add_arg-recorded.result named (rule_of c.value_option.result) (spec.output_rule (codes "history"))
-    c.value_option.ensures.rule (c.add_arg-recorded.ensures named by_names) in
+    let by_history = ruled c.add_arg-recorded.result named (rule_of c.value_option-history.result) (spec.output_rule (codes "history"))
+    c.value_option-history.ensures.rule (c.add_arg-recorded.ensures named by_names) in
     ruled c.add_arg.result recorded (rule_of c.client_option.result) spec.client_rule c.client_option.ensures.rule
     (c.add_arg.ensures recorded by_history)
