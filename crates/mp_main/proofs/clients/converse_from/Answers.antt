@@ -1,7 +1,8 @@
-use Rattle.std.proofs.Common.{◌∙◌, ap, refl, rules, subst}
+use Rattle.std.proofs.Common.{◌≡◌, ◌<◌, ◌∙◌, ℕ, ap, refl, rules, subst, sym, length, slice_index_or}
 use Rattle.std.specs.Prelude.{Ok, Err}
 use Rattle.std.specs.Process.{exit_status}
 use Rattle.std.specs.declared.marker.Brand.{Brand}
+use Rattle.mp_serve.specs.declared.device.Turn.TheVariants.{Listens}
 use Rattle.mp_serve.specs.declared.fault.Fault.TheVariants.{WriteFault, ManyLines}
 use Rattle.mp_signatures.specs.Scheme.{accepted_by}
 use Rattle.mp_main.specs.Held.{EndsHeld}
@@ -101,3 +102,10 @@ returns g c =
     ends_early Brand c.args.callers input output c.args.start c.args.device at.device c.args.clients.items _ (Err ManyLines) (input c.args.device)
     (stand_many c.args.start (input c.args.device) (input at.device) (output c.args.device) (output at.device) at.operator at._count
     at.invariant.0 (search rules)) c.end_fault-2.ensures
+
+-- the clients are those that were given
+pub open_and_serve-requires-clause-listen : goal.open_and_serve-requires-clause-listen
+open_and_serve-requires-clause-listen g c =
+    subst
+    (λ clients. (k : ℕ) → (d : g.row.D.Denot) → k < length clients.items → g.D.Device.turn (slice_index_or clients.items k d) ≡ Listens)
+    (sym c.loop-count.invariant.3) c.requires.listen
