@@ -14,6 +14,8 @@ use Rattle.mp_history.specs.Log.{Log, pool_of, state_after}
 use Rattle.mp_mempool.specs.Pass.{Pass}
 use Rattle.mp_mempool.specs.Seen.{IsSeen}
 use Rattle.mp_mempool.specs.declared.read.receipt.Receipt.{Receipt}
+use Rattle.mp_serve.specs.declared.former.Former.{Former}
+use Rattle.mp_serve.specs.Inside.Former.{CanAllGoBack}
 use Rattle.mp_serve.proofs.Pools.{limit-next}
 use Rattle.mp_clients.specs.declared.stop.Stop.{Stop}
 use Rattle.mp_clients.specs.Answers.{IsAnswerTo, IsAsked, moved, adopted}
@@ -57,10 +59,12 @@ module _ (accepts : Accepts) where
     asked_moved k command (Ok a) q is = record { answer = is; after_is = refl }
     asked_moved k command (Err stop) q is = tt
 
-  -- the client has another pass of the pool
-  pub still : (s : Scheme) (n : ℕ) (p q : Pass) (former former2 : List LedgerState) → q.front.opening ≡ p.front.opening → length former2 ≤ 2160 → IsClient accepts s n p former → IsClient accepts s n q former2
-  still s n p q former former2 same few is = record {
+  -- the client has another pass of the pool, and perhaps another ledger state and other former ones
+  pub still : (s : Scheme) (n : ℕ) (p q : Pass) (l m : LedgerState) (fs gs : List Former) → q.front.opening ≡ p.front.opening → length gs ≤ 2160 → CanAllGoBack gs m → IsClient accepts s n p l fs
+      → IsClient accepts s n q m gs
+  still s n p q l m fs gs same few can is = record {
     verifier = is.verifier;
     limit_is = is.limit_is ∙ ap (λ (o : Pool). o.limit) (sym same);
     few = few;
+    can = can;
   }

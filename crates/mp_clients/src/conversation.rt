@@ -21,8 +21,8 @@ use mp_names::{Binding, BlockBytes, DeclaredTx, LineFault, Name, Names};
 use mp_rules::{AppliedBlock, Verifier};
 use mp_seqpool::{Command, Ids};
 use mp_serve::{
-    Answer, Ask, Block, Extended, NewBlock, Staged, Text, TxWord, Txs, Used, back_refused_line,
-    extend, forgotten_line, no_outputs, read_line, show_line, undecodable_line,
+    Answer, Ask, Block, Extended, Former, NewBlock, Staged, Text, TxWord, Txs, Used,
+    back_refused_line, extend, forgotten_line, no_outputs, read_line, show_line, undecodable_line,
 };
 use mp_session::{Settings, ledger_at};
 use mp_tx::{Ledger, OutRef, Output, Tx, TxFault};
@@ -62,7 +62,7 @@ pub struct Conversation<N: PoolName> {
 }
 
 impl<N: PoolName> Conversation<N> {
-    ghost use Rattle.std.specs.Prelude.{◌≡◌, ◌≤◌, ℕ, length, map, true, false, Some, None, Ok, Err, IfOk, IfErr, OnErr};
+    ghost use Rattle.std.specs.Prelude.{◌≡◌, ℕ, map, true, false, Some, None, Ok, Err, IfOk, IfErr, OnErr};
     ghost use Rattle.std.specs.Arc.{arc_value};
     ghost use Rattle.mp_tx.specs.Reading.{transaction_of};
     ghost use Rattle.mp_seqpool.specs.Command.{Submit};
@@ -72,6 +72,7 @@ impl<N: PoolName> Conversation<N> {
     ghost use Rattle.mp_serve.specs.Talk as alone;
     ghost use Rattle.mp_serve.specs.Ask.{Does, Extends, Syncs};
     ghost use Rattle.mp_serve.specs.ServedPool.{state_back};
+    ghost use Rattle.mp_serve.specs.Inside.Former.{LeadsBack};
     ghost use Rattle.mp_serve.specs.Inside.Ask.{to_ask, to_block, to_tx_word};
     ghost use Rattle.mp_serve.specs.Inside.Answer.{text_of};
     ghost use Rattle.mp_clients.specs.declared.stop.Stop.TheVariants as stops;
@@ -216,16 +217,19 @@ impl<N: PoolName> Conversation<N> {
         }
     }
 
-    // Adopts a new ledger state: that after the block, if one is given. Once it is adopted, what it used isn't staged any more.
+    // Adopts a new ledger state, that after the block if one is given, and keeps how to go back to the one before it. Once it is
+    // adopted, what it used isn't staged any more.
     fn go_on<V: Verifier>(
         &mut self,
         rt: &impl Wait,
         shared: &Shared<N, V>,
         memory: Memory,
         ledger: Ledger,
+        former: Former,
         block: Option<&Block>,
         used: Used,
     ) -> Result<Answer, Stop>
+        requires { LeadsBack ledger former self.old.client.ledger }
         ensures ok { IfOk result (λ a. IsSynced N.accepts N.callers self.old ledger used
             (text_of a) self.new) }
         ensures err { IfErr result (IsStopped N.accepts N.callers (IsSynced N.accepts N.callers
@@ -234,7 +238,7 @@ impl<N: PoolName> Conversation<N> {
         let Ok(room) = shared.prepare(memory, ROOM, adopting(&ledger, block)) else {
             return Err(Stop::NoMemory);
         };
-        match self.client.go_on(rt, &shared.pool, ledger) {
+        match self.client.go_on(rt, &shared.pool, ledger, former) {
             Ok(asked) => {
                 forget_used(&mut self.staged, used, &asked);
                 finish(
@@ -249,6 +253,26 @@ impl<N: PoolName> Conversation<N> {
             }
             Err(stop) => Err(stop),
         }
+    }
+
+    // Adopts a new ledger state. The one before it is stored whole.
+    fn adopt<V: Verifier>(
+        &mut self,
+        rt: &impl Wait,
+        shared: &Shared<N, V>,
+        memory: Memory,
+        ledger: Ledger,
+        used: Used,
+    ) -> Result<Answer, Stop>
+        ensures ok { IfOk result (λ a. IsSynced N.accepts N.callers self.old ledger used
+            (text_of a) self.new) }
+        ensures err { IfErr result (IsStopped N.accepts N.callers (IsSynced N.accepts N.callers
+            self.old ledger used) self.old self.new) }
+    {
+        let Ok(before) = self.client.ledger().share() else {
+            return Err(Stop::NoMemory);
+        };
+        self.go_on(rt, shared, memory, ledger, Former::Whole(before), None, used)
     }
 
     // Adopts the ledger state after the block.
@@ -269,8 +293,8 @@ impl<N: PoolName> Conversation<N> {
         let (signatures, ledger) = (client.signatures(), client.ledger());
         match extend(memory, &self.names, signatures, ledger, block) {
             Ok(Extended::To(applied)) => {
-                let AppliedBlock { ledger, undo: _ } = applied;
-                self.go_on(rt, shared, memory, ledger, Some(block), used)
+                let AppliedBlock { ledger, undo } = applied;
+                self.go_on(rt, shared, memory, ledger, Former::Block(undo), Some(block), used)
             }
             Ok(Extended::Refused(text)) => {
                 self.client.count_adopt();
@@ -357,7 +381,7 @@ impl<N: PoolName> Conversation<N> {
         else {
             return Err(Stop::NoMemory);
         };
-        self.go_on(rt, shared, memory, ledger, None, Used::Outputs(none))
+        self.adopt(rt, shared, memory, ledger, Used::Outputs(none))
     }
 
     // Adopts the ledger state this many steps ago, which is given.
@@ -369,7 +393,7 @@ impl<N: PoolName> Conversation<N> {
         count: usize,
         ledger: Ledger,
     ) -> Result<Answer, Stop>
-        requires { count ≤ length self.old.client.former }
+        requires { state_back self.old.client.former self.old.client.ledger count ≡ Some ledger }
         ensures ok { IfOk result (λ a. IsReturned N.accepts N.callers self.old count
             (Some ledger) (text_of a) self.new) }
         ensures err { IfErr result (IsStopped N.accepts N.callers (IsReturned N.accepts N.callers
@@ -400,7 +424,7 @@ impl<N: PoolName> Conversation<N> {
             self.old count None (text_of a) self.new) }
         ensures err { IfErr result (λ stop. (stop ≡ stops.NoMemory) × (self.new ≡ self.old)) }
     {
-        match back_refused_line(memory, self.client.former().len() as u64) {
+        match back_refused_line(memory, self.client.kept_back() as u64) {
             Ok(text) => {
                 self.client.count_back();
                 Ok(Answer::Line(text))
@@ -410,7 +434,6 @@ impl<N: PoolName> Conversation<N> {
     }
 
     // Adopts the ledger state this many steps ago, or answers how many are kept.
-    #[tactic(auto, using(crate::proofs::Backs::kept_within))]
     fn return_by<V: Verifier>(
         &mut self,
         rt: &impl Wait,
@@ -426,7 +449,7 @@ impl<N: PoolName> Conversation<N> {
             self.old self.new) }
     {
         let count = count as usize;
-        match self.client.state_back(count) {
+        match self.client.state_back(memory, count) {
             Ok(Some(ledger)) => self.go_back(rt, shared, memory, count, ledger),
             Ok(None) => self.refuse_back(memory),
             Err(_) => Err(Stop::NoMemory),
@@ -613,7 +636,7 @@ impl<N: PoolName> Conversation<N> {
                 let Ok(ledger) = ledger_at(memory, &self.settings, ledger) else {
                     return Err(Stop::NoMemory);
                 };
-                self.go_on(rt, shared, memory, ledger, None, Used::Nothing)
+                self.adopt(rt, shared, memory, ledger, Used::Nothing)
             }
             Line::Blank => unreachable!(),
             Line::Sets(_) => unreachable!(),
