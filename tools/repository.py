@@ -1,4 +1,4 @@
-"""What the files of the repository say, for the programs of this folder: crates.txt, the words of refusals, and options of scenarios."""
+"""What the files of the repository say, for the programs of this folder: crates.txt, words of lines and refusals, and options of scenarios."""
 
 import os
 import re
@@ -6,10 +6,26 @@ import shutil
 import sys
 from importlib.machinery import SourceFileLoader
 from importlib.util import module_from_spec, spec_from_loader
+from typing import NamedTuple
 
 TOP = os.path.dirname(os.path.dirname(os.path.abspath(__file__)))
 # The folders of a crate that the prover reads.
 SOURCES = ("src", "specs", "proofs")
+ANSWER_TEXT = "crates/mp_answers/specs/AnswerText.antt"
+RULES = "crates/mp_rules/specs"
+
+
+class Rule(NamedTuple):
+    """A rule of validity, as the specs have it: its number, the fault of a transaction that breaks it, and the word of that."""
+
+    number: int
+    fault: str
+    word: str
+
+
+def read(path):
+    with open(f"{TOP}/{path}", encoding="utf-8") as file:
+        return file.read()
 
 
 def read_crates():
@@ -26,9 +42,45 @@ def read_crates():
 
 def read_refusal_words():
     """Returns the words of refusals, in the order of the specs. That of an allocation failure is never answered."""
-    with open(f"{TOP}/crates/mp_answers/specs/AnswerText.antt", encoding="utf-8") as file:
-        words = re.search(r"^refusal_words =((?:\s+(?:∷ )?codes \S+)+)", file.read(), re.M)[1]
+    words = re.search(r"^refusal_words =((?:\s+(?:∷ )?codes \S+)+)", read(ANSWER_TEXT), re.M)[1]
     return re.findall(r'codes "(\S+)"', words)
+
+
+def read_rules():
+    """Returns the rules of validity, in the order in which they are checked."""
+    validity = read(f"{RULES}/Validity.antt")
+    order = re.findall(r"\w+", re.search(r"^rules =((?:\s+(?:∷ )?\w+)+)", validity, re.M)[1])
+    numbers = {rule: int(number) for rule, number in re.findall(r"^row (\w+) = record \{\s+number = (\d+);", validity, re.M)}
+    of = re.findall(r"^rule_of \(?rule\.(\w+).* = Some (\w+)$", read(f"{RULES}/FirstFault.antt"), re.M)
+    faults = {rule: fault for fault, rule in of}
+    words = read_refusal_words()
+    places = [int(place) for place in re.findall(r"\d+", re.search(r"^rule_places = (.*) ∷ \[\]$", read(ANSWER_TEXT), re.M)[1])]
+    return [Rule(numbers[rule], faults[rule], words[places[numbers[rule] - 1]]) for rule in order]
+
+
+def read_details():
+    """Returns for the word of each refusal which texts come after it, as number_text, policy_text or token_text."""
+    answers, words = read(ANSWER_TEXT), read_refusal_words()
+    places = {name: int(place) for name, place in re.findall(r"^refusal_place \(?refusals\.(\w+).* = (\d+)$", answers, re.M)}
+    told = {f"refusals.{name}": words[place] for name, place in places.items()}
+    told |= {f"rules.{rule.fault}": rule.word for rule in read_rules()}
+    texts = re.findall(r"^told_of_\w+ names \(?((?:refusals|rules)\.\w+).* = (.*)$", answers, re.M)
+    return {told[name]: re.findall(r"\w+_text", text) for name, text in texts if name in told}
+
+
+def read_first_words(path):
+    """Returns the words with which the lines begin whose forms are in a file."""
+    return re.findall(r'^    word: b"(\w+)",$', read(path), re.M)
+
+
+def read_scenario_words():
+    """Returns the first words of the lines of scenarios."""
+    return read_first_words("crates/mp_lines/src/forms.rt") + read_first_words("crates/mp_lines/src/query.rt")
+
+
+def read_talk_words():
+    """Returns the first words of the lines of conversations, among which are those of scenarios."""
+    return list(dict.fromkeys(read_scenario_words() + read_first_words("crates/mp_serve/src/ask.rt")))
 
 
 def read_flags(name):

@@ -61,6 +61,7 @@ class Speaker(RandomTalk):
     def __init__(self, rng: Random, talk: Talk, known: Known, makers: dict[bytes, Speaker]) -> None:
         super().__init__(rng, checked=False)
         self.talk, self.known, self.makers = talk, known, makers
+        self.rounds: list[int] = []  # The round of each line.
         self.had_names_since = 0  # How many lines there were at the last reset.
         factors = SELDOM_OF_OPERATOR if self.is_operator else SELDOM_OF_CLIENT
         self.weights = [weight * factors.get(kind.__name__, 1) for weight, (kind, _) in zip(self.weights, self.KINDS)]
@@ -89,6 +90,10 @@ class Speaker(RandomTalk):
             self._make_room()
         else:
             kind(self)
+
+    def note_round(self, number: int) -> None:
+        """Has the new lines be in this round."""
+        self.rounds += [number] * (len(self.lines) - len(self.rounds))
 
     @property
     def is_operator(self) -> bool:
@@ -171,30 +176,29 @@ class Gathering:
         assert pool
         self.speakers = [self.operator]
         self.speakers += [Speaker(rng, ClientTalk(is_key_then_id, pool), known, makers) for _ in range(clients)]
-        self.rounds: list[list[int]] = [[] for _ in self.speakers]
-        self._note_round(0)
+        self.operator.note_round(0)
         self._let_all_speak(length)
 
     def _let_all_speak(self, length: int) -> None:
         in_round = len(self.speakers) * (self.rng.choice(LINES_IN_ROUND) or length)
         while (said := sum(len(one.lines) for one in self.speakers)) < length:
-            self._next_speaker(said).speak()
-            self._note_round(said // in_round)
+            speaker = self._next_speaker(said)
+            speaker.speak()
+            speaker.note_round(said // in_round)
         for one in self.speakers:
             one.say("stats")
-        self._note_round(length // in_round)
+            one.note_round(length // in_round)
 
     @property
     def lines(self) -> list[list[bytes]]:
         return [one.lines for one in self.speakers]
+
+    @property
+    def rounds(self) -> list[list[int]]:
+        return [one.rounds for one in self.speakers]
 
     def _next_speaker(self, said: int) -> Speaker:
         chosen = self.rng.choice(self.speakers)
         if len(chosen.lines) * len(self.speakers) <= said + MOST_AHEAD * len(self.speakers):
             return chosen
         return min(self.speakers, key=lambda one: len(one.lines))
-
-    def _note_round(self, number: int) -> None:
-        """Has the new lines be in this round."""
-        for rounds, one in zip(self.rounds, self.speakers):
-            rounds += [number] * (len(one.lines) - len(rounds))

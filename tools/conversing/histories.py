@@ -4,12 +4,11 @@ from __future__ import annotations
 
 from collections import defaultdict
 
-from .orders import Contradiction, Heard
+from .orders import CHANGES, Contradiction, Heard, first_word
 from .rules import Verifier
 from .talk import LONGEST_CLEAN, Bad, Talk
 
-# The first words of lines that may change the pool, and of the answers to those that did.
-CHANGES = (b"submit", b"give", b"remove", b"sync", b"adopt", b"back")
+# The first words of the answers to lines that changed the pool.
 MADE = ("accepted", "removed", "kept")
 # A ticket follows the first word.
 OF_ACCEPTED = 2
@@ -60,7 +59,7 @@ def _hear(talk: Talk, line: bytes) -> str:
 
 
 def _is_change(line: bytes, answer: str) -> bool:
-    return line.split()[:1] != [] and line.split()[0] in CHANGES and answer.split(" ")[0] in MADE
+    return answer.split(" ", 1)[0] in MADE and first_word(line) in CHANGES
 
 
 def _without_id(answer: str) -> str:

@@ -306,7 +306,7 @@ class RandomTalk:
     def new_plan(self, tries: tuple[int, ...] = (0, 0, 3)) -> Plan:
         """Plans a transaction, now and then upon what the pool has spent; with tries, the first that is valid."""
         unspent = self.unspent() if self.chance(0.88) else self.ledger()
-        planner = Planner(self.rng, self.known, unspent, self.named_refs(), self.tick())
+        planner = Planner(self.rng, self.known, unspent, self.named_refs, self.tick())
         plan = planner.plan()
         for _ in range(self.rng.choice(tries)):
             parts = plan.signed()
@@ -533,9 +533,10 @@ class RandomTalk:
     def output_words(self, refs: list[Ref]) -> list[str]:
         """Names the outputs that a ledger state may have."""
         words = []
+        speller = Speller(self.rng, self.names)
         for ref in refs:
             try:
-                word = Speller(self.rng, self.names).reference(ref)
+                word = speller.reference(ref)
                 self.names.there(word)
             except NoWords:
                 continue

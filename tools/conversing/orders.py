@@ -3,7 +3,7 @@
 from __future__ import annotations
 
 from bisect import bisect_left, bisect_right
-from collections import deque
+from collections import Counter, deque
 from copy import copy
 from typing import Any, NamedTuple
 
@@ -12,6 +12,8 @@ from .pool import Pool
 from .rules import Verifier
 from .talk import Talk, fits
 
+# The first words of lines that may change the pool.
+CHANGES = ("submit", "give", "remove", "sync", "adopt", "back")
 # After so many orders that contradict some answer no other one is tried.
 MOST_TRIES = 20_000
 # So much of a line or an answer is told.
@@ -42,7 +44,7 @@ class Entry(NamedTuple):
 
 
 def first_word(line: bytes) -> str:
-    return (line.decode("latin-1").split() or [""])[0]
+    return (line.decode("latin-1").split(maxsplit=1) or [""])[0]
 
 
 def changes_of(heard: Heard, firsts: tuple[str, ...], answered: str) -> list[int]:
@@ -94,13 +96,13 @@ class Follower:
     def save(self) -> tuple[Any, ...]:
         talk = self.talk
         staged = (talk.staged, talk.staged_outputs)
-        return self.next, self.anchor, talk.names.copy(), talk.tells_ids, talk.refused.copy(), talk.lines, talk.offered, staged
+        return self.next, self.anchor, talk.names.copy(), talk.tells_ids, dict(talk.refused), talk.lines, talk.offered, staged
 
     def restore(self, saved: tuple[Any, ...]) -> None:
         talk = self.talk
         self.next, self.anchor, names, talk.tells_ids, refused, talk.lines, talk.offered, staged = saved
         talk.staged, talk.staged_outputs = staged
-        talk.names, talk.refused = names.copy(), refused.copy()
+        talk.names, talk.refused = names.copy(), Counter(refused)
 
     def take_step(self, pool: Pool) -> Pool | None:
         """Goes on by a line if this pool explains its answer, and gives the pool afterwards."""

@@ -7,6 +7,8 @@ import selectors
 import subprocess
 import tempfile
 import time
+from bisect import bisect_right
+from collections import deque
 from collections.abc import Callable
 from pathlib import Path
 from typing import IO, NamedTuple
@@ -29,21 +31,37 @@ class Ends:
 
     def __init__(self, lines: int, answers: int) -> None:
         self.lines, self.answers = lines, answers
-        self.unsent, self.unfinished = b"", b""
+        self.waiting: deque[bytes] = deque()  # Lines that no chunk has yet.
+        self.chunk = b""  # What is left of the lines that are being written.
+        self.unfinished = b""
         self.got: list[str] = []
         for end in (lines, answers):
             os.set_blocking(end, False)
 
-    def write(self) -> None:
+    def write(self) -> bool:
+        """Writes what the program takes, and returns whether anything is left to write."""
+        if not self.chunk:
+            self.chunk = self._next_chunk()
         try:
-            self.unsent = self.unsent[os.write(self.lines, self.unsent[:CHUNK]) :]
+            self.chunk = self.chunk[os.write(self.lines, self.chunk) :]
         except BlockingIOError:
-            return
+            pass
         except BrokenPipeError:
-            self.unsent = b""
+            self.waiting.clear()
+            self.chunk = b""
+        return bool(self.chunk or self.waiting)
+
+    def _next_chunk(self) -> bytes:
+        """Takes the next lines, at least a chunk of them if there are so many."""
+        taken: list[bytes] = []
+        size = 0
+        while self.waiting and size < CHUNK:
+            taken.append(self.waiting.popleft() + b"\n")
+            size += len(taken[-1])
+        return b"".join(taken)
 
     def read(self) -> bool:
-        """Reads what has come, and says whether more may come."""
+        """Reads what has come, and returns whether more may come."""
         try:
             text = os.read(self.answers, CHUNK)
         except BlockingIOError:
@@ -82,13 +100,16 @@ class Conversations:
 
     def hold(self, lines: list[list[bytes]], rounds: list[list[int]]) -> str:
         """Sends the lines round by round, ends all conversations, the operator's last, and gives what went wrong."""
+        sent = [0] * len(lines)
         for number in range(max(of[-1] for of in rounds) + 1):
-            for one, own, of in zip(self.ends, lines, rounds):
-                one.unsent += b"".join(line + b"\n" for line, at in zip(own, of) if at == number)
+            # A round has a conversation's lines up to here: rounds never decrease.
+            wanted = [bisect_right(of, number) for of in rounds]
+            for one, own, start, end in zip(self.ends, lines, sent, wanted):
+                one.waiting.extend(own[start:end])
                 self._watch_lines(one)
-            wanted = [sum(at <= number for at in of) for of in rounds]
             if fault := self._wait(lambda: all(len(one.got) >= count for one, count in zip(self.ends, wanted))):
                 return fault
+            sent = wanted
         operator, *clients = self.ends
         for one in clients:
             one.end_lines()
@@ -99,9 +120,8 @@ class Conversations:
         return self._wait(lambda: not self.selector.get_map())
 
     def _watch_lines(self, one: Ends) -> None:
-        """Has the lines of a conversation written."""
-        one.write()
-        if one.unsent:
+        """Has the lines of a conversation written. After too many answers the lines before may still be unwritten."""
+        if one.write() and one.lines not in self.selector.get_map():
             self.selector.register(one.lines, selectors.EVENT_WRITE, one.write)
 
     def _wait(self, is_done: Callable[[], bool]) -> str:
@@ -117,12 +137,11 @@ class Conversations:
 
     def _serve(self, key: selectors.SelectorKey) -> None:
         """Writes to a file, or reads from it."""
-        more = key.data()
-        if key.events == selectors.EVENT_READ and not more:
-            self.selector.unregister(key.fileobj)
+        if key.data():
+            return
+        self.selector.unregister(key.fileobj)
+        if key.events == selectors.EVENT_READ:
             os.close(key.fd)
-        elif key.events == selectors.EVENT_WRITE and not key.data.__self__.unsent:
-            self.selector.unregister(key.fileobj)
 
     def _anything_left(self) -> bool:
         """Reads what an ended program has written."""

@@ -3,6 +3,7 @@
 from __future__ import annotations
 
 from collections.abc import Callable
+from functools import cached_property
 from hashlib import sha256
 from random import Random
 from typing import NamedTuple
@@ -13,7 +14,7 @@ from .data import Datum
 from .rules import Unspent
 from .scripts import Script
 from .transactions import LAST_TICK, Input, Output, Parts, Ref, Tx, in_order, of_parts, sign
-from .words import Bad, Declared, Names, Opening
+from .words import Bad, Names, Opening
 
 NAMES = [b"", b"", b"gold", b"gold", b"a", b"9", b"z" * 32]
 ODD_TOKENS = [b"\x00", b"G", b"a.b", b"\xff" * 32, b" ", b"a\nok"]
@@ -67,8 +68,9 @@ class Known:
 class Planner:
     """Plans transactions upon what may be spent at a tick."""
 
-    def __init__(self, rng: Random, known: Known, unspent: Unspent, others: list[Ref], tick: int) -> None:
-        self.rng, self.known, self.unspent, self.others, self.tick = rng, known, unspent, others, tick
+    def __init__(self, rng: Random, known: Known, unspent: Unspent, find_others: Callable[[], list[Ref]], tick: int) -> None:
+        """Other references are found only when a plan needs one."""
+        self.rng, self.known, self.unspent, self.find_others, self.tick = rng, known, unspent, find_others, tick
 
     def chance(self, probability: float) -> bool:
         return self.rng.random() < probability
@@ -189,8 +191,9 @@ class Planner:
         return list(signs.items())
 
     def _other_ref(self) -> Ref:
-        missing = [ref for ref in self.others if ref not in self.unspent]
-        return self.rng.choice(missing if missing and self.chance(0.8) else self.others)
+        others = self.find_others()
+        missing = [ref for ref in others if ref not in self.unspent]
+        return self.rng.choice(missing if missing and self.chance(0.8) else others)
 
     def _without_inputs(self, plan: Plan) -> Plan:
         return plan._replace(parts=plan.parts._replace(inputs=[]))
@@ -271,10 +274,18 @@ class NoWords(Exception):
 
 
 class Speller:
-    """Finds the items of a line that declare a plan."""
+    """Finds the items of a line that declare a plan. The names must stay as they are."""
 
     def __init__(self, rng: Random, names: Names) -> None:
         self.rng, self.names = rng, names
+
+    @cached_property
+    def names_of(self) -> dict[Ref | bytes, list[str]]:
+        """The names of opening outputs by their references, and those of transactions by their ids."""
+        found: dict[Ref | bytes, list[str]] = {}
+        for name, one in self.names.others.items():
+            found.setdefault(one.ref if isinstance(one, Opening) else one.tx.id, []).append(name)
+        return found
 
     def items(self, plan: Plan) -> list[str]:
         parts = plan.parts
@@ -311,8 +322,7 @@ class Speller:
         return self._any([name for name, one in self.names.data.items() if one.octets == datum.octets])
 
     def reference(self, ref: Ref) -> str:
-        openings = [name for name, one in self.names.others.items() if isinstance(one, Opening) and one.ref == ref]
-        txs = [name for name, one in self.names.others.items() if isinstance(one, Declared) and one.tx.id == ref.id]
+        openings, txs = self.names_of.get(ref, []), self.names_of.get(ref.id, [])
         return self._any(openings + [f"{name}.{self.number(ref.place)}" for name in txs])
 
     def input(self, one: Input) -> str:

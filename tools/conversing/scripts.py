@@ -3,6 +3,7 @@
 from __future__ import annotations
 
 from collections.abc import Callable
+from functools import lru_cache
 from hashlib import sha256
 from typing import NamedTuple
 
@@ -12,6 +13,8 @@ from .data import Datum
 MOST_OPERATORS = 1024
 DEEPEST = 64
 LEAST_NUMBER, GREATEST_NUMBER = -(2**127), 2**127 - 1
+# Conversations repeat their scripts. `decode` keeps so many results.
+MOST_CACHED = 2048
 
 # How many operands each operator has.
 OPERANDS = {
@@ -69,6 +72,7 @@ class View(NamedTuple):
     own: Own | None
 
 
+@lru_cache(MOST_CACHED)
 def decode(octets: bytes) -> Script:
     """Reads the script that the bytes spell."""
     operators: list[Operator] = []

@@ -8,12 +8,11 @@ from copy import copy
 from random import Random
 
 from .clients import OF_OPERATOR, ClientTalk, OperatorTalk
-from .orders import Heard, first_word
+from .orders import CHANGES, Heard, first_word
 from .pool import Item, Pool
 from .rules import Verifier
 from .talk import Talk
 
-CHANGES = ("submit", "give", "remove", "sync", "adopt", "back")
 # A read may be of the pool as it was so many changes ago.
 MOST_STALE = 40
 

@@ -5,6 +5,8 @@ from __future__ import annotations
 from collections.abc import Callable
 from random import Random
 
+from repository import read_talk_words
+
 from . import data, expressions
 from .transactions import Field, Parts, Signature, of_number, sign, spell_body, spell_signatures
 
@@ -16,12 +18,7 @@ NUMBERS = [
     "549755813889", "9223372036854775807", "9223372036854775808", "-9223372036854775807", "18446744073709551615",
     "18446744073709551616", "00000000000000000001", "000000000000000000001", "0000000000000000001", "1e3", "0x1",
 ]  # fmt: skip
-FIRST_WORDS = [
-    "block", "limit", "last", "tick", "out", "utxo", "script", "data", "tx", "bytes", "give", "stage", "unstage", "ids", "names", "reset", "show", "check", "submit", "remove",
-    "sync",
-    "adopt", "back", "forget", "snapshot", "stats", "after", "lookup", "has", "take", "forge", "offer", "for", "Submit",
-    "submits", "end", "help", "exit",
-]  # fmt: skip
+FIRST_WORDS = [*read_talk_words(), "Submit", "submits", "end", "help", "exit"]
 DIGITS = ["0", "01", "0G", "00", "010", "030000", "03 0000", "0x01", "01,", "0A", "0a", "Ab", "030000030000"]
 REFS = [
     "0" * 64 + "#9", "a" * 64 + "#0", "A" * 64 + "#0", "a" * 63 + "#0", "a" * 65 + "#0", "a" * 64, "a" * 64 + "#", "#0",

@@ -43,6 +43,7 @@ from .words import (
 from . import data, scripts
 
 LONGEST_CLEAN = 4096
+CLEAN = bytes(range(0x20, 0x7F))  # The bytes that a line may have.
 # The longest line of the language has an output that fills a transaction: stage utxo ID#INDEX HEX, with an index of 20 digits.
 LONGEST_LINE = len("stage utxo ") + 64 + len("#") + 20 + len(" ") + 2 * (MOST_BYTES - 27)
 # In the order of `stats`. Only a conversation that shares its pool answers that this has made as many changes as it may.
@@ -179,7 +180,7 @@ class Talk:
         return answer
 
     def _answer(self, line: bytes) -> str:
-        if len(line) > LONGEST_LINE or any(not 0x20 <= byte <= 0x7E for byte in line):
+        if len(line) > LONGEST_LINE or line.translate(None, delete=CLEAN):
             raise Bad
         first, *words = line.decode().split() or [""]
         if len(line) > LONGEST_CLEAN and first not in self.LONGER:
@@ -383,7 +384,8 @@ class Talk:
     def _sync(self, word: str, *words: str) -> str:
         tick, block_bytes, refs = self._state_words(word, words)
         if refs != ("staged",) or isinstance(self.names.others.get("staged"), Opening):
-            return tell_two("kept", *self._opened().sync(self._ledger_state(word, words)))
+            ledger = self._ledger_state(word, words)  # A bad word doesn't open the pool.
+            return tell_two("kept", *self._opened().sync(ledger))
         answer = tell_two("kept", *self._opened().sync(LedgerState(tick, block_bytes, self.staged_outputs)))
         self.staged_outputs = {}
         return answer

@@ -4,11 +4,9 @@ from __future__ import annotations
 
 from collections import Counter
 
-from repository import read_refusal_words
+from repository import read_refusal_words, read_rules
 
 REFUSALS = [word for word in read_refusal_words() if word not in ("history", "memory")]
-# What a block can't be refused for.
-OF_POOLS = ("tickets", "already", "full")
 FAULTS = [
     "truncated", "trailing", "version", "order", "bundle", "script", "data", "interval", "large", "spent", "references",
 ]  # fmt: skip
@@ -21,7 +19,7 @@ KINDS = [
     *(f"undecodable {name}" for name in FAULTS),
     *(f"refused {name}" for name in REFUSALS),
     "refused back",
-    *(f"refused adopt {name}" for name in REFUSALS if name not in OF_POOLS),
+    *(f"refused adopt {rule.word}" for rule in read_rules()),
 ]
 
 

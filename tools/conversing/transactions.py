@@ -143,7 +143,7 @@ def spell_signatures(signatures: list[Signature]) -> Iterator[Field]:
 
 
 def join(fields: Iterator[Field]) -> bytes:
-    return b"".join(field.octets for field in fields)
+    return b"".join([field.octets for field in fields])
 
 
 def spell(parts: Parts) -> bytes:
@@ -182,10 +182,11 @@ def of_parts(parts: Parts) -> Tx:
         raise NoTransaction
     if max(len(refs), len(parts.references), len(parts.outputs)) > MOST_PARTS:
         raise NoTransaction
-    octets = spell(parts)
+    body = join(spell_body(parts))
+    octets = body + join(spell_signatures(parts.signatures))
     if len(octets) > MOST_BYTES:
         raise NoTransaction
-    return Tx(parts, octets, id_of(parts))
+    return Tx(parts, octets, sha256(body).digest())
 
 
 class Reader:

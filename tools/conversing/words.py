@@ -65,9 +65,14 @@ def name(word: str) -> str:
 
 
 def octets(word: str) -> bytes:
-    if not re.fullmatch("([0-9a-fA-F]{2})+", word):
+    try:
+        found = bytes.fromhex(word)
+    except ValueError:
+        raise Bad from None
+    # Blanks between bytes are skipped, but not allowed here.
+    if not found or len(word) != 2 * len(found):
         raise Bad
-    return bytes.fromhex(word)
+    return found
 
 
 def id_in(word: str) -> bytes | None:

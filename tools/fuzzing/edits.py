@@ -2,15 +2,16 @@
 
 import re
 
+from repository import read_scenario_words
+
 LONGEST_LINE = 4096
 EDGES = [
     *(0, 1, 2, 255, 256, 65_535, 65_536, 2**32, 2**32 + 1, 2**39, 2**39 + 1),
     *(2**63 - 1, 2**63, 2**64 - 1, 2**64, 2**64 + 1, 10**19, 10**20 - 1, 10**20),
 ]
-WORDS = (
-    b"submit remove sync snapshot after lookup has take forge offer for tx out script data block limit last tick none in=g0 ref=g0 "
-    b"out=1 out=- out=1,1*coin sign=255 sign=256 badsign=0 from=0 to=0 forge=- forge=1*yes policy=yes policy=coin block=1 block=0 # coin "
-    b"yes no unit 01 00 030000 1*yes.gold@no/unit out=5@ @ / : . , * = - -1 -0 +1 0x1 a.0 A \t \x7f"
+WORDS = [word.encode() for word in read_scenario_words()] + (
+    b"none in=g0 ref=g0 out=1 out=- out=1,1*coin sign=255 sign=256 badsign=0 from=0 to=0 forge=- forge=1*yes policy=yes policy=coin "
+    b"block=1 block=0 # coin yes no unit 01 00 030000 1*yes.gold@no/unit out=5@ @ / : . , * = - -1 -0 +1 0x1 a.0 A \t \x7f"
 ).split(b" ")
 
 

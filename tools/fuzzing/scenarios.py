@@ -6,11 +6,12 @@ compared with it.
 
 from fuzzing.scripts import TICK_TOP, UNIT, Need, make_datum, pick_condition, pick_plain_condition
 from fuzzing.transactions import COIN, FLAWS, QUANTITY_TOP, Output, Tx, draft_valid, spoil
+from repository import read_scenario_words
 
 LONGEST_LINE = 4096
 
 # Names that are words of the language.
-WORDS = "submit remove sync snapshot after lookup has take forge offer for tx out script data block limit last tick none yes no".split()
+WORDS = [*read_scenario_words(), "none", "yes", "no"]
 
 
 class Scene:

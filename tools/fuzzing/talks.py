@@ -6,8 +6,9 @@ from conversing import rules
 from conversing.lines import RandomTalk
 from conversing.talk import REFUSALS, Talk
 from conversing.tally import FAULTS
-from fuzzing.accounts import split_words
+from fuzzing.accounts import ANSWERS, split_words
 from fuzzing.edits import list_lines
+from repository import read_details, read_rules, read_scenario_words
 
 # The model takes time in proportion to the lines and to what the pool holds.
 MOST_MODELLED = 40_000
@@ -48,15 +49,17 @@ TX = f"(?:{NAME}|{HEX}{{64}})"
 POLICY = f"(?:{NAME}|#{HEX}{{64}})"
 TICKETS, ITEMS = f"(?: {NUMBER})*", f"(?: {NUMBER}:{TX})*"
 TWO_LISTS = f"{TICKETS} dropped{TICKETS}"
-RULE = (
-    f"(?:no-inputs|interval|(?:negative|missing|reference|address|datum|taken|signature|validator|policy-script) {NUMBER}"
-    f"|no-policy {POLICY}|unbalanced {POLICY}(?:\\.(?:[a-z0-9]+|#{HEX}+))?)"
-)
-SUBMITTED = f"(?:accepted {NUMBER}|refused (?:tickets|already {NUMBER}|full {NUMBER} {NUMBER}|{RULE}))"
+# What the specs call the texts that come after the word of a refusal.
+DETAILS = {"number_text": NUMBER, "policy_text": POLICY, "token_text": f"{POLICY}(?:\\.(?:[a-z0-9]+|#{HEX}+))?"}
+# By the word of a refusal.
+REFUSAL_FORMS = {word: " ".join([word, *(DETAILS[text] for text in texts)]) for word, texts in read_details().items()}
+RULE = f"(?:{'|'.join(REFUSAL_FORMS[rule.word] for rule in read_rules())})"
+OF_SUBMITS = [form for word, form in REFUSAL_FORMS.items() if word not in ("history", "memory")]
+SUBMITTED = f"(?:accepted {NUMBER}|refused (?:{'|'.join(OF_SUBMITS)}))"
 UNDECODABLE = f"undecodable (?:{'|'.join(FAULTS)})"
 # The answers to a line by its first word, unless it is bad: lines of scenarios, and those that only a conversation takes.
 FORMS = {
-    **dict.fromkeys(["block", "limit", "last", "tick", "script", "data", "out", "tx"], "ok"),
+    **{word: "ok" for word in read_scenario_words() if word.encode() not in ANSWERS},
     "submit": SUBMITTED,
     "remove": f"removed{TWO_LISTS}",
     "sync": f"kept{TWO_LISTS}",

@@ -7,9 +7,12 @@ import os
 import signal
 import socket
 import sys
+import threading
 from pathlib import Path
 from typing import Any
+from unittest import mock
 
+from keltuvar_gateway import keeper
 from keltuvar_gateway.gateway import Gateway, NoStart
 from keltuvar_gateway.state import BadFile, State, read_state, write_state
 
@@ -84,6 +87,33 @@ class Files(GatewayCase):
         with self.assertRaises(OSError):
             write_state(self.state, State(transactions=[b"b"]))
         self.assertEqual(read_state(self.state, whole=True), before)
+
+    async def test_a_save_that_is_broken_off(self) -> None:
+        """The next save begins only when its thread has ended."""
+        begun, go_on = threading.Event(), threading.Event()
+        at_once: list[int] = []
+
+        def write_slowly(path: str, state: State) -> None:
+            at_once.append(len(at_once))
+            begun.set()
+            self.assertTrue(go_on.wait(LONG))
+            write_state(path, state)
+            at_once.pop()
+
+        gateway = await self.start()
+        with mock.patch.object(keeper, "write_state", write_slowly):
+            first = asyncio.create_task(gateway._keeper.save())
+            await asyncio.to_thread(begun.wait, LONG)
+            first.cancel()
+            second = asyncio.create_task(gateway._keeper.save())
+            await asyncio.sleep(0.2)
+            self.assertEqual(at_once, [0])
+            go_on.set()
+            self.assertEqual(await second, 0)
+        with self.assertRaises(asyncio.CancelledError):
+            await first
+        self.assertFalse(os.path.exists(f"{self.state}.new"))
+        read_state(self.state, whole=True)
 
     async def test_no_program(self) -> None:
         with self.assertRaisesRegex(NoStart, "No such file"):

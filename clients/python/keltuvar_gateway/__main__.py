@@ -5,9 +5,20 @@ from __future__ import annotations
 import asyncio
 import logging
 import sys
-from collections.abc import Sequence
+from collections.abc import Coroutine, Sequence
+from typing import Any
 
 from .options import read_options
+
+
+def _run(gateway: Coroutine[Any, Any, int]) -> int:
+    """Runs the gateway, on the faster event loop of python3-uvloop where that is installed."""
+    try:
+        import uvloop
+    except ImportError:
+        return asyncio.run(gateway)
+    uvloop.install()
+    return asyncio.run(gateway)
 
 
 def main(arguments: Sequence[str] | None = None) -> int:
@@ -29,7 +40,7 @@ def main(arguments: Sequence[str] | None = None) -> int:
     logging.getLogger("aiohttp").setLevel(logging.CRITICAL)
     allow_files(options.limits)
     try:
-        return asyncio.run(run(options))
+        return _run(run(options))
     except NoStart as error:
         print(f"keltuvar-gateway: {error}", file=sys.stderr)
         return 1

@@ -27,6 +27,7 @@ class Keeper:
         self._pool, self._path = pool, path
         self._program: Program | None = None
         self._saving = asyncio.Lock()
+        self._writing: set[asyncio.Task[int]] = set()
         self.counts: Counter[str] = Counter()
         """How often each happened: `starts`, `saved`, `failed`."""
 
@@ -63,13 +64,21 @@ class Keeper:
         """
         if self._path is None:
             raise FileNotFoundError(2, "the gateway was started without --state")
+        # If the caller is cancelled, the thread still writes.
+        # The next save has to wait for its end.
+        writing = asyncio.create_task(self._write(self._path))
+        self._writing.add(writing)
+        writing.add_done_callback(self._writing.discard)
+        return await asyncio.shield(writing)
+
+    async def _write(self, path: str) -> int:
         async with self._saving:
             state = self._pool.copy_state()
             try:
-                await asyncio.to_thread(write_state, self._path, state)
+                await asyncio.to_thread(write_state, path, state)
             except OSError as error:
                 self.counts["failed"] += 1
-                _LOG.error("%s can't be written: %s", self._path, error.strerror)
+                _LOG.error("%s can't be written: %s", path, error.strerror)
                 raise
             self.counts["saved"] += 1
             return len(state.transactions)

@@ -1,5 +1,5 @@
 -- The line that a command writes.
-use Rattle.std.specs.Prelude.{ℕ, ◌+◌, List, [], ◌∷◌, ◌++◌, length, flat_map, slice_index, slice_index_or, decimal, codes, if◌then◌else◌, Result, Ok, Err}
+use Rattle.std.specs.Prelude.{ℕ, ◌-◌, List, [], ◌∷◌, ◌++◌, length, flat_map, slice_index, slice_index_or, decimal, codes, if◌then◌else◌, Result, Ok, Err}
 use Rattle.std.specs.List.{list_all}
 use Rattle.hex.specs.Hex.{encode_lower}
 use Rattle.mp_text.specs.Names.{is_letter_or_digit}
@@ -41,7 +41,7 @@ abbrev pub token_text : Names → List ℕ → List ℕ → List ℕ
 token_text names policy [] = policy_text names policy
 token_text names policy (byte ∷ bytes) = policy_text names policy ++ 46 ∷ token_name_text (byte ∷ bytes)
 
--- the words of refusals; those of rules are in the order of the rules' numbers
+-- the words of refusals, in the order in which counts of refusals are reported
 abbrev pub refusal_words : List (List ℕ)
 refusal_words =
     codes "history"
@@ -67,9 +67,13 @@ refusal_words =
 abbrev pub word_at : List (List ℕ) → ℕ → List ℕ
 word_at words place = slice_index_or words place []
 
+-- the indices of the rules' words, by the rules' numbers from 1
+abbrev pub rule_places : List ℕ
+rule_places = 4 ∷ 5 ∷ 6 ∷ 7 ∷ 8 ∷ 17 ∷ 9 ∷ 10 ∷ 11 ∷ 12 ∷ 13 ∷ 14 ∷ 15 ∷ 16 ∷ []
+
 -- the index of a rule's word
 abbrev pub rule_place : Invalid → ℕ
-rule_place fault = 3 + number fault
+rule_place fault = slice_index rule_places (number fault - 1)
 
 -- the index of a refusal's word
 abbrev pub refusal_place : Refusal → ℕ

@@ -11,9 +11,8 @@ use crate::words::{put_number, put_word};
 use mp_memory::{Memory, NoMemory};
 use mp_names::Names;
 use mp_seqpool::{Answer, Refusal, Reply};
+use mp_text::Text;
 use mp_tx::TxId;
-
-type Text = Vec<u8, Memory>;
 
 // The capacity for the line of an accepted submit, in bytes.
 const ACCEPTED_ROOM: usize = 32;

@@ -12,10 +12,9 @@ use crate::words::{put_number, put_word};
 use mp_memory::{Memory, NoMemory};
 use mp_names::Names;
 use mp_seqpool::Item;
+use mp_text::Text;
 use mp_tx::{Tx, TxId};
 use std::sync::Arc;
-
-type Text = Vec<u8, Memory>;
 
 /// Appends each byte of an id as two digits. It allocates only their space in the text.
 pub fn put_id(text: &mut Text, id: &TxId) -> Result<(), NoMemory>

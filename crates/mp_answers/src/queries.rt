@@ -17,11 +17,10 @@ use mp_lines::Query;
 use mp_memory::{Memory, NoMemory};
 use mp_names::Names;
 use mp_seqpool::{Item, SeqPool, ValidatedTx, Verifier};
+use mp_text::Text;
 use mp_tickets::{Iter, Tickets};
 use mp_tx::{Ledger, Tx};
 use std::sync::Arc;
-
-type Text = Vec<u8, Memory>;
 
 // Items of a pool, and the total number of their bytes.
 struct Found {

@@ -8,14 +8,12 @@ use mp_bundle::{PolicyId, TokenName};
 use mp_memory::{Memory, NoMemory};
 use mp_names::Names;
 use mp_seqpool::{Invalid, Refusal};
-use mp_text::are_letters_or_digits;
-
-type Text = Vec<u8, Memory>;
+use mp_text::{Text, are_letters_or_digits};
 
 /// The number of kinds of refusals.
 pub const REFUSALS: usize = 18;
 
-/// The words of refusals. Those of rules are in the order of the rules' numbers.
+/// The words of refusals, in the order in which counts of refusals are reported.
 pub const REFUSAL_WORDS: [&[u8]; REFUSALS] = [
     b"history",
     b"tickets",
@@ -36,6 +34,9 @@ pub const REFUSAL_WORDS: [&[u8]; REFUSALS] = [
     b"policy-script",
     b"reference",
 ];
+
+// The indices of the rules' words, by the rules' numbers from 1.
+const RULE_PLACES: [usize; 14] = [4, 5, 6, 7, 8, 17, 9, 10, 11, 12, 13, 14, 15, 16];
 
 // Appends a number sign and the hexadecimal digits of the bytes.
 fn put_hex(memory: Memory, text: &mut Text, bytes: &[u8]) -> Result<(), NoMemory>
@@ -127,7 +128,7 @@ fn rule_place(fault: &Invalid) -> usize
     ensures place { result ≡ rule_place fault.now }
     ensures least { result < 18 }
 {
-    3 + fault.number() as usize
+    RULE_PLACES[fault.number() as usize - 1]
 }
 
 /// The index of the refusal's word in `REFUSAL_WORDS`.

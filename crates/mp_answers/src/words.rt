@@ -4,9 +4,8 @@ ghost use Rattle.std.specs.Prelude.{◌≡◌, ◌++◌, OnOk};
 ghost use Rattle.mp_answers.specs.AnswerText.{number_text};
 
 use itoa::Buffer;
-use mp_memory::{Memory, NoMemory};
-
-type Text = Vec<u8, Memory>;
+use mp_memory::NoMemory;
+use mp_text::Text;
 
 /// Appends a space and the number.
 pub fn put_number(text: &mut Text, number: u64) -> Result<(), NoMemory>

@@ -5,11 +5,11 @@
 #![tactic(auto)]
 
 mod blocks;
+mod endurance;
 mod measurement;
 mod round;
 mod samples;
 mod shared;
-mod trial;
 mod verifier;
 
 use anyhow::{Context, Result, bail, ensure};
@@ -152,7 +152,7 @@ fn words<R: Env + AllocGlobal>(rt: &R) -> Result<Vec<String>> {
     Ok(words)
 }
 
-fn obey<R: Clock + Threads + Wait + Print + Files + AllocGlobal + Sync>(
+fn measure<R: Clock + Threads + Wait + Print + Files + AllocGlobal + Sync>(
     rt: &R,
     memory: Memory,
     words: &[String],
@@ -166,13 +166,13 @@ fn obey<R: Clock + Threads + Wait + Print + Files + AllocGlobal + Sync>(
             ensure!(taken > 0, "no measurement has this name");
         }
         "mempool-hour" => {
-            trial::run(rt, memory, numbers(words, [1, 3_600, 64])?)?;
+            endurance::run(rt, memory, numbers(words, [1, 3_600, 64])?)?;
         }
         "mempool-soak" => {
-            trial::soak_pool(rt, memory, numbers(words, SOAK)?, false)?;
+            endurance::soak_pool(rt, memory, numbers(words, SOAK)?, false)?;
         }
         "mempool-soak-held" => {
-            trial::soak_pool(rt, memory, numbers(words, SOAK)?, true)?;
+            endurance::soak_pool(rt, memory, numbers(words, SOAK)?, true)?;
         }
         _ => bail!("expected nothing, 'run', 'mempool-hour' or 'mempool-soak'"),
     }
@@ -182,5 +182,5 @@ fn obey<R: Clock + Threads + Wait + Print + Files + AllocGlobal + Sync>(
 fn main(rt: HostRuntime) -> Result<()> {
     let memory = Memory::new(rt.alloc())?;
     let words = words(&rt)?;
-    obey(&rt, memory, &words)
+    measure(&rt, memory, &words)
 }

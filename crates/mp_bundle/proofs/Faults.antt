@@ -15,12 +15,12 @@ use Rattle.mp_bundle.specs.declared.fault.BundleFault.{BundleFault}
 use Rattle.mp_bundle.specs.declared.fault.BundleFault.TheVariants.{NoMemory, NotRising, ZeroQuantity, NameTooLong, QuantityRange}
 use Rattle.mp_bundle.specs.declared.token.Token.{Token}
 use Rattle.mp_bundle.specs.Token.{token_cmp}
-use Rattle.mp_bundle.specs.Bundle.{Entry, IsWithin, IsEntry, IsBundle}
+use Rattle.mp_bundle.specs.Bundle.{TokenEntry, IsWithin, IsEntry, IsBundle}
 use Rattle.mp_bundle.specs.BundleFault.{Given, entries_of, follows, is_out_of_range, entry_fault, fault_after, fault_of, IsFaultOf}
 use Rattle.mp_bundle.proofs.Tokens.{token_total}
 use Rattle.mp_bundle.proofs.Search.{less}
 
-pub is_fault : (entries : List Entry) (fault : BundleFault) → fault_of entries ≡ Some fault → IsFaultOf entries fault
+pub is_fault : (entries : List TokenEntry) (fault : BundleFault) → fault_of entries ≡ Some fault → IsFaultOf entries fault
 is_fault entries NoMemory e = tt
 is_fault entries NotRising e = e
 is_fault entries ZeroQuantity e = e
@@ -28,7 +28,7 @@ is_fault entries NameTooLong e = e
 is_fault entries QuantityRange e = e
 
 -- a token that is less than one below all is itself below all
-pub below_from_less : (a b : Token) (es : List Entry) → token_cmp a b ≡ Less → below_all token_cmp b es ≡ true → below_all token_cmp a es ≡ true
+pub below_from_less : (a b : Token) (es : List TokenEntry) → token_cmp a b ≡ Less → below_all token_cmp b es ≡ true → below_all token_cmp a es ≡ true
 below_from_less a b [] h below = refl
 below_from_less a b (e ∷ es) h below =
     both_true (ap is_lt (token_total.trans a b e.0 h (less _ (first_so _ _ below)))) (below_from_less a b es h (second_so _ _ below))
@@ -49,7 +49,7 @@ not_out_of_range : (n : ℤ) → IsWithin (2 ^ 63 - 1) n → is_out_of_range n �
 unfolding is_out_of_range
 not_out_of_range n h = grind (arith, ints)
 
-pub fine : (before : Option Token) (e : Entry) → entry_fault before e ≡ None → record { follows : follows before e.0 ≡ true; entry : IsEntry e }
+pub fine : (before : Option Token) (e : TokenEntry) → entry_fault before e ≡ None → record { follows : follows before e.0 ≡ true; entry : IsEntry e }
 fine before e h =
     let t = no_test (follows before e.0) (int_eq e.1 (pos 0)) (nat_lt 32 (length e.0.name)) (is_out_of_range e.1) h in
     record {
@@ -65,19 +65,19 @@ pub first_none : {X : Type 0} (a b : Option X) → option_or a b ≡ None → (a
 first_none None b h = (refl, h)
 first_none (Some x) b h = Prim.cc
 
-abbrev all_follow : Option Token → List Entry → Bool
+abbrev all_follow : Option Token → List TokenEntry → Bool
 all_follow None es = true
 all_follow (Some before) es = below_all token_cmp before es
 
-record IsClean (before : Option Token) (es : List Entry) : Type 0 where
+record IsClean (before : Option Token) (es : List TokenEntry) : Type 0 where
   after : all_follow before es ≡ true
   bundle : IsBundle es
 
-all_after : (before : Option Token) (e : Entry) (es : List Entry) → follows before e.0 ≡ true → below_all token_cmp e.0 es ≡ true → all_follow before (e ∷ es) ≡ true
+all_after : (before : Option Token) (e : TokenEntry) (es : List TokenEntry) → follows before e.0 ≡ true → below_all token_cmp e.0 es ≡ true → all_follow before (e ∷ es) ≡ true
 all_after None e es h below = refl
 all_after (Some b) e es h below = both_true h (below_from_less b e.0 es (less _ h) below)
 
-clean : (before : Option Token) (es : List Entry) → fault_after before es ≡ None → IsClean before es
+clean : (before : Option Token) (es : List TokenEntry) → fault_after before es ≡ None → IsClean before es
 clean None [] h = record { after = refl; bundle = record { rising = refl; each = tt } }
 clean (Some b) [] h = record { after = refl; bundle = record { rising = refl; each = tt } }
 clean before (e ∷ es) h =
@@ -89,7 +89,7 @@ clean before (e ∷ es) h =
       bundle = record { rising = both_true rest.after rest.bundle.rising; each = (here.entry, rest.bundle.each) };
     }
 
-pub bundle_from_none : (es : List Entry) → fault_of es ≡ None → IsBundle es
+pub bundle_from_none : (es : List TokenEntry) → fault_of es ≡ None → IsBundle es
 bundle_from_none es h = (clean None es h).bundle
 
 pub not_true : (b : Bool) → (b ≢ true) → b ≡ false
@@ -99,25 +99,25 @@ not_true false h = refl
 failed : (a b c d : Bool) → a ≡ true → b ≡ false → c ≡ false → d ≡ false → cond (not a) (Some NotRising) (cond b (Some ZeroQuantity) (cond c (Some NameTooLong) (cond d (Some QuantityRange) None))) ≡ None
 failed a b c d p q r s = λ i. cond (not (p i)) (Some NotRising) (cond (q i) (Some ZeroQuantity) (cond (r i) (Some NameTooLong) (cond (s i) (Some QuantityRange) None)))
 
-follows_first : (before : Option Token) (e : Entry) (es : List Entry) → all_follow before (e ∷ es) ≡ true → follows before e.0 ≡ true
+follows_first : (before : Option Token) (e : TokenEntry) (es : List TokenEntry) → all_follow before (e ∷ es) ≡ true → follows before e.0 ≡ true
 follows_first None e es h = refl
 follows_first (Some b) e es h = first_so _ _ h
 
-no_fault_here : (before : Option Token) (e : Entry) → follows before e.0 ≡ true → IsEntry e → entry_fault before e ≡ None
+no_fault_here : (before : Option Token) (e : TokenEntry) → follows before e.0 ≡ true → IsEntry e → entry_fault before e ≡ None
 no_fault_here before e h is =
     let z : int_eq e.1 (pos 0) ≡ false = not_true _ (λ t. is.nonzero ((signed_Decides e.1 (pos 0)).0 t)) in
     let s : nat_lt 32 (length e.0.name) ≡ false = let l = is.short in grind (arith, nat_tests) in
     let w = not_out_of_range e.1 is.within in
     failed _ _ _ _ h z s w
 
-no_fault_after : (before : Option Token) (es : List Entry) → all_follow before es ≡ true → IsBundle es → fault_after before es ≡ None
+no_fault_after : (before : Option Token) (es : List TokenEntry) → all_follow before es ≡ true → IsBundle es → fault_after before es ≡ None
 no_fault_after before [] after is = refl
 no_fault_after before (e ∷ es) after is =
     let here = no_fault_here before e (follows_first before e es after) is.each.0 in
     let rest = no_fault_after (Some e.0) es (first_so _ _ is.rising) (record { rising = second_so _ _ is.rising; each = is.each.1 }) in
     ap (λ o. option_or o (fault_after (Some e.0) es)) here ∙ rest
 
-pub none_from_bundle : (es : List Entry) → IsBundle es → fault_of es ≡ None
+pub none_from_bundle : (es : List TokenEntry) → IsBundle es → fault_of es ≡ None
 none_from_bundle es is = no_fault_after None es refl is
 
 -- the names that are given with a bundle's entries are short

@@ -14,7 +14,7 @@ use Rattle.std.proofs.lemmas.List.Sorted.{sum_by-IsPermutation}
 use Rattle.std.proofs.lemmas.List.Sums.{sum_by-cons}
 use Rattle.mp_bundle.specs.declared.token.Token.{Token}
 use Rattle.mp_bundle.specs.Token.{token_cmp}
-use Rattle.mp_bundle.specs.Bundle.{Entry, IsEntry, quantity_of}
+use Rattle.mp_bundle.specs.Bundle.{TokenEntry, IsEntry, quantity_of}
 use Rattle.mp_bundle.specs.Sum.{Sum, nothing, total_of, total_over, AddsAll, AreAlike, IsFirstDifference}
 use Rattle.mp_bundle.specs.Laws.{FaultlessIsBundle, QuantitiesDetermine, TotalIsSum, OneMore, OrderIsFree, DifferencesAreFound}
 use Rattle.mp_bundle.proofs.Tokens.{token_total, token_exact}
@@ -30,7 +30,7 @@ as_test b e = subst T (sym e) tt
 apart : (n : ℤ) → (n ≢ pos 0) → int_eq n (pos 0) ≡ false
 apart n h = not_true _ (λ e. h ((signed_Decides n (pos 0)).0 e))
 
-found_nonzero : (es : List Entry) (q : Token) (n : ℤ) → AllByRecursion IsEntry es → find token_cmp q es ≡ Some n → n ≢ pos 0
+found_nonzero : (es : List TokenEntry) (q : Token) (n : ℤ) → AllByRecursion IsEntry es → find token_cmp q es ≡ Some n → n ≢ pos 0
 found_nonzero [] q n each e = Prim.cc
 found_nonzero (x ∷ es) q n each e =
     elim (eq_by_cmp token_cmp q x.0) as (λ b. cond b (Some x.1) (find token_cmp q es) ≡ Some n → n ≢ pos 0) [
@@ -39,11 +39,11 @@ found_nonzero (x ∷ es) q n each e =
     ] e
 
 -- if a quantity isn't zero, its token is present
-nonzero_found : (es : List Entry) (q : Token) → AllByRecursion IsEntry es → (o : Option ℤ) → find token_cmp q es ≡ o → find token_cmp q es ≡ cond (int_eq (unwrap_or o (pos 0)) (pos 0)) None (Some (unwrap_or o (pos 0)))
+nonzero_found : (es : List TokenEntry) (q : Token) → AllByRecursion IsEntry es → (o : Option ℤ) → find token_cmp q es ≡ o → find token_cmp q es ≡ cond (int_eq (unwrap_or o (pos 0)) (pos 0)) None (Some (unwrap_or o (pos 0)))
 nonzero_found es q each None e = e
 nonzero_found es q each (Some n) e = e ∙ ap (λ b. cond b None (Some n)) (sym (apart n (found_nonzero es q n each e)))
 
-same_finds : (a b : List Entry) → AllByRecursion IsEntry a → AllByRecursion IsEntry b → ((q : Token) → quantity_of a q ≡ quantity_of b q) → (q : Token) → find token_cmp q a ≡ find token_cmp q b
+same_finds : (a b : List TokenEntry) → AllByRecursion IsEntry a → AllByRecursion IsEntry b → ((q : Token) → quantity_of a q ≡ quantity_of b q) → (q : Token) → find token_cmp q a ≡ find token_cmp q b
 same_finds a b each_a each_b same q =
     nonzero_found a q each_a (find token_cmp q a) refl ∙ ap (λ n. cond (int_eq n (pos 0)) None (Some n)) (same q) ∙ sym (nonzero_found b q each_b (find token_cmp q b) refl)
 
@@ -72,11 +72,11 @@ regroup : (new next old quantity over : ℤ) → new ≡ next +ℤ over → next
 regroup new next old quantity over e f = omega (arith, ints)
 
 -- the total of a sum after bundles is the total before and their quantities
-total_after : (old : Sum) (bundles : List (List Entry)) (new : Sum) → AddsAll old bundles new → (q : Token) → total_of new q ≡ total_of old q +ℤ total_over bundles q
+total_after : (old : Sum) (bundles : List (List TokenEntry)) (new : Sum) → AddsAll old bundles new → (q : Token) → total_of new q ≡ total_of old q +ℤ total_over bundles q
 total_after old [] new is q = ap (λ s. total_of s q) is ∙ nothing_more (total_of old q)
 total_after old (bundle ∷ bundles) new (next, adds, rest) q = regroup _ _ _ _ _ (total_after next bundles new rest q) (adds.totals q)
 
-added_after : (old : Sum) (bundles : List (List Entry)) (new : Sum) → AddsAll old bundles new → new.added ≡ old.added + length bundles
+added_after : (old : Sum) (bundles : List (List TokenEntry)) (new : Sum) → AddsAll old bundles new → new.added ≡ old.added + length bundles
 added_after old [] new is = ap (λ s. s.added) is ∙ omega arith
 added_after old (bundle ∷ bundles) new (next, adds, rest) = let last = added_after next bundles new rest in let first = adds.added in omega arith
 
@@ -89,7 +89,7 @@ total_is_sum bundles sum all = record {
   totals = λ q. from_nothing _ _ _ (total_after nothing bundles sum all q) (no_total q);
 }
 
-over-push : (bundles : List (List Entry)) (bundle : List Entry) (q : Token) → total_over (bundles ++ bundle ∷ []) q ≡ total_over bundles q +ℤ quantity_of bundle q
+over-push : (bundles : List (List TokenEntry)) (bundle : List TokenEntry) (q : Token) → total_over (bundles ++ bundle ∷ []) q ≡ total_over bundles q +ℤ quantity_of bundle q
 over-push [] bundle q = swapped (quantity_of bundle q)
 over-push (first ∷ bundles) bundle q = moved (quantity_of first q) (total_over bundles q) (quantity_of bundle q) _ (over-push bundles bundle q)
 
@@ -112,13 +112,13 @@ above-below : (n : ℤ) → n +ℤ pos (below n) ≡ pos (above n)
 above-below (pos n) = omega (arith, ints)
 above-below (negsuc n) = omega (arith, ints)
 
-over-above : (bundles : List (List Entry)) (q : Token) → total_over bundles q +ℤ pos (sum_by (λ b. below (quantity_of b q)) bundles) ≡ pos (sum_by (λ b. above (quantity_of b q)) bundles)
+over-above : (bundles : List (List TokenEntry)) (q : Token) → total_over bundles q +ℤ pos (sum_by (λ b. below (quantity_of b q)) bundles) ≡ pos (sum_by (λ b. above (quantity_of b q)) bundles)
 over-above [] q = omega (arith, ints)
 over-above (bundle ∷ bundles) q =
     both_sums (quantity_of bundle q) (total_over bundles q) (below (quantity_of bundle q)) (above (quantity_of bundle q)) _ _ _ _ (above-below (quantity_of bundle q)) (over-above bundles q)
     (sum_by-cons (λ b. below (quantity_of b q)) bundle bundles) (sum_by-cons (λ b. above (quantity_of b q)) bundle bundles)
 
-over-permuted : (bundles others : List (List Entry)) (q : Token) → IsPermutation bundles others → total_over bundles q ≡ total_over others q
+over-permuted : (bundles others : List (List TokenEntry)) (q : Token) → IsPermutation bundles others → total_over bundles q ≡ total_over others q
 over-permuted bundles others q h =
     same_rest _ _ _ _ _ _ (over-above bundles q) (over-above others q) (sum_by-IsPermutation (λ b. below (quantity_of b q)) bundles others h) (sum_by-IsPermutation (λ b. above (quantity_of b q)) bundles others h)
 

@@ -11,7 +11,7 @@ use Rattle.std.proofs.lemmas.Int.{ints}
 use Rattle.mp_bundle.specs.declared.sum.Sum.TheInside.{Inside}
 use Rattle.mp_bundle.specs.declared.token.Token.{Token}
 use Rattle.mp_bundle.specs.Token.{coin, token_cmp}
-use Rattle.mp_bundle.specs.Bundle.{Entry, IsEntry, IsBundle, IsWithin, quantity_of, SplitsCoin}
+use Rattle.mp_bundle.specs.Bundle.{TokenEntry, IsEntry, IsBundle, IsWithin, quantity_of, SplitsCoin}
 use Rattle.mp_bundle.specs.Inside.Totals.{KeepsTotals, nonzero_of}
 use Rattle.mp_bundle.specs.Sum.{Adds}
 use Rattle.mp_bundle.specs.Inside.Sum.{totals_of, sum_of, IsHeld}
@@ -19,7 +19,7 @@ use Rattle.mp_bundle.proofs.Search.{long_absent}
 use Rattle.mp_bundle.proofs.Coin.{tied_not_above, none_below, at_coin, past_coin, same_beside, adds_beside}
 use Rattle.mp_bundle.proofs.TotalsLemmas.{total-nonzero, same_nonzero}
 
-each_within : (es : List Entry) (q : Token) → AllByRecursion IsEntry es → IsWithin (2 ^ 63 - 1) (quantity_of es q)
+each_within : (es : List TokenEntry) (q : Token) → AllByRecursion IsEntry es → IsWithin (2 ^ 63 - 1) (quantity_of es q)
 each_within [] q each = record { least = omega (arith, ints); greatest = omega (arith, ints) }
 each_within (e ∷ es) q each = elim (eq_by_cmp token_cmp q e.0) as (λ b. IsWithin (2 ^ 63 - 1) (unwrap_or (cond b (Some e.1) (find token_cmp q es)) (pos 0))) [
   | true ↦ each.0.within
@@ -52,7 +52,7 @@ module _ (s : Inside) (n : BTreeMap Token ℤ) (kept : IsHeld s) (same : KeepsTo
     above = λ q low. same.same q ∙ kept.above q low;
   }
 
-  module _ (es : List Entry) (bundle : IsBundle es) (few : s.added < 2 ^ 32) (k : ℤ) (os : List Entry) (parts : SplitsCoin es k os) where
+  module _ (es : List TokenEntry) (bundle : IsBundle es) (few : s.added < 2 ^ 32) (k : ℤ) (os : List TokenEntry) (parts : SplitsCoin es k os) where
     next_within : (q : Token) → IsWithin ((s.added + 1) * (2 ^ 63 - 1)) (quantity_of (totals_of s) q +ℤ quantity_of es q)
     next_within q = one_more s.added _ _ (kept.within q) (each_within es q bundle.each)
 

@@ -19,13 +19,13 @@ use Rattle.std.proofs.lemmas.Map.Keys.{sorted_head, sorted_tail}
 use Rattle.std.proofs.lemmas.List.Elements.{All-more}
 use Rattle.mp_bundle.specs.declared.token.Token.{Token}
 use Rattle.mp_bundle.specs.Token.{token_cmp}
-use Rattle.mp_bundle.specs.Bundle.{Entry, quantity_of}
+use Rattle.mp_bundle.specs.Bundle.{TokenEntry, quantity_of}
 use Rattle.mp_bundle.specs.Inside.Totals.{HasRoom, KeepsTotals, nonzero_of}
 use Rattle.mp_bundle.proofs.Tokens.{token_total, token_exact}
 use Rattle.mp_bundle.proofs.Search.{equal, less}
 
 -- the look-up of a map finds what the entries have
-find-lookup : (es : List Entry) (q : Token) → find token_cmp q es ≡ lookup (is_at (token_cmp q)) es
+find-lookup : (es : List TokenEntry) (q : Token) → find token_cmp q es ≡ lookup (is_at (token_cmp q)) es
 find-lookup [] q = refl
 find-lookup (e ∷ es) q = ap (cond (is_at (token_cmp q) e.0) (Some e.1)) (find-lookup es q)
 
@@ -55,11 +55,11 @@ zero_put old new k none h = record {
 pub kept_on : (a b c : BTreeMap Token ℤ) → KeepsTotals a b → KeepsTotals b c → KeepsTotals a c
 kept_on a b c h k = record { same = λ q. k.same q ∙ h.same q; room = λ q has. k.room q (h.room q has) }
 
-pub room_stays : (a b : BTreeMap Token ℤ) (es : List Entry) → ((q : Token) → ContainsKey token_cmp a q → ContainsKey token_cmp b q) → HasRoom a es → HasRoom b es
+pub room_stays : (a b : BTreeMap Token ℤ) (es : List TokenEntry) → ((q : Token) → ContainsKey token_cmp a q → ContainsKey token_cmp b q) → HasRoom a es → HasRoom b es
 room_stays a b es keeps room k d lt = keeps _ (room k d lt)
 
-pub room_more : (m : BTreeMap Token ℤ) (es : List Entry) (i : ℕ) (e : Entry) → i < length es → e ≡ get_or es i e → HasRoom m (take i es) → ContainsKey token_cmp m e.0 → HasRoom m (take (i + 1) es)
-room_more m es i e lt is room here = All-more (λ (e : Entry). ContainsKey token_cmp m e.0) es i e lt room (subst (λ (x : Entry). ContainsKey token_cmp m x.0) is here)
+pub room_more : (m : BTreeMap Token ℤ) (es : List TokenEntry) (i : ℕ) (e : TokenEntry) → i < length es → e ≡ get_or es i e → HasRoom m (take i es) → ContainsKey token_cmp m e.0 → HasRoom m (take (i + 1) es)
+room_more m es i e lt is room here = All-more (λ (e : TokenEntry). ContainsKey token_cmp m e.0) es i e lt room (subst (λ (x : TokenEntry). ContainsKey token_cmp m x.0) is here)
 
 -- what a write through a token's total does
 pub raised : (old : BTreeMap Token ℤ) (new : ℤ → BTreeMap Token ℤ) (k : Token) → ((w : ℤ) → WritesThrough token_cmp (token_cmp k) old w (new w)) → (total by w : ℤ) → tree.get token_cmp old k ≡ Some total → w ≡ total +ℤ by
@@ -78,12 +78,12 @@ pub raised_room : (old : BTreeMap Token ℤ) (new : ℤ → BTreeMap Token ℤ) 
 raised_room old new k holds total w some = room_after_update old (new w) k w ((holds w).3 (subst IsSome (sym some) refl))
 
 -- a token that is less than all isn't among them
-pub find_below : (es : List Entry) (q : Token) → below_all token_cmp q es ≡ true → find token_cmp q es ≡ None
+pub find_below : (es : List TokenEntry) (q : Token) → below_all token_cmp q es ≡ true → find token_cmp q es ≡ None
 find_below [] q below = refl
 find_below (e ∷ es) q below = ap (λ o. cond (is_eq o) (Some e.1) (find token_cmp q es)) (less _ (first_so _ _ below)) ∙ find_below es q (second_so _ _ below)
 
 -- the quantity of a token is its quantity in the first entry and in the others
-quantity-cons : (e : Entry) (es : List Entry) (q : Token) → is_sorted token_cmp (e ∷ es) ≡ true → quantity_of (e ∷ es) q ≡ cond (eq_by_cmp token_cmp e.0 q) e.1 (pos 0) +ℤ quantity_of es q
+quantity-cons : (e : TokenEntry) (es : List TokenEntry) (q : Token) → is_sorted token_cmp (e ∷ es) ≡ true → quantity_of (e ∷ es) q ≡ cond (eq_by_cmp token_cmp e.0 q) e.1 (pos 0) +ℤ quantity_of es q
 quantity-cons e es q rising =
     ap (λ b. unwrap_or (cond b (Some e.1) (find token_cmp q es)) (pos 0)) ((eq_by_cmp_equiv token_total).symm q e.0)
     ∙ elim (eq_by_cmp token_cmp e.0 q) as (λ b. eq_by_cmp token_cmp e.0 q ≡ b → unwrap_or (cond b (Some e.1) (find token_cmp q es)) (pos 0) ≡ cond b e.1 (pos 0) +ℤ quantity_of es q) [
@@ -93,12 +93,12 @@ quantity-cons e es q rising =
       | false ↦ λ same. omega (arith, ints)
     ] refl
 
-pub sorted_drop : (es : List Entry) (i : ℕ) → is_sorted token_cmp es ≡ true → is_sorted token_cmp (drop i es) ≡ true
+pub sorted_drop : (es : List TokenEntry) (i : ℕ) → is_sorted token_cmp es ≡ true → is_sorted token_cmp (drop i es) ≡ true
 sorted_drop es zero h = h
 sorted_drop [] (suc i) h = refl
 sorted_drop (e ∷ es) (suc i) h = sorted_drop es i (second_so _ _ h)
 
-pub quantity-drop : (es : List Entry) (i : ℕ) (e : Entry) → is_sorted token_cmp es ≡ true → i < length es → e ≡ get_or es i e → (q : Token) → quantity_of (drop i es) q ≡ cond (eq_by_cmp token_cmp e.0 q) e.1 (pos 0) +ℤ quantity_of (drop (i + 1) es) q
+pub quantity-drop : (es : List TokenEntry) (i : ℕ) (e : TokenEntry) → is_sorted token_cmp es ≡ true → i < length es → e ≡ get_or es i e → (q : Token) → quantity_of (drop i es) q ≡ cond (eq_by_cmp token_cmp e.0 q) e.1 (pos 0) +ℤ quantity_of (drop (i + 1) es) q
 quantity-drop es i e rising lt is q =
     let split : drop i es ≡ e ∷ drop (i + 1) es = drop-cons es i e lt ∙ ap (λ x. x ∷ drop (suc i) es) (sym is) ∙ ap (λ n. e ∷ drop n es) (sym (add-one i)) in
     ap (λ xs. quantity_of xs q) split ∙ quantity-cons e (drop (i + 1) es) q (subst (λ xs. is_sorted token_cmp xs ≡ true) split (sorted_drop es i rising))
@@ -107,7 +107,7 @@ quantity-drop es i e rising lt is q =
 abbrev some_nonzero : ℤ → Option ℤ
 some_nonzero n = cond (int_eq n (pos 0)) None (Some n)
 
-get-nonzero : (es : List Entry) (q : Token) → get (nonzero_of es) q ≡ some_nonzero (quantity_of es q)
+get-nonzero : (es : List TokenEntry) (q : Token) → get (nonzero_of es) q ≡ some_nonzero (quantity_of es q)
 get-nonzero [] q = get-empty token_cmp q
 get-nonzero (e ∷ es) q =
     elim (int_eq e.1 (pos 0)) as (λ z. int_eq e.1 (pos 0) ≡ z → get (cond z (remove (nonzero_of es) e.0) (insert (nonzero_of es) e.0 e.1)) q ≡ some_nonzero (quantity_of (e ∷ es) q)) [
@@ -130,18 +130,18 @@ value_of_nonzero n = elim (int_eq n (pos 0)) as (λ z. int_eq n (pos 0) ≡ z �
 ] refl
 
 -- the totals that aren't zero determine all totals
-pub total-nonzero : (es : List Entry) (q : Token) → unwrap_or (get (nonzero_of es) q) (pos 0) ≡ quantity_of es q
+pub total-nonzero : (es : List TokenEntry) (q : Token) → unwrap_or (get (nonzero_of es) q) (pos 0) ≡ quantity_of es q
 total-nonzero es q = ap (λ o. unwrap_or o (pos 0)) (get-nonzero es q) ∙ value_of_nonzero (quantity_of es q)
 
-pub same_nonzero : (es fs : List Entry) → ((q : Token) → quantity_of es q ≡ quantity_of fs q) → nonzero_of es ≡ nonzero_of fs
+pub same_nonzero : (es fs : List TokenEntry) → ((q : Token) → quantity_of es q ≡ quantity_of fs q) → nonzero_of es ≡ nonzero_of fs
 same_nonzero es fs h = same_map token_total token_exact _ _ (λ q. get-nonzero es q ∙ ap some_nonzero (h q) ∙ sym (get-nonzero fs q))
 
 -- the entries of a map are in strictly increasing order
-lower_all : (k : Token) (es : List Entry) → AllByRecursion (λ q. token_cmp k q ≡ Less) (keys_of es) → below_all token_cmp k es ≡ true
+lower_all : (k : Token) (es : List TokenEntry) → AllByRecursion (λ q. token_cmp k q ≡ Less) (keys_of es) → below_all token_cmp k es ≡ true
 lower_all k [] h = refl
 lower_all k (e ∷ es) h = ap (λ o. is_lt o && below_all token_cmp k es) h.0 ∙ lower_all k es h.1
 
-pub rising_entries : (es : List Entry) → IsStrictlySortedBy token_cmp (keys_of es) → is_sorted token_cmp es ≡ true
+pub rising_entries : (es : List TokenEntry) → IsStrictlySortedBy token_cmp (keys_of es) → is_sorted token_cmp es ≡ true
 rising_entries [] h = refl
 rising_entries (e ∷ es) h = ap (λ b. b && is_sorted token_cmp es) (lower_all e.0 es (sorted_head token_cmp e.0 (keys_of es) h)) ∙ rising_entries es (sorted_tail token_cmp e.0 (keys_of es) h)
 
@@ -150,7 +150,7 @@ none_from_is_some None h = refl
 none_from_is_some (Some x) h = Prim.cc
 
 -- the first remaining entry has its quantity
-pub first_quantity : (es : List Entry) (i : ℕ) (e : Entry) → is_sorted token_cmp es ≡ true → i < length es → e ≡ get_or es i e → quantity_of (drop i es) e.0 ≡ e.1
+pub first_quantity : (es : List TokenEntry) (i : ℕ) (e : TokenEntry) → is_sorted token_cmp es ≡ true → i < length es → e ≡ get_or es i e → quantity_of (drop i es) e.0 ≡ e.1
 first_quantity es i e rising lt is =
     let split : drop i es ≡ e ∷ drop (i + 1) es = drop-cons es i e lt ∙ ap (λ x. x ∷ drop (suc i) es) (sym is) ∙ ap (λ n. e ∷ drop n es) (sym (add-one i)) in
     ap (λ xs. quantity_of xs e.0) split ∙ ap (λ o. unwrap_or (cond (is_eq o) (Some e.1) (find token_cmp e.0 (drop (i + 1) es))) (pos 0)) (tied_itself token_total e.0)

@@ -4,12 +4,12 @@ use Rattle.std.specs.Ordering.{int_eq}
 use Rattle.std.specs.Cmp.{IsEquivalence, on_equiv, and_equiv, int_eq_equiv}
 use Rattle.std.specs.Cmp.Lexicographic.{pointwise, lists_equiv, nat_list_eq_equiv}
 use Rattle.mp_bundle.specs.Token.{same_token}
-use Rattle.mp_bundle.specs.Bundle.{Entry}
+use Rattle.mp_bundle.specs.Bundle.{TokenEntry}
 
-abbrev pub same_entry : Entry → Entry → Bool
+abbrev pub same_entry : TokenEntry → TokenEntry → Bool
 same_entry a b = same_token a.0 b.0 && int_eq a.1 b.1
 
-abbrev pub same_entries : List Entry → List Entry → Bool
+abbrev pub same_entries : List TokenEntry → List TokenEntry → Bool
 same_entries xs ys = pointwise same_entry xs ys
 
 same_token_equiv : IsEquivalence same_token

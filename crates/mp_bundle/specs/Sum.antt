@@ -6,7 +6,7 @@ use Rattle.std.specs.FinMap as finite
 use Rattle.std.specs.declared.cmp.Ordering.TheVariants.{Less}
 use Rattle.mp_bundle.specs.declared.token.Token.{Token}
 use Rattle.mp_bundle.specs.Token.{token, token_cmp}
-use Rattle.mp_bundle.specs.Bundle.{Entry, quantity_of}
+use Rattle.mp_bundle.specs.Bundle.{TokenEntry, quantity_of}
 
 -- how many bundles were added, and the totals that aren't zero
 pub record Sum : Type 0 where
@@ -22,22 +22,22 @@ abbrev pub total_of : Sum → Token → ℤ
 total_of sum token = unwrap_or (get sum.nonzero token) (pos 0)
 
 -- new is old with one more bundle
-pub record Adds (old : Sum) (bundle : List Entry) (new : Sum) : Type 0 where
+pub record Adds (old : Sum) (bundle : List TokenEntry) (new : Sum) : Type 0 where
   pub added : new.added ≡ old.added + 1
   pub totals : (token : Token) → total_of new token ≡ total_of old token +ℤ quantity_of bundle token
 
 -- new is old with bundles added, one after the other
-abbrev pub AddsAll : Sum → List (List Entry) → Sum → Type 0
+abbrev pub AddsAll : Sum → List (List TokenEntry) → Sum → Type 0
 AddsAll old [] new = new ≡ old
 AddsAll old (bundle ∷ bundles) new = (next : Sum) × Adds old bundle next × AddsAll next bundles new
 
 -- the sum of a token's quantities
-abbrev pub total_over : List (List Entry) → Token → ℤ
+abbrev pub total_over : List (List TokenEntry) → Token → ℤ
 total_over [] token = pos 0
 total_over (bundle ∷ bundles) token = quantity_of bundle token +ℤ total_over bundles token
 
 -- what it means to be the sum of these bundles
-pub record IsSumOf (bundles : List (List Entry)) (sum : Sum) : Type 0 where
+pub record IsSumOf (bundles : List (List TokenEntry)) (sum : Sum) : Type 0 where
   pub added : sum.added ≡ length bundles
   pub totals : (token : Token) → total_of sum token ≡ total_over bundles token
 

@@ -5,7 +5,7 @@ ghost use Rattle.mp_bundle.specs.Bundle.{with_coin};
 ghost use Rattle.mp_bundle.specs.BundleFault.{fault_of};
 ghost use Rattle.mp_bundle.specs.Inside.Bundle.{entries_in, IsParted};
 
-use crate::entry::{Entry, Given, first_fault, quantity_at, to_entries};
+use crate::entry::{Given, TokenEntry, first_fault, quantity_at, to_entries};
 use crate::fault::BundleFault;
 use crate::token::{PolicyId, Token};
 use mp_memory::{Memory, NoMemory};
@@ -13,7 +13,7 @@ use std::marker::Model;
 use std::sync::Arc;
 
 // Entries that several bundles may share.
-type Shared = Arc<Vec<Entry, Memory>, Memory>;
+type Shared = Arc<Vec<TokenEntry, Memory>, Memory>;
 
 /// A finite map from tokens to quantities. A quantity isn't zero, and is from -(2^63 - 1) to 2^63 - 1. Contracts see
 /// the entries, in strictly increasing order of their tokens. Coin takes no memory. Several owners may share the
@@ -33,9 +33,9 @@ impl Drop for Bundle {
 
 impl Model for Bundle {
     ghost use Rattle.std.specs.Prelude.{List};
-    ghost use Rattle.mp_bundle.specs.Bundle.{Entry};
+    ghost use Rattle.mp_bundle.specs.Bundle.{TokenEntry};
 
-    ghost Value = { List Entry };
+    ghost Value = { List TokenEntry };
 
     ghost use Rattle.mp_bundle.specs.Inside.Bundle.{entries_in, IsParted};
     ghost use Rattle.mp_bundle.specs.Bundle.{with_coin};
@@ -46,7 +46,7 @@ impl Model for Bundle {
 }
 
 // The quantity of coin, and the entries of other tokens.
-fn part_coin(entries: Vec<Entry, Memory>) -> (i64, Vec<Entry, Memory>)
+fn part_coin(entries: Vec<TokenEntry, Memory>) -> (i64, Vec<TokenEntry, Memory>)
     requires { fault_of entries.items ≡ None }
     ensures whole { with_coin result.0 result.1.items ≡ entries.items }
     ensures parted { IsParted result.0 result.1.items }
@@ -61,7 +61,7 @@ fn part_coin(entries: Vec<Entry, Memory>) -> (i64, Vec<Entry, Memory>)
 }
 
 // What a bundle stores for the entries of other tokens.
-fn to_shared(memory: Memory, entries: Vec<Entry, Memory>) -> Result<Option<Shared>, NoMemory>
+fn to_shared(memory: Memory, entries: Vec<TokenEntry, Memory>) -> Result<Option<Shared>, NoMemory>
     ensures { IfOk result (λ s. entries_in s ≡ entries.items) }
 {
     if entries.is_empty() {
@@ -110,7 +110,10 @@ impl Bundle {
 
     /// The bundle of entries that have no fault, in their order. It makes one allocation, or none if there are only
     /// entries of coin.
-    pub fn of_faultless(memory: Memory, entries: Vec<Entry, Memory>) -> Result<Bundle, NoMemory>
+    pub fn of_faultless(
+        memory: Memory,
+        entries: Vec<TokenEntry, Memory>,
+    ) -> Result<Bundle, NoMemory>
         requires { fault_of entries.items ≡ None }
         ensures { IfOk result (λ b. b ≡ entries.items) }
     {
@@ -163,7 +166,7 @@ impl Bundle {
     }
 
     /// The other tokens with their quantities, in strictly increasing order.
-    pub fn others(&self) -> &[Entry]
+    pub fn others(&self) -> &[TokenEntry]
         ensures whole { with_coin (quantity_of self.now coin) result.now ≡ self.now }
         ensures split { SplitsCoin self.now (quantity_of self.now coin) result.now }
         ensures bundle { IsBundle self.now }

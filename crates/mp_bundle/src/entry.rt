@@ -14,7 +14,7 @@ use crate::token_name::{MAX_NAME_BYTES, TokenName};
 use mp_memory::{Memory, NoMemory};
 
 /// A token and its quantity.
-pub type Entry = (Token, i64);
+pub type TokenEntry = (Token, i64);
 
 /// An entry as it is given: a policy, a name of any length, and a quantity.
 pub type Given = (PolicyId, Vec<u8, Memory>, i64);
@@ -71,7 +71,7 @@ fn token_follows(before: Option<Token>, token: &Token) -> bool
 }
 
 /// Whether an entry may follow one of this token in a bundle, or be the first if there is none.
-pub fn may_follow(before: Option<Token>, entry: &Entry) -> bool
+pub fn may_follow(before: Option<Token>, entry: &TokenEntry) -> bool
     ensures { result ≡ is_none (entry_fault before entry.now) }
 {
     let (token, quantity) = entry;
@@ -96,7 +96,7 @@ pub fn first_fault(given: &[Given]) -> Option<BundleFault>
     None
 }
 
-fn to_entry(given: &Given) -> Entry
+fn to_entry(given: &Given) -> TokenEntry
     requires { length given.now.1.items ≤ 32 }
     ensures { result ≡ entry_of given.now }
 {
@@ -108,7 +108,7 @@ fn to_entry(given: &Given) -> Entry
 }
 
 /// The entries, in one allocation of exactly their number.
-pub fn to_entries(memory: Memory, given: &[Given]) -> Result<Vec<Entry, Memory>, NoMemory>
+pub fn to_entries(memory: Memory, given: &[Given]) -> Result<Vec<TokenEntry, Memory>, NoMemory>
     requires { All (λ g. length g.1.items ≤ 32) given.now }
     ensures { IfOk result (λ entries. entries.items ≡ entries_of given.now) }
 {
@@ -120,7 +120,7 @@ pub fn to_entries(memory: Memory, given: &[Given]) -> Result<Vec<Entry, Memory>,
 }
 
 /// The quantity of a token among entries in strictly increasing order.
-pub fn quantity_at(entries: &[Entry], token: &Token) -> i64
+pub fn quantity_at(entries: &[TokenEntry], token: &Token) -> i64
     requires { IsTrue (is_sorted token_cmp entries.now) }
     ensures { result ≡ quantity_of entries.now token.now }
 {

@@ -12,7 +12,7 @@ mod token_name;
 mod totals;
 
 pub use bundle::Bundle;
-pub use entry::{Entry, Given, may_follow};
+pub use entry::{Given, TokenEntry, may_follow};
 pub use fault::BundleFault;
 pub use sum::Sum;
 pub use token::{COIN, PolicyId, Token};

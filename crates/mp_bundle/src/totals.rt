@@ -9,7 +9,7 @@ ghost use Rattle.mp_bundle.specs.Token.{token_cmp};
 ghost use Rattle.mp_bundle.specs.Bundle.{IsWithin, quantity_of};
 ghost use Rattle.mp_bundle.specs.Inside.Totals.{HasRoom, HasSpan, KeepsRoom, KeepsTotals, RaisesAt, RaisesAll, first_unlike, lesser};
 
-use crate::entry::Entry;
+use crate::entry::TokenEntry;
 use crate::token::Token;
 use mp_memory::{Memory, NoMemory};
 use std::collections::BTreeMap;
@@ -35,7 +35,7 @@ fn make_room_for(totals: &mut Totals, token: &Token) -> Result<(), NoMemory>
 }
 
 /// Makes a total of zero for each token that has none. Only this step takes memory.
-pub fn make_room(totals: &mut Totals, entries: &[Entry]) -> Result<(), NoMemory>
+pub fn make_room(totals: &mut Totals, entries: &[TokenEntry]) -> Result<(), NoMemory>
     ensures kept { KeepsTotals totals.old totals.new }
     ensures room { OnOk result (HasRoom totals.new entries.now) }
 {
@@ -58,7 +58,7 @@ fn raise(totals: &mut Totals, token: &Token, by: i64)
 }
 
 /// Adds to the totals of tokens that have one.
-pub fn raise_all(totals: &mut Totals, entries: &[Entry])
+pub fn raise_all(totals: &mut Totals, entries: &[TokenEntry])
     requires rising { IsTrue (is_sorted token_cmp entries.now) }
     requires room { HasRoom totals.old entries.now }
     requires fits { HasSpan totals.old entries.now }

@@ -30,7 +30,7 @@ impl Model for Digested {
 
 // Nearly every input has the first two, so these take no memory. Several owners may share the others.
 #[derive(Debug, Drop)]
-enum Kept {
+enum Content {
     TrueScript,
     UnitDatum,
     Shared(Arc<Digested, Memory>),
@@ -39,7 +39,7 @@ enum Kept {
 /// Bytes with their SHA-256 digest (FIPS 180-4), which is computed once. Contracts see only the bytes.
 #[derive(Debug)]
 pub struct HashedBytes {
-    kept: Kept,
+    kept: Content,
 }
 
 impl Drop for HashedBytes {
@@ -70,12 +70,12 @@ impl HashedBytes {
     {
         if bytes == TRUE_SCRIPT.as_slice() {
             return Ok(HashedBytes {
-                kept: Kept::TrueScript,
+                kept: Content::TrueScript,
             });
         }
         if bytes == UNIT_DATUM.as_slice() {
             return Ok(HashedBytes {
-                kept: Kept::UnitDatum,
+                kept: Content::UnitDatum,
             });
         }
         let digested = Digested {
@@ -83,7 +83,7 @@ impl HashedBytes {
             hash: digest(bytes),
         };
         Ok(HashedBytes {
-            kept: Kept::Shared(Arc::new(memory, digested)?),
+            kept: Content::Shared(Arc::new(memory, digested)?),
         })
     }
 
@@ -92,9 +92,9 @@ impl HashedBytes {
         ensures { IfOk result (λ kept. kept ≡ self.now) }
     {
         let kept = match &self.kept {
-            Kept::TrueScript => Kept::TrueScript,
-            Kept::UnitDatum => Kept::UnitDatum,
-            Kept::Shared(digested) => Kept::Shared(Arc::try_clone(digested)?),
+            Content::TrueScript => Content::TrueScript,
+            Content::UnitDatum => Content::UnitDatum,
+            Content::Shared(digested) => Content::Shared(Arc::try_clone(digested)?),
         };
         Ok(HashedBytes { kept })
     }
@@ -104,9 +104,9 @@ impl HashedBytes {
         ensures { result.now ≡ self.now }
     {
         match &self.kept {
-            Kept::TrueScript => &TRUE_SCRIPT,
-            Kept::UnitDatum => &UNIT_DATUM,
-            Kept::Shared(digested) => &digested.bytes,
+            Content::TrueScript => &TRUE_SCRIPT,
+            Content::UnitDatum => &UNIT_DATUM,
+            Content::Shared(digested) => &digested.bytes,
         }
     }
 
@@ -116,9 +116,9 @@ impl HashedBytes {
         ensures { result.now ≡ sha256 self.now }
     {
         match &self.kept {
-            Kept::TrueScript => &TRUE_SCRIPT_HASH,
-            Kept::UnitDatum => &UNIT_DATUM_HASH,
-            Kept::Shared(digested) => &digested.hash,
+            Content::TrueScript => &TRUE_SCRIPT_HASH,
+            Content::UnitDatum => &UNIT_DATUM_HASH,
+            Content::Shared(digested) => &digested.hash,
         }
     }
 }

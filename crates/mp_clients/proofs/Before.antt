@@ -1,7 +1,7 @@
 -- The operator's lines before the pool is open.
-use Rattle.std.proofs.Common.{◌≡◌, ◌⊎◌, ℕ, true, false, List, [], ◌∷◌, ◌++◌, inl, inr, refl, sym, ap, subst, ◌∙◌, append-nil}
+use Rattle.std.proofs.Common.{◌≡◌, ◌⊎◌, ℕ, false, List, [], ◌∷◌, ◌++◌, inl, inr, refl, sym, ap, subst, ◌∙◌, append-nil}
 use Rattle.std.specs.Prelude.{Option, None, Some, IfSome, option_map, option_and_then, Result, Ok, Err}
-use Rattle.std.specs.Io.KnownBytes.{Appends, IsAtEnd}
+use Rattle.std.specs.Io.KnownBytes.{IsAtEnd}
 use Rattle.std.specs.Io.BufRead.{drop_through, DropsThrough}
 use Rattle.mp_tx.specs.Transaction.{Transaction}
 use Rattle.mp_tx.specs.Reading.{transaction_of}
@@ -9,12 +9,10 @@ use Rattle.mp_tx.specs.declared.fault.TxFault.{TxFault}
 use Rattle.mp_tx.specs.declared.reference.OutRef.{OutRef}
 use Rattle.mp_tx.specs.declared.output.Output.{Output}
 use Rattle.mp_text.specs.Lines.{lines_of}
-use Rattle.mp_text.specs.LineInput.{IsLine, first_line}
-use Rattle.mp_text.specs.declared.line_input.LineRead.{LineRead}
+use Rattle.mp_text.specs.LineInput.{IsLine}
 use Rattle.mp_text.specs.declared.line_input.LineRead.TheVariants.{Whole}
 use Rattle.mp_names.specs.declared.payment.Payment.{Payment}
 use Rattle.mp_names.specs.declared.settings.Setting.{Setting}
-use Rattle.mp_names.specs.Names.{Names}
 use Rattle.mp_lines.specs.Lines as lines
 use Rattle.mp_session.specs.Beginning.{Beginning, with_out, with_utxo}
 use Rattle.mp_session.specs.Settings.{with_setting}
@@ -25,9 +23,8 @@ use Rattle.mp_session.specs.declared.session.Stage.TheVariants.{Before, Open}
 use Rattle.mp_session.specs.Session.{set_at, output_at, hold_at, declares, with_named, with_beginning}
 use Rattle.mp_serve.specs.ServedPool.{ServedPool}
 use Rattle.mp_serve.specs.declared.conversation.Conversation.{Conversation}
-use Rattle.mp_serve.specs.declared.fault.Fault.TheVariants.{ReadFault}
 use Rattle.mp_serve.specs.Ask as asks
-use Rattle.mp_serve.specs.Ask.{Ask, NewBlock, longest, ask_within, ask_of}
+use Rattle.mp_serve.specs.Ask.{Ask, NewBlock, longest, ask_of}
 use Rattle.mp_serve.specs.Request.{Check}
 use Rattle.mp_serve.specs.Staged.{Staged, add_txs, add_output}
 use Rattle.mp_serve.specs.TxWord.{TxWord, Named, Pooled, tx_held, tx_meant, put_meant}

@@ -1,5 +1,5 @@
 -- Conversations that go on, one for each seat and device.
-use Rattle.std.proofs.Common.{◌≡◌, ℕ, suc, zero, ◌+◌, ◌<◌, List, [], ◌∷◌, ◌++◌, length, slice_index_or, refl, sym, ap, subst, ◌∙◌, arith, append_assoc}
+use Rattle.std.proofs.Common.{◌≡◌, ℕ, suc, ◌+◌, ◌<◌, List, [], ◌∷◌, ◌++◌, length, slice_index_or, refl, sym, ap, subst, ◌∙◌, arith, append_assoc}
 use Rattle.std.specs.Prelude.{Option, None, Some, All, Result, Ok, Err, IfOk}
 use Rattle.std.proofs.lemmas.List.Elements.{All-nil, All-cons, All-head, All-tail}
 use Rattle.mp_rules.specs.Verifier.{Accepts}
@@ -13,7 +13,7 @@ use Rattle.mp_clients.specs.declared.opening.Seat.{Seat}
 use Rattle.mp_clients.specs.declared.service.Finished.{Finished}
 use Rattle.mp_clients.specs.declared.service.Service.{Service}
 use Rattle.mp_clients.specs.Waiting.{line_in, turn_with}
-use Rattle.mp_clients.specs.Service.{IsFinishedFrom, IsFinished, IsServed, AreClientsServed, AreServed}
+use Rattle.mp_clients.specs.Service.{IsFinishedFrom, IsFinished, AreClientsServed, AreServed}
 use Rattle.mp_clients.specs.Inside.Connecting.{IsReady, IsOperator, IsClientOf, AreClientsOf, AreConnected}
 
 -- without devices

@@ -1,6 +1,6 @@
 -- The answer to what is asked, with the pool that the conversation has then seen.
-use Rattle.std.proofs.Common.{◌≡◌, ◌⊎◌, ℕ, true, false, List, inl, inr, refl, sym, ap, subst, ◌∙◌}
-use Rattle.std.specs.Prelude.{Some, None, Result, Ok, Err, IfOk, IfErr}
+use Rattle.std.proofs.Common.{◌≡◌, ◌⊎◌, ℕ, true, List, inl, inr, refl, sym, ap, subst, ◌∙◌}
+use Rattle.std.specs.Prelude.{Some, Result, Ok, Err, IfOk, IfErr}
 use Rattle.mp_rules.specs.Verifier.{Accepts}
 use Rattle.mp_mempool.specs.Pass.{Pass}
 use Rattle.mp_mempool.specs.Seen.{IsSeen}
@@ -14,19 +14,18 @@ use Rattle.mp_serve.specs.Inside.Answer.{text_of}
 use Rattle.mp_serve.specs.declared.conversation.Conversation as alone
 use Rattle.mp_serve.specs.Ask as asks
 use Rattle.mp_serve.specs.Ask.{Ask, NewBlock, Does}
-use Rattle.mp_serve.specs.Request.{Block}
+use Rattle.mp_serve.specs.Request.{ResolvedBlock}
 use Rattle.mp_serve.specs.Served.{IsBadLine}
 use Rattle.mp_serve.specs.Talk.{take}
 use Rattle.mp_serve.specs.declared.used.Used.{Used}
 use Rattle.mp_serve.specs.Texts.{no_memory_text}
 use Rattle.mp_clients.specs.declared.conversation.Conversation.{Conversation}
-use Rattle.mp_clients.specs.declared.stop.Stop.{Stop}
-use Rattle.mp_clients.specs.declared.stop.Stop.TheVariants.{NoMemory, Untold, Foreign}
+use Rattle.mp_clients.specs.declared.stop.ClientStop.{ClientStop}
+use Rattle.mp_clients.specs.declared.stop.ClientStop.TheVariants.{NoMemory, Untold, Foreign}
 use Rattle.mp_clients.specs.Client.{Client}
 use Rattle.mp_clients.specs.Alone.{alone_at}
-use Rattle.mp_clients.specs.Asking.{may_do}
 use Rattle.mp_clients.specs.Answers.{HasLooked, IsAnsweredAlone, IsExtendedBy, IsTaken, IsMeaningless, IsHeard, used_by, with_client}
-use Rattle.mp_clients.specs.Inside.Notes.{is_note, is_change, is_alone}
+use Rattle.mp_clients.specs.Inside.Notes.{is_note, is_alone}
 use Rattle.mp_clients.specs.Inside.Steps.{IsToldAlone, IsBadAlone, IsMeantBlock, IsStopped}
 use Rattle.mp_clients.proofs.Steps.{looked_only, unchanged_more}
 
@@ -64,10 +63,6 @@ module _ {N : Type 0} (accepts : Accepts) (callers : ℕ) (c : Conversation N) w
   taken_alone (asks.ReportsById b) text u e is = is
   taken_alone asks.Resets text u e is = is
 
-  pub heard_taken : (ask : Ask) (r : Result Answer Stop) (u : Conversation N) → IfOk r (λ a. IsTaken accepts callers c ask (text_of a) u) → IfOk r (λ a. IsHeard accepts callers c (Some ask) (text_of a) u)
-  heard_taken ask (Ok a) u is = inl is
-  heard_taken ask (Err stop) u is = tt
-
   module _ (k : Client) (looked : HasLooked accepts callers c.client k) where
     -- the client differs only by what it has seen
     same_alone : alone_at accepts (with_client c k) k.pass.front ≡ alone_at accepts c k.pass.front
@@ -103,14 +98,14 @@ module _ {N : Type 0} (accepts : Accepts) (callers : ℕ) (c : Conversation N) w
     pub noted : (line : lines.Line) (text : List ℕ) (u : Conversation N) → is_note line ≡ true → IsToldAlone accepts (with_client c k) (λ x. take x (Does line)) text u → IsTaken accepts callers c (Does line) text u
     noted line text u e told = taken_note line text u e (answered_alone (Does line) text u told)
 
-    extended_as : (used uses : Used) (block b : Block) (text : List ℕ) (u : Conversation N) → used ≡ uses → block ≡ b
+    extended_as : (used uses : Used) (block b : ResolvedBlock) (text : List ℕ) (u : Conversation N) → used ≡ uses → block ≡ b
         → IsExtendedBy accepts callers (with_client c k) used block text u → IsExtendedBy accepts callers (with_client c k) uses b text u
     extended_as used uses block b text u same is e =
         subst (λ (x : Used). IsExtendedBy accepts callers (with_client c k) x b text u) same
-        (subst (λ (x : Block). IsExtendedBy accepts callers (with_client c k) used x text u) is e)
+        (subst (λ (x : ResolvedBlock). IsExtendedBy accepts callers (with_client c k) used x text u) is e)
 
     -- the words of a block mean transactions
-    pub extended_there : (b : NewBlock) (block : Block) (used : Used) (r : Result Answer Stop) (u : Conversation N) → used ≡ used_by b.txs → IsMeantBlock accepts (with_client c k) b block
+    pub extended_there : (b : NewBlock) (block : ResolvedBlock) (used : Used) (r : Result Answer ClientStop) (u : Conversation N) → used ≡ used_by b.txs → IsMeantBlock accepts (with_client c k) b block
         → IfOk r (λ a. IsExtendedBy accepts callers (with_client c k) used block (text_of a) u)
         → IfErr r (IsStopped accepts callers (IsExtendedBy accepts callers (with_client c k) used block) (with_client c k) u)
         → IfOk r (λ a. IsHeard accepts callers c (Some (asks.Extends b)) (text_of a) u) × IfErr r (IsStopped accepts callers (IsTaken accepts callers c (asks.Extends b)) c u)
@@ -128,17 +123,3 @@ module _ {N : Type 0} (accepts : Accepts) (callers : ℕ) (c : Conversation N) w
 -- the line is bad
 pub is_bad : (X : Type 0) (f : LineFault) (reason : Reason) → f ≡ Bad reason → IsBad {X = X} (Err f)
 is_bad X f reason e = subst (λ (x : LineFault). IsBad {X = X} (Err x)) (sym e) tt
-
--- a line that may be done either only notes something or makes a change
-pub must_change : (caller : ℕ) (line : lines.Line) → may_do caller line ≡ true → is_note line ≡ false → is_change line ≡ true
-must_change caller lines.Blank m e = Prim.cc
-must_change caller (lines.Sets s) m e = Prim.cc
-must_change caller (lines.Script s) m e = Prim.cc
-must_change caller (lines.Data s) m e = Prim.cc
-must_change caller (lines.Out n p) m e = Prim.cc
-must_change caller (lines.Tx n t) m e = Prim.cc
-must_change caller (lines.Submit t) m e = refl
-must_change caller (lines.Remove ids) m e = refl
-must_change caller (lines.Sync l) m e = refl
-must_change caller (lines.For l) m e = Prim.cc
-must_change caller (lines.Asks q) m e = Prim.cc

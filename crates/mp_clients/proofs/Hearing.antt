@@ -1,5 +1,5 @@
 -- The answer to a line, by what it asks.
-use Rattle.std.proofs.Common.{◌≡◌, ℕ, ◌<◌, ◌⊎◌, Bool, true, false, cond, List, length, inl, inr, refl, sym, ap, subst, ◌∙◌, lt-ltb}
+use Rattle.std.proofs.Common.{◌≡◌, ℕ, ◌<◌, ◌⊎◌, true, false, cond, List, length, inl, inr, refl, sym, ap, subst, ◌∙◌, lt-ltb}
 use Rattle.std.specs.Prelude.{Option, None, Some, option_and_then, Result, Ok, Err, IfOk}
 use Rattle.mp_rules.specs.Verifier.{Accepts}
 use Rattle.mp_names.specs.Names.{Names}

@@ -11,8 +11,8 @@ use Rattle.mp_text.specs.LineInput.{IsLine, first_line}
 use Rattle.mp_answers.proofs.Appending.{Appends-nothing, Appends-more}
 use Rattle.mp_serve.proofs.Lines.{first_through}
 use Rattle.mp_serve.specs.Served.{AppendsUpTo}
-use Rattle.mp_clients.specs.declared.fault.Fault.{Fault}
-use Rattle.mp_clients.specs.declared.fault.Fault.TheVariants.{NoMemory, ReadFault, WriteFault, ManyLines, Foreign, Untold}
+use Rattle.mp_clients.specs.declared.fault.ClientFault.{ClientFault}
+use Rattle.mp_clients.specs.declared.fault.ClientFault.TheVariants.{NoMemory, ReadFault, WriteFault, ManyLines, Foreign, Untold}
 use Rattle.mp_clients.specs.Told.{AreTold, WereTold, WasCut, Ended}
 use Rattle.mp_clients.specs.Inside.Before.{IsFirst}
 
@@ -95,10 +95,10 @@ module _ {S : Type 0} (Step : S → List ℕ → List ℕ → S → Type 0) wher
   stands-first g None old s n e one = tt
   stands-first g (Some bytes) old s n e one = (bytes, refl, begins g old (lines_of bytes) s n e one)
 
-  module _ (Breaks : S → S → Fault → Type 0) where
+  module _ (Breaks : S → S → ClientFault → Type 0) where
     -- the conversation breaks off, after these lines
-    pub broken : (g : S) (lines : List (List ℕ)) (old now : Option (List ℕ)) (k : ℕ) (s u : S) (fault : Fault)
-        → ((f : Fault) → Breaks s u f → (f ≡ Foreign → ⊥) → f ≡ Untold)
+    pub broken : (g : S) (lines : List (List ℕ)) (old now : Option (List ℕ)) (k : ℕ) (s u : S) (fault : ClientFault)
+        → ((f : ClientFault) → Breaks s u f → (f ≡ Foreign → ⊥) → f ≡ Untold)
         → WereTold Step g old now (take k lines) s → Breaks s u fault → Ended Step Breaks g lines old now (Err fault) u
     broken g lines old now k s u Foreign only were b = (k, s, were, b)
     broken g lines old now k s u Untold only were b = (k, s, were, b)
@@ -115,7 +115,7 @@ module _ {S : Type 0} (Step : S → List ℕ → List ℕ → S → Type 0) wher
       more_broken : (k : ℕ) (t : S) → WereTold Step v now new (take k lines) t → WereTold Step s old new (line ∷ take k lines) t
       more_broken k t (text, told, wrote) = (first ++ text, (first, text, v, refl, is, told), Appends-more old now new first text w wrote)
 
-      pub after_first : (r : Result (Unit {0}) Fault) → Ended Step Breaks v lines now new r u → Ended Step Breaks s (line ∷ lines) old new r u
+      pub after_first : (r : Result (Unit {0}) ClientFault) → Ended Step Breaks v lines now new r u → Ended Step Breaks s (line ∷ lines) old new r u
       after_first (Ok done) (text, told, wrote) = (first ++ text, (first, text, v, refl, is, told), Appends-more old now new first text w wrote)
       after_first (Err WriteFault) (k, text, told, (taken, wrote)) = (
         suc k,
@@ -135,7 +135,7 @@ module _ {S : Type 0} (Step : S → List ℕ → List ℕ → S → Type 0) wher
     cut_first s v line first rest old new is w = (1, first, (first, [], v, sym (append-nil first), is, (refl, refl)), w)
 
     -- and then those of the input are answered
-    pub first_then : (s v u : S) (line : List ℕ) (old now new all left : Option (List ℕ)) (r : Result (Unit {0}) Fault) → left ≡ all → ((rest : List (List ℕ)) → IsFirst Step Breaks s line rest old now (Ok tt) v)
+    pub first_then : (s v u : S) (line : List ℕ) (old now new all left : Option (List ℕ)) (r : Result (Unit {0}) ClientFault) → left ≡ all → ((rest : List (List ℕ)) → IsFirst Step Breaks s line rest old now (Ok tt) v)
         → IfSome left (λ bytes. Ended Step Breaks v (lines_of bytes) now new r u) → IfSome all (λ bytes. Ended Step Breaks s (line ∷ lines_of bytes) old new r u)
     first_then s v u line old now new None left r e first later = tt
     first_then s v u line old now new (Some bytes) left r e first later = by (first [])
@@ -144,7 +144,7 @@ module _ {S : Type 0} (Step : S → List ℕ → List ℕ → S → Type 0) wher
         by (text, is, w) = after_first s v u line text (lines_of bytes) old now new is w r (subst (λ o. IfSome o (λ bytes. Ended Step Breaks v (lines_of bytes) now new r u)) e later)
 
     -- or not
-    pub first_only : (s v : S) (line : List ℕ) (old now all : Option (List ℕ)) (fault : Fault) → ((rest : List (List ℕ)) → IsFirst Step Breaks s line rest old now (Err fault) v)
+    pub first_only : (s v : S) (line : List ℕ) (old now all : Option (List ℕ)) (fault : ClientFault) → ((rest : List (List ℕ)) → IsFirst Step Breaks s line rest old now (Err fault) v)
         → IfSome all (λ bytes. Ended Step Breaks s (line ∷ lines_of bytes) old now (Err fault) v)
     first_only s v line old now None fault first = tt
     first_only s v line old now (Some bytes) fault first = first (lines_of bytes)
@@ -164,7 +164,7 @@ module _ {S : Type 0} (Step : S → List ℕ → List ℕ → S → Type 0) wher
       fails (Some bytes) left (rest, is, p) = (length p.lines, stopped g old now (lines_of bytes) (lines_of rest) s n p)
 
       -- if there is no answer
-      pub breaks : (u : S) (fault : Fault) → ((f : Fault) → Breaks s u f → (f ≡ Foreign → ⊥) → f ≡ Untold) → Breaks s u fault → (all left : Option (List ℕ)) → Stands g all left old now s n
+      pub breaks : (u : S) (fault : ClientFault) → ((f : ClientFault) → Breaks s u f → (f ≡ Foreign → ⊥) → f ≡ Untold) → Breaks s u fault → (all left : Option (List ℕ)) → Stands g all left old now s n
           → IfSome all (λ bytes. Ended Step Breaks g (lines_of bytes) old now (Err fault) u)
       breaks u fault only b None left i = tt
       breaks u fault only b (Some bytes) left (rest, is, p) =

@@ -1,26 +1,24 @@
 -- Changes, and whether they are answered.
 use Rattle.std.proofs.Common.{◌≡◌, ℕ, List, inl, inr, refl, sym, ap, ap₂, subst, ◌∙◌, append_assoc}
 use Rattle.std.specs.Prelude.{◌++◌, Option, Some, None, Result, Ok, Err, IfOk, IfErr, OnOk, OnErr}
-use Rattle.std.specs.Arc.{arc_value}
 use Rattle.mp_tx.specs.Transaction.{Transaction}
 use Rattle.mp_tx.specs.Ledger.{LedgerState}
 use Rattle.mp_rules.specs.declared.invalid.Invalid.{Invalid}
 use Rattle.mp_rules.specs.Verifier.{Accepts}
 use Rattle.mp_seqpool.specs.declared.refusal.Refusal.{Refusal}
 use Rattle.mp_seqpool.specs.declared.command.Reply.{Reply}
-use Rattle.mp_seqpool.specs.Command.{Command, Sync}
+use Rattle.mp_seqpool.specs.Command.{Command}
 use Rattle.mp_history.specs.Entry.{Entry}
 use Rattle.mp_names.specs.Names.{Names}
 use Rattle.mp_mempool.specs.Pass.{Pass}
 use Rattle.mp_mempool.specs.Seen.{IsSeen, seen}
-use Rattle.mp_answers.specs.AnswerText.{answer_text}
 use Rattle.mp_serve.specs.declared.answer.Answer.{Answer}
 use Rattle.mp_serve.specs.declared.used.Used.{Used}
 use Rattle.mp_serve.specs.Staged.{Staged}
 use Rattle.mp_serve.specs.Inside.Answer.{text_of}
 use Rattle.mp_clients.specs.declared.conversation.Conversation.{Conversation}
-use Rattle.mp_clients.specs.declared.stop.Stop.{Stop}
-use Rattle.mp_clients.specs.declared.stop.Stop.TheVariants.{NoMemory, Untold, Foreign}
+use Rattle.mp_clients.specs.declared.stop.ClientStop.{ClientStop}
+use Rattle.mp_clients.specs.declared.stop.ClientStop.TheVariants.{NoMemory, Untold, Foreign}
 use Rattle.mp_clients.specs.Client.{Client}
 use Rattle.mp_clients.specs.Answers.{IsAsked, HasLooked, IsAnsweredBy, IsSynced, IsExtended, IsReturned, IsUnchanged, counting, with_client}
 use Rattle.mp_clients.specs.Inside.Asked.{IsUnanswered, IsBefore}
@@ -91,7 +89,7 @@ module _ {N : Type 0} (accepts : Accepts) (callers : ℕ) where
     )
 
     -- there is no line of the answer
-    pub stopped : (a : Result Reply Refusal) (k : Client) (u : Conversation N) (stop : Stop) → IsAsked accepts callers c.client command does a k → u ≡ record c { client = k; staged = staged a }
+    pub stopped : (a : Result Reply Refusal) (k : Client) (u : Conversation N) (stop : ClientStop) → IsAsked accepts callers c.client command does a k → u ≡ record c { client = k; staged = staged a }
         → ((f : Refusal) (p : Pass) → does (Err f) p ≡ record c.client { pass = p }) → ((f : Refusal) → staged (Err f) ≡ c.staged) → IsUnanswered a stop
         → IsStopped accepts callers (IsAnsweredBy accepts callers c command does names staged says) c u stop
     stopped (Ok r) k u stop asked is moves stays why = subst (IsStopped accepts callers (IsAnsweredBy accepts callers c command does names staged says) c u) (sym why) (untold r k u asked is)
@@ -100,7 +98,7 @@ module _ {N : Type 0} (accepts : Accepts) (callers : ℕ) where
         (unmoved f k u asked (is ∙ ap (λ (s : Staged). record c { client = k; staged = s }) (stays f)) (moves f))
 
     -- the answer to a change, whether there is a line or not
-    pub finished : (a : Result Reply Refusal) (k l : Client) (n : Names) (s : Staged) (r : Result Answer Stop) → IsAsked accepts callers c.client command does a k
+    pub finished : (a : Result Reply Refusal) (k l : Client) (n : Names) (s : Staged) (r : Result Answer ClientStop) → IsAsked accepts callers c.client command does a k
         → ((f : Refusal) (p : Pass) → does (Err f) p ≡ record c.client { pass = p }) → ((f : Refusal) → staged (Err f) ≡ c.staged) → s ≡ staged a
         → IfOk r (λ t. text_of t ≡ says a) → OnOk r (l ≡ counting a k) → OnOk r (n ≡ names a)
         → IfErr r (IsUnanswered a) → OnErr r (l ≡ k) → OnErr r (n ≡ c.names)
@@ -117,7 +115,7 @@ module _ {N : Type 0} (accepts : Accepts) (callers : ℕ) where
     )
 
   -- the ledger state after a block is adopted
-  pub extended : (c : Conversation N) (used : Used) (txs : List Transaction) (wanted : Result LedgerState (ℕ × Invalid)) (l : LedgerState) (r : Result Answer Stop) (u : Conversation N) → wanted ≡ Ok l
+  pub extended : (c : Conversation N) (used : Used) (txs : List Transaction) (wanted : Result LedgerState (ℕ × Invalid)) (l : LedgerState) (r : Result Answer ClientStop) (u : Conversation N) → wanted ≡ Ok l
       → IfOk r (λ t. IsSynced accepts callers c l used (text_of t) u)
       → IfErr r (IsStopped accepts callers (IsSynced accepts callers c l used) c u)
       → IfOk r (λ t. IsExtended accepts callers c used txs wanted (text_of t) u) × IfErr r (IsStopped accepts callers (IsExtended accepts callers c used txs wanted) c u)
@@ -125,7 +123,7 @@ module _ {N : Type 0} (accepts : Accepts) (callers : ℕ) where
       subst (λ (w : Result LedgerState (ℕ × Invalid)). IfOk r (λ t. IsExtended accepts callers c used txs w (text_of t) u) × IfErr r (IsStopped accepts callers (IsExtended accepts callers c used txs w) c u)) (sym e) (ok, err)
 
   -- a former ledger state is adopted
-  pub returned : (c : Conversation N) (count : ℕ) (wanted : Option LedgerState) (l : LedgerState) (r : Result Answer Stop) (u : Conversation N) → wanted ≡ Some l
+  pub returned : (c : Conversation N) (count : ℕ) (wanted : Option LedgerState) (l : LedgerState) (r : Result Answer ClientStop) (u : Conversation N) → wanted ≡ Some l
       → IfOk r (λ t. IsReturned accepts callers c count (Some l) (text_of t) u)
       → IfErr r (IsStopped accepts callers (IsReturned accepts callers c count (Some l)) c u)
       → IfOk r (λ t. IsReturned accepts callers c count wanted (text_of t) u) × IfErr r (IsStopped accepts callers (IsReturned accepts callers c count wanted) c u)
@@ -133,13 +131,13 @@ module _ {N : Type 0} (accepts : Accepts) (callers : ℕ) where
       subst (λ (w : Option LedgerState). IfOk r (λ t. IsReturned accepts callers c count w (text_of t) u) × IfErr r (IsStopped accepts callers (IsReturned accepts callers c count w) c u)) (sym e) (ok, err)
 
   -- no ledger state is that far back
-  pub none_back : (c : Conversation N) (count : ℕ) (wanted : Option LedgerState) (r : Result Answer Stop) (u : Conversation N) → wanted ≡ None
+  pub none_back : (c : Conversation N) (count : ℕ) (wanted : Option LedgerState) (r : Result Answer ClientStop) (u : Conversation N) → wanted ≡ None
       → IfOk r (λ t. (n : ℕ) → IsReturned accepts callers c n None (text_of t) u) → IfOk r (λ t. IsReturned accepts callers c count wanted (text_of t) u)
   none_back c count wanted (Ok t) u e is = subst (λ (w : Option LedgerState). IsReturned accepts callers c count w (text_of t) u) (sym e) (is count)
   none_back c count wanted (Err stop) u e is = tt
 
   -- before a change was made
-  pub stopped_before : (Does : List ℕ → Conversation N → Type 0) (c u : Conversation N) (stop : Stop) → IsBefore stop → u ≡ c → IsStopped accepts callers Does c u stop
+  pub stopped_before : (Does : List ℕ → Conversation N → Type 0) (c u : Conversation N) (stop : ClientStop) → IsBefore stop → u ≡ c → IsStopped accepts callers Does c u stop
   stopped_before Does c u NoMemory before same = inl same
   stopped_before Does c u Untold before same = absurd before
   stopped_before Does c u Foreign before same = inl same

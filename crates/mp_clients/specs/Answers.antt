@@ -15,7 +15,6 @@ use Rattle.mp_seqpool.specs.declared.command.Reply.{Reply}
 use Rattle.mp_seqpool.specs.Command as commands
 use Rattle.mp_seqpool.specs.Command.{Command}
 use Rattle.mp_history.specs.Entry.{Entry}
-use Rattle.mp_history.specs.Log.{Log, IsLegalLog}
 use Rattle.mp_mempool.specs.Pass.{Pass}
 use Rattle.mp_mempool.specs.Seen.{IsSeen}
 use Rattle.mp_mempool.specs.Answers.{IsEntered, IsRefusedAt}
@@ -26,7 +25,7 @@ use Rattle.mp_answers.specs.AnswerText.{answer_text, given_text}
 use Rattle.mp_serve.specs.Ask.{Ask, NewBlock, Does, Submits, SubmitsBytes, Extends, Syncs, Returns}
 use Rattle.mp_serve.specs.Refused.{counted_if}
 use Rattle.mp_serve.specs.Refused.{one_more}
-use Rattle.mp_serve.specs.Request.{Block, reported_if, one_adopt_more, one_back_more}
+use Rattle.mp_serve.specs.Request.{ResolvedBlock, reported_if, one_adopt_more, one_back_more}
 use Rattle.mp_session.specs.Settings.{salt_of}
 use Rattle.mp_serve.specs.TxWord.{TxWord}
 use Rattle.mp_serve.specs.declared.used.Used.{Used}
@@ -37,8 +36,8 @@ use Rattle.mp_serve.specs.Served.{IsBadLine}
 use Rattle.mp_serve.specs.Talk as alone
 use Rattle.mp_serve.specs.Texts.{no_memory_text, bytes_text, block_refused_text, back_refused_text}
 use Rattle.mp_clients.specs.declared.conversation.Conversation.{Conversation}
-use Rattle.mp_clients.specs.declared.fault.Fault.{Fault}
-use Rattle.mp_clients.specs.declared.fault.Fault.TheVariants as faults
+use Rattle.mp_clients.specs.declared.fault.ClientFault.{ClientFault}
+use Rattle.mp_clients.specs.declared.fault.ClientFault.TheVariants as faults
 use Rattle.mp_clients.specs.Client.{Client}
 use Rattle.mp_clients.specs.Alone.{alone_at, stage_of}
 use Rattle.mp_clients.specs.Asking.{asked_by}
@@ -156,7 +155,7 @@ module _ (accepts : Accepts) (callers : ℕ) where
         (text ≡ block_refused_text c.names txs r.0 r.1)
         × (u ≡ with_client c (record c.client { refused = one_adopt_more c.client.refused }))
 
-    abbrev pub IsExtendedBy : Conversation N → Used → Block → List ℕ → Conversation N → Type 0
+    abbrev pub IsExtendedBy : Conversation N → Used → ResolvedBlock → List ℕ → Conversation N → Type 0
     IsExtendedBy c used b text u =
         IsExtended c used b.txs (apply_block accepts c.client.ledger b.tick b.block_bytes b.txs) text u
 
@@ -229,7 +228,7 @@ module _ (accepts : Accepts) (callers : ℕ) where
       pub after : u ≡ record answered { names = c.names }
 
     -- what may have happened if the conversation ends without an answer
-    abbrev pub IsBroken : Conversation N → Conversation N → Fault → Type 0
+    abbrev pub IsBroken : Conversation N → Conversation N → ClientFault → Type 0
     IsBroken c u faults.Untold = IsUntold c u
     IsBroken c u faults.Foreign = IsUnchanged c u
     IsBroken c u fault = ⊥

@@ -3,7 +3,7 @@ use Rattle.std.specs.Prelude.{ℕ, nat_eq, Bool, true, false, List, Option, None
 use Rattle.mp_lines.specs.Lines.{Line, Sets, Out, Submit, Remove, Sync, For, Asks}
 use Rattle.std.specs.List.{list_all}
 use Rattle.mp_serve.specs.TxWord.{TxWord, Named, Pooled}
-use Rattle.mp_serve.specs.Ask.{Ask, Does, Reads, Submits, SubmitsBytes, Shows, Checks, Counts, Holds, Extends, Stages, StagesHeld, StagesOutput, Unstages, Syncs, Returns, Forgets, ReportsById, Resets, ask_of}
+use Rattle.mp_serve.specs.Ask.{Ask, Does, Submits, SubmitsBytes, Checks, Counts, Holds, Extends, Stages, StagesHeld, StagesOutput, Unstages, Syncs, Returns, ask_of}
 use Rattle.mp_clients.specs.declared.conversation.Conversation.{Conversation}
 
 -- caller 0

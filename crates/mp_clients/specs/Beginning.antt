@@ -7,7 +7,7 @@ use Rattle.mp_session.specs.declared.session.Stage.{Stage}
 use Rattle.mp_session.specs.declared.session.Stage.TheVariants.{Before, Open}
 use Rattle.mp_serve.specs.ServedPool.{ServedPool}
 use Rattle.mp_serve.specs.declared.conversation.Conversation.{Conversation}
-use Rattle.mp_serve.specs.declared.fault.Fault.{Fault}
+use Rattle.mp_serve.specs.declared.fault.ConversationFault.{ConversationFault}
 use Rattle.mp_serve.specs.Ask.{ask_of}
 use Rattle.mp_serve.specs.Served.{AreAnswers, Ended}
 use Rattle.mp_clients.specs.Asking.{opens}
@@ -38,7 +38,7 @@ abbrev pub AreAll : Conversation → List ℕ → Option (List ℕ) → Option (
 AreAll start bytes old new u = (text : List ℕ) × AreAnswers start (lines_of bytes) text u × Appends old new text
 
 -- How the part before the pool is open ends: with a line that opens it, with the input, or with a fault.
-abbrev pub HasBegun : Conversation → List ℕ → Option (List ℕ) → Option (List ℕ) → Result Bool Fault → List ℕ → Conversation → Option (List ℕ) → Type 0
+abbrev pub HasBegun : Conversation → List ℕ → Option (List ℕ) → Option (List ℕ) → Result Bool ConversationFault → List ℕ → Conversation → Option (List ℕ) → Type 0
 HasBegun start bytes old new (Ok true) line u left = HasCome start bytes old new line u left
 HasBegun start bytes old new (Ok false) line u left = AreAll start bytes old new u
 HasBegun start bytes old new (Err fault) line u left = Ended start bytes old new (Err fault)

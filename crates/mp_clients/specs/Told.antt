@@ -2,8 +2,8 @@
 use Rattle.std.specs.Prelude.{◌≡◌, ℕ, ◌-◌, ◌^◌, ◌≤◌, List, [], ◌∷◌, ◌++◌, take, Option, Result, Ok, Err}
 use Rattle.std.specs.Io.KnownBytes.{Appends}
 use Rattle.mp_serve.specs.Served.{AppendsUpTo}
-use Rattle.mp_clients.specs.declared.fault.Fault.{Fault}
-use Rattle.mp_clients.specs.declared.fault.Fault.TheVariants.{NoMemory, ReadFault, WriteFault, ManyLines, Foreign, Untold}
+use Rattle.mp_clients.specs.declared.fault.ClientFault.{ClientFault}
+use Rattle.mp_clients.specs.declared.fault.ClientFault.TheVariants.{NoMemory, ReadFault, WriteFault, ManyLines, Foreign, Untold}
 
 -- A step says what may be answered to a line, and what state follows.
 module _ {S : Type 0} (Step : S → List ℕ → List ℕ → S → Type 0) where
@@ -23,7 +23,7 @@ module _ {S : Type 0} (Step : S → List ℕ → List ℕ → S → Type 0) wher
 
   -- How a conversation over these lines ends, from the state s to u: after the last, or before. `Breaks` says what may have happened
   -- to the state without an answer.
-  abbrev pub Ended : (S → S → Fault → Type 0) → S → List (List ℕ) → Option (List ℕ) → Option (List ℕ) → Result (Unit {0}) Fault → S → Type 0
+  abbrev pub Ended : (S → S → ClientFault → Type 0) → S → List (List ℕ) → Option (List ℕ) → Option (List ℕ) → Result (Unit {0}) ClientFault → S → Type 0
   Ended Breaks s lines old new (Ok done) u = WereTold s old new lines u
   Ended Breaks s lines old new (Err WriteFault) u = WasCut s old new lines u
   Ended Breaks s lines old new (Err ReadFault) u = (k : ℕ) × WereTold s old new (take k lines) u

@@ -11,9 +11,9 @@ ghost use Rattle.mp_clients.specs.Answers.{IsHeard, IsAnswer, IsBroken};
 use crate::allowed::forbids;
 use crate::bad::answer_bad;
 use crate::conversation::Conversation;
-use crate::fault::Fault;
+use crate::fault::ClientFault;
 use crate::shared::Shared;
-use crate::stop::Stop;
+use crate::stop::ClientStop;
 use mp_history::PoolName;
 use mp_memory::Memory;
 use mp_names::{LineFault, Reason};
@@ -29,7 +29,7 @@ fn answer_ask<N: PoolName, V: Verifier>(
     shared: &Shared<N, V>,
     memory: Memory,
     ask: Ask,
-) -> Result<Answer, Fault>
+) -> Result<Answer, ClientFault>
     ensures ok { IfOk result (λ answer. IsHeard N.accepts N.callers conversation.old
         (allowed conversation.old.client.pass.caller (to_ask ask)) (text_of answer)
         conversation.new) }
@@ -40,9 +40,9 @@ fn answer_ask<N: PoolName, V: Verifier>(
     }
     match conversation.take(rt, shared, memory, ask) {
         Ok(answer) => Ok(answer),
-        Err(Stop::NoMemory) => Ok(Answer::NoMemory),
-        Err(Stop::Untold) => Err(Fault::Untold),
-        Err(Stop::Foreign) => Err(Fault::Foreign),
+        Err(ClientStop::NoMemory) => Ok(Answer::NoMemory),
+        Err(ClientStop::Untold) => Err(ClientFault::Untold),
+        Err(ClientStop::Foreign) => Err(ClientFault::Foreign),
     }
 }
 
@@ -56,7 +56,7 @@ pub fn answer_line<N: PoolName, V: Verifier>(
     shared: &Shared<N, V>,
     memory: Memory,
     line: &[u8],
-) -> Result<Answer, Fault>
+) -> Result<Answer, ClientFault>
     ensures ok { IfOk result (λ answer. IsAnswer N.accepts N.callers
         conversation.old line.now (text_of answer) conversation.new) }
     ensures err { IfErr result (IsBroken N.accepts N.callers conversation.old conversation.new) }
@@ -88,7 +88,7 @@ pub fn answer<N: PoolName, V: Verifier>(
     memory: Memory,
     found: LineRead,
     kept: &[u8],
-) -> Result<Answer, Fault>
+) -> Result<Answer, ClientFault>
     requires { found ≢ LineRead.End }
     ensures ok { IfOk result (λ answer. (bytes : List ℕ) → IsLine longest bytes found kept.now
         → IsAnswer N.accepts N.callers

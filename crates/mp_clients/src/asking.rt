@@ -10,7 +10,7 @@ ghost use Rattle.mp_serve.specs.Refused.{counted_if};
 ghost use Rattle.mp_clients.specs.Answers.{IsAnswerTo};
 ghost use Rattle.mp_clients.specs.Inside.Asked.{answer_in, IsUnanswered, IsBefore};
 
-use crate::stop::Stop;
+use crate::stop::ClientStop;
 use mp_answers::{answer_line, given_refused_line, put_id, put_reply};
 use mp_history::PoolName;
 use mp_memory::{Memory, NoMemory};
@@ -18,7 +18,8 @@ use mp_mempool::{Mempool, Pass, Receipt, Refusal};
 use mp_names::Names;
 use mp_rules::Verifier;
 use mp_seqpool::{Command, Reply};
-use mp_serve::{Counts, Text, count_if_refused};
+use mp_serve::{Counts, count_if_refused};
+use mp_text::Text;
 use mp_tx::TxId;
 use std::sync::Wait;
 
@@ -31,7 +32,7 @@ pub fn ask_pool<N: PoolName, V: Verifier>(
     pool: &Mempool<N, V>,
     pass: &mut Pass<N>,
     command: &Command,
-) -> Result<Asked, Stop>
+) -> Result<Asked, ClientStop>
     ensures ok { IfOk result (λ asked. IsAnswerTo N.accepts N.callers
         pass.old (command_of command.now) (answer_in asked) pass.new) }
     ensures err { OnErr result (pass.new ≡ pass.old) }
@@ -40,8 +41,8 @@ pub fn ask_pool<N: PoolName, V: Verifier>(
     match pool.ask(rt, pass, command) {
         Ok(receipt) => Ok(Ok(receipt)),
         Err(refusal) => match &refusal {
-            Refusal::Foreign(_) => Err(Stop::Foreign),
-            Refusal::Pool(mp_seqpool::Refusal::NoMemory) => Err(Stop::NoMemory),
+            Refusal::Foreign(_) => Err(ClientStop::Foreign),
+            Refusal::Pool(mp_seqpool::Refusal::NoMemory) => Err(ClientStop::NoMemory),
             Refusal::Pool(other) => Ok(Err(*other)),
         },
     }
@@ -95,7 +96,12 @@ fn reply_in(room: Text, reply: &Reply) -> Result<Text, NoMemory>
 ///
 /// # Errors
 /// `Untold` if the change was made, and `NoMemory` if it was refused.
-pub fn asked_line(memory: Memory, names: &Names, room: Text, asked: &Asked) -> Result<Text, Stop>
+pub fn asked_line(
+    memory: Memory,
+    names: &Names,
+    room: Text,
+    asked: &Asked,
+) -> Result<Text, ClientStop>
     requires { room.items ≡ [] }
     ensures ok { IfOk result (λ text. text.items ≡ answer_text names.now (answer_in asked.now)) }
     ensures err { IfErr result (IsUnanswered (answer_in asked.now)) }
@@ -103,11 +109,11 @@ pub fn asked_line(memory: Memory, names: &Names, room: Text, asked: &Asked) -> R
     match asked {
         Ok(receipt) => match reply_in(room, &receipt.entry.reply) {
             Ok(text) => Ok(text),
-            Err(_) => Err(Stop::Untold),
+            Err(_) => Err(ClientStop::Untold),
         },
         Err(refusal) => match answer_line(memory, names, &Err(*refusal)) {
             Ok(text) => Ok(text),
-            Err(_) => Err(Stop::NoMemory),
+            Err(_) => Err(ClientStop::NoMemory),
         },
     }
 }
@@ -146,7 +152,7 @@ pub fn given_line(
     room: Text,
     asked: &Asked,
     id: &TxId,
-) -> Result<Text, Stop>
+) -> Result<Text, ClientStop>
     requires { room.items ≡ [] }
     ensures ok { IfOk result (λ text. text.items
         ≡ given_text names.now (answer_in asked.now) id.now) }
@@ -155,11 +161,11 @@ pub fn given_line(
     match asked {
         Ok(receipt) => match given_reply_in(room, &receipt.entry.reply, id) {
             Ok(text) => Ok(text),
-            Err(_) => Err(Stop::Untold),
+            Err(_) => Err(ClientStop::Untold),
         },
         Err(refusal) => match given_refused_line(memory, names, refusal, id) {
             Ok(text) => Ok(text),
-            Err(_) => Err(Stop::NoMemory),
+            Err(_) => Err(ClientStop::NoMemory),
         },
     }
 }

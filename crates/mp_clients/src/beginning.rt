@@ -17,7 +17,7 @@ use crate::allowed::opens;
 use crate::bad::answer_bad;
 use mp_memory::Memory;
 use mp_names::{LineFault, Reason};
-use mp_serve::{Answer, Ask, Conversation, Device, Fault, MAX_LINE_BYTES, Turn, tell};
+use mp_serve::{Answer, Ask, Conversation, ConversationFault, Device, MAX_LINE_BYTES, Turn, tell};
 use mp_text::LineRead;
 
 // The answer to what doesn't open the pool.
@@ -109,7 +109,7 @@ pub fn begin<D: Device>(
     conversation: &mut Conversation,
     line: &mut Vec<u8, Memory>,
     device: &mut D,
-) -> Result<bool, Fault>
+) -> Result<bool, ConversationFault>
     requires listens { D.turn device.old ≡ Turn.Listens }
     requires before { IsBefore conversation.old.session.stage }
     ensures begun { IfSome (D.input device.old) (λ bytes. HasBegun conversation.old bytes
@@ -122,7 +122,7 @@ pub fn begin<D: Device>(
         let found = match device.read_line(line, MAX_LINE_BYTES) {
             Ok(LineRead::End) => return Ok(false),
             Ok(found) => found,
-            Err(_) => return Err(Fault::ReadFault),
+            Err(_) => return Err(ConversationFault::ReadFault),
         };
         let answer = match answer_found(conversation, memory, found, line) {
             Some(answer) => answer,
@@ -130,17 +130,20 @@ pub fn begin<D: Device>(
         };
         match tell(device, &answer) {
             Ok(()) => conversation.count_line(),
-            Err(_) => return Err(Fault::WriteFault),
+            Err(_) => return Err(ConversationFault::WriteFault),
         }
     }
-    Err(Fault::ManyLines)
+    Err(ConversationFault::ManyLines)
 }
 
 /// Answers that an allocation failed, and counts the line. Then the operator's conversation may go on before the pool is open.
 ///
 /// # Errors
 /// `WriteFault`.
-pub fn refuse<D: Device>(conversation: &mut Conversation, device: &mut D) -> Result<(), Fault>
+pub fn refuse<D: Device>(
+    conversation: &mut Conversation,
+    device: &mut D,
+) -> Result<(), ConversationFault>
     requires { D.turn device.old ≡ Turn.Owes }
     ensures ok { OnOk result (Appends (D.output device.old) (D.output device.new)
         no_memory_text) }
@@ -156,6 +159,6 @@ pub fn refuse<D: Device>(conversation: &mut Conversation, device: &mut D) -> Res
             conversation.count_line();
             Ok(())
         }
-        Err(_) => Err(Fault::WriteFault),
+        Err(_) => Err(ConversationFault::WriteFault),
     }
 }

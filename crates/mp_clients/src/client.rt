@@ -3,9 +3,9 @@
 use crate::adopting::{go_back, go_on};
 use crate::asking::{Asked, ask_pool, count_refusal};
 use crate::checking::{answer_of, share_held};
-use crate::former::{Formers, state_back};
+use crate::former::state_back;
 use crate::reading::{for_line, query_line, stats_line};
-use crate::stop::Stop;
+use crate::stop::ClientStop;
 use mp_answers::answer_line;
 use mp_history::PoolName;
 use mp_lines::Query;
@@ -14,15 +14,16 @@ use mp_mempool::{Mempool, Pass, Reader};
 use mp_names::Names;
 use mp_rules::Verifier;
 use mp_seqpool::Command;
-use mp_serve::{Counts, Text, count_one, none_counted};
+use mp_serve::{Counts, Former, Formers, count_one, none_counted};
 use mp_signatures::Signatures;
+use mp_text::Text;
 use mp_tx::{Ledger, Tx, TxId};
 use mp_versions::keep_valid;
 use std::marker::Model;
 use std::sync::{Arc, Wait};
 
-/// What a conversation has of the pool that it shares with others. It has its pass and the ledger states that it adopted. It counts
-/// refusals, and knows what its peer was offered.
+/// What a conversation has of the pool that it shares with others. It has its pass, the ledger state that it adopted last, and what
+/// leads back to those before it. It counts refusals, and knows what its peer was offered.
 pub struct Client<N: PoolName> {
     pass: Pass<N>,
     signatures: Signatures,
@@ -60,11 +61,12 @@ impl<N: PoolName> Model for Client<N> {
 
     ghost view = { λ c. client_of c.pass c.signatures c.ledger c.former.items c.refused c.cursor };
 
-    ghost invariant = { λ c. IsClient N.accepts c.signatures c.limit c.pass c.former.items };
+    ghost invariant = { λ c. IsClient N.accepts
+        c.signatures c.limit c.pass c.ledger c.former.items };
 }
 
 impl<N: PoolName> Client<N> {
-    ghost use Rattle.std.specs.Prelude.{◌≡◌, ◌≤◌, length, is_some, option_map, option_and_then, Some, IfOk, IfErr, OnErr};
+    ghost use Rattle.std.specs.Prelude.{◌≡◌, length, is_some, option_map, option_and_then, Some, IfOk, IfErr, OnErr};
     ghost use Rattle.std.specs.Arc.{arc_value};
     ghost use Rattle.mp_signatures.specs.Scheme.{accepted_by};
     ghost use Rattle.mp_tickets.specs.Tickets.{item_at};
@@ -75,6 +77,7 @@ impl<N: PoolName> Client<N> {
     ghost use Rattle.mp_session.specs.Request.{Try, Read};
     ghost use Rattle.mp_serve.specs.Request.{Plain, Check, Count, one_adopt_more, one_back_more};
     ghost use Rattle.mp_serve.specs.ServedPool.{state_back};
+    ghost use Rattle.mp_serve.specs.Inside.Former.{LeadsBack};
     ghost use Rattle.mp_clients.specs.Client.{new_client};
     ghost use Rattle.mp_clients.specs.Answers.{HasLooked, IsAsked, counting, moved, gone_on, gone_back};
     ghost use Rattle.mp_clients.specs.Inside.Asked.{answer_in, IsBefore};
@@ -132,21 +135,25 @@ impl<N: PoolName> Client<N> {
         &self.ledger
     }
 
-    /// The ledger states before that one, oldest first.
-    pub(crate) fn former(&self) -> &[Ledger]
-        ensures { result.now ≡ self.now.former }
+    /// How many ledger states before that one are kept.
+    pub(crate) fn kept_back(&self) -> usize
+        ensures { result ≡ length self.now.former }
     {
-        &self.former
+        self.former.len()
     }
 
     /// The ledger state this many steps ago, if it is kept.
     ///
     /// # Errors
     /// `NoMemory`.
-    pub(crate) fn state_back(&self, count: usize) -> Result<Option<Ledger>, NoMemory>
+    pub(crate) fn state_back(
+        &self,
+        memory: Memory,
+        count: usize,
+    ) -> Result<Option<Ledger>, NoMemory>
         ensures { IfOk result (λ l. l ≡ state_back self.now.former self.now.ledger count) }
     {
-        state_back(&self.former, &self.ledger, count)
+        state_back(memory, &self.former, &self.ledger, count)
     }
 
     /// Looks at the newest version.
@@ -262,7 +269,7 @@ impl<N: PoolName> Client<N> {
         rt: &impl Wait,
         pool: &Mempool<N, V>,
         command: &Command,
-    ) -> Result<Asked, Stop>
+    ) -> Result<Asked, ClientStop>
         ensures ok { IfOk result (λ asked. IsAsked N.accepts N.callers
             self.old (command_of command.now) (moved self.old) (answer_in asked) self.new) }
         ensures err { OnErr result (self.new ≡ self.old) }
@@ -271,7 +278,7 @@ impl<N: PoolName> Client<N> {
         ask_pool(rt, pool, &mut self.pass, command)
     }
 
-    /// Adopts a new ledger state. A refusal isn't counted.
+    /// Adopts a new ledger state, and keeps how to go back to the one before it. A refusal isn't counted.
     ///
     /// # Errors
     /// Then nothing has changed.
@@ -280,17 +287,19 @@ impl<N: PoolName> Client<N> {
         rt: &impl Wait,
         pool: &Mempool<N, V>,
         ledger: Ledger,
-    ) -> Result<Asked, Stop>
+        former: Former,
+    ) -> Result<Asked, ClientStop>
+        requires { LeadsBack ledger former self.old.ledger }
         ensures ok { IfOk result (λ asked. IsAsked N.accepts N.callers
             self.old (Sync ledger) (gone_on self.old ledger) (answer_in asked) self.new) }
         ensures err { OnErr result (self.new ≡ self.old) }
         ensures before { IfErr result IsBefore }
     {
-        let former = &mut self.former;
-        go_on(rt, pool, &mut self.pass, former, &mut self.ledger, ledger)
+        let (formers, now) = (&mut self.former, &mut self.ledger);
+        go_on(rt, pool, &mut self.pass, formers, now, ledger, former)
     }
 
-    /// Adopts the ledger state this many steps ago. A refusal isn't counted.
+    /// Adopts the ledger state this many steps ago, which is given. A refusal isn't counted.
     ///
     /// # Errors
     /// Then nothing has changed.
@@ -300,16 +309,16 @@ impl<N: PoolName> Client<N> {
         pool: &Mempool<N, V>,
         count: usize,
         ledger: Ledger,
-    ) -> Result<Asked, Stop>
-        requires { count ≤ length self.old.former }
+    ) -> Result<Asked, ClientStop>
+        requires { state_back self.old.former self.old.ledger count ≡ Some ledger }
         ensures ok { IfOk result (λ asked. IsAsked N.accepts N.callers
             self.old (Sync ledger) (gone_back self.old ledger count) (answer_in asked) self.new) }
         ensures err { OnErr result (self.new ≡ self.old) }
         ensures before { IfErr result IsBefore }
     {
         let left = self.former.len() - count;
-        let (former, now) = (&mut self.former, &mut self.ledger);
-        go_back(rt, pool, &mut self.pass, former, now, left, ledger)
+        let (formers, now) = (&mut self.former, &mut self.ledger);
+        go_back(rt, pool, &mut self.pass, formers, now, left, ledger)
     }
 
     /// Counts the refusal, if there is one.

@@ -13,7 +13,7 @@ use crate::forgetting::names_to_go;
 use crate::meaning::{tx_meant, txs_meant};
 use crate::recorded::Change;
 use crate::shared::Shared;
-use crate::stop::Stop;
+use crate::stop::ClientStop;
 use mp_history::PoolName;
 use mp_lines::Line;
 use mp_memory::{Memory, NoMemory};
@@ -21,10 +21,11 @@ use mp_names::{Binding, BlockBytes, DeclaredTx, LineFault, Name, Names};
 use mp_rules::{AppliedBlock, Verifier};
 use mp_seqpool::{Command, Ids};
 use mp_serve::{
-    Answer, Ask, Block, Extended, NewBlock, Staged, Text, TxWord, Txs, Used, back_refused_line,
-    extend, forgotten_line, no_outputs, read_line, show_line, undecodable_line,
+    Answer, Ask, Extended, Former, NewBlock, ResolvedBlock, Staged, TxWord, Txs, Used,
+    back_refused_line, extend, forgotten_line, no_outputs, read_line, show_line, undecodable_line,
 };
 use mp_session::{Settings, ledger_at};
+use mp_text::Text;
 use mp_tx::{Ledger, OutRef, Output, Tx, TxFault};
 use std::sync::{Arc, Wait};
 
@@ -40,7 +41,7 @@ fn used_by(words: &[TxWord]) -> Used
 }
 
 // What the adoption of a ledger state asks.
-fn adopting<'a>(ledger: &'a Ledger, block: Option<&'a Block>) -> Change<'a> {
+fn adopting<'a>(ledger: &'a Ledger, block: Option<&'a ResolvedBlock>) -> Change<'a> {
     match block {
         Some(block) => Change::Block(block),
         None => Change::State(ledger),
@@ -62,7 +63,7 @@ pub struct Conversation<N: PoolName> {
 }
 
 impl<N: PoolName> Conversation<N> {
-    ghost use Rattle.std.specs.Prelude.{◌≡◌, ◌≤◌, ℕ, length, map, true, false, Some, None, Ok, Err, IfOk, IfErr, OnErr};
+    ghost use Rattle.std.specs.Prelude.{◌≡◌, ℕ, map, true, false, Some, None, Ok, Err, IfOk, IfErr, OnErr};
     ghost use Rattle.std.specs.Arc.{arc_value};
     ghost use Rattle.mp_tx.specs.Reading.{transaction_of};
     ghost use Rattle.mp_seqpool.specs.Command.{Submit};
@@ -72,9 +73,10 @@ impl<N: PoolName> Conversation<N> {
     ghost use Rattle.mp_serve.specs.Talk as alone;
     ghost use Rattle.mp_serve.specs.Ask.{Does, Extends, Syncs};
     ghost use Rattle.mp_serve.specs.ServedPool.{state_back};
+    ghost use Rattle.mp_serve.specs.Inside.Former.{LeadsBack};
     ghost use Rattle.mp_serve.specs.Inside.Ask.{to_ask, to_block, to_tx_word};
     ghost use Rattle.mp_serve.specs.Inside.Answer.{text_of};
-    ghost use Rattle.mp_clients.specs.declared.stop.Stop.TheVariants as stops;
+    ghost use Rattle.mp_clients.specs.declared.stop.ClientStop.TheVariants as stops;
     ghost use Rattle.mp_clients.specs.Alone.{stage_of};
     ghost use Rattle.mp_clients.specs.Asking.{may_do, may_ask};
     ghost use Rattle.mp_clients.specs.Inside.Notes.{is_note, is_change, is_alone};
@@ -95,14 +97,14 @@ impl<N: PoolName> Conversation<N> {
         shared: &Shared<N, V>,
         memory: Memory,
         command: &Command,
-    ) -> Result<Answer, Stop>
+    ) -> Result<Answer, ClientStop>
         ensures ok { IfOk result (λ a. IsDone N.accepts N.callers self.old
             (command_of command.now) (moved self.old.client) (text_of a) self.new) }
         ensures err { IfErr result (IsStopped N.accepts N.callers (IsDone N.accepts N.callers
             self.old (command_of command.now) (moved self.old.client)) self.old self.new) }
     {
         let Ok(room) = shared.prepare(memory, ROOM, Change::of(command)) else {
-            return Err(Stop::NoMemory);
+            return Err(ClientStop::NoMemory);
         };
         match self.client.change(rt, &shared.pool, command) {
             Ok(asked) => {
@@ -128,17 +130,17 @@ impl<N: PoolName> Conversation<N> {
         memory: Memory,
         name: &Name,
         tx: Arc<Tx, Memory>,
-    ) -> Result<Answer, Stop>
+    ) -> Result<Answer, ClientStop>
         ensures ok { IfOk result (λ a. IsSubmitted N.accepts N.callers self.old name.now
             (arc_value tx) (text_of a) self.new) }
         ensures err { IfErr result (IsStopped N.accepts N.callers (IsSubmitted N.accepts N.callers
             self.old name.now (arc_value tx)) self.old self.new) }
     {
         let Ok(named) = Arc::try_clone(&tx) else {
-            return Err(Stop::NoMemory);
+            return Err(ClientStop::NoMemory);
         };
         let Ok(room) = shared.prepare(memory, ROOM, Change::Submit(&named)) else {
-            return Err(Stop::NoMemory);
+            return Err(ClientStop::NoMemory);
         };
         match self.client.change(rt, &shared.pool, &Command::Submit(tx)) {
             Ok(asked) => finish_submit(
@@ -163,20 +165,20 @@ impl<N: PoolName> Conversation<N> {
         shared: &Shared<N, V>,
         memory: Memory,
         tx: Tx,
-    ) -> Result<Answer, Stop>
+    ) -> Result<Answer, ClientStop>
         ensures ok { IfOk result (λ a. IsGiven N.accepts N.callers self.old (Ok tx)
             (text_of a) self.new) }
         ensures err { IfErr result (IsStopped N.accepts N.callers (IsGiven N.accepts N.callers
             self.old (Ok tx)) self.old self.new) }
     {
         let Ok(tx) = Arc::new(memory, tx) else {
-            return Err(Stop::NoMemory);
+            return Err(ClientStop::NoMemory);
         };
         let Ok(given) = Arc::try_clone(&tx) else {
-            return Err(Stop::NoMemory);
+            return Err(ClientStop::NoMemory);
         };
         let Ok(room) = shared.prepare(memory, GIVEN_ROOM, Change::Submit(&given)) else {
-            return Err(Stop::NoMemory);
+            return Err(ClientStop::NoMemory);
         };
         match self.client.change(rt, &shared.pool, &Command::Submit(tx)) {
             Ok(asked) => finish_given(
@@ -200,7 +202,7 @@ impl<N: PoolName> Conversation<N> {
         shared: &Shared<N, V>,
         memory: Memory,
         bytes: &[u8],
-    ) -> Result<Answer, Stop>
+    ) -> Result<Answer, ClientStop>
         ensures ok { IfOk result (λ a. IsGiven N.accepts N.callers self.old
             (transaction_of bytes.now) (text_of a) self.new) }
         ensures err { IfErr result (IsStopped N.accepts N.callers (IsGiven N.accepts N.callers
@@ -208,33 +210,36 @@ impl<N: PoolName> Conversation<N> {
     {
         match Tx::decode(memory, bytes) {
             Ok(tx) => self.give_tx(rt, shared, memory, tx),
-            Err(TxFault::NoMemory) => Err(Stop::NoMemory),
+            Err(TxFault::NoMemory) => Err(ClientStop::NoMemory),
             Err(fault) => match undecodable_line(memory, fault) {
                 Ok(text) => Ok(Answer::Line(text)),
-                Err(_) => Err(Stop::NoMemory),
+                Err(_) => Err(ClientStop::NoMemory),
             },
         }
     }
 
-    // Adopts a new ledger state: that after the block, if one is given. Once it is adopted, what it used isn't staged any more.
+    // Adopts a new ledger state, that after the block if one is given, and keeps how to go back to the one before it. Once it is
+    // adopted, what it used isn't staged any more.
     fn go_on<V: Verifier>(
         &mut self,
         rt: &impl Wait,
         shared: &Shared<N, V>,
         memory: Memory,
         ledger: Ledger,
-        block: Option<&Block>,
+        former: Former,
+        block: Option<&ResolvedBlock>,
         used: Used,
-    ) -> Result<Answer, Stop>
+    ) -> Result<Answer, ClientStop>
+        requires { LeadsBack ledger former self.old.client.ledger }
         ensures ok { IfOk result (λ a. IsSynced N.accepts N.callers self.old ledger used
             (text_of a) self.new) }
         ensures err { IfErr result (IsStopped N.accepts N.callers (IsSynced N.accepts N.callers
             self.old ledger used) self.old self.new) }
     {
         let Ok(room) = shared.prepare(memory, ROOM, adopting(&ledger, block)) else {
-            return Err(Stop::NoMemory);
+            return Err(ClientStop::NoMemory);
         };
-        match self.client.go_on(rt, &shared.pool, ledger) {
+        match self.client.go_on(rt, &shared.pool, ledger, former) {
             Ok(asked) => {
                 forget_used(&mut self.staged, used, &asked);
                 finish(
@@ -251,15 +256,43 @@ impl<N: PoolName> Conversation<N> {
         }
     }
 
+    // Adopts a new ledger state. The one before it is stored whole.
+    fn adopt<V: Verifier>(
+        &mut self,
+        rt: &impl Wait,
+        shared: &Shared<N, V>,
+        memory: Memory,
+        ledger: Ledger,
+        used: Used,
+    ) -> Result<Answer, ClientStop>
+        ensures ok { IfOk result (λ a. IsSynced N.accepts N.callers self.old ledger used
+            (text_of a) self.new) }
+        ensures err { IfErr result (IsStopped N.accepts N.callers (IsSynced N.accepts N.callers
+            self.old ledger used) self.old self.new) }
+    {
+        let Ok(before) = self.client.ledger().share() else {
+            return Err(ClientStop::NoMemory);
+        };
+        self.go_on(
+            rt,
+            shared,
+            memory,
+            ledger,
+            Former::Whole(before),
+            None,
+            used,
+        )
+    }
+
     // Adopts the ledger state after the block.
     fn adopt_block<V: Verifier>(
         &mut self,
         rt: &impl Wait,
         shared: &Shared<N, V>,
         memory: Memory,
-        block: &Block,
+        block: &ResolvedBlock,
         used: Used,
-    ) -> Result<Answer, Stop>
+    ) -> Result<Answer, ClientStop>
         ensures ok { IfOk result (λ a. IsExtendedBy N.accepts N.callers self.old used block.now
             (text_of a) self.new) }
         ensures err { IfErr result (IsStopped N.accepts N.callers (IsExtendedBy N.accepts N.callers
@@ -269,14 +302,22 @@ impl<N: PoolName> Conversation<N> {
         let (signatures, ledger) = (client.signatures(), client.ledger());
         match extend(memory, &self.names, signatures, ledger, block) {
             Ok(Extended::To(applied)) => {
-                let AppliedBlock { ledger, undo: _ } = applied;
-                self.go_on(rt, shared, memory, ledger, Some(block), used)
+                let AppliedBlock { ledger, undo } = applied;
+                self.go_on(
+                    rt,
+                    shared,
+                    memory,
+                    ledger,
+                    Former::Block(undo),
+                    Some(block),
+                    used,
+                )
             }
             Ok(Extended::Refused(text)) => {
                 self.client.count_adopt();
                 Ok(Answer::Line(text))
             }
-            Err(_) => Err(Stop::NoMemory),
+            Err(_) => Err(ClientStop::NoMemory),
         }
     }
 
@@ -298,7 +339,11 @@ impl<N: PoolName> Conversation<N> {
     }
 
     // The block as a line gives it, by the pool that was seen.
-    fn block_meant<'a>(&self, memory: Memory, block: NewBlock) -> Result<Block, LineFault<'a>>
+    fn block_meant<'a>(
+        &self,
+        memory: Memory,
+        block: NewBlock,
+    ) -> Result<ResolvedBlock, LineFault<'a>>
         ensures ok { IfOk result (λ b. IsMeantBlock N.accepts self.now (to_block block) b) }
         ensures bad { lines.IsBad result
             → IsBadAlone N.accepts self.now (λ c. alone.extend c (to_block block)) }
@@ -309,7 +354,7 @@ impl<N: PoolName> Conversation<N> {
             txs,
         } = block;
         let txs = self.block_txs(memory, txs)?;
-        Ok(Block::at(&self.settings, tick, &block_bytes, txs))
+        Ok(ResolvedBlock::at(&self.settings, tick, &block_bytes, txs))
     }
 
     // Adopts the ledger state after the block. Its words go by the pool that was then seen.
@@ -319,7 +364,7 @@ impl<N: PoolName> Conversation<N> {
         shared: &Shared<N, V>,
         memory: Memory,
         block: NewBlock,
-    ) -> Result<Answer, Stop>
+    ) -> Result<Answer, ClientStop>
         ensures ok { IfOk result (λ a. IsHeard N.accepts N.callers self.old
             (Some (Extends (to_block block))) (text_of a) self.new) }
         ensures err { IfErr result (IsStopped N.accepts N.callers (IsTaken N.accepts N.callers
@@ -329,7 +374,7 @@ impl<N: PoolName> Conversation<N> {
         let used = used_by(&block.txs);
         match self.block_meant(memory, block) {
             Ok(block) => self.adopt_block(rt, shared, memory, &block, used),
-            Err(LineFault::NoMemory) => Err(Stop::NoMemory),
+            Err(LineFault::NoMemory) => Err(ClientStop::NoMemory),
             Err(LineFault::Bad(reason)) => Ok(answer_bad(memory, self.line, reason)),
         }
     }
@@ -342,22 +387,22 @@ impl<N: PoolName> Conversation<N> {
         memory: Memory,
         tick: u64,
         block_bytes: &Option<BlockBytes>,
-    ) -> Result<Answer, Stop>
+    ) -> Result<Answer, ClientStop>
         ensures ok { IfOk result (λ a. IsTaken N.accepts N.callers self.old
             (Syncs tick block_bytes.now) (text_of a) self.new) }
         ensures err { IfErr result (IsStopped N.accepts N.callers (IsTaken N.accepts N.callers
             self.old (Syncs tick block_bytes.now)) self.old self.new) }
     {
         let Ok(none) = no_outputs(memory, self.settings.salt()) else {
-            return Err(Stop::NoMemory);
+            return Err(ClientStop::NoMemory);
         };
         let Ok(ledger) = self
             .staged
             .ledger_at(memory, &self.settings, tick, block_bytes)
         else {
-            return Err(Stop::NoMemory);
+            return Err(ClientStop::NoMemory);
         };
-        self.go_on(rt, shared, memory, ledger, None, Used::Outputs(none))
+        self.adopt(rt, shared, memory, ledger, Used::Outputs(none))
     }
 
     // Adopts the ledger state this many steps ago, which is given.
@@ -368,15 +413,15 @@ impl<N: PoolName> Conversation<N> {
         memory: Memory,
         count: usize,
         ledger: Ledger,
-    ) -> Result<Answer, Stop>
-        requires { count ≤ length self.old.client.former }
+    ) -> Result<Answer, ClientStop>
+        requires { state_back self.old.client.former self.old.client.ledger count ≡ Some ledger }
         ensures ok { IfOk result (λ a. IsReturned N.accepts N.callers self.old count
             (Some ledger) (text_of a) self.new) }
         ensures err { IfErr result (IsStopped N.accepts N.callers (IsReturned N.accepts N.callers
             self.old count (Some ledger)) self.old self.new) }
     {
         let Ok(room) = shared.prepare(memory, ROOM, Change::Back(count)) else {
-            return Err(Stop::NoMemory);
+            return Err(ClientStop::NoMemory);
         };
         match self.client.go_back(rt, &shared.pool, count, ledger) {
             Ok(asked) => {
@@ -395,29 +440,28 @@ impl<N: PoolName> Conversation<N> {
     }
 
     // Answers how many former ledger states are kept.
-    fn refuse_back(&mut self, memory: Memory) -> Result<Answer, Stop>
+    fn refuse_back(&mut self, memory: Memory) -> Result<Answer, ClientStop>
         ensures ok { IfOk result (λ a. (count : ℕ) → IsReturned N.accepts N.callers
             self.old count None (text_of a) self.new) }
         ensures err { IfErr result (λ stop. (stop ≡ stops.NoMemory) × (self.new ≡ self.old)) }
     {
-        match back_refused_line(memory, self.client.former().len() as u64) {
+        match back_refused_line(memory, self.client.kept_back() as u64) {
             Ok(text) => {
                 self.client.count_back();
                 Ok(Answer::Line(text))
             }
-            Err(_) => Err(Stop::NoMemory),
+            Err(_) => Err(ClientStop::NoMemory),
         }
     }
 
     // Adopts the ledger state this many steps ago, or answers how many are kept.
-    #[tactic(auto, using(crate::proofs::Backs::kept_within))]
     fn return_by<V: Verifier>(
         &mut self,
         rt: &impl Wait,
         shared: &Shared<N, V>,
         memory: Memory,
         count: u64,
-    ) -> Result<Answer, Stop>
+    ) -> Result<Answer, ClientStop>
         ensures ok { IfOk result (λ a. IsReturned N.accepts N.callers
             self.old count (state_back self.old.client.former self.old.client.ledger count)
             (text_of a) self.new) }
@@ -426,10 +470,10 @@ impl<N: PoolName> Conversation<N> {
             self.old self.new) }
     {
         let count = count as usize;
-        match self.client.state_back(count) {
+        match self.client.state_back(memory, count) {
             Ok(Some(ledger)) => self.go_back(rt, shared, memory, count, ledger),
             Ok(None) => self.refuse_back(memory),
-            Err(_) => Err(Stop::NoMemory),
+            Err(_) => Err(ClientStop::NoMemory),
         }
     }
 
@@ -594,7 +638,7 @@ impl<N: PoolName> Conversation<N> {
         shared: &Shared<N, V>,
         memory: Memory,
         line: Line,
-    ) -> Result<Answer, Stop>
+    ) -> Result<Answer, ClientStop>
         requires { is_change (to_line line) ≡ true }
         ensures ok { IfOk result (λ a. IsTaken N.accepts N.callers self.old
             (Does (to_line line)) (text_of a) self.new) }
@@ -605,15 +649,15 @@ impl<N: PoolName> Conversation<N> {
             Line::Submit(tx) => self.change(rt, shared, memory, &Command::Submit(tx)),
             Line::Remove(ids) => {
                 let Ok(ids) = Arc::new(memory, Ids::of(ids)) else {
-                    return Err(Stop::NoMemory);
+                    return Err(ClientStop::NoMemory);
                 };
                 self.change(rt, shared, memory, &Command::Remove(ids))
             }
             Line::Sync(ledger) => {
                 let Ok(ledger) = ledger_at(memory, &self.settings, ledger) else {
-                    return Err(Stop::NoMemory);
+                    return Err(ClientStop::NoMemory);
                 };
-                self.go_on(rt, shared, memory, ledger, None, Used::Nothing)
+                self.adopt(rt, shared, memory, ledger, Used::Nothing)
             }
             Line::Blank => unreachable!(),
             Line::Sets(_) => unreachable!(),
@@ -633,7 +677,7 @@ impl<N: PoolName> Conversation<N> {
         shared: &Shared<N, V>,
         memory: Memory,
         line: Line,
-    ) -> Result<Answer, Stop>
+    ) -> Result<Answer, ClientStop>
         requires { may_do self.old.client.pass.caller (to_line line) ≡ true }
         ensures ok { IfOk result (λ a. IsTaken N.accepts N.callers self.old
             (Does (to_line line)) (text_of a) self.new) }
@@ -644,7 +688,7 @@ impl<N: PoolName> Conversation<N> {
             self.client.look(&shared.reader);
             return match self.note(memory, line) {
                 Ok(answer) => Ok(answer),
-                Err(_) => Err(Stop::NoMemory),
+                Err(_) => Err(ClientStop::NoMemory),
             };
         }
         self.obey(rt, shared, memory, line)
@@ -689,7 +733,7 @@ impl<N: PoolName> Conversation<N> {
         shared: &Shared<N, V>,
         memory: Memory,
         ask: Ask,
-    ) -> Result<Answer, Stop>
+    ) -> Result<Answer, ClientStop>
         requires { is_alone (to_ask ask) ≡ true }
         ensures ok { IfOk result (λ a. IsHeard N.accepts N.callers self.old
             (Some (to_ask ask)) (text_of a) self.new) }
@@ -699,7 +743,7 @@ impl<N: PoolName> Conversation<N> {
         self.client.look(&shared.reader);
         match self.tell(memory, ask) {
             Ok(answer) => Ok(answer),
-            Err(LineFault::NoMemory) => Err(Stop::NoMemory),
+            Err(LineFault::NoMemory) => Err(ClientStop::NoMemory),
             Err(LineFault::Bad(reason)) => Ok(answer_bad(memory, self.line, reason)),
         }
     }
@@ -711,7 +755,7 @@ impl<N: PoolName> Conversation<N> {
         shared: &Shared<N, V>,
         memory: Memory,
         ask: Ask,
-    ) -> Result<Answer, Stop>
+    ) -> Result<Answer, ClientStop>
         requires may { may_ask self.old.client.pass.caller (to_ask ask) ≡ true }
         requires acts { is_alone (to_ask ask) ≡ false }
         ensures ok { IfOk result (λ a. IsHeard N.accepts N.callers self.old
@@ -754,7 +798,7 @@ impl<N: PoolName> Conversation<N> {
         shared: &Shared<N, V>,
         memory: Memory,
         ask: Ask,
-    ) -> Result<Answer, Stop>
+    ) -> Result<Answer, ClientStop>
         requires { may_ask self.old.client.pass.caller (to_ask ask) ≡ true }
         ensures ok { IfOk result (λ a. IsHeard N.accepts N.callers self.old
             (Some (to_ask ask)) (text_of a) self.new) }

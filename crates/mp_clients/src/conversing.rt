@@ -9,7 +9,7 @@ ghost use Rattle.mp_clients.specs.Inside.Before.{IsFirst};
 
 use crate::answering::{answer, answer_line};
 use crate::conversation::Conversation;
-use crate::fault::Fault;
+use crate::fault::ClientFault;
 use crate::shared::Shared;
 use mp_history::PoolName;
 use mp_memory::Memory;
@@ -26,7 +26,7 @@ fn answer_all<N: PoolName, V: Verifier, D: Device>(
     conversation: &mut Conversation<N>,
     line: &mut Vec<u8, Memory>,
     device: &mut D,
-) -> Result<(), Fault>
+) -> Result<(), ClientFault>
     requires { D.turn device.old ≡ Turn.Listens }
     ensures answers { IfSome (D.input device.old) (λ bytes.
         Ended (IsTurn N.accepts N.callers) (IsBroken N.accepts N.callers) conversation.old
@@ -36,7 +36,7 @@ fn answer_all<N: PoolName, V: Verifier, D: Device>(
         let found = match device.read_line(line, MAX_LINE_BYTES) {
             Ok(LineRead::End) => return Ok(()),
             Ok(found) => found,
-            Err(_) => return Err(Fault::ReadFault),
+            Err(_) => return Err(ClientFault::ReadFault),
         };
         let answer = match answer(conversation, rt, shared, memory, found, line) {
             Ok(answer) => answer,
@@ -45,10 +45,10 @@ fn answer_all<N: PoolName, V: Verifier, D: Device>(
         conversation.count_line();
         match tell(device, &answer) {
             Ok(()) => {}
-            Err(_) => return Err(Fault::WriteFault),
+            Err(_) => return Err(ClientFault::WriteFault),
         }
     }
-    Err(Fault::ManyLines)
+    Err(ClientFault::ManyLines)
 }
 
 // Answers a line that was read already.
@@ -59,7 +59,7 @@ fn answer_first<N: PoolName, V: Verifier, D: Device>(
     conversation: &mut Conversation<N>,
     line: &[u8],
     device: &mut D,
-) -> Result<(), Fault>
+) -> Result<(), ClientFault>
     requires { D.turn device.old ≡ Turn.Owes }
     ensures answers { (rest : List (List ℕ)) → IsFirst (IsTurn N.accepts N.callers)
         (IsBroken N.accepts N.callers) conversation.old line.now rest
@@ -74,7 +74,7 @@ fn answer_first<N: PoolName, V: Verifier, D: Device>(
     conversation.count_line();
     match tell(device, &answer) {
         Ok(()) => Ok(()),
-        Err(_) => Err(Fault::WriteFault),
+        Err(_) => Err(ClientFault::WriteFault),
     }
 }
 
@@ -86,7 +86,7 @@ fn answer_after<N: PoolName, V: Verifier, D: Device>(
     conversation: &mut Conversation<N>,
     line: &mut Vec<u8, Memory>,
     device: &mut D,
-) -> Result<(), Fault>
+) -> Result<(), ClientFault>
     requires { D.turn device.old ≡ Turn.Owes }
     ensures answers { IfSome (D.input device.old) (λ bytes.
         Ended (IsTurn N.accepts N.callers) (IsBroken N.accepts N.callers) conversation.old
@@ -111,7 +111,7 @@ pub fn answer_from<N: PoolName, V: Verifier, D: Device>(
     conversation: &mut Conversation<N>,
     line: Option<Vec<u8, Memory>>,
     device: &mut D,
-) -> Result<(), Fault>
+) -> Result<(), ClientFault>
     requires { D.turn device.old ≡ turn_with (line_in line) }
     ensures answers { IfSome (D.input device.old) (λ bytes.
         Ended (IsTurn N.accepts N.callers) (IsBroken N.accepts N.callers) conversation.old

@@ -1,10 +1,11 @@
 //! Why a conversation ends before its input does.
 
+use mp_session::{MANY_LINES_FAULT, NO_MEMORY_FAULT, READ_FAULT, WRITE_FAULT};
 use std::fmt;
 
 /// Why a conversation ends before its input does. The program prints its text.
 #[derive(Clone, Copy, Debug, PartialEq, Eq)]
-pub enum Fault {
+pub enum ClientFault {
     /// An allocation failed before the conversations went on.
     NoMemory,
     ReadFault,
@@ -17,15 +18,15 @@ pub enum Fault {
     Untold,
 }
 
-impl fmt::Display for Fault {
+impl fmt::Display for ClientFault {
     fn fmt<W: fmt::Write>(&self, f: &mut fmt::Formatter<W>) -> fmt::Result {
         f.write_str(match self {
-            Fault::NoMemory => "fault: no memory",
-            Fault::ReadFault => "fault: read",
-            Fault::WriteFault => "fault: write",
-            Fault::ManyLines => "fault: lines",
-            Fault::Foreign => "fault: foreign",
-            Fault::Untold => "fault: an answer was lost",
+            ClientFault::NoMemory => NO_MEMORY_FAULT,
+            ClientFault::ReadFault => READ_FAULT,
+            ClientFault::WriteFault => WRITE_FAULT,
+            ClientFault::ManyLines => MANY_LINES_FAULT,
+            ClientFault::Foreign => "fault: foreign",
+            ClientFault::Untold => "fault: an answer was lost",
         })
     }
 }

@@ -11,17 +11,18 @@ ghost use Rattle.mp_clients.specs.Inside.Asked.{answer_in, IsUnanswered};
 use crate::asking::{Asked, asked_line, given_line};
 use crate::client::Client;
 use crate::shared::{Room, Shared};
-use crate::stop::Stop;
+use crate::stop::ClientStop;
 use mp_history::PoolName;
 use mp_memory::Memory;
 use mp_names::{Name, Names};
 use mp_rules::Verifier;
-use mp_serve::{Answer, Staged, Text, Used, report_under};
+use mp_serve::{Answer, Staged, Used, report_under};
+use mp_text::Text;
 use mp_tx::{Tx, TxId};
 use std::sync::Wait;
 
 // If the submit was accepted, the transaction is reported under the name from now on.
-fn report_if(names: &mut Names, name: &Name, tx: &Tx, asked: &Asked) -> Result<(), Stop>
+fn report_if(names: &mut Names, name: &Name, tx: &Tx, asked: &Asked) -> Result<(), ClientStop>
     ensures ok { OnOk result
         (names.new ≡ reported_if names.old name.now tx.now (answer_in asked.now)) }
     ensures err { IfErr result (IsUnanswered (answer_in asked.now)) }
@@ -30,7 +31,7 @@ fn report_if(names: &mut Names, name: &Name, tx: &Tx, asked: &Asked) -> Result<(
     match asked {
         Ok(_) => match report_under(names, name, tx) {
             Ok(()) => Ok(()),
-            Err(_) => Err(Stop::Untold),
+            Err(_) => Err(ClientStop::Untold),
         },
         Err(_) => Ok(()),
     }
@@ -44,7 +45,7 @@ fn line_of<N: PoolName, V: Verifier>(
     names: &Names,
     room: Room,
     asked: &Asked,
-) -> Result<Text, Stop>
+) -> Result<Text, ClientStop>
     requires { room.answer.items ≡ [] }
     ensures ok { IfOk result (λ text. text.items ≡ answer_text names.now (answer_in asked.now)) }
     ensures err { IfErr result (IsUnanswered (answer_in asked.now)) }
@@ -65,7 +66,7 @@ fn given_line_of<N: PoolName, V: Verifier>(
     room: Room,
     asked: &Asked,
     id: &TxId,
-) -> Result<Text, Stop>
+) -> Result<Text, ClientStop>
     requires { room.answer.items ≡ [] }
     ensures ok { IfOk result (λ text. text.items
         ≡ given_text names.now (answer_in asked.now) id.now) }
@@ -90,7 +91,7 @@ pub fn finish<N: PoolName, V: Verifier>(
     client: &mut Client<N>,
     room: Room,
     asked: &Asked,
-) -> Result<Answer, Stop>
+) -> Result<Answer, ClientStop>
     requires { room.answer.items ≡ [] }
     ensures ok { IfOk result (λ a. text_of a ≡ answer_text names.now (answer_in asked.now)) }
     ensures client { OnOk result (client.new ≡ counting (answer_in asked.now) client.old) }
@@ -116,7 +117,7 @@ pub fn finish_given<N: PoolName, V: Verifier>(
     room: Room,
     tx: &Tx,
     asked: &Asked,
-) -> Result<Answer, Stop>
+) -> Result<Answer, ClientStop>
     requires { room.answer.items ≡ [] }
     ensures ok { IfOk result (λ a.
         text_of a ≡ given_text names.now (answer_in asked.now) (id_of tx.now)) }
@@ -144,7 +145,7 @@ pub fn finish_submit<N: PoolName, V: Verifier>(
     name: &Name,
     tx: &Tx,
     asked: &Asked,
-) -> Result<Answer, Stop>
+) -> Result<Answer, ClientStop>
     requires { room.answer.items ≡ [] }
     ensures ok { IfOk result (λ a. text_of a ≡ answer_text names.old (answer_in asked.now)) }
     ensures client { OnOk result (client.new ≡ counting (answer_in asked.now) client.old) }

@@ -32,7 +32,7 @@ pub use client::Client;
 pub use closing::Close;
 pub use connected::Connected;
 pub use conversation::Conversation;
-pub use fault::Fault;
+pub use fault::ClientFault;
 pub use opening::{Opened, Seat, open};
 pub use service::{Finished, Service, serve};
 pub use shared::Shared;

@@ -14,9 +14,9 @@ use mp_history::PoolName;
 use mp_lines::Query;
 use mp_memory::{Memory, NoMemory};
 use mp_names::Names;
-use mp_peer::{PeerReader, forge};
-use mp_serve::{Counts, Text, put_counts};
-use mp_versions::{Item, Run, Shown, Snapshot, Version};
+use mp_serve::{Counts, put_counts};
+use mp_text::Text;
+use mp_versions::{Item, PeerReader, Run, Shown, Snapshot, Version, forge};
 
 // Appends each item.
 fn put_run(text: &mut Text, names: &Names, items: Run<'_>) -> Result<(), NoMemory>

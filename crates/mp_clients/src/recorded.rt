@@ -10,8 +10,9 @@ use mp_history::Entry;
 use mp_memory::{Memory, NoMemory};
 use mp_mempool::Receipt;
 use mp_seqpool::Command;
-use mp_serve::{Block, Text, put_hex};
+use mp_serve::{ResolvedBlock, put_hex};
 use mp_session::Settings;
+use mp_text::Text;
 use mp_tx::{Ledger, OutRef, Output, Tx, TxId, put_output};
 
 /// What a change asks.
@@ -20,7 +21,7 @@ pub enum Change<'a> {
     Submit(&'a Tx),
     Remove(&'a [TxId]),
     /// The ledger state after the block.
-    Block(&'a Block),
+    Block(&'a ResolvedBlock),
     /// The ledger state, whatever came before.
     State(&'a Ledger),
     /// The ledger state this many steps ago.
@@ -78,7 +79,7 @@ fn put_head(memory: Memory, text: &mut Text, tick: u64, bytes: u64) -> Result<()
     put_word(text, given.as_bytes())
 }
 
-fn put_block(memory: Memory, text: &mut Text, block: &Block) -> Result<(), NoMemory> {
+fn put_block(memory: Memory, text: &mut Text, block: &ResolvedBlock) -> Result<(), NoMemory> {
     let mut count: u64 = 0;
     for tx in block.txs() {
         count = count.saturating_add(1);

@@ -14,7 +14,7 @@ use crate::closing::Close;
 use crate::connected::Connected;
 use crate::conversation::Conversation;
 use crate::conversing::answer_from;
-use crate::fault::Fault;
+use crate::fault::ClientFault;
 use crate::journal::Journal;
 use crate::opening::{Opened, Seat};
 use crate::settling::{Settled, settle};
@@ -36,7 +36,7 @@ use std::thread::Threads;
 pub struct Finished<N: PoolName, D: Device> {
     pub conversation: Conversation<N>,
     pub device: D,
-    pub ended: Result<(), Fault>,
+    pub ended: Result<(), ClientFault>,
 }
 
 // Answers the lines of the conversation until it ends, and closes its device.

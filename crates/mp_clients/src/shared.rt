@@ -6,12 +6,12 @@ ghost use Rattle.mp_clients.specs.Inside.Asked.{answer_in, IsUnanswered};
 use crate::asking::{Asked, make_room};
 use crate::journal::Journal;
 use crate::recorded::{Change, change_lines, put_entry};
-use crate::stop::Stop;
+use crate::stop::ClientStop;
 use mp_history::PoolName;
 use mp_memory::{Memory, NoMemory};
 use mp_mempool::{Mempool, Reader, Receipt};
 use mp_rules::Verifier;
-use mp_serve::Text;
+use mp_text::Text;
 use std::sync::{Arc, Wait};
 
 /// The pool that conversations share, its reader, and the file of its history, if it has one.
@@ -41,8 +41,13 @@ pub struct Room {
 }
 
 // Writes the entry of the change, whose lines are given.
-fn enter_in(rt: &impl Wait, journal: &Journal, lines: Text, receipt: &Receipt) -> Result<(), Stop>
-    ensures { IfErr result (λ stop. stop ≡ Stop.Untold) }
+fn enter_in(
+    rt: &impl Wait,
+    journal: &Journal,
+    lines: Text,
+    receipt: &Receipt,
+) -> Result<(), ClientStop>
+    ensures { IfErr result (λ stop. stop ≡ ClientStop.Untold) }
 {
     let mut lines = lines;
     let text = match put_entry(&mut lines, receipt) {
@@ -51,7 +56,7 @@ fn enter_in(rt: &impl Wait, journal: &Journal, lines: Text, receipt: &Receipt) -
     };
     match journal.append(rt, receipt.place, text) {
         Ok(()) => Ok(()),
-        Err(_) => Err(Stop::Untold),
+        Err(_) => Err(ClientStop::Untold),
     }
 }
 
@@ -82,7 +87,7 @@ impl<N: PoolName, V: Verifier> Shared<N, V> {
     ///
     /// # Errors
     /// `Untold` if the entry is missing in the file. Then the change was made.
-    pub(crate) fn enter(&self, rt: &impl Wait, lines: Text, asked: &Asked) -> Result<(), Stop>
+    pub(crate) fn enter(&self, rt: &impl Wait, lines: Text, asked: &Asked) -> Result<(), ClientStop>
         ensures { IfErr result (IsUnanswered (answer_in asked.now)) }
     {
         match (asked, &self.journal) {

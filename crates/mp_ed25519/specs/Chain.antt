@@ -1,5 +1,5 @@
 -- What an addition chain adds up, and that a good signature satisfies the standard's equation.
-use Rattle.std.specs.Prelude.{◌≡◌, ℕ, ◌+◌, ◌^◌, ◌<◌, true, List, length, Option, Some}
+use Rattle.std.specs.Prelude.{◌≡◌, ℕ, ◌+◌, ◌^◌, ◌<◌, true, List, length, Some}
 use Rattle.mp_ed25519.specs.Curve.{Point, combined, negated, neutral, sum, twice}
 use Rattle.mp_ed25519.specs.Ed25519.{accepts_halves, base, bytes_of, challenge, decoded, encoded, little, order}
 

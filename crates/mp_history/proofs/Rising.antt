@@ -1,5 +1,5 @@
 -- Tickets are strictly increasing through the histories of pools, each of which takes over from the one before.
-use Rattle.std.proofs.Common.{◌≡◌, ℕ, zero, suc, ◌+◌, ◌<◌, ◌≤◌, List, [], ◌∷◌, ◌++◌, length, take, refl, sym, ap, subst, ◌∙◌, arith}
+use Rattle.std.proofs.Common.{◌≡◌, ℕ, zero, suc, ◌+◌, ◌<◌, ◌≤◌, List, [], ◌∷◌, ◌++◌, length, refl, sym, ap, subst, ◌∙◌, arith}
 use Rattle.std.specs.Prelude.{All, Contains, Ok, slice_index}
 use Rattle.std.specs.List.{flat_map}
 use Rattle.std.specs.List.Sorted.{IsStrictlyIncreasing}
@@ -10,15 +10,14 @@ use Rattle.mp_tx.specs.Transaction.{Transaction}
 use Rattle.mp_rules.specs.Verifier.{Accepts}
 use Rattle.mp_seqpool.specs.declared.command.Reply.{Reply}
 use Rattle.mp_seqpool.specs.declared.command.Reply.TheVariants.{Accepted, Removed, Synced}
-use Rattle.mp_seqpool.specs.Command.{Command}
 use Rattle.mp_seqpool.specs.Pool.{Pool}
 use Rattle.mp_seqpool.specs.Config.{renewed}
-use Rattle.mp_seqpool.specs.SlowPool.{answer, next, pool_after}
+use Rattle.mp_seqpool.specs.SlowPool.{next, pool_after}
 use Rattle.mp_seqpool.specs.PoolLaws.{IsLawful, Lasts}
 use Rattle.mp_seqpool.proofs.Histories.{lawful-next, obeys}
 use Rattle.mp_history.specs.Entry.{Entry}
 use Rattle.mp_history.specs.Log.{Log, IsLegal, IsLegalLog, commands, pool_of, state_after}
-use Rattle.mp_history.specs.Successors.{ticket_in, given, Succeeds, AreSuccessors, SuccessorLaw}
+use Rattle.mp_history.specs.Successors.{ticket_in, given, AreSuccessors, SuccessorLaw}
 
 -- ---- lists that are strictly increasing, from above one number up to another
 

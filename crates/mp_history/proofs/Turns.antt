@@ -4,10 +4,10 @@ use Rattle.std.proofs.lemmas.List.{length_push}
 use Rattle.logbook.specs.Pages.{Nib, nib, inked, left_with, may_write, may_make}
 use mathlib.Core.List.{IsPrefix}
 use Rattle.mp_history.specs.Entry.{Entry}
-use Rattle.mp_history.specs.Log.{Begins, entered}
+use Rattle.mp_history.specs.Log.{Begins}
 use Rattle.mp_history.specs.Inside.Noted.{Noted, notes_of, entries_of, history, opening_of, log_of, right_after}
 use Rattle.mp_history.specs.Inside.Turn.{IsTurn}
-use Rattle.mp_history.proofs.Notes.{entries_of-one, opening_of-prefix, log_of-prefix, right_after-last}
+use Rattle.mp_history.proofs.Notes.{entries_of-one, log_of-prefix, right_after-last}
 
 -- a pen that has made its word
 pub made : (p : Nib) (n : ℕ) → p.right ≡ may_make → inked p n ≡ nib may_write p.key n
@@ -19,9 +19,6 @@ made_as t p n is may = is ∙ (made p n may ∙ ap (λ k. nib may_write k n) (sy
 module _ (root : ℕ) (log later : List Noted) (n : Noted) (e : Entry) where
   pub history-later : notes_of root later ≡ notes_of root log ++ n ∷ [] → n.entries ≡ e ∷ [] → history root later ≡ history root log ++ e ∷ []
   history-later is one = ap entries_of is ∙ entries_of-one (notes_of root log) n e one
-
-  pub log-later : 0 < length (notes_of root log) → notes_of root later ≡ notes_of root log ++ n ∷ [] → n.entries ≡ e ∷ [] → log_of root later ≡ entered (log_of root log) e
-  log-later opened is one = cc (sym (opening_of-prefix (notes_of root log) (notes_of root later) opened (n ∷ [], sym is)), history-later is one)
 
   pub right-later : (count : ℕ) (pen next : Nib) → IsTurn root count log pen → notes_of root later ≡ notes_of root log ++ n ∷ [] → n.entries ≡ e ∷ [] → next ≡ nib may_write n.next 0 → IsTurn root (count + 1) later next
   right-later count pen next right is one to = record {

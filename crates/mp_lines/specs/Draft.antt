@@ -1,6 +1,6 @@
 -- Drafts of transactions, and the transactions that they make.
 use Rattle.std.specs.Prelude.{ℕ, ◌+◌, ◌-◌, ◌%◌, ◌^◌, ◌==◌, List, [], ◌∷◌, ◌++◌, map, replicate, is_none, Option, None, Some, option_map, option_and_then, unwrap_or, if◌then◌else◌}
-use Rattle.mp_bundle.specs.Bundle.{Entry}
+use Rattle.mp_bundle.specs.Bundle.{TokenEntry}
 use Rattle.mp_tx.specs.declared.reference.OutRef.{OutRef}
 use Rattle.mp_tx.specs.declared.input.Input.{Input}
 use Rattle.mp_tx.specs.declared.signature.Signature.{Signature}
@@ -26,7 +26,7 @@ pub record Draft : Type 0 where
   pub payments : List Payment
   pub from : Option ℕ
   pub to : Option ℕ
-  pub forge : Option (List Entry)
+  pub forge : Option (List TokenEntry)
   pub scripts : List (List ℕ)
   pub signers : List Signer
 

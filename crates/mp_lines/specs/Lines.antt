@@ -135,33 +135,33 @@ abbrev pub query_line : Names → List ℕ → List (List ℕ) → Option Line
 query_line names word words = option_map Asks (query_of names word words)
 
 -- by the first word
-abbrev pub command_line : Names → List ℕ → List (List ℕ) → Option Line
-command_line names word words =
+abbrev pub request_line : Names → List ℕ → List (List ℕ) → Option Line
+request_line names word words =
     if pointwise nat_eq word (codes "submit") then submit_line names words
     else if pointwise nat_eq word (codes "remove") then remove_line names words
     else if pointwise nat_eq word (codes "sync") then sync_line names words
     else if pointwise nat_eq word (codes "for") then for_line names words
     else query_line names word words
 
-abbrev pub declaration_line : Names → List ℕ → List (List ℕ) → Option Line
-declaration_line names word words =
+abbrev pub declaration_or_request : Names → List ℕ → List (List ℕ) → Option Line
+declaration_or_request names word words =
     if pointwise nat_eq word (codes "script") then script_line names words
     else if pointwise nat_eq word (codes "data") then data_line names words
     else if pointwise nat_eq word (codes "out") then output_line names words
     else if pointwise nat_eq word (codes "tx") then tx_line names words
-    else command_line names word words
+    else request_line names word words
 
-abbrev pub asked_line : Names → List ℕ → List (List ℕ) → Option Line
-asked_line names word words =
+abbrev pub any_line : Names → List ℕ → List (List ℕ) → Option Line
+any_line names word words =
     if pointwise nat_eq word (codes "block") then block_line words
     else if pointwise nat_eq word (codes "limit") then limit_line words
     else if pointwise nat_eq word (codes "last") then last_line words
     else if pointwise nat_eq word (codes "tick") then tick_line words
-    else declaration_line names word words
+    else declaration_or_request names word words
 
 abbrev pub words_line : Names → List (List ℕ) → Option Line
 words_line names [] = Some Blank
-words_line names (word ∷ words) = if are_none_or_comment (word ∷ words) then Some Blank else asked_line names word words
+words_line names (word ∷ words) = if are_none_or_comment (word ∷ words) then Some Blank else any_line names word words
 
 -- the meaning of the line, if it is one of the language
 unfoldable pub line_of : Names → List ℕ → Option Line

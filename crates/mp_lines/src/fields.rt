@@ -103,14 +103,14 @@ fn looks_at<'a>(names: &Names, word: &'a [u8]) -> Result<Field, LineFault<'a>>
     Ok(Field::LooksAt(reference))
 }
 
-fn from(word: &[u8]) -> Result<Field, LineFault<'_>>
+fn valid_from(word: &[u8]) -> Result<Field, LineFault<'_>>
     ensures { Reads (option_map told.From (number_of word.now)) result }
 {
     let tick = any_number(word)?;
     Ok(Field::From(tick))
 }
 
-fn to(word: &[u8]) -> Result<Field, LineFault<'_>>
+fn valid_to(word: &[u8]) -> Result<Field, LineFault<'_>>
     ensures { Reads (option_map told.To (number_of word.now)) result }
 {
     let tick = any_number(word)?;
@@ -191,9 +191,9 @@ fn limit_field<'a>(
     ensures { Reads (limit_field names.now kind.now value.now) result }
 {
     if kind == b"from".as_slice() {
-        from(value)
+        valid_from(value)
     } else if kind == b"to".as_slice() {
-        to(value)
+        valid_to(value)
     } else if kind == b"forge".as_slice() {
         forges(memory, names, value)
     } else {

@@ -3,7 +3,7 @@
 ghost use Rattle.std.specs.Prelude.{◌≡◌, Some, None, option_map};
 ghost use Rattle.std.specs.Result.{result_ok};
 ghost use Rattle.mp_text.specs.Words.{words_of};
-ghost use Rattle.mp_lines.specs.Lines.{command_line, declaration_line, asked_line, words_line, line_of};
+ghost use Rattle.mp_lines.specs.Lines.{request_line, declaration_or_request, any_line, words_line, line_of};
 ghost use Rattle.mp_lines.specs.Lines as lines;
 ghost use Rattle.mp_names.specs.Fault.{Gives};
 ghost use Rattle.mp_lines.specs.Inside.Line.{to_line};
@@ -44,13 +44,13 @@ pub enum Line {
     Asks(Query),
 }
 
-fn command_line<'a>(
+fn request_line<'a>(
     memory: Memory,
     names: &Names,
     word: &'a [u8],
     words: &'a [u8],
 ) -> Result<Line, LineFault<'a>>
-    ensures { Gives to_line (command_line names.now word.now (words_of words.now)) result }
+    ensures { Gives to_line (request_line names.now word.now (words_of words.now)) result }
 {
     if word == SUBMIT.word {
         submit_line(names, words)
@@ -65,13 +65,14 @@ fn command_line<'a>(
     }
 }
 
-fn declaration_line<'a>(
+fn declaration_or_request<'a>(
     memory: Memory,
     names: &Names,
     word: &'a [u8],
     words: &'a [u8],
 ) -> Result<Line, LineFault<'a>>
-    ensures { Gives to_line (declaration_line names.now word.now (words_of words.now)) result }
+    ensures { Gives to_line
+        (declaration_or_request names.now word.now (words_of words.now)) result }
 {
     if word == SCRIPT.word {
         script_line(memory, names, words)
@@ -82,7 +83,7 @@ fn declaration_line<'a>(
     } else if word == TX.word {
         tx_line(memory, names, words)
     } else {
-        command_line(memory, names, word, words)
+        request_line(memory, names, word, words)
     }
 }
 
@@ -92,13 +93,13 @@ fn sets<'a>(setting: Result<Setting, Reason<'a>>) -> Result<Line, LineFault<'a>>
     Ok(Line::Sets(setting?))
 }
 
-fn asked_line<'a>(
+fn any_line<'a>(
     memory: Memory,
     names: &Names,
     word: &'a [u8],
     words: &'a [u8],
 ) -> Result<Line, LineFault<'a>>
-    ensures { Gives to_line (asked_line names.now word.now (words_of words.now)) result }
+    ensures { Gives to_line (any_line names.now word.now (words_of words.now)) result }
 {
     if word == BLOCK.word {
         sets(block_setting(words))
@@ -109,7 +110,7 @@ fn asked_line<'a>(
     } else if word == TICK.word {
         sets(tick_setting(words))
     } else {
-        declaration_line(memory, names, word, words)
+        declaration_or_request(memory, names, word, words)
     }
 }
 
@@ -145,7 +146,7 @@ impl Line {
             return Ok(Line::Blank);
         }
         match first_word(line) {
-            Some((word, words)) => asked_line(memory, names, word, words),
+            Some((word, words)) => any_line(memory, names, word, words),
             None => Ok(Line::Blank),
         }
     }

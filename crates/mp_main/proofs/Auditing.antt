@@ -4,33 +4,33 @@ use Rattle.std.specs.Prelude.{Option, None, Some, IfSome, IfErr, OnOk, Result, O
 use Rattle.std.specs.Io.KnownBytes.{Keeps}
 use Rattle.mp_mempool.specs.Opening.{fresh_log}
 use Rattle.mp_rules.specs.Verifier.{Accepts}
-use Rattle.mp_race.specs.declared.fault.Fault.{Fault}
-use Rattle.mp_race.specs.declared.fault.Fault.TheVariants.{NoMemory, BadLine, ReadFault, WriteFault, Audit, MissingEntry}
-use Rattle.mp_race.specs.declared.history.History.{History}
+use Rattle.mp_race.specs.declared.fault.RaceFault.{RaceFault}
+use Rattle.mp_race.specs.declared.fault.RaceFault.TheVariants.{NoMemory, BadLine, ReadFault, WriteFault, Audit, MissingEntry}
+use Rattle.mp_race.specs.declared.history.RecordedHistory.{RecordedHistory}
 use Rattle.mp_race.specs.Scenario.{Scenario}
 use Rattle.mp_race.specs.History.{IsHistory, IsFaultOfHistory}
 use Rattle.mp_race.specs.HistoryText.{history_text}
 use Rattle.mp_race.specs.HistoryRead.{IsRead}
-use Rattle.mp_main.specs.Status.{status_of, EndsAs}
+use Rattle.mp_main.specs.Status.{EndsAs}
 use Rattle.mp_main.specs.Legal.{IsAudited, IsSaid, IsLegalText, IsFaultyText}
 use Rattle.mp_main.proofs.Ends.{keeps}
 
 module _ (accepts : Accepts) (s : Scenario) where
   -- what the audit of the history returns
-  abbrev pub IsAnswer : History → Result (Unit {0}) Fault → Type 0
+  abbrev pub IsAnswer : RecordedHistory → Result (Unit {0}) RaceFault → Type 0
   IsAnswer h a =
       OnOk a (IsHistory accepts (fresh_log s.config s.ledger).opening h.workers s.tasks h.told.items)
       × IfErr a (IsFaultOfHistory accepts (fresh_log s.config s.ledger).opening h.workers s.tasks h.told.items)
 
-  faulty : (bytes : List ℕ) (h : History) (fault : Fault) → bytes ≡ history_text h.workers h.told.items
+  faulty : (bytes : List ℕ) (h : RecordedHistory) (fault : RaceFault) → bytes ≡ history_text h.workers h.told.items
       → IsFaultOfHistory accepts (fresh_log s.config s.ledger).opening h.workers s.tasks h.told.items fault → IsFaultyText accepts s bytes fault
   faulty bytes h fault is of = record { workers = h.workers; told = h.told.items; text_is = is; faulty = of }
 
-  legal : (bytes : List ℕ) (h : History) → bytes ≡ history_text h.workers h.told.items
+  legal : (bytes : List ℕ) (h : RecordedHistory) → bytes ≡ history_text h.workers h.told.items
       → IsHistory accepts (fresh_log s.config s.ledger).opening h.workers s.tasks h.told.items → IsLegalText accepts s bytes
   legal bytes h is of = record { workers = h.workers; told = h.told.items; text_is = is; legal = of }
 
-  found : (bytes : List ℕ) (h : History) (old new : Option (List ℕ)) (fault : Fault) → bytes ≡ history_text h.workers h.told.items
+  found : (bytes : List ℕ) (h : RecordedHistory) (old new : Option (List ℕ)) (fault : RaceFault) → bytes ≡ history_text h.workers h.told.items
       → IsFaultOfHistory accepts (fresh_log s.config s.ledger).opening h.workers s.tasks h.told.items fault → Keeps old new → IsAudited accepts s bytes old new (Err fault)
   found bytes h old new NoMemory is of kept = kept
   found bytes h old new (BadLine line) is of kept = absurd of
@@ -39,7 +39,7 @@ module _ (accepts : Accepts) (s : Scenario) where
   found bytes h old new (Audit fault) is of kept = (faulty bytes h (Audit fault) is of, kept)
   found bytes h old new (MissingEntry place) is of kept = (inr (faulty bytes h (MissingEntry place) is of), kept)
 
-  said : (bytes : List ℕ) (h : History) (old new : Option (List ℕ)) (a r : Result (Unit {0}) Fault) → bytes ≡ history_text h.workers h.told.items → IsAnswer h a → IsSaid old new a r → IsAudited accepts s bytes old new r
+  said : (bytes : List ℕ) (h : RecordedHistory) (old new : Option (List ℕ)) (a r : Result (Unit {0}) RaceFault) → bytes ≡ history_text h.workers h.told.items → IsAnswer h a → IsSaid old new a r → IsAudited accepts s bytes old new r
   said bytes h old new (Ok u) (Ok v) is of says = (legal bytes h is of.0, says)
   said bytes h old new (Ok u) (Err NoMemory) is of says = absurd says
   said bytes h old new (Ok u) (Err (BadLine line)) is of says = absurd says
@@ -51,12 +51,12 @@ module _ (accepts : Accepts) (s : Scenario) where
   said bytes h old new (Err fault) (Err other) is of says = subst (λ f. IsAudited accepts s bytes old new (Err f)) (sym says.0) (found bytes h old new fault is of.1 says.1)
 
   -- the bytes are read as this history
-  pub audited : (known : Option (List ℕ)) (h : History) (old new : Option (List ℕ)) (a : Result (Unit {0}) Fault) (status : ℕ) → IfSome known (λ bytes. bytes ≡ history_text h.workers h.told.items) → IsAnswer h a
+  pub audited : (known : Option (List ℕ)) (h : RecordedHistory) (old new : Option (List ℕ)) (a : Result (Unit {0}) RaceFault) (status : ℕ) → IfSome known (λ bytes. bytes ≡ history_text h.workers h.told.items) → IsAnswer h a
       → EndsAs (IsSaid old new a) status → IfSome known (λ bytes. EndsAs (IsAudited accepts s bytes old new) status)
   audited None h old new a status is of says = tt
   audited (Some bytes) h old new a status is of says = (says.0, said bytes h old new a says.0 is of says.1, says.2)
 
-  none_read : (bytes : List ℕ) (old : Option (List ℕ)) (fault : Fault) → IsRead bytes (Err fault) → IsAudited accepts s bytes old old (Err fault)
+  none_read : (bytes : List ℕ) (old : Option (List ℕ)) (fault : RaceFault) → IsRead bytes (Err fault) → IsAudited accepts s bytes old old (Err fault)
   none_read bytes old NoMemory is = keeps old
   none_read bytes old ReadFault is = keeps old
   none_read bytes old WriteFault is = absurd is
@@ -65,6 +65,6 @@ module _ (accepts : Accepts) (s : Scenario) where
   none_read bytes old (MissingEntry place) is = (inl is, keeps old)
 
   -- no history can be read from the bytes
-  pub unread : (known old : Option (List ℕ)) (fault : Fault) (status : ℕ) → IfSome known (λ bytes. IsRead bytes (Err fault)) → status ≡ 1 → IfSome known (λ bytes. EndsAs (IsAudited accepts s bytes old old) status)
+  pub unread : (known old : Option (List ℕ)) (fault : RaceFault) (status : ℕ) → IfSome known (λ bytes. IsRead bytes (Err fault)) → status ≡ 1 → IfSome known (λ bytes. EndsAs (IsAudited accepts s bytes old old) status)
   unread None old fault status is one = tt
   unread (Some bytes) old fault status is one = (Err fault, none_read bytes old fault is, one)

@@ -3,14 +3,14 @@ use Rattle.std.proofs.Common.{◌≡◌, ◌≤◌, ◌⊎◌, ℕ, ◌+◌, ◌
 use Rattle.std.proofs.Common.{Bool, true, false, true≢false}
 use Rattle.std.proofs.lemmas.List.{append_assoc, length-append}
 use Rattle.std.specs.Prelude.{Option, None, Some, IfSome, Result, Ok, Err}
-use Rattle.std.specs.Io.KnownBytes.{Appends, Keeps}
+use Rattle.std.specs.Io.KnownBytes.{Appends}
 use Rattle.std.proofs.Math.Seq.{take-append-add}
 use Rattle.mp_text.specs.Lines.{lines_of}
 use Rattle.mp_answers.proofs.Appending.{Appends-nothing, Appends-more}
 use Rattle.mp_signatures.specs.Scheme.{accepted_by}
 use Rattle.mp_serve.specs.declared.conversation.Conversation.{Conversation}
-use Rattle.mp_serve.specs.declared.fault.Fault.{Fault}
-use Rattle.mp_serve.specs.declared.fault.Fault.TheVariants.{NoMemory, ReadFault, WriteFault, ManyLines}
+use Rattle.mp_serve.specs.declared.fault.ConversationFault.{ConversationFault}
+use Rattle.mp_serve.specs.declared.fault.ConversationFault.TheVariants.{NoMemory, ReadFault, WriteFault, ManyLines}
 use Rattle.mp_serve.specs.Talk.{counted}
 use Rattle.mp_serve.specs.Texts.{no_memory_text}
 use Rattle.mp_serve.specs.Served.{AreAnswers, AppendsUpTo, Ended, WasCut, WereAnswered}
@@ -73,7 +73,7 @@ module _ (g : Conversation) (old mid now : Option (List ℕ)) (bytes rest : List
       )
 
   -- a fault before a line that opens the pool
-  faulty : (fault : Fault) → Ended s rest mid now (Err fault) → EndedEarly g bytes old now (Err fault)
+  faulty : (fault : ConversationFault) → Ended s rest mid now (Err fault) → EndedEarly g bytes old now (Err fault)
   faulty ReadFault (k, told) = (length p.lines + k, more_answered k told)
   faulty WriteFault cut = more_cut cut
   faulty ManyLines (k, last, told) = (length p.lines + k, omega (arith, last), more_answered k told)
@@ -174,7 +174,7 @@ module _ (g : Conversation) (old mid now : Option (List ℕ)) (s : Conversation)
   stand_ends false _ None at h = tt
   stand_ends false _ (Some bytes) (n, most, (rest, is, p)) h = all_answered g old mid now bytes rest s n p u (here bytes rest is _ h)
 
-  pub stand_fails : (fault : Fault) (all : Option (List ℕ)) → StandsFrom g all left old mid s k
+  pub stand_fails : (fault : ConversationFault) (all : Option (List ℕ)) → StandsFrom g all left old mid s k
       → IfSome left (λ rest. HasBegun s rest mid now (Err fault) line u after) → IfSome all (λ bytes. EndedEarly g bytes old now (Err fault))
   stand_fails fault None at h = tt
   stand_fails fault (Some bytes) (n, most, (rest, is, p)) h = faulty g old mid now bytes rest s n p fault (here bytes rest is _ h)
@@ -211,7 +211,7 @@ none_answered g (Some bytes) old = (0, ([], g, (refl, refl), Appends-nothing old
 module _ (N : Type 0) {D : Type 0} (callers : ℕ) (input output : D → Option (List ℕ)) (g : Conversation) (device now : D) (clients : List D)
     (status : ℕ) where
   -- the operator's conversation ended before
-  pub ends_early : (ended : Result (Unit {0}) Fault) (all : Option (List ℕ))
+  pub ends_early : (ended : Result (Unit {0}) ConversationFault) (all : Option (List ℕ))
       → IfSome all (λ bytes. EndedEarly g bytes (output device) (output now) ended) → status ≡ status_of ended
       → IfSome all (λ bytes. EndsShared N callers input output g bytes device clients status)
   ends_early ended None h is = tt

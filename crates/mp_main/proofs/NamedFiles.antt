@@ -23,9 +23,6 @@ of_words [] clients e (inl memory) = inl memory
 of_words [] clients e (inr other) = absurd other
 of_words (k ∷ ks) clients e h = h
 
-pub of_clients : (words clients : Kinds) (e : Error) → words ≡ [] → HasKind clients e → HasKind (or_else words clients) e
-of_clients words clients e none h = subst (λ k. HasKind (or_else k clients) e) (sym none) h
-
 pub no_fault : (words clients : Kinds) → words ≡ [] → clients ≡ [] → or_else words clients ≡ []
 no_fault words clients none few = ap (λ k. or_else k clients) none ∙ few
 

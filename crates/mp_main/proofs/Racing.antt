@@ -1,18 +1,18 @@
 -- The end of a race.
-use Rattle.std.proofs.Common.{◌≡◌, ℕ, ◌<◌, List, [], ◌∷◌, ◌++◌, length, take, length-append, sym, ap, ◌∙◌, append-nil, arith, codes}
+use Rattle.std.proofs.Common.{◌≡◌, ℕ, ◌<◌, List, [], ◌∷◌, ◌++◌, length, length-append, sym, ◌∙◌, append-nil, arith, codes}
 use Rattle.std.specs.Prelude.{Option, None, Some, Result, Ok, Err}
-use Rattle.std.specs.Io.KnownBytes.{Appends, Keeps}
+use Rattle.std.specs.Io.KnownBytes.{Keeps}
 use mathlib.Core.Logic.{inl}
 use Rattle.mp_text.specs.Output.{AppendsFront}
 use Rattle.mp_rules.specs.Verifier.{Accepts}
-use Rattle.mp_race.specs.declared.fault.Fault.{Fault}
-use Rattle.mp_race.specs.declared.fault.Fault.TheVariants.{NoMemory, BadLine, ReadFault, WriteFault, Audit, MissingEntry}
+use Rattle.mp_race.specs.declared.fault.RaceFault.{RaceFault}
+use Rattle.mp_race.specs.declared.fault.RaceFault.TheVariants.{NoMemory, BadLine, ReadFault, WriteFault, Audit, MissingEntry}
 use Rattle.mp_race.specs.declared.racing.Raced.{Raced}
 use Rattle.mp_race.specs.declared.report.Report.{Report}
 use Rattle.mp_race.specs.Scenario.{Scenario}
 use Rattle.mp_race.specs.Raced.{IsRaced}
 use Rattle.mp_race.specs.ReportText.{and_then, numbers_text, report_text, IsWritten}
-use Rattle.mp_main.specs.Status.{status_of, EndsAs}
+use Rattle.mp_main.specs.Status.{EndsAs}
 use Rattle.mp_main.specs.Told.{IsReported, RaceEnds}
 use Rattle.mp_main.proofs.Ends.{keeps}
 
@@ -30,7 +30,7 @@ some_report r =
 pub none_written : (r : Report) (known : Option (List ℕ)) → AppendsFront known known (report_text r)
 none_written r known = front_of_none known known (report_text r) (some_report r) (keeps known)
 
-pub part_written : (r : Report) (old new : Option (List ℕ)) (fault : Fault) → IsWritten r old new (Err fault) → AppendsFront old new (report_text r)
+pub part_written : (r : Report) (old new : Option (List ℕ)) (fault : RaceFault) → IsWritten r old new (Err fault) → AppendsFront old new (report_text r)
 part_written r old new NoMemory is = front_of_none old new (report_text r) (some_report r) is
 part_written r old new (BadLine line) is = absurd is
 part_written r old new ReadFault is = absurd is

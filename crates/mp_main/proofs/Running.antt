@@ -2,7 +2,7 @@
 use Rattle.std.proofs.Common.{◌≡◌, ℕ, List, refl}
 use Rattle.std.specs.Prelude.{Option, IfSome, Err}
 use Rattle.mp_signatures.specs.declared.scheme.Scheme.{Scheme}
-use Rattle.mp_session.specs.declared.fault.Fault.TheVariants.{NoMemory, ReadFault}
+use Rattle.mp_session.specs.declared.fault.RunFault.TheVariants.{NoMemory, ReadFault}
 use Rattle.mp_session.specs.Ending.{Ended}
 use Rattle.mp_main.specs.Status.{EndsAs}
 use Rattle.mp_main.proofs.Ends.{ends, keeps, appends-nothing, for_all}

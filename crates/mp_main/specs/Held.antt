@@ -5,8 +5,8 @@ use Rattle.mp_signatures.specs.Scheme.{accepted_by}
 use Rattle.mp_text.specs.Lines.{lines_of}
 use Rattle.mp_history.specs.Log.{Log, Begins, IsLegalLog}
 use Rattle.mp_serve.specs.declared.conversation.Conversation as alone
-use Rattle.mp_serve.specs.declared.fault.Fault.{Fault}
-use Rattle.mp_serve.specs.declared.fault.Fault.TheVariants.{NoMemory, ReadFault, WriteFault, ManyLines}
+use Rattle.mp_serve.specs.declared.fault.ConversationFault.{ConversationFault}
+use Rattle.mp_serve.specs.declared.fault.ConversationFault.TheVariants.{NoMemory, ReadFault, WriteFault, ManyLines}
 use Rattle.mp_serve.specs.Served.{Ended, WereAnswered}
 use Rattle.mp_clients.specs.declared.opening.Seat.{Seat}
 use Rattle.mp_clients.specs.declared.service.Finished.{Finished}
@@ -16,7 +16,7 @@ use Rattle.mp_clients.specs.Service.{AreServed, HasSeenOf, KnowsAllOf}
 use Rattle.mp_main.specs.Status.{status_of, status_of_all}
 
 -- how the operator's conversation ends before the pool is open: as one alone, but perhaps after more lines
-abbrev pub EndedEarly : alone.Conversation → List ℕ → Option (List ℕ) → Option (List ℕ) → Result (Unit {0}) Fault → Type 0
+abbrev pub EndedEarly : alone.Conversation → List ℕ → Option (List ℕ) → Option (List ℕ) → Result (Unit {0}) ConversationFault → Type 0
 EndedEarly start bytes old new (Ok u) = Ended start bytes old new (Ok u)
 EndedEarly start bytes old new (Err ReadFault) = Ended start bytes old new (Err ReadFault)
 EndedEarly start bytes old new (Err WriteFault) = Ended start bytes old new (Err WriteFault)
@@ -50,7 +50,7 @@ module _ (N : Type 0) {D : Type 0} (accepts : Accepts) (callers : ℕ) (input ou
 abbrev pub EndsShared : (N : Type 0) → {D : Type 0} → ℕ → (D → Option (List ℕ)) → (D → Option (List ℕ)) → alone.Conversation
     → List ℕ → D → List D → ℕ → Type 0
 EndsShared N {D} callers input output start bytes device clients status =
-    ((now : D) × (ended : Result (Unit {0}) Fault) × EndedEarly start bytes (output device) (output now) ended
+    ((now : D) × (ended : Result (Unit {0}) ConversationFault) × EndedEarly start bytes (output device) (output now) ended
     × (status ≡ status_of ended))
     ⊎ ((now : D) × (line : List ℕ) × (operator : alone.Conversation)
     × HasCome start bytes (output device) (output now) line operator (input now)

@@ -3,7 +3,7 @@ use Rattle.std.specs.Prelude.{◌≡◌, ℕ, List, Option, Result, Ok, Err}
 use Rattle.std.specs.Io.KnownBytes.{Appends, Keeps}
 use Rattle.mp_text.specs.Output.{AppendsFront}
 use Rattle.mp_serve.specs.declared.conversation.Conversation.{Conversation}
-use Rattle.mp_replay.specs.declared.fault.Fault.{Fault}
+use Rattle.mp_replay.specs.declared.fault.ReplayFault.{ReplayFault}
 use Rattle.mp_replay.specs.ServedHistory.{IsServedHistory}
 use Rattle.mp_replay.specs.ReplayFault.{IsReplayFault}
 use Rattle.mp_main.specs.Legal.{legal_text}
@@ -15,10 +15,10 @@ pub data ReplayStop : Type 0 where
   -- a write fails
   Unwritten : ReplayStop
   -- the history isn't legal, or an allocation fails
-  Faulty : Fault → ReplayStop
+  Faulty : ReplayFault → ReplayStop
 
 -- what is written about the result of a replay
-abbrev pub IsReplaySaid : Option (List ℕ) → Option (List ℕ) → Result (Unit {0}) Fault → Result (Unit {0}) ReplayStop → Type 0
+abbrev pub IsReplaySaid : Option (List ℕ) → Option (List ℕ) → Result (Unit {0}) ReplayFault → Result (Unit {0}) ReplayStop → Type 0
 IsReplaySaid old new (Ok u) (Ok v) = Appends old new legal_text
 IsReplaySaid old new (Ok u) (Err Unread) = ⊥
 IsReplaySaid old new (Ok u) (Err Unwritten) = AppendsFront old new legal_text

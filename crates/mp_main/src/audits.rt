@@ -11,7 +11,7 @@ use crate::ending::{end_audit, end_bad_history, end_fault, end_unread};
 use crate::scenarios::scenario_of;
 use crate::schemes::signatures_of;
 use mp_memory::Memory;
-use mp_race::{Fault, History, Scenario, audit_history};
+use mp_race::{RaceFault, RecordedHistory, Scenario, audit_history};
 use mp_signatures::Signatures;
 use std::fs::File;
 use std::io::{Read, Write};
@@ -31,7 +31,7 @@ pub fn audit_over<R: Read, W: Write>(
         (W.contents writer.old) (W.contents writer.new))
         (exit_status result)) }
 {
-    match History::read(memory, reader) {
+    match RecordedHistory::read(memory, reader) {
         Ok(history) => end_audit(
             rt,
             audit_history(memory, scenario, signatures, &history),
@@ -50,7 +50,7 @@ pub fn audit_files(
     explains: bool,
 ) -> ExitCode {
     let Ok(memory) = Memory::new(rt.alloc()) else {
-        return end_fault(rt, Fault::NoMemory);
+        return end_fault(rt, RaceFault::NoMemory);
     };
     match signatures_of(rt, memory, signatures) {
         Ok(signatures) => {

@@ -16,7 +16,7 @@ use crate::ending::{end_conversations, end_fault, end_unwritten};
 use mp_clients::{Close, begin, open, refuse, serve};
 use mp_history::{NewName, PoolName};
 use mp_memory::{Memory, NoMemory};
-use mp_serve::{Conversation, Device, Fault, Streams, Turn};
+use mp_serve::{Conversation, ConversationFault, Device, Streams, Turn};
 use mp_signatures::Signatures;
 use mp_tx::Salt;
 use std::fs::File;
@@ -77,7 +77,7 @@ fn open_and_serve<
                 threads, memory, opened, history, operator, line, device, clients,
             ) {
                 Ok(service) => Ok(end_conversations(rt, &service)),
-                Err(NoMemory) => Ok(end_fault(rt, Fault::NoMemory)),
+                Err(NoMemory) => Ok(end_fault(rt, ConversationFault::NoMemory)),
             }
         }
         Err(NoMemory) => Err(waiting),
@@ -144,7 +144,7 @@ fn converse_from<R: Threads + Wait + Sync, D: Device + Close + Send + Drop>(
             Err(fault) => return end_fault(rt, fault),
         }
     }
-    end_fault(rt, Fault::ManyLines)
+    end_fault(rt, ConversationFault::ManyLines)
 }
 
 // The operator and the clients.
@@ -182,7 +182,7 @@ pub fn converse_over_all<R: Threads + Wait + Sync, D: Device + Close + Send + Dr
         Ok(operator) => converse_from(
             rt, threads, memory, operator, history, device, clients, callers,
         ),
-        Err(NoMemory) => end_fault(rt, Fault::NoMemory),
+        Err(NoMemory) => end_fault(rt, ConversationFault::NoMemory),
     }
 }
 
@@ -221,7 +221,7 @@ pub fn converse_with<R: Threads + Wait + Sync>(
         Err(code) => return code,
     };
     let Ok(reader) = BufReader::new(memory, rt.stdin()) else {
-        return end_fault(rt, Fault::NoMemory);
+        return end_fault(rt, ConversationFault::NoMemory);
     };
     let device = Channel::Operator(Streams::new(reader, rt.stdout()));
     match channels_of(rt, memory, clients) {
@@ -230,7 +230,7 @@ pub fn converse_with<R: Threads + Wait + Sync>(
                 rt, threads, memory, signatures, salt, names, history, device, channels,
             )
         }
-        Err(NoMemory) => end_fault(rt, Fault::NoMemory),
+        Err(NoMemory) => end_fault(rt, ConversationFault::NoMemory),
     }
 }
 

@@ -12,7 +12,7 @@ use crate::ending::end_fault;
 use crate::salt::salt_of;
 use crate::schemes::signatures_of;
 use mp_memory::Memory;
-use mp_serve::{Device, Fault, Streams, Turn, serve};
+use mp_serve::{ConversationFault, Device, Streams, Turn, serve};
 use mp_signatures::Signatures;
 use mp_tx::Salt;
 use std::io::BufReader;
@@ -49,7 +49,7 @@ pub fn prepare(
 {
     let salt = salt_of(rt, salt)?;
     let Ok(memory) = Memory::new(rt.alloc()) else {
-        return Err(end_fault(rt, Fault::NoMemory));
+        return Err(end_fault(rt, ConversationFault::NoMemory));
     };
     let signatures = signatures_of(rt, memory, signatures)?;
     Ok((memory, signatures, salt))
@@ -67,7 +67,7 @@ pub fn converse(
         Err(code) => return code,
     };
     let Ok(reader) = BufReader::new(memory, rt.stdin()) else {
-        return end_fault(rt, Fault::NoMemory);
+        return end_fault(rt, ConversationFault::NoMemory);
     };
     let mut device = Streams::new(reader, rt.stdout());
     converse_over(rt, memory, signatures, salt, names, &mut device)

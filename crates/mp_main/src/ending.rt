@@ -15,9 +15,9 @@ use clap::error::ErrorKind;
 use mp_clients::{Finished, Service};
 use mp_history::{AuditFault, PoolName};
 use mp_names::Reason;
-use mp_race::Fault;
+use mp_race::RaceFault;
 use mp_serve::Device;
-use mp_session::Stop;
+use mp_session::RunStop;
 use mp_text::{WriteFault, write_all};
 use std::process::ExitCode;
 use std::{fmt, io};
@@ -42,7 +42,7 @@ fn explain(rt: &HostRuntime, explains: bool, bad_line: Option<(u64, Reason<'_>)>
 }
 
 /// After the answers to a text: 0, or 1 and the fault's line. With `explains`, a second line says what is wrong with a bad line.
-pub fn end_answers(rt: &HostRuntime, explains: bool, ended: Result<(), Stop<'_>>) -> ExitCode
+pub fn end_answers(rt: &HostRuntime, explains: bool, ended: Result<(), RunStop<'_>>) -> ExitCode
     ensures { exit_status result ≡ status_of ended.entry }
 {
     match ended {
@@ -57,7 +57,7 @@ pub fn end_answers(rt: &HostRuntime, explains: bool, ended: Result<(), Stop<'_>>
 
 /// After a race that can't begin because of its text: 1, and the fault's line. With `explains`, a second line says what is wrong
 /// with a bad line.
-pub fn end_bad_line(rt: &HostRuntime, explains: bool, stop: mp_race::Stop<'_>) -> ExitCode
+pub fn end_bad_line(rt: &HostRuntime, explains: bool, stop: mp_race::RaceStop<'_>) -> ExitCode
     ensures { exit_status result ≡ 1 }
 {
     let _ = rt.eprintln(stop.to_fault());
@@ -103,7 +103,7 @@ pub fn end_undrawn(rt: &HostRuntime, error: io::Error) -> ExitCode
 
 /// If a history can't be read: 1, and the fault's line. A second line gives the form of a history's lines if one of them is bad,
 /// or says that there are fewer entries than the first line promises.
-pub fn end_bad_history(rt: &HostRuntime, found: Fault) -> ExitCode
+pub fn end_bad_history(rt: &HostRuntime, found: RaceFault) -> ExitCode
     ensures { exit_status result ≡ 1 }
 {
     let wrong = wrong_text(&found);
@@ -115,32 +115,32 @@ pub fn end_bad_history(rt: &HostRuntime, found: Fault) -> ExitCode
 }
 
 // What is wrong with a history's text.
-fn wrong_text(fault: &Fault) -> Option<&'static str> {
+fn wrong_text(fault: &RaceFault) -> Option<&'static str> {
     match fault {
-        Fault::BadLine(_) => Some(
+        RaceFault::BadLine(_) => Some(
             "of the history: its lines are workers N entries M, and then entry PLACE WORKER COMMAND REPLY",
         ),
-        Fault::MissingEntry(_) => Some("the history ends before this entry"),
+        RaceFault::MissingEntry(_) => Some("the history ends before this entry"),
         _ => None,
     }
 }
 
 // What is wrong at the place of the fault.
-fn wrong_there(fault: &Fault) -> Option<&'static str> {
+fn wrong_there(fault: &RaceFault) -> Option<&'static str> {
     match fault {
-        Fault::MissingEntry(_) => Some("the entry has another place"),
-        Fault::Audit(AuditFault::StrangeCaller(_)) => {
+        RaceFault::MissingEntry(_) => Some("the entry has another place"),
+        RaceFault::Audit(AuditFault::StrangeCaller(_)) => {
             Some(
                 "the command isn't a change that is dealt to this worker and comes behind its last",
             )
         }
-        Fault::Audit(AuditFault::WrongReply(_)) => Some("the pool replies otherwise there"),
+        RaceFault::Audit(AuditFault::WrongReply(_)) => Some("the pool replies otherwise there"),
         _ => None,
     }
 }
 
 // If an audit finds a fault: 1, and the fault's line. A second line says what is wrong at its place.
-fn end_fault_there(rt: &HostRuntime, found: Fault) -> ExitCode
+fn end_fault_there(rt: &HostRuntime, found: RaceFault) -> ExitCode
     ensures { exit_status result ≡ 1 }
 {
     let wrong = wrong_there(&found);
@@ -152,18 +152,20 @@ fn end_fault_there(rt: &HostRuntime, found: Fault) -> ExitCode
 }
 
 // What is wrong in the line of the fault.
-fn wrong_line(fault: &mp_replay::Fault<'_>) -> Option<&'static str> {
+fn wrong_line(fault: &mp_replay::ReplayFault<'_>) -> Option<&'static str> {
     match fault {
-        mp_replay::Fault::NoAnswer(_) => Some("the history ends before the answer to this line"),
-        mp_replay::Fault::WrongAnswer(_) => Some("the pool answers otherwise there"),
-        mp_replay::Fault::WrongPlace(_) => Some("the entry has another place"),
-        mp_replay::Fault::BadCaller(_) => Some("the entry has no caller from 0 to 63"),
+        mp_replay::ReplayFault::NoAnswer(_) => Some(
+            "the history ends before the answer to this line",
+        ),
+        mp_replay::ReplayFault::WrongAnswer(_) => Some("the pool answers otherwise there"),
+        mp_replay::ReplayFault::WrongPlace(_) => Some("the entry has another place"),
+        mp_replay::ReplayFault::BadCaller(_) => Some("the entry has no caller from 0 to 63"),
         _ => None,
     }
 }
 
 // If the replay of a history finds a fault: 1, and the fault's line. A second line says what is wrong.
-fn end_fault_in(rt: &HostRuntime, found: mp_replay::Fault<'_>) -> ExitCode
+fn end_fault_in(rt: &HostRuntime, found: mp_replay::ReplayFault<'_>) -> ExitCode
     ensures { exit_status result ≡ 1 }
 {
     let _ = rt.eprintln(format_args!("{found}"));
@@ -177,7 +179,7 @@ fn end_fault_in(rt: &HostRuntime, found: mp_replay::Fault<'_>) -> ExitCode
 /// After the replay of a served pool's history: 0 and that the history is legal, or 1 and the fault's line.
 pub fn end_replay<W: io::Write>(
     rt: &HostRuntime,
-    ended: Result<(), mp_replay::Fault<'_>>,
+    ended: Result<(), mp_replay::ReplayFault<'_>>,
     writer: &mut W,
 ) -> ExitCode
     ensures { EndsAs (IsReplaySaid (W.contents writer.old) (W.contents writer.new) ended.entry)
@@ -186,7 +188,7 @@ pub fn end_replay<W: io::Write>(
     match ended {
         Ok(()) => match write_all(writer, LEGAL) {
             Ok(()) => ExitCode::SUCCESS,
-            Err(WriteFault) => end_fault(rt, Fault::WriteFault),
+            Err(WriteFault) => end_fault(rt, RaceFault::WriteFault),
         },
         Err(fault) => end_fault_in(rt, fault),
     }
@@ -195,7 +197,7 @@ pub fn end_replay<W: io::Write>(
 /// After an audit: 0 and that the history is legal, or 1 and the fault's line.
 pub fn end_audit<W: io::Write>(
     rt: &HostRuntime,
-    ended: Result<(), Fault>,
+    ended: Result<(), RaceFault>,
     writer: &mut W,
 ) -> ExitCode
     ensures { EndsAs (IsSaid (W.contents writer.old) (W.contents writer.new) ended)
@@ -204,7 +206,7 @@ pub fn end_audit<W: io::Write>(
     match ended {
         Ok(()) => match write_all(writer, LEGAL) {
             Ok(()) => ExitCode::SUCCESS,
-            Err(WriteFault) => end_fault(rt, Fault::WriteFault),
+            Err(WriteFault) => end_fault(rt, RaceFault::WriteFault),
         },
         Err(fault) => end_fault_there(rt, fault),
     }
@@ -234,11 +236,11 @@ pub fn end_conversations<N: PoolName, D: Device>(
             Err(fault) => return end_fault_of(rt, number, fault),
         }
     }
-    end_fault(rt, mp_clients::Fault::Foreign)
+    end_fault(rt, mp_clients::ClientFault::Foreign)
 }
 
 // After a fault of the operator's conversation, or of the client's with this number.
-fn end_fault_of(rt: &HostRuntime, number: usize, fault: mp_clients::Fault) -> ExitCode
+fn end_fault_of(rt: &HostRuntime, number: usize, fault: mp_clients::ClientFault) -> ExitCode
     ensures { exit_status result ≡ 1 }
 {
     if number == 0 {

@@ -9,7 +9,7 @@ ghost use Rattle.mp_race.specs.HistoryText.{history_text};
 
 use crate::ending::{end_fault, end_unwritten};
 use mp_memory::Memory;
-use mp_race::{History, Scenario, text_if_legal};
+use mp_race::{RecordedHistory, Scenario, text_if_legal};
 use mp_signatures::Signatures;
 use std::fs;
 use std::process::ExitCode;
@@ -30,7 +30,7 @@ fn write_legal(
     path: &str,
     scenario: &Scenario,
     signatures: &Signatures,
-    history: &History,
+    history: &RecordedHistory,
     text: &[u8],
 ) -> Result<(), ExitCode>
     requires text { text.now ≡ history_text history.now.workers history.now.told.items }
@@ -51,7 +51,7 @@ pub fn write_history(
     memory: Memory,
     scenario: &Scenario,
     signatures: &Signatures,
-    history: &History,
+    history: &RecordedHistory,
     path: &str,
 ) -> Result<(), ExitCode>
     requires some { 1 ≤ history.now.workers }

@@ -8,7 +8,7 @@ use crate::ending::end_fault;
 use crate::files::write_file;
 use mp_memory::{Memory, NoMemory};
 use mp_race::picture::{Kind, Mark, put_picture};
-use mp_race::{Fault, Raced, Refused, Told};
+use mp_race::{RaceFault, Raced, Refused, Told};
 use mp_seqpool::Reply;
 use std::process::ExitCode;
 
@@ -85,6 +85,6 @@ pub fn write_picture(
 {
     match picture_of(memory, raced) {
         Ok(text) => write_file(rt, path, &text),
-        Err(NoMemory) => Err(end_fault(rt, Fault::NoMemory)),
+        Err(NoMemory) => Err(end_fault(rt, RaceFault::NoMemory)),
     }
 }

@@ -15,7 +15,7 @@ use crate::schemes::signatures_of;
 use crate::slow::Slow;
 use mp_history::NewName;
 use mp_memory::Memory;
-use mp_race::{Fault, Raced, Scenario, race};
+use mp_race::{RaceFault, Raced, Scenario, race};
 use mp_signatures::Signatures;
 use std::io::Write;
 use std::marker::Brand;
@@ -37,7 +37,7 @@ pub fn race_scenario<R: Threads + Wait + Clock + Sync>(
     requires most { workers ≤ 64 }
 {
     let Ok(memory) = Memory::new(rt.alloc()) else {
-        return end_fault(rt, Fault::NoMemory);
+        return end_fault(rt, RaceFault::NoMemory);
     };
     let signatures = match signatures_of(rt, memory, signatures) {
         Ok(signatures) => signatures,

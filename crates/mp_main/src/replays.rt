@@ -10,7 +10,7 @@ use crate::command_line::{MOST_NAMES, SchemeName};
 use crate::conversation::prepare;
 use crate::ending::{end_fault, end_replay, end_unread};
 use mp_memory::{Memory, NoMemory};
-use mp_race::{Fault, read_history_text};
+use mp_race::{RaceFault, read_history_text};
 use mp_replay::replay;
 use mp_serve::Conversation;
 use mp_signatures::Signatures;
@@ -36,8 +36,8 @@ pub fn replay_over<R: Read, W: Write>(
 {
     match read_history_text(memory, reader) {
         Ok(text) => replay_text(rt, memory, signatures, salt, &text, writer),
-        Err(InputFault::NoMemory) => end_fault(rt, Fault::NoMemory),
-        Err(InputFault::Read) => end_fault(rt, Fault::ReadFault),
+        Err(InputFault::NoMemory) => end_fault(rt, RaceFault::NoMemory),
+        Err(InputFault::Read) => end_fault(rt, RaceFault::ReadFault),
     }
 }
 
@@ -55,7 +55,7 @@ fn replay_text<W: Write>(
 {
     match Conversation::new(memory, signatures, salt, MOST_NAMES) {
         Ok(mut conversation) => end_replay(rt, replay(memory, &mut conversation, text), writer),
-        Err(NoMemory) => end_fault(rt, Fault::NoMemory),
+        Err(NoMemory) => end_fault(rt, RaceFault::NoMemory),
     }
 }
 

@@ -9,7 +9,7 @@ use crate::command_line::{Input, SchemeName};
 use crate::ending::{end_answers, end_fault, end_unread};
 use crate::schemes::signatures_of;
 use mp_memory::Memory;
-use mp_session::{Fault, answer_text};
+use mp_session::{RunFault, answer_text};
 use mp_signatures::Signatures;
 use mp_text::{InputFault, read_all};
 use std::fs::File;
@@ -34,15 +34,15 @@ pub fn run_over<R: Read, W: Write>(
             let ended = answer_text(memory, signatures, &text, writer);
             end_answers(rt, explains, ended)
         }
-        Err(InputFault::NoMemory) => end_fault(rt, Fault::NoMemory),
-        Err(InputFault::Read) => end_fault(rt, Fault::ReadFault),
+        Err(InputFault::NoMemory) => end_fault(rt, RunFault::NoMemory),
+        Err(InputFault::Read) => end_fault(rt, RunFault::ReadFault),
     }
 }
 
 /// Runs a scenario, whose pool accepts these signatures, and writes its answers to standard output.
 pub fn run_scenario(rt: &HostRuntime, input: Input<'_>, signatures: SchemeName) -> ExitCode {
     let Ok(memory) = Memory::new(rt.alloc()) else {
-        return end_fault(rt, Fault::NoMemory);
+        return end_fault(rt, RunFault::NoMemory);
     };
     match signatures_of(rt, memory, signatures) {
         Ok(signatures) => run_input(rt, memory, &signatures, input),

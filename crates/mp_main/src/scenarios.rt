@@ -8,7 +8,7 @@ ghost use Rattle.mp_race.specs.Reading.{scenario_from};
 use crate::command_line::Input;
 use crate::ending::{end_bad_line, end_fault, end_unread};
 use mp_memory::Memory;
-use mp_race::{Fault, Scenario};
+use mp_race::{RaceFault, Scenario};
 use mp_text::{InputFault, read_all};
 use std::fs::File;
 use std::io::Read;
@@ -30,8 +30,8 @@ pub fn read_scenario<R: Read>(
             Ok(scenario) => Ok(scenario),
             Err(stop) => Err(end_bad_line(rt, explains, stop)),
         },
-        Err(InputFault::NoMemory) => Err(end_fault(rt, Fault::NoMemory)),
-        Err(InputFault::Read) => Err(end_fault(rt, Fault::ReadFault)),
+        Err(InputFault::NoMemory) => Err(end_fault(rt, RaceFault::NoMemory)),
+        Err(InputFault::Read) => Err(end_fault(rt, RaceFault::ReadFault)),
     }
 }
 

@@ -7,7 +7,7 @@ ghost use Rattle.mp_main.specs.Scheme as told;
 use crate::command_line::SchemeName;
 use crate::ending::end_fault;
 use mp_memory::{Memory, NoMemory};
-use mp_session::Fault;
+use mp_session::RunFault;
 use mp_signatures::{Scheme, Signatures};
 use std::process::ExitCode;
 
@@ -32,6 +32,6 @@ pub fn signatures_of(
 {
     match Signatures::new(memory, scheme_of(name)) {
         Ok(signatures) => Ok(signatures),
-        Err(NoMemory) => Err(end_fault(rt, Fault::NoMemory)),
+        Err(NoMemory) => Err(end_fault(rt, RunFault::NoMemory)),
     }
 }

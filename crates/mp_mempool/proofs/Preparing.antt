@@ -1,6 +1,6 @@
 -- What the sequential pool prepares, in terms of what the lock guards.
-use Rattle.std.proofs.Common.{◌≡◌, ℕ, List, sym, ap, subst, subst₂, ◌∙◌}
-use Rattle.std.specs.Prelude.{Result, Ok, Err, Option, IfOk, IfErr}
+use Rattle.std.proofs.Common.{◌≡◌, ℕ, List, ap, subst, subst₂, ◌∙◌}
+use Rattle.std.specs.Prelude.{Result, Option, IfOk, IfErr}
 use Rattle.mp_rules.specs.Verifier.{Accepts}
 use Rattle.mp_seqpool.specs.declared.refusal.Refusal.{Refusal}
 use Rattle.mp_seqpool.specs.declared.refusal.Refusal.TheVariants as refusals
@@ -30,8 +30,3 @@ module _ (accepts : Accepts) where
   pub refused_held : {A : Type 0} (a : Accepts) (h : Holding) (l : Locked) (c : Command) (r : Result A Refusal) → a ≡ accepts → h ≡ holding accepts l
       → IfErr r (IsRefused a h.pool c) → IfErr r (IsRefused accepts (state_after accepts l.log) c)
   refused_held a h l c r same at refused = subst₂ (λ b (k : Holding). IfErr r (IsRefused b k.pool c)) same at refused
-
-  -- after an allocation failure, nothing more is said
-  pub wanting_refuses : {A : Type 0} (p : Pool) (c : Command) (r : Result A Refusal) → IfErr r (λ e. e ≡ refusals.NoMemory) → IfErr r (IsRefused accepts p c)
-  wanting_refuses p c (Ok a) e = e
-  wanting_refuses p c (Err x) e = subst (IsRefused accepts p c) (sym e) tt

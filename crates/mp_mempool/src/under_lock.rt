@@ -75,7 +75,7 @@ fn enter<N: PoolName, V: Verifier>(
     ensures grown { locked.new.log ≡ entered locked.old.log result.entry }
     ensures last { pass.new.front ≡ locked.new.log }
 {
-    let _last = pass.last();
+    let _last = pass.last_place();
     let receipt = locked.commit(&mempool.history, pass, ready);
     publish(rt, mempool, locked);
     receipt
@@ -96,7 +96,7 @@ fn bring_up<N: PoolName, V: Verifier>(
     ensures legal { IsLegalLog N.accepts N.callers locked.old.log }
     ensures own { IsOwn pass.old }
 {
-    let _last = pass.last();
+    let _last = pass.last_place();
     let _front = locked.front();
     let shown = locked.newest().share()?;
     pass.see(shown);

@@ -4,7 +4,7 @@ use crate::trials::{Trial, count_trial};
 use mp_memory::NoMemory;
 use mp_seqpool::{Command, SeqPool, play};
 use mp_testing::commands::{AFTER_FIRST, GUARDED, OF_120, REMOVE_FIRST, Samples, THREE};
-use mp_testing::told::{Told, read_answer, with_digit};
+use mp_testing::told::{Told, read_answer, read_pool};
 use mp_testing::{ACCEPTS_ALL, CONFIG, Call, Seen, under_each_refusal};
 use mp_versions::Version;
 use std::io;
@@ -35,20 +35,6 @@ fn play_three(samples: &Samples) -> Option<SeqPool> {
     }
 }
 
-// The pool's tickets as the digits of a number, its bytes, the last ticket and the number of changes.
-fn stand(pool: &SeqPool) -> [u64; 4] {
-    let mut tickets = 0;
-    for (ticket, _) in pool.contents() {
-        tickets = with_digit(tickets, ticket);
-    }
-    [tickets, pool.bytes(), pool.last_ticket(), pool.changes()]
-}
-
-fn look_at(pool: &SeqPool) -> Seen {
-    let [tickets, bytes, last, changes] = stand(pool);
-    [tickets, bytes, last, changes, 0, 0]
-}
-
 // The answer, and the state of the pool after it.
 fn step(pool: &mut SeqPool, command: &Command) -> Option<Seen> {
     let told = match pool.step(command, &ACCEPTS_ALL) {
@@ -56,7 +42,7 @@ fn step(pool: &mut SeqPool, command: &Command) -> Option<Seen> {
         Err(NoMemory) => Told::NoMemory,
     };
     let [kind, first, second, ..] = told.answered()?;
-    let [tickets, bytes, last, _] = stand(pool);
+    let [tickets, bytes, last, ..] = read_pool(pool);
     Some([kind, first, second, tickets, bytes, last])
 }
 
@@ -82,14 +68,14 @@ impl Call for Calling<'_> {
     fn call(&self, pool: &mut SeqPool) -> Option<Seen> {
         let samples = self.samples;
         match self.way {
-            Way::Play => Some(look_at(&play_three(samples)?)),
+            Way::Play => Some(read_pool(&play_three(samples)?)),
             Way::Show => Some(look_at_version(&Version::of(samples.memory, pool).ok()?)),
             Way::Step(number) => step(pool, samples.command(number)?),
         }
     }
 
     fn look(&self, pool: &SeqPool) -> Seen {
-        look_at(pool)
+        read_pool(pool)
     }
 }
 

@@ -180,15 +180,6 @@ module _ {X : Type 0} where
       first_gone (test e.1) e es n (numbers_of test es) (without_first test (values_of es)) is
       (λ later. (let le = first_le test (e.0 + 1) es next n b.1 later in omega (arith, le), values-without test (e.0 + 1) es next n b.1 later))
 
-  none_gone : (t : Bool) (e : ℕ × X) (ns : List ℕ) (xs ys : List X) → slice_get (with_first t e.0 ns) 0 ≡ None → (slice_get ns 0 ≡ None → xs ≡ ys) → e.1 ∷ xs ≡ cond t xs (e.1 ∷ ys)
-  none_gone true e ns xs ys here more = absurd (some_none e.0 here)
-  none_gone false e ns xs ys later more = ap (λ l. e.1 ∷ l) (more later)
-
-  -- if none passes, nothing is removed
-  pub values-all : (test : X → Bool) (es : List (ℕ × X)) → slice_get (numbers_of test es) 0 ≡ None → values_of es ≡ without_first test (values_of es)
-  values-all test [] is = refl
-  values-all test (e ∷ es) is = none_gone (test e.1) e (numbers_of test es) (values_of es) (without_first test (values_of es)) is (values-all test es)
-
   same_item : (x y : X) → Some x ≡ Some y → x ≡ y
   same_item x y e = Prim.cc
 

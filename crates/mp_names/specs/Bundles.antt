@@ -7,7 +7,7 @@ use Rattle.mp_text.specs.Names.{is_letter_or_digit}
 use Rattle.mp_text.specs.Numbers.{quantity_of}
 use Rattle.mp_bundle.specs.declared.token.Token.{Token}
 use Rattle.mp_bundle.specs.Token.{token, coin}
-use Rattle.mp_bundle.specs.Bundle.{Entry}
+use Rattle.mp_bundle.specs.Bundle.{TokenEntry}
 use Rattle.mp_bundle.specs.BundleFault.{fault_of}
 use Rattle.mp_names.specs.Splitting.{split_once}
 use Rattle.mp_names.specs.Rising.{entry_cmp, insert_rising}
@@ -39,24 +39,24 @@ token_of names None = Some coin
 token_of names (Some word) = token_by names (split_once 46 word).0 (split_once 46 word).1
 
 -- Q, Q*POLICY or Q*POLICY.TOKEN; 42 is the star
-abbrev pub entry_by : Option ℤ → Option Token → Option Entry
+abbrev pub entry_by : Option ℤ → Option Token → Option TokenEntry
 entry_by (Some q) (Some t) = Some (t, q)
 entry_by (Some q) None = None
 entry_by None t = None
 
-unfoldable pub entry_of : Names → List ℕ → Option Entry
+unfoldable pub entry_of : Names → List ℕ → Option TokenEntry
 entry_of names word = entry_by (signed_quantity_of (split_once 42 word).0) (token_of names (split_once 42 word).1)
 
-abbrev pub put_entries : Names → List Entry → List (List ℕ) → Option (List Entry)
+abbrev pub put_entries : Names → List TokenEntry → List (List ℕ) → Option (List TokenEntry)
 put_entries names entries [] = Some entries
 put_entries names entries (word ∷ words) = option_and_then (λ e. put_entries names (insert_rising entry_cmp e entries) words) (entry_of names word)
 
 -- no token occurs twice
-abbrev pub bundle_by : List Entry → Option (List Entry)
+abbrev pub bundle_by : List TokenEntry → Option (List TokenEntry)
 bundle_by entries = if is_none (fault_of entries) then Some entries else None
 
 -- entries in any order, separated by commas (44), or `-` for none
-unfoldable pub bundle_of : Names → List ℕ → Option (List Entry)
+unfoldable pub bundle_of : Names → List ℕ → Option (List TokenEntry)
 bundle_of names word =
     if pointwise nat_eq word (codes "-") then Some []
     else option_and_then bundle_by (put_entries names [] (slice_split (λ b. b == 44) word))

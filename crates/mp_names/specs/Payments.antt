@@ -1,7 +1,7 @@
 -- Payments, as words write them.
 use Rattle.std.specs.Prelude.{ℕ, List, codes, Option, None, Some}
 use Rattle.sha2.specs.Sha256.{sha256}
-use Rattle.mp_bundle.specs.Bundle.{Entry}
+use Rattle.mp_bundle.specs.Bundle.{TokenEntry}
 use Rattle.mp_tx.specs.declared.output.Output.{Output}
 use Rattle.mp_names.specs.declared.payment.Payment.{Payment}
 use Rattle.mp_names.specs.Splitting.{split_once}
@@ -22,7 +22,7 @@ abbrev pub datum_or_unit : Names → Option (List ℕ) → Option (List ℕ)
 datum_or_unit names None = datum_named (codes "unit") names
 datum_or_unit names (Some word) = datum_named word names
 
-abbrev pub payment_by : Option (List Entry) → Option (List ℕ) → Option (List ℕ) → Option Payment
+abbrev pub payment_by : Option (List TokenEntry) → Option (List ℕ) → Option (List ℕ) → Option Payment
 payment_by (Some v) (Some s) (Some d) = Some (record { value = v; script = s; datum = d })
 payment_by (Some v) (Some s) None = None
 payment_by (Some v) None d = None

@@ -4,12 +4,12 @@ use Rattle.std.specs.Ordering.{is_lt}
 use Rattle.std.specs.List.{position_or_len, insert}
 use Rattle.std.specs.declared.cmp.Ordering.{Ordering}
 use Rattle.mp_bundle.specs.Token.{token_cmp}
-use Rattle.mp_bundle.specs.Bundle.{Entry}
+use Rattle.mp_bundle.specs.Bundle.{TokenEntry}
 use Rattle.mp_tx.specs.declared.input.Input.{Input}
 use Rattle.mp_tx.specs.Reference.{ref_cmp}
 
 -- entries are ordered by token
-abbrev pub entry_cmp : Entry → Entry → Ordering
+abbrev pub entry_cmp : TokenEntry → TokenEntry → Ordering
 entry_cmp a b = token_cmp a.0 b.0
 
 -- inputs are ordered by what they spend

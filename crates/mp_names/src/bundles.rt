@@ -17,7 +17,7 @@ use crate::reason::Reason;
 use crate::repeats::{Denoted, first_repeat};
 use crate::rising::insert_rising;
 use crate::splitting::split_once;
-use mp_bundle::{Bundle, Entry, MAX_NAME_BYTES, PolicyId, Token};
+use mp_bundle::{Bundle, MAX_NAME_BYTES, PolicyId, Token, TokenEntry};
 use mp_memory::Memory;
 use mp_text::quantity;
 
@@ -131,7 +131,7 @@ fn token_of<'a>(names: &Names, word: Option<&'a [u8]>) -> Result<Token, Reason<'
 
 // Q, Q*POLICY or Q*POLICY.TOKEN.
 #[tactic(auto, unfolding(crate::specs::Bundles::entry_of))]
-fn entry_of<'a>(names: &Names, word: &'a [u8]) -> Result<Entry, Reason<'a>>
+fn entry_of<'a>(names: &Names, word: &'a [u8]) -> Result<TokenEntry, Reason<'a>>
     ensures { result_ok result ≡ entry_of names.now word.now }
 {
     let (quantity, token) = split_once(word, b'*');
@@ -155,7 +155,7 @@ fn is_out_of_range(quantity: i64) -> bool
     quantity < -i64::MAX
 }
 
-fn has_fault(before: Option<Token>, entry: &Entry) -> bool
+fn has_fault(before: Option<Token>, entry: &TokenEntry) -> bool
     ensures { result ≡ is_some (entry_fault before entry.now) }
 {
     !follows(before, &entry.0)
@@ -164,7 +164,7 @@ fn has_fault(before: Option<Token>, entry: &Entry) -> bool
         || is_out_of_range(entry.1)
 }
 
-fn is_faultless(entries: &[Entry]) -> bool
+fn is_faultless(entries: &[TokenEntry]) -> bool
     ensures { result ≡ is_none (fault_of entries.now) }
 {
     let mut before = None;
@@ -182,7 +182,7 @@ fn entries_of<'a>(
     memory: Memory,
     names: &Names,
     word: &'a [u8],
-) -> Result<Vec<Entry, Memory>, LineFault<'a>>
+) -> Result<Vec<TokenEntry, Memory>, LineFault<'a>>
     ensures { Gives (λ v. v.items)
         (put_entries names.now [] (slice_split (λ b. b == 44) word.now)) result }
 {
@@ -216,7 +216,7 @@ fn repeat_in<'a>(
 // The only fault of entries that were read is a token that occurs twice. Which token that is isn't known here.
 fn bundle_by<'a>(
     memory: Memory,
-    entries: Vec<Entry, Memory>,
+    entries: Vec<TokenEntry, Memory>,
     word: &'a [u8],
 ) -> Result<Bundle, LineFault<'a>>
     ensures { Reads (bundle_by entries.items) result }

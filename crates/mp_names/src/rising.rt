@@ -8,7 +8,7 @@ ghost use Rattle.mp_tx.specs.Reference.{ref_cmp};
 ghost use Rattle.mp_tx.specs.Transaction.{script_cmp, signature_cmp};
 ghost use Rattle.mp_names.specs.Rising.{entry_cmp, input_cmp, insert_rising};
 
-use mp_bundle::Entry;
+use mp_bundle::TokenEntry;
 use mp_memory::{Memory, NoMemory};
 use mp_script::Script;
 use mp_tx::{Input, OutRef, Signature};
@@ -23,10 +23,10 @@ pub trait Rising {
         ensures { result ≡ order self.now other.now };
 }
 
-impl Rising for Entry {
+impl Rising for TokenEntry {
     ghost order = { entry_cmp };
 
-    fn compare(&self, other: &Entry) -> Ordering {
+    fn compare(&self, other: &TokenEntry) -> Ordering {
         self.0.cmp(&other.0)
     }
 }

@@ -1,8 +1,8 @@
 //! The sequential pool: answers to commands that no scenario can give, computed by hand. A scenario's remove names at
 //! least one transaction, and its sync can't change the output of a reference.
-use mp_seqpool::{Played, SeqPool, play};
+use mp_seqpool::{Played, play};
 use mp_testing::commands::{GUARDED, OF_100, Samples};
-use mp_testing::told::{Told, read_answer, with_digit};
+use mp_testing::told::{Told, read_answer, read_pool};
 use mp_testing::{ACCEPTS_ALL, CONFIG, Seen, count};
 use std::io;
 
@@ -19,22 +19,6 @@ static ROWS: [(&str, Told); 6] = [
     ("a sync with too little", Told::Synced(0, 1)),
     ("a submit upon too little", Told::ValidatorRefused(0)),
 ];
-
-// The pool's tickets as the digits of a number, its bytes, the last ticket and the number of changes.
-fn look_at(pool: &SeqPool) -> Seen {
-    let mut tickets = 0;
-    for (ticket, _) in pool.contents() {
-        tickets = with_digit(tickets, ticket);
-    }
-    [
-        tickets,
-        pool.bytes(),
-        pool.last_ticket(),
-        pool.changes(),
-        0,
-        0,
-    ]
-}
 
 // Runs the guarded commands.
 fn play_guarded(samples: &Samples) -> Option<Played> {
@@ -57,7 +41,7 @@ fn count_answers(rt: &impl Print, played: &Played) -> io::Result<u64> {
 }
 
 fn count_played(rt: &impl Print, played: &Played) -> io::Result<u64> {
-    let stands = Some(look_at(&played.pool));
+    let stands = Some(read_pool(&played.pool));
     let held = count(rt, "the pool then", stands, [0, 0, 1, 5, 0, 0])?;
     Ok(held.wrapping_add(count_answers(rt, played)?))
 }

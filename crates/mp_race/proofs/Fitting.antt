@@ -14,8 +14,8 @@ use Rattle.mp_history.specs.Entry.{Entry}
 use Rattle.mp_history.specs.Log.{IsLegal}
 use Rattle.mp_history.specs.AuditFault.{is_reply, fault_from, IsFaultOf}
 use Rattle.mp_history.specs.declared.fault.AuditFault.TheVariants as audit
-use Rattle.mp_race.specs.declared.fault.Fault.{Fault}
-use Rattle.mp_race.specs.declared.fault.Fault.TheVariants.{NoMemory, BadLine, ReadFault, WriteFault, Audit, MissingEntry}
+use Rattle.mp_race.specs.declared.fault.RaceFault.{RaceFault}
+use Rattle.mp_race.specs.declared.fault.RaceFault.TheVariants.{NoMemory, BadLine, ReadFault, WriteFault, Audit, MissingEntry}
 use Rattle.mp_race.specs.declared.told.Told.{Told}
 use Rattle.mp_race.specs.Task.{Task}
 use Rattle.mp_race.specs.History.{IsEntryOf, AreTold, AreInTurn, AreEntriesOf, next_after, first_next, next_of, IsUndealt, IsLate, IsHistory, IsBadAt, IsFaultOfHistory}
@@ -104,7 +104,7 @@ module _ (workers : ℕ) (ts : List Task) where
     first_told [] n lt = absurd (omega arith)
     first_told (t ∷ ts) n lt = t
 
-    pub ended : (fault : Fault) → AreEntriesOf workers ts (take (length es) told) es → IsLegal accepts workers opening es → EndsAt workers ts told (length es) fault → IsFaultOfHistory accepts opening workers ts told fault
+    pub ended : (fault : RaceFault) → AreEntriesOf workers ts (take (length es) told) es → IsLegal accepts workers opening es → EndsAt workers ts told (length es) fault → IsFaultOfHistory accepts opening workers ts told fault
     ended NoMemory are legal ends = tt
     ended (BadLine line) are legal ends = ends.unfit (first_told told (length es) ends.there)
     ended ReadFault are legal ends = ends.unfit (first_told told (length es) ends.there)

@@ -148,9 +148,6 @@ lines-of line text rest unbroken is = ap lines_of (is ∙ append_assoc line (10 
 
 -- A text that begins with no entry.
 
-pub no_entry-none : (text : List ℕ) → lines_of text ≡ [] → HasNoEntry text
-no_entry-none text none = λ t rest is begins. let first = lines-of (told_line t) text rest (unbroken-told t is) begins in absurd (Prim.cc)
-
 -- the first line is that of the entry
 first-told : (text line : List ℕ) (others : List (List ℕ)) (t : Told) (rest : List ℕ) → lines_of text ≡ line ∷ others → IsTellable t → text ≡ told_text t ++ rest → told_in (words_of line) ≡ Some t
 first-told text line others t rest lines is begins =
@@ -204,10 +201,6 @@ head-read workers entries least most fits =
 
 unbroken-head : (workers entries : ℕ) → workers ≤ 64 → entries < 2 ^ 64 → IsUnbroken (head_line workers entries)
 unbroken-head workers entries most fits = subst IsUnbroken (head-line workers entries) (unbroken-line (codes "workers") (head_words workers entries) (plain-head workers entries most fits))
-
-pub no_head-none : (text : List ℕ) → lines_of text ≡ [] → HasNoHead text
-no_head-none text none = λ workers entries rest least most fits begins.
-    let first = lines-of (head_line workers entries) text rest (unbroken-head workers entries most fits) begins in absurd (Prim.cc)
 
 first-head : (text line : List ℕ) (others : List (List ℕ)) (workers entries : ℕ) (rest : List ℕ) → lines_of text ≡ line ∷ others → 1 ≤ workers → workers ≤ 64 → entries < 2 ^ 64
     → text ≡ head_text workers entries ++ rest → head_in (words_of line) ≡ Some (workers, entries)

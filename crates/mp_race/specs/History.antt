@@ -8,8 +8,8 @@ use Rattle.mp_history.specs.declared.fault.AuditFault.TheVariants as audit
 use Rattle.mp_history.specs.Entry.{Entry}
 use Rattle.mp_history.specs.Log.{IsLegal}
 use Rattle.mp_history.specs.AuditFault.{first_fault}
-use Rattle.mp_race.specs.declared.fault.Fault.{Fault}
-use Rattle.mp_race.specs.declared.fault.Fault.TheVariants.{NoMemory, BadLine, ReadFault, WriteFault, Audit, MissingEntry}
+use Rattle.mp_race.specs.declared.fault.RaceFault.{RaceFault}
+use Rattle.mp_race.specs.declared.fault.RaceFault.TheVariants.{NoMemory, BadLine, ReadFault, WriteFault, Audit, MissingEntry}
 use Rattle.mp_race.specs.declared.told.Told.{Told}
 use Rattle.mp_race.specs.Task.{Task, Change}
 
@@ -77,7 +77,7 @@ module _ (accepts : Accepts) (opening : Pool) (workers : ℕ) (ts : List Task) w
     pub wrong : first_fault accepts workers opening entries ≡ Some (WrongReply place)
 
   -- why the records aren't a history
-  abbrev pub IsFaultOfHistory : List Told → Fault → Type 0
+  abbrev pub IsFaultOfHistory : List Told → RaceFault → Type 0
   IsFaultOfHistory told NoMemory = Unit {0}
   IsFaultOfHistory told (BadLine line) = ⊥
   IsFaultOfHistory told ReadFault = ⊥

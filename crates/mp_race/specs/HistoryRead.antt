@@ -1,12 +1,12 @@
 -- How a history is read.
 use Rattle.std.specs.Prelude.{◌≡◌, ℕ, List, Result, Ok, Err}
-use Rattle.mp_race.specs.declared.history.History.{History}
-use Rattle.mp_race.specs.declared.fault.Fault.{Fault}
-use Rattle.mp_race.specs.declared.fault.Fault.TheVariants.{NoMemory, BadLine, ReadFault, WriteFault, Audit, MissingEntry}
+use Rattle.mp_race.specs.declared.history.RecordedHistory.{RecordedHistory}
+use Rattle.mp_race.specs.declared.fault.RaceFault.{RaceFault}
+use Rattle.mp_race.specs.declared.fault.RaceFault.TheVariants.{NoMemory, BadLine, ReadFault, WriteFault, Audit, MissingEntry}
 use Rattle.mp_race.specs.HistoryText.{history_text, IsFaultOfText}
 
 -- the history with this text, or why the text is no history; a read may fail
-abbrev pub IsRead : List ℕ → Result History Fault → Type 0
+abbrev pub IsRead : List ℕ → Result RecordedHistory RaceFault → Type 0
 IsRead bytes (Ok h) = bytes ≡ history_text h.workers h.told.items
 IsRead bytes (Err ReadFault) = Unit {0}
 IsRead bytes (Err NoMemory) = Unit {0}

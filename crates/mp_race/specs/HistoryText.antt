@@ -3,8 +3,8 @@ use Rattle.std.specs.Prelude.{◌≡◌, ℕ, ◌+◌, ◌^◌, ◌<◌, ◌≤�
 use Rattle.mp_seqpool.specs.declared.command.Reply.{Reply}
 use Rattle.mp_seqpool.specs.declared.command.Reply.TheVariants.{Accepted, Removed, Synced}
 use Rattle.mp_answers.specs.AnswerText.{number_text, reply_text}
-use Rattle.mp_race.specs.declared.fault.Fault.{Fault}
-use Rattle.mp_race.specs.declared.fault.Fault.TheVariants.{NoMemory, BadLine, ReadFault, WriteFault, Audit, MissingEntry}
+use Rattle.mp_race.specs.declared.fault.RaceFault.{RaceFault}
+use Rattle.mp_race.specs.declared.fault.RaceFault.TheVariants.{NoMemory, BadLine, ReadFault, WriteFault, Audit, MissingEntry}
 use Rattle.mp_race.specs.declared.told.Told.{Told}
 
 -- the first line without its end: how many workers and entries there are
@@ -79,7 +79,7 @@ pub record IsCut (entries : ℕ) (text : List ℕ) (place : ℕ) : Type 0 where
   pub fewer : length told < entries
 
 -- why the text after the first line isn't the announced number of entries
-abbrev pub IsFaultOfLines : ℕ → List ℕ → Fault → Type 0
+abbrev pub IsFaultOfLines : ℕ → List ℕ → RaceFault → Type 0
 IsFaultOfLines entries text NoMemory = Unit {0}
 IsFaultOfLines entries text (BadLine line) = IsBadLine entries text line
 IsFaultOfLines entries text ReadFault = ⊥
@@ -88,7 +88,7 @@ IsFaultOfLines entries text (Audit fault) = ⊥
 IsFaultOfLines entries text (MissingEntry place) = IsCut entries text place
 
 -- The first line is right, and what follows it has this fault.
-pub record IsFaultBehind (text : List ℕ) (fault : Fault) : Type 0 where
+pub record IsFaultBehind (text : List ℕ) (fault : RaceFault) : Type 0 where
   pub workers : ℕ
   pub entries : ℕ
   pub rest : List ℕ
@@ -96,7 +96,7 @@ pub record IsFaultBehind (text : List ℕ) (fault : Fault) : Type 0 where
   pub lines : IsFaultOfLines entries rest fault
 
 -- why the text is no history
-abbrev pub IsFaultOfText : List ℕ → Fault → Type 0
+abbrev pub IsFaultOfText : List ℕ → RaceFault → Type 0
 IsFaultOfText text NoMemory = Unit {0}
 IsFaultOfText text (BadLine line) = ((line ≡ 1) × HasNoHead text) ⊎ IsFaultBehind text (BadLine line)
 IsFaultOfText text ReadFault = ⊥

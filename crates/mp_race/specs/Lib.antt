@@ -1,7 +1,7 @@
 pub mod Task
 pub mod Scenario
 pub mod Reading
-pub mod Fault
+pub mod RaceFault
 pub mod Race
 pub mod Sequential
 pub mod Report

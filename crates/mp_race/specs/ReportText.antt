@@ -3,8 +3,8 @@ use Rattle.std.specs.Prelude.{ℕ, List, [], ◌∷◌, ◌++◌, codes, Option,
 use Rattle.std.specs.Io.KnownBytes.{Appends, Keeps}
 use Rattle.mp_text.specs.Output.{AppendsFront}
 use Rattle.mp_answers.specs.AnswerText.{number_text}
-use Rattle.mp_race.specs.declared.fault.Fault.{Fault}
-use Rattle.mp_race.specs.declared.fault.Fault.TheVariants.{NoMemory, BadLine, ReadFault, WriteFault, Audit, MissingEntry}
+use Rattle.mp_race.specs.declared.fault.RaceFault.{RaceFault}
+use Rattle.mp_race.specs.declared.fault.RaceFault.TheVariants.{NoMemory, BadLine, ReadFault, WriteFault, Audit, MissingEntry}
 use Rattle.mp_race.specs.declared.report.Report.{Report}
 
 -- the text so far, then a word and a number
@@ -22,7 +22,7 @@ abbrev pub report_text : Report → List ℕ
 report_text r = and_then (and_then (numbers_text r) (codes " entries") r.entries) (codes " last") r.last ++ (10 ∷ codes "audit legal" ++ 10 ∷ [])
 
 -- the whole text, a prefix of it, or nothing
-abbrev pub IsWritten : Report → Option (List ℕ) → Option (List ℕ) → Result (Unit {0}) Fault → Type 0
+abbrev pub IsWritten : Report → Option (List ℕ) → Option (List ℕ) → Result (Unit {0}) RaceFault → Type 0
 IsWritten r old new (Ok u) = Appends old new (report_text r)
 IsWritten r old new (Err WriteFault) = AppendsFront old new (report_text r)
 IsWritten r old new (Err NoMemory) = Keeps old new

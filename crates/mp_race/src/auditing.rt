@@ -9,8 +9,8 @@ ghost use Rattle.mp_race.specs.HistoryText.{history_text};
 ghost use Rattle.mp_race.specs.Inside.Task.{tasks_of};
 ghost use Rattle.mp_race.specs.Inside.Auditing.{IsUnfit, EndsAt, IsOfReplay};
 
-use crate::fault::Fault;
-use crate::history::History;
+use crate::fault::RaceFault;
+use crate::history::RecordedHistory;
 use crate::scenario::Scenario;
 use crate::task::Task;
 use crate::told::Told;
@@ -65,7 +65,7 @@ fn entry_at(
     next: &Next,
     place: u64,
     told: &Told,
-) -> Result<Entry, Fault>
+) -> Result<Entry, RaceFault>
     requires some { 1 ≤ workers }
     requires most { workers ≤ 64 }
     ensures entry { IfOk result (IsEntryOf workers (tasks_of tasks.now) told.now) }
@@ -76,17 +76,17 @@ fn entry_at(
     ensures unfit { IfErr result (IsUnfit workers (tasks_of tasks.now) next.now place told.now) }
 {
     if told.place != place {
-        return Err(Fault::MissingEntry(place));
+        return Err(RaceFault::MissingEntry(place));
     }
     match entry_of(tasks, workers, told) {
         Ok(Some(entry)) => {
             if !is_in_turn(next, told) {
-                return Err(Fault::Audit(AuditFault::StrangeCaller(place as usize)));
+                return Err(RaceFault::Audit(AuditFault::StrangeCaller(place as usize)));
             }
             Ok(entry)
         }
-        Ok(None) => Err(Fault::Audit(AuditFault::StrangeCaller(place as usize))),
-        Err(NoMemory) => Err(Fault::NoMemory),
+        Ok(None) => Err(RaceFault::Audit(AuditFault::StrangeCaller(place as usize))),
+        Err(NoMemory) => Err(RaceFault::NoMemory),
     }
 }
 
@@ -95,11 +95,15 @@ fn entry_at(
 struct Fitting {
     entries: Vec<Entry, Memory>,
     // Why the next record is no entry.
-    fault: Option<Fault>,
+    fault: Option<RaceFault>,
 }
 
 // The entries of the records, up to the first place without one.
-fn entries_of(memory: Memory, tasks: &[Task], history: &History) -> Result<Fitting, NoMemory>
+fn entries_of(
+    memory: Memory,
+    tasks: &[Task],
+    history: &RecordedHistory,
+) -> Result<Fitting, NoMemory>
     requires some { 1 ≤ history.now.workers }
     requires most { history.now.workers ≤ 64 }
     ensures entries { IfOk result (λ f. AreEntriesOf history.now.workers (tasks_of tasks.now)
@@ -117,7 +121,7 @@ fn entries_of(memory: Memory, tasks: &[Task], history: &History) -> Result<Fitti
                 next[told.worker as usize] = told.task + 1;
                 entries.push(entry)?;
             }
-            Err(Fault::NoMemory) => return Err(NoMemory),
+            Err(RaceFault::NoMemory) => return Err(NoMemory),
             Err(fault) => {
                 return Ok(Fitting {
                     entries,
@@ -139,7 +143,7 @@ fn replay(
     signatures: &Signatures,
     workers: u32,
     entries: &[Entry],
-) -> Result<(), Fault>
+) -> Result<(), RaceFault>
     requires { All (λ e. e.caller < workers) entries.now }
     ensures legal { OnOk result (IsLegal (accepted_by signatures.now) workers
         (fresh_log scenario.now.config scenario.now.ledger).opening entries.now) }
@@ -159,8 +163,8 @@ fn replay(
         signatures,
     ) {
         Ok(_) => Ok(()),
-        Err(AuditFault::NoMemory) => Err(Fault::NoMemory),
-        Err(AuditFault::WrongReply(place)) => Err(Fault::Audit(AuditFault::WrongReply(place))),
+        Err(AuditFault::NoMemory) => Err(RaceFault::NoMemory),
+        Err(AuditFault::WrongReply(place)) => Err(RaceFault::Audit(AuditFault::WrongReply(place))),
         Err(AuditFault::StrangeCaller(_)) => unreachable!(),
     }
 }
@@ -180,8 +184,8 @@ pub fn audit_history(
     memory: Memory,
     scenario: &Scenario,
     signatures: &Signatures,
-    history: &History,
-) -> Result<(), Fault>
+    history: &RecordedHistory,
+) -> Result<(), RaceFault>
     requires some { 1 ≤ history.now.workers }
     requires most { history.now.workers ≤ 64 }
     ensures history { OnOk result (IsHistory (accepted_by signatures.now)
@@ -207,8 +211,8 @@ pub fn text_if_legal(
     memory: Memory,
     scenario: &Scenario,
     signatures: &Signatures,
-    history: &History,
-) -> Result<Vec<u8, Memory>, Fault>
+    history: &RecordedHistory,
+) -> Result<Vec<u8, Memory>, RaceFault>
     requires some { 1 ≤ history.now.workers }
     requires most { history.now.workers ≤ 64 }
     ensures text { IfOk result (λ text. text.items

@@ -5,28 +5,26 @@ ghost use Rattle.mp_race.specs.HistoryText.{told_line, told_text, lines_text, he
 ghost use Rattle.mp_race.specs.HistoryText.{IsTellable, HasNoEntry, HasNoHead, IsFaultOfLines};
 ghost use Rattle.mp_race.specs.Inside.HistoryReading.{IsApart};
 
-use crate::fault::Fault;
+use crate::fault::RaceFault;
 use crate::input::read_history_text;
 use crate::reading::{read_head, read_told};
 use crate::told::Told;
 use mp_answers::{put_number, put_reply, put_word};
 use mp_memory::{Memory, NoMemory};
-use mp_text::{InputFault, first_line};
+use mp_text::{InputFault, Text, first_line};
 use std::io::Read;
 
-type Text = Vec<u8, Memory>;
-
 /// A history, as its text records it.
-pub struct History {
+pub struct RecordedHistory {
     /// How many workers there were.
     pub workers: u32,
     /// The entries, in order.
     pub told: Vec<Told, Memory>,
 }
 
-impl Drop for History {
+impl Drop for RecordedHistory {
     fn drop(self) {
-        let History {
+        let RecordedHistory {
             workers: _,
             told: _,
         } = self;
@@ -147,7 +145,7 @@ fn next_told(
 }
 
 // As many entries as `entries` says, from a text with a line for each.
-fn read_lines(memory: Memory, entries: u64, text: &[u8]) -> Result<Vec<Told, Memory>, Fault>
+fn read_lines(memory: Memory, entries: u64, text: &[u8]) -> Result<Vec<Told, Memory>, RaceFault>
     ensures text { IfOk result (λ told. text.now ≡ lines_text told.items) }
     ensures number { IfOk result (λ told. length told.items ≡ entries) }
     ensures fault { IfErr result (IsFaultOfLines entries text.now) }
@@ -161,16 +159,16 @@ fn read_lines(memory: Memory, entries: u64, text: &[u8]) -> Result<Vec<Told, Mem
                 told.push(entry)?;
                 rest = after;
             }
-            None => return Err(Fault::BadLine(number + 2)),
+            None => return Err(RaceFault::BadLine(number + 2)),
         }
     }
     if (told.len() as u64) < entries {
-        return Err(Fault::MissingEntry(told.len() as u64));
+        return Err(RaceFault::MissingEntry(told.len() as u64));
     }
     Ok(told)
 }
 
-impl History {
+impl RecordedHistory {
     ghost use Rattle.std.specs.Prelude.{◌≡◌, ◌≤◌, IfOk, IfErr, IfSome};
     ghost use Rattle.mp_race.specs.HistoryText.{history_text, IsFaultOfText};
     ghost use Rattle.mp_race.specs.HistoryRead.{IsRead};
@@ -190,18 +188,18 @@ impl History {
     /// # Errors
     /// `BadLine` with the number of the first line, from 1, that has another form or is one too many. `MissingEntry` with the
     /// number of lines of entries, if they are fewer than the first line says. `NoMemory`.
-    pub fn parse(memory: Memory, text: &[u8]) -> Result<History, Fault>
+    pub fn parse(memory: Memory, text: &[u8]) -> Result<RecordedHistory, RaceFault>
         ensures text { IfOk result (λ h. text.now ≡ history_text h.workers h.told.items) }
         ensures least { IfOk result (λ h. 1 ≤ h.workers) }
         ensures most { IfOk result (λ h. h.workers ≤ 64) }
         ensures fault { IfErr result (IsFaultOfText text.now) }
     {
         match first_head(memory, text)? {
-            Some((workers, entries, rest)) => Ok(History {
+            Some((workers, entries, rest)) => Ok(RecordedHistory {
                 workers,
                 told: read_lines(memory, entries, rest)?,
             }),
-            None => Err(Fault::BadLine(1)),
+            None => Err(RaceFault::BadLine(1)),
         }
     }
 
@@ -210,15 +208,15 @@ impl History {
     /// # Errors
     /// `ReadFault` if a read fails or there are more than `MAX_HISTORY_BYTES` bytes; otherwise those of `parse`. `NoMemory` may
     /// replace any other answer.
-    pub fn read<R: Read>(memory: Memory, reader: &mut R) -> Result<History, Fault>
+    pub fn read<R: Read>(memory: Memory, reader: &mut R) -> Result<RecordedHistory, RaceFault>
         ensures read { IfSome (R.remaining reader.old) (λ bytes. IsRead bytes result) }
         ensures least { IfOk result (λ h. 1 ≤ h.workers) }
         ensures most { IfOk result (λ h. h.workers ≤ 64) }
     {
         match read_history_text(memory, reader) {
-            Ok(text) => History::parse(memory, &text),
-            Err(InputFault::NoMemory) => Err(Fault::NoMemory),
-            Err(InputFault::Read) => Err(Fault::ReadFault),
+            Ok(text) => RecordedHistory::parse(memory, &text),
+            Err(InputFault::NoMemory) => Err(RaceFault::NoMemory),
+            Err(InputFault::Read) => Err(RaceFault::ReadFault),
         }
     }
 }

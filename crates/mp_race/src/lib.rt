@@ -23,13 +23,13 @@ mod told;
 mod worker;
 
 pub use auditing::{audit_history, text_if_legal};
-pub use fault::Fault;
+pub use fault::RaceFault;
 pub use gate::{Gate, NoGate};
-pub use history::History;
+pub use history::RecordedHistory;
 pub use input::{MAX_HISTORY_BYTES, read_history_text};
 pub use laws::one_worker_runs;
 pub use racing::{Raced, race};
 pub use report::Report;
 pub use scenario::Scenario;
-pub use stop::Stop;
+pub use stop::RaceStop;
 pub use told::{Refused, Told};

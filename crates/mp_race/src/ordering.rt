@@ -2,13 +2,13 @@
 
 ghost use Rattle.std.specs.Prelude.{◌≡◌, ◌<◌, ◌≤◌, ◌%◌, true, List, get_or, All, IfOk, IfErr};
 ghost use Rattle.mp_history.specs.Log.{Log, last_of};
-ghost use Rattle.mp_race.specs.Fault.{IsOfRace};
+ghost use Rattle.mp_race.specs.RaceFault.{IsOfRace};
 ghost use Rattle.mp_race.specs.Task.{Task};
 ghost use Rattle.mp_race.specs.Inside.Work.{IsDone, AreNumbered};
 ghost use Rattle.mp_race.specs.Inside.Ordered.{told_of, IsOrdered};
 
 use crate::auditing::{MAX_WORKERS, Next, is_in_turn};
-use crate::fault::Fault;
+use crate::fault::RaceFault;
 use crate::told::{Done, Told};
 use mp_history::{Entry, PoolName};
 use mp_memory::{Memory, NoMemory};
@@ -53,7 +53,7 @@ impl Ordered {
     ghost use Rattle.std.specs.Prelude.{◌≡◌, ◌≤◌, [], List, OnOk, IfErr};
     ghost use Rattle.mp_history.specs.Log.{Log};
     ghost use Rattle.mp_race.specs.Task.{Task};
-    ghost use Rattle.mp_race.specs.Fault.{IsOfRace};
+    ghost use Rattle.mp_race.specs.RaceFault.{IsOfRace};
     ghost use Rattle.mp_race.specs.History.{first_next};
     ghost use Rattle.mp_race.specs.Inside.Work.{IsDone};
     ghost use Rattle.mp_race.specs.Inside.Ordered.{IsOrdered};
@@ -72,7 +72,7 @@ impl Ordered {
     }
 
     // Adds the change as the last one, if it has the next place and its command is one of `tasks` and the next of its worker.
-    fn add(&mut self, workers: u32, tasks: u64, done: Done) -> Result<(), Fault>
+    fn add(&mut self, workers: u32, tasks: u64, done: Done) -> Result<(), RaceFault>
         requires some { 1 ≤ workers }
         requires most { workers ≤ 64 }
         ensures ordered { (ts : List Task) (log : Log) → IsDone ts log done
@@ -81,11 +81,11 @@ impl Ordered {
     {
         let place = self.entries.len() as u64;
         if done.receipt.place != place {
-            return Err(Fault::MissingEntry(done.receipt.place.min(place)));
+            return Err(RaceFault::MissingEntry(done.receipt.place.min(place)));
         }
         let told = told_of(&done)?;
         if !is_next(&self.next, workers, tasks, &told) {
-            return Err(Fault::MissingEntry(place));
+            return Err(RaceFault::MissingEntry(place));
         }
         self.next[told.worker as usize] = told.task + 1;
         self.told.push(told)?;
@@ -104,7 +104,7 @@ pub fn order_done(
     workers: u32,
     tasks: u64,
     mut done: Vec<Done, Memory>,
-) -> Result<Ordered, Fault>
+) -> Result<Ordered, RaceFault>
     requires some { 1 ≤ workers }
     requires most { workers ≤ 64 }
     ensures history { (ts : List Task) (log : Log) → All (IsDone ts log) done.items
@@ -137,7 +137,7 @@ fn knows<N: PoolName>(pass: &Pass<N>, number: usize, entries: &[Entry]) -> bool
     ensures number { result ≡ true → pass.now.caller ≡ number }
     ensures last { result ≡ true → last_of pass.now.caller entries.now ≡ pass.now.last }
 {
-    pass.caller() as usize == number && last_of(entries, pass.caller()) == pass.last()
+    pass.caller() as usize == number && last_of(entries, pass.caller()) == pass.last_place()
 }
 
 /// Whether the passes are those of the callers 0, 1, .. in order, and each knows its caller's last entry.

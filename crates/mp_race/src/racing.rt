@@ -7,17 +7,17 @@ ghost use Rattle.mp_history.specs.PoolName.{head_of};
 ghost use Rattle.mp_mempool.specs.Opening.{fresh_log, fresh_passes};
 ghost use Rattle.mp_signatures.specs.Scheme.{accepted_by};
 ghost use Rattle.mp_race.specs.Task as told;
-ghost use Rattle.mp_race.specs.Fault.{IsOfRace};
+ghost use Rattle.mp_race.specs.RaceFault.{IsOfRace};
 ghost use Rattle.mp_race.specs.Report.{report_of};
 ghost use Rattle.mp_race.specs.Raced.{IsRaced};
 ghost use Rattle.mp_race.specs.Inside.Task.{tasks_of};
 ghost use Rattle.mp_race.specs.Inside.Work.{IsUnused};
 ghost use Rattle.mp_race.specs.Inside.Gathered.{IsBack, AreGathered, IsExplained};
 
-use crate::fault::Fault;
+use crate::fault::RaceFault;
 use crate::gate::{Gate, Watch, Watched};
 use crate::gathering::{Gathered, gather};
-use crate::history::History;
+use crate::history::RecordedHistory;
 use crate::ordering::{Ordered, all_know, order_done};
 use crate::refusals::order_refused;
 use crate::report::{Report, count_reads, counts_of};
@@ -136,7 +136,7 @@ fn explain<N: PoolName>(
     tasks: &[Task],
     workers: u32,
     gathered: Gathered<N>,
-) -> Result<(Ordered, Vec<Refused, Memory>), Fault>
+) -> Result<(Ordered, Vec<Refused, Memory>), RaceFault>
     requires number { workers ≡ N.callers }
     requires some { 1 ≤ workers }
     requires most { workers ≤ 64 }
@@ -161,7 +161,7 @@ fn explain<N: PoolName>(
         || passes.len() != workers as usize
         || !all_know(&passes, &ordered.entries)
     {
-        return Err(Fault::MissingEntry(number));
+        return Err(RaceFault::MissingEntry(number));
     }
     Ok((ordered, refused))
 }
@@ -173,7 +173,7 @@ fn audit_last(
     signatures: &Signatures,
     workers: u32,
     entries: &[Entry],
-) -> Result<u64, Fault>
+) -> Result<u64, RaceFault>
     requires { IsLegal (accepted_by signatures.now) workers
         (fresh_log scenario.now.config scenario.now.ledger).opening entries.now }
     ensures last { (log : Log) → log.entries ≡ entries.now
@@ -194,7 +194,7 @@ fn audit_last(
         signatures,
     ) {
         Ok(pool) => Ok(pool.last_ticket()),
-        Err(AuditFault::NoMemory) => Err(Fault::NoMemory),
+        Err(AuditFault::NoMemory) => Err(RaceFault::NoMemory),
         Err(AuditFault::WrongReply(_)) => unreachable!(),
         Err(AuditFault::StrangeCaller(_)) => unreachable!(),
     }
@@ -207,7 +207,7 @@ fn report_on(
     signatures: &Signatures,
     workers: u32,
     entries: &[Entry],
-) -> Result<Report, Fault>
+) -> Result<Report, RaceFault>
     requires { IsLegal (accepted_by signatures.now) workers
         (fresh_log scenario.now.config scenario.now.ledger).opening entries.now }
     ensures report { (log : Log) → log.entries ≡ entries.now
@@ -238,7 +238,7 @@ fn report_on(
 pub struct Raced {
     pub report: Report,
     /// The records of the entries, in the order of their places.
-    pub history: History,
+    pub history: RecordedHistory,
     /// The records of the refusals, in the order of their commands.
     pub refused: Vec<Refused, Memory>,
 }
@@ -267,7 +267,7 @@ pub fn race<N: PoolName + Send + Sync, R: Threads + Wait + Sync, G: Gate>(
     workers: u32,
     signatures: &Signatures,
     gate: &G,
-) -> Result<Raced, Fault>
+) -> Result<Raced, RaceFault>
     requires name { name ≡ head_of N.book N.root }
     requires number { workers ≡ N.callers }
     requires accepts { N.accepts ≡ accepted_by signatures.now }
@@ -285,7 +285,7 @@ pub fn race<N: PoolName + Send + Sync, R: Threads + Wait + Sync, G: Gate>(
     let refused = order_refused(memory, tasks, &told, report.refused, refused)?;
     Ok(Raced {
         report,
-        history: History { workers, told },
+        history: RecordedHistory { workers, told },
         refused,
     })
 }

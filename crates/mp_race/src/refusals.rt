@@ -2,11 +2,11 @@
 
 ghost use Rattle.std.specs.Prelude.{◌≡◌, ◌<◌, true, false, length, get_or, All, IfOk, IfErr};
 ghost use Rattle.std.specs.List.Sorted.{IsPermutation};
-ghost use Rattle.mp_race.specs.Fault.{IsOfRace};
+ghost use Rattle.mp_race.specs.RaceFault.{IsOfRace};
 ghost use Rattle.mp_race.specs.Refusals.{AreInOrder, IsUntold};
 ghost use Rattle.mp_race.specs.Inside.Marks.{IsMarked, IsUnmarked};
 
-use crate::fault::Fault;
+use crate::fault::RaceFault;
 use crate::told::{Refused, Told};
 use mp_memory::{Memory, NoMemory};
 
@@ -58,7 +58,7 @@ pub fn order_refused(
     told: &[Told],
     number: u64,
     mut refused: Vec<Refused, Memory>,
-) -> Result<Vec<Refused, Memory>, Fault>
+) -> Result<Vec<Refused, Memory>, RaceFault>
     ensures number { IfOk result (λ found. length found.items ≡ number) }
     ensures same { IfOk result (λ found. IsPermutation refused.items found.items) }
     ensures order { IfOk result (λ found. AreInOrder 0 found.items) }
@@ -68,7 +68,7 @@ pub fn order_refused(
     refused.sort_by_key(|refusal| refusal.task)?;
     let marks = marks_of(memory, tasks, told)?;
     if refused.len() as u64 != number || !are_others(&marks, &refused) {
-        return Err(Fault::MissingEntry(told.len() as u64));
+        return Err(RaceFault::MissingEntry(told.len() as u64));
     }
     Ok(refused)
 }

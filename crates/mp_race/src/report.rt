@@ -5,7 +5,7 @@ ghost use Rattle.mp_race.specs.Report.{is_read};
 ghost use Rattle.mp_race.specs.Inside.Task.{tasks_of};
 ghost use Rattle.mp_race.specs.Inside.Counts.{with_reply, counts_of};
 
-use crate::fault::Fault;
+use crate::fault::RaceFault;
 use crate::report_text::report_text;
 use crate::task::Task;
 use mp_history::Entry;
@@ -42,13 +42,13 @@ impl Report {
     ///
     /// # Errors
     /// `WriteFault`, after writing a prefix of the text. `NoMemory`, after writing nothing.
-    pub fn write<W: Write>(&self, memory: Memory, writer: &mut W) -> Result<(), Fault>
+    pub fn write<W: Write>(&self, memory: Memory, writer: &mut W) -> Result<(), RaceFault>
         ensures { IsWritten self.now (W.contents writer.old) (W.contents writer.new) result }
     {
         let text = report_text(memory, self)?;
         match write_all(writer, &text) {
             Ok(()) => Ok(()),
-            Err(_) => Err(Fault::WriteFault),
+            Err(_) => Err(RaceFault::WriteFault),
         }
     }
 }

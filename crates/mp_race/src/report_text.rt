@@ -7,8 +7,7 @@ ghost use Rattle.mp_race.specs.ReportText.{and_then, report_text, changes_text, 
 use crate::report::Report;
 use mp_answers::{put_number, put_word};
 use mp_memory::{Memory, NoMemory};
-
-type Text = Vec<u8, Memory>;
+use mp_text::Text;
 
 // The word and the number.
 fn put_counted(text: &mut Text, word: &[u8], number: u64) -> Result<(), NoMemory>

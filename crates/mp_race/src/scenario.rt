@@ -5,8 +5,8 @@ ghost use Rattle.mp_text.specs.Lines.{lines_of};
 ghost use Rattle.mp_race.specs.Scenario.{reading, scenario_of};
 ghost use Rattle.mp_race.specs.Reading.{IsStopOf};
 
-use crate::fault::Fault;
-use crate::stop::Stop;
+use crate::fault::RaceFault;
+use crate::stop::RaceStop;
 use crate::task::Task;
 use crate::task_lines::read_line;
 use mp_memory::{Memory, NoMemory};
@@ -61,7 +61,7 @@ fn read_lines<'a>(
     memory: Memory,
     session: &mut Session<Scenario>,
     text: &'a [u8],
-) -> Result<(), Stop<'a>>
+) -> Result<(), RaceStop<'a>>
     requires { length text.now ≤ MAX_BYTES }
     ensures ok { OnOk result (reading session.old 1 (lines_of text.now) ≡ Ok session.new) }
     ensures stop { IfErr result (IsStopOf (reading session.old 1 (lines_of text.now))) }
@@ -71,8 +71,8 @@ fn read_lines<'a>(
     while let Some((line, after)) = first_line(rest) {
         match read_line(memory, session, line) {
             Ok(()) => {}
-            Err(LineFault::NoMemory) => return Err(Stop::NoMemory),
-            Err(LineFault::Bad(reason)) => return Err(Stop::BadLine(number, reason)),
+            Err(LineFault::NoMemory) => return Err(RaceStop::NoMemory),
+            Err(LineFault::Bad(reason)) => return Err(RaceStop::BadLine(number, reason)),
         }
         rest = after;
         number += 1;
@@ -129,7 +129,7 @@ impl Scenario {
     /// # Errors
     /// `BadLine` at the first line that isn't in a race's language. That is the language of a run with the commands `submit`,
     /// `remove`, `sync` and `snapshot` only.
-    pub fn parse<'a>(memory: Memory, text: &'a [u8]) -> Result<Scenario, Stop<'a>>
+    pub fn parse<'a>(memory: Memory, text: &'a [u8]) -> Result<Scenario, RaceStop<'a>>
         requires { length text.now ≤ MAX_BYTES }
         ensures ok { IfOk result (λ s. scenario_from (lines_of text.now) ≡ Ok s) }
         ensures stop { IfErr result (IsStopOf (scenario_from (lines_of text.now))) }
@@ -144,7 +144,7 @@ impl Scenario {
     /// # Errors
     /// `ReadFault` if a read fails, if there are more than 2^24 bytes, or if 2^25 reads don't find the end. `BadLine` as in
     /// `parse`. `NoMemory` may replace any other answer.
-    pub fn read<R: Read>(memory: Memory, reader: &mut R) -> Result<Scenario, Fault>
+    pub fn read<R: Read>(memory: Memory, reader: &mut R) -> Result<Scenario, RaceFault>
         ensures { IfSome (R.remaining reader.old) (λ bytes. AreRead bytes result) }
     {
         match read_all(memory, reader) {
@@ -152,8 +152,8 @@ impl Scenario {
                 Ok(scenario) => Ok(scenario),
                 Err(stop) => Err(stop.to_fault()),
             },
-            Err(InputFault::NoMemory) => Err(Fault::NoMemory),
-            Err(InputFault::Read) => Err(Fault::ReadFault),
+            Err(InputFault::NoMemory) => Err(RaceFault::NoMemory),
+            Err(InputFault::Read) => Err(RaceFault::ReadFault),
         }
     }
 }

@@ -4,10 +4,10 @@ use Rattle.std.specs.Prelude.{IfNone}
 use Rattle.std.specs.Borrow.{Bor}
 use Rattle.std.proofs.lemmas.Fmt.{decimal_by_steps}
 use Rattle.std.proofs.lemmas.Bool.{cases_lt}
-use Rattle.mp_replay.specs.declared.fault.Fault.{Fault}
-use Rattle.mp_replay.specs.declared.fault.Fault.TheVariants.{NoMemory, BadLine, NoAnswer, WrongAnswer, WrongPlace, BadCaller}
+use Rattle.mp_replay.specs.declared.fault.ReplayFault.{ReplayFault}
+use Rattle.mp_replay.specs.declared.fault.ReplayFault.TheVariants.{NoMemory, BadLine, NoAnswer, WrongAnswer, WrongPlace, BadCaller}
 use Rattle.mp_replay.specs.ServedHistory.{IsLineOf, IsEntry, Records, number_front, entry_front, entry_line}
-use Rattle.mp_replay.specs.ReplayFault.{HasFront, HasOtherPlace, HasNoCaller, IsNoEntry, IsMisrecorded}
+use Rattle.mp_replay.specs.ReplayFault.{HasFront, HasNoCaller, IsNoEntry, IsMisrecorded}
 
 -- ---- what follows a prefix
 
@@ -31,22 +31,13 @@ false_is_true same = absurd (Prim.cc)
 pub is_line : (text line rest : List ℕ) → text ≡ line ++ rest → rest ≡ 10 ∷ [] → IsLineOf text line
 is_line text line rest is one = is ∙ ap (λ r. line ++ r) one
 
-pub ends_line : (text line rest : List ℕ) → text ≡ line ++ rest → IsLineOf text line → rest ≡ 10 ∷ []
-ends_line text line rest is of = same_rest line rest (10 ∷ []) (sym is ∙ of)
-
 -- ---- a number and a space
 
 number_split : (n : ℕ) (rest : List ℕ) → number_front n ++ rest ≡ decimal n ++ 32 ∷ rest
 number_split n rest = append_assoc (decimal n) (32 ∷ []) rest
 
-pub no_digits : (text : List ℕ) (n : ℕ) → (HasFront text (decimal n) → ⊥) → HasFront text (number_front n) → ⊥
-no_digits text n apart has = apart (32 ∷ has.0, has.1 ∙ number_split n has.0)
-
 pub no_space : (text rest : List ℕ) (n : ℕ) → text ≡ decimal n ++ rest → (HasFront rest (32 ∷ []) → ⊥) → HasFront text (number_front n) → ⊥
 no_space text rest n is apart has = apart (has.0, same_rest (decimal n) rest (32 ∷ has.0) (sym is ∙ has.1 ∙ number_split n has.0))
-
-pub behind_both : (text rest after : List ℕ) (n : ℕ) → text ≡ decimal n ++ rest → rest ≡ 32 ∷ after → text ≡ number_front n ++ after
-behind_both text rest after n is space = is ∙ ap (λ r. decimal n ++ r) space ∙ sym (number_split n after)
 
 pub none_behind_number : (text digits rest : List ℕ) (n : ℕ) (o : Option (Bor (List ℕ))) → digits ≡ decimal n → text ≡ digits ++ rest
     → IfNone o (HasFront rest (32 ∷ []) → ⊥) → IfNone o (HasFront text (number_front n) → ⊥)
@@ -103,16 +94,6 @@ placed place text line (caller, answer, few, is, of) = (number_front caller ++ a
 begun : (place : ℕ) (line : List ℕ) → HasFront line (entry_front place) → HasFront line (codes "entry ")
 begun place line (rest, is) = (number_front place ++ rest, is ∙ append_assoc (codes "entry ") (number_front place) rest)
 
-pub other_place : (place : ℕ) (line rest : List ℕ) → line ≡ codes "entry " ++ rest → (HasFront rest (number_front place) → ⊥) → HasOtherPlace place line
-other_place place line rest is apart = (
-  (rest, is),
-  λ has. apart (
-    has.0,
-    same_rest (codes "entry ") rest (number_front place ++ has.0)
-        (sym is ∙ has.1 ∙ append_assoc (codes "entry ") (number_front place) has.0),
-  ),
-)
-
 -- what follows the word and the place
 pub behind_front : (place : ℕ) (line rest after : List ℕ) → line ≡ codes "entry " ++ rest → rest ≡ number_front place ++ after → line ≡ entry_front place ++ after
 behind_front place line rest after is of =
@@ -128,7 +109,7 @@ no_caller place line after is none = (
 
 -- ---- lines that don't record the answer
 
-pub mis_entry : (n place : ℕ) (text line : List ℕ) (fault : Fault) → (IsLineOf text line → ⊥) → IsNoEntry n place line fault → IsMisrecorded n place text line fault
+pub mis_entry : (n place : ℕ) (text line : List ℕ) (fault : ReplayFault) → (IsLineOf text line → ⊥) → IsNoEntry n place line fault → IsMisrecorded n place text line fault
 mis_entry n place text line NoMemory other is = absurd is
 mis_entry n place text line (BadLine at reason) other is = absurd is
 mis_entry n place text line (NoAnswer at) other is = absurd is

@@ -3,8 +3,8 @@ use Rattle.std.proofs.Common.{◌≡◌, ℕ, ◌+◌, List, [], ◌∷◌, ◌+
 use Rattle.std.specs.Prelude.{Result, Ok, Err, IfErr, IsErrAnd}
 use Rattle.mp_text.specs.Lines.{lines_of}
 use Rattle.mp_serve.specs.declared.conversation.Conversation.{Conversation}
-use Rattle.mp_replay.specs.declared.fault.Fault.{Fault}
-use Rattle.mp_replay.specs.declared.fault.Fault.TheVariants.{NoMemory, BadLine, NoAnswer, WrongAnswer, WrongPlace, BadCaller}
+use Rattle.mp_replay.specs.declared.fault.ReplayFault.{ReplayFault}
+use Rattle.mp_replay.specs.declared.fault.ReplayFault.TheVariants.{NoMemory, BadLine, NoAnswer, WrongAnswer, WrongPlace, BadCaller}
 use Rattle.mp_replay.specs.ServedHistory.{Replayed, replayed, replay_line, Records, IsStep, AreSteps, IsServedHistory}
 use Rattle.mp_replay.specs.ReplayFault.{IsMisrecorded, HasWrongAnswer, IsWrongStep, IsWrongThere, IsReplayFault}
 use Rattle.mp_replay.proofs.EntryLines.{one_number}
@@ -47,7 +47,7 @@ module _ (start : Conversation) (text : List ℕ) (c : Conversation) (entries nu
   )
 
   -- the next step is wrong
-  pub faulty : (lines : List (List ℕ)) (fault : Fault) → Progress start (lines_of text) c entries number left → left ≡ lines
+  pub faulty : (lines : List (List ℕ)) (fault : ReplayFault) → Progress start (lines_of text) c entries number left → left ≡ lines
       → IsWrongThere (replayed c entries) number lines fault → IsReplayFault start text fault
   faulty lines fault p is wrong = record {
     steps = p.steps;
@@ -60,11 +60,11 @@ module _ (start : Conversation) (text : List ℕ) (c : Conversation) (entries nu
 
 -- ---- what an exit says of its fault
 
-pub passed_on : {A : Type 0} (r : Result A Fault) (P : Fault → Type 0) (fault : Fault) → IsErrAnd r (λ e. e ≡ fault) → P fault → IfErr r P
+pub passed_on : {A : Type 0} (r : Result A ReplayFault) (P : ReplayFault → Type 0) (fault : ReplayFault) → IsErrAnd r (λ e. e ≡ fault) → P fault → IfErr r P
 passed_on (Ok x) P fault is holds = tt
 passed_on (Err e) P fault is holds = subst P (sym is) holds
 
-wrong_answer_at : (s : Replayed) (n : ℕ) (line answer text : List ℕ) (c : Conversation) (fault : Fault) → replay_line s.conversation line ≡ Some (c, text)
+wrong_answer_at : (s : Replayed) (n : ℕ) (line answer text : List ℕ) (c : Conversation) (fault : ReplayFault) → replay_line s.conversation line ≡ Some (c, text)
     → IsMisrecorded (n + 1) s.entries text answer fault → IsWrongStep s n line answer fault
 wrong_answer_at s n line answer text c NoMemory is mis = tt
 wrong_answer_at s n line answer text c (BadLine at reason) is mis = absurd mis.why
@@ -74,7 +74,7 @@ wrong_answer_at s n line answer text c (WrongPlace at) is mis = (c, text, is, mi
 wrong_answer_at s n line answer text c (BadCaller at) is mis = (c, text, is, mis)
 
 -- the line was asked, and the answer is wrong
-pub wrong_answer : (s : Replayed) (n : ℕ) (line answer text : List ℕ) (c : Conversation) (r : Result ℕ Fault) → replay_line s.conversation line ≡ Some (c, text)
+pub wrong_answer : (s : Replayed) (n : ℕ) (line answer text : List ℕ) (c : Conversation) (r : Result ℕ ReplayFault) → replay_line s.conversation line ≡ Some (c, text)
     → IfErr r (IsMisrecorded (n + 1) s.entries text answer) → IfErr r (IsWrongStep s n line answer)
 wrong_answer s n line answer text c (Ok more) is mis = tt
 wrong_answer s n line answer text c (Err fault) is mis = wrong_answer_at s n line answer text c fault is mis
@@ -94,7 +94,7 @@ one_step s line answer t u (text, is, records) (other, also, again) =
     ap₂ replayed (ap (λ (p : Told). p.0) told)
     (one_number s.entries other answer t.entries u.entries (subst (λ x. Records s.entries x answer t.entries) texts records) again)
 
-not_recorded : (s : Replayed) (n : ℕ) (line answer : List ℕ) (fault : Fault) (t : Replayed) → HasWrongAnswer s n line answer fault → IsStep s line answer t → ⊥
+not_recorded : (s : Replayed) (n : ℕ) (line answer : List ℕ) (fault : ReplayFault) (t : Replayed) → HasWrongAnswer s n line answer fault → IsStep s line answer t → ⊥
 not_recorded s n line answer fault t (c, text, is, mis) (other, also, records) =
     let told : (c, text) ≡ (t.conversation, other) = same_told (c, text) (t.conversation, other) (sym is ∙ also) in
     go (subst (λ x. Records s.entries x answer t.entries) (sym (ap (λ (p : Told). p.1) told)) records)
@@ -103,7 +103,7 @@ not_recorded s n line answer fault t (c, text, is, mis) (other, also, records) =
     go (inl (same, so)) = mis.no_answer same
     go (inr (entry, so)) = mis.no_entry entry
 
-not_step : (s : Replayed) (n : ℕ) (line answer : List ℕ) (fault : Fault) (t : Replayed) → IsWrongStep s n line answer fault → IsStep s line answer t → fault ≡ NoMemory
+not_step : (s : Replayed) (n : ℕ) (line answer : List ℕ) (fault : ReplayFault) (t : Replayed) → IsWrongStep s n line answer fault → IsStep s line answer t → fault ≡ NoMemory
 not_step s n line answer NoMemory t wrong step = refl
 not_step s n line answer (BadLine at reason) t (is, none) (text, some, records) = absurd (Prim.cc)
 not_step s n line answer (NoAnswer at) t wrong step = absurd wrong
@@ -111,12 +111,12 @@ not_step s n line answer (WrongAnswer at) t wrong step = absurd (not_recorded s 
 not_step s n line answer (WrongPlace at) t wrong step = absurd (not_recorded s n line answer (WrongPlace at) t wrong step)
 not_step s n line answer (BadCaller at) t wrong step = absurd (not_recorded s n line answer (BadCaller at) t wrong step)
 
-not_there : (s : Replayed) (n : ℕ) (lines : List (List ℕ)) (fault : Fault) (t : Replayed) → IsWrongThere s n lines fault → AreSteps s lines t → fault ≡ NoMemory
+not_there : (s : Replayed) (n : ℕ) (lines : List (List ℕ)) (fault : ReplayFault) (t : Replayed) → IsWrongThere s n lines fault → AreSteps s lines t → fault ≡ NoMemory
 not_there s n [] fault t wrong are = absurd wrong
 not_there s n (line ∷ []) fault t wrong are = absurd are
 not_there s n (line ∷ answer ∷ lines) fault t wrong (u, step, more) = not_step s n line answer fault u wrong step
 
-not_behind : (s : Replayed) (steps left : List (List ℕ)) (before : Replayed) (n : ℕ) (fault : Fault) (t : Replayed) → AreSteps s steps before
+not_behind : (s : Replayed) (steps left : List (List ℕ)) (before : Replayed) (n : ℕ) (fault : ReplayFault) (t : Replayed) → AreSteps s steps before
     → IsWrongThere before n left fault → AreSteps s (steps ++ left) t → fault ≡ NoMemory
 not_behind s [] left before n fault t same wrong are =
     not_there before n left fault t wrong (subst (λ (v : Replayed). AreSteps v left t) (sym same) are)
@@ -126,7 +126,7 @@ not_behind s (l ∷ a ∷ ls) left before n fault t (v, step, more) wrong (w, ag
     (subst (λ (x : Replayed). AreSteps x (ls ++ left) t) (one_step s l a w v again step) rest)
 
 -- a text with a fault is no legal history
-pub illegal : (start : Conversation) (text : List ℕ) (fault : Fault) → IsReplayFault start text fault → IsServedHistory start text → fault ≡ NoMemory
+pub illegal : (start : Conversation) (text : List ℕ) (fault : ReplayFault) → IsReplayFault start text fault → IsServedHistory start text → fault ≡ NoMemory
 illegal start text fault f (t, are) =
     not_behind (replayed start 0) f.steps f.left f.before (length f.steps + 1) fault t f.right f.wrong
     (subst (λ l. AreSteps (replayed start 0) l t) f.whole are)

@@ -4,7 +4,7 @@ ghost use Rattle.std.specs.Prelude.{◌≡◌, ℕ, ◌+◌, ◌-◌, ◌^◌, �
 ghost use Rattle.mp_replay.specs.ServedHistory.{IsLineOf, Records, number_front, entry_line};
 ghost use Rattle.mp_replay.specs.ReplayFault.{HasFront, IsNoEntry, IsMisrecorded};
 
-use crate::fault::Fault;
+use crate::fault::ReplayFault;
 use itoa::Buffer;
 
 // How the line of an entry begins.
@@ -58,20 +58,20 @@ fn behind_caller(text: &[u8]) -> Option<&[u8]>
 }
 
 // The answer that the line of this number records, if it is the entry with this place.
-fn answer_in(number: u64, place: u64, line: &[u8]) -> Result<&[u8], Fault<'_>>
+fn answer_in(number: u64, place: u64, line: &[u8]) -> Result<&[u8], ReplayFault<'_>>
     ensures ok { IfOk result (λ answer. (caller : ℕ) × (caller < 64)
         × (line.now ≡ entry_line place caller answer.now)) }
     ensures err { IfErr result (IsNoEntry number place line.now) }
 {
     let Some(rest) = behind(line, ENTRY) else {
-        return Err(Fault::WrongAnswer(number));
+        return Err(ReplayFault::WrongAnswer(number));
     };
     let Some(rest) = behind_number(rest, place) else {
-        return Err(Fault::WrongPlace(number));
+        return Err(ReplayFault::WrongPlace(number));
     };
     match behind_caller(rest) {
         Some(answer) => Ok(answer),
-        None => Err(Fault::BadCaller(number)),
+        None => Err(ReplayFault::BadCaller(number)),
     }
 }
 
@@ -84,7 +84,7 @@ pub fn count_entry<'a>(
     entries: u64,
     text: &[u8],
     line: &'a [u8],
-) -> Result<u64, Fault<'a>>
+) -> Result<u64, ReplayFault<'a>>
     requires { entries < 2 ^ 64 - 1 }
     ensures ok { IfOk result (Records entries text.now line.now) }
     ensures few { IfOk result (λ more. more ≤ entries + 1) }
@@ -97,6 +97,6 @@ pub fn count_entry<'a>(
     if is_line_of(text, answer) {
         Ok(entries + 1)
     } else {
-        Err(Fault::WrongAnswer(number))
+        Err(ReplayFault::WrongAnswer(number))
     }
 }

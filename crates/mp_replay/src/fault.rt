@@ -1,11 +1,12 @@
 //! Why a text isn't a legal history.
 
 use mp_names::Reason;
+use mp_session::{NO_MEMORY_FAULT, put_bad_line};
 use std::fmt;
 
 /// Why a text isn't a legal history. The numbers are those of lines, from 1. The program prints its text.
 #[derive(Clone, Copy)]
-pub enum Fault<'a> {
+pub enum ReplayFault<'a> {
     /// An allocation failed.
     NoMemory,
     /// The conversation can't be asked this line, for this reason.
@@ -20,7 +21,7 @@ pub enum Fault<'a> {
     BadCaller(u64),
 }
 
-impl<'a> Fault<'a> {
+impl<'a> ReplayFault<'a> {
     ghost use Rattle.std.specs.Prelude.{◌≡◌};
     ghost use Rattle.mp_replay.specs.ReplayFault.{bad_line_of};
 
@@ -29,22 +30,22 @@ impl<'a> Fault<'a> {
         ensures { result ≡ bad_line_of self.now }
     {
         match self {
-            Fault::BadLine(number, reason) => Some((*number, *reason)),
+            ReplayFault::BadLine(number, reason) => Some((*number, *reason)),
             _ => None,
         }
     }
 }
 
-impl fmt::Display for Fault<'_> {
+impl fmt::Display for ReplayFault<'_> {
     fn fmt<W: fmt::Write>(&self, f: &mut fmt::Formatter<W>) -> fmt::Result {
         match self {
-            Fault::NoMemory => write!(f, "fault: no memory"),
-            Fault::BadLine(number, _) | Fault::BadCaller(number) => {
-                write!(f, "fault: bad line {number}")
-            }
-            Fault::NoAnswer(number) => write!(f, "fault: missing answer {number}"),
-            Fault::WrongAnswer(number) => write!(f, "fault: audit {number}"),
-            Fault::WrongPlace(number) => write!(f, "fault: missing entry {number}"),
+            ReplayFault::NoMemory => f.write_str(NO_MEMORY_FAULT),
+            ReplayFault::BadLine(number, _) | ReplayFault::BadCaller(number) => put_bad_line(
+                f, *number,
+            ),
+            ReplayFault::NoAnswer(number) => write!(f, "fault: missing answer {number}"),
+            ReplayFault::WrongAnswer(number) => write!(f, "fault: audit {number}"),
+            ReplayFault::WrongPlace(number) => write!(f, "fault: missing entry {number}"),
         }
     }
 }

@@ -6,5 +6,5 @@ mod entries;
 mod fault;
 mod replaying;
 
-pub use fault::Fault;
+pub use fault::ReplayFault;
 pub use replaying::replay;

@@ -2,13 +2,13 @@
 
 ghost use Rattle.std.specs.Prelude.{◌≡◌, ℕ, ◌+◌, ◌-◌, ◌^◌, ◌<◌, ◌≤◌, List, ◌∷◌, length, IfOk, IfErr, OnOk};
 ghost use Rattle.mp_text.specs.Lines.{lines_of};
-ghost use Rattle.mp_replay.specs.declared.fault.Fault.TheVariants as faults;
+ghost use Rattle.mp_replay.specs.declared.fault.ReplayFault.TheVariants as faults;
 ghost use Rattle.mp_replay.specs.ServedHistory.{IsServedHistory, IsStep, replayed};
 ghost use Rattle.mp_replay.specs.ReplayFault.{IsReplayFault, IsWrongStep, IsWrongThere};
 
 use crate::asking::ask_line;
 use crate::entries::count_entry;
-use crate::fault::Fault;
+use crate::fault::ReplayFault;
 use mp_memory::Memory;
 use mp_names::LineFault;
 use mp_serve::Conversation;
@@ -22,7 +22,7 @@ fn replay_step<'a>(
     number: u64,
     line: &'a [u8],
     answer: &'a [u8],
-) -> Result<u64, Fault<'a>>
+) -> Result<u64, ReplayFault<'a>>
     requires few { entries < 2 ^ 64 - 1 }
     requires within { number < 2 ^ 64 - 1 }
     ensures ok { IfOk result (λ more. IsStep (replayed conversation.old entries)
@@ -33,8 +33,8 @@ fn replay_step<'a>(
 {
     match ask_line(conversation, memory, line) {
         Ok(told) => count_entry(number + 1, entries, told.text(), answer),
-        Err(LineFault::NoMemory) => Err(Fault::NoMemory),
-        Err(LineFault::Bad(reason)) => Err(Fault::BadLine(number, reason)),
+        Err(LineFault::NoMemory) => Err(ReplayFault::NoMemory),
+        Err(LineFault::Bad(reason)) => Err(ReplayFault::BadLine(number, reason)),
     }
 }
 
@@ -47,7 +47,7 @@ fn replay_from<'a>(
     number: u64,
     line: &'a [u8],
     behind: &'a [u8],
-) -> Result<(u64, &'a [u8]), Fault<'a>>
+) -> Result<(u64, &'a [u8]), ReplayFault<'a>>
     requires few { entries < 2 ^ 64 - 1 }
     requires within { number < 2 ^ 64 - 1 }
     ensures ok { IfOk result (λ r. (answer : List ℕ)
@@ -60,7 +60,7 @@ fn replay_from<'a>(
         (line.now ∷ lines_of behind.now)) }
 {
     let Some((answer, rest)) = first_line(behind) else {
-        return Err(Fault::NoAnswer(number));
+        return Err(ReplayFault::NoAnswer(number));
     };
     let more = replay_step(conversation, memory, entries, number, line, answer)?;
     Ok((more, rest))
@@ -75,7 +75,7 @@ pub fn replay<'a>(
     memory: Memory,
     conversation: &mut Conversation,
     text: &'a [u8],
-) -> Result<(), Fault<'a>>
+) -> Result<(), ReplayFault<'a>>
     ensures legal { OnOk result (IsServedHistory conversation.old text.now) }
     ensures fault { IfErr result (IsReplayFault conversation.old text.now) }
     ensures illegal { IfErr result

@@ -13,7 +13,7 @@ use Rattle.std.proofs.lemmas.List.Elements.{All-from_recursion}
 use Rattle.sha2.specs.Sha256.{sha256}
 use Rattle.mp_bundle.specs.declared.token.Token.{Token}
 use Rattle.mp_bundle.specs.Token.{token_cmp}
-use Rattle.mp_bundle.specs.Bundle.{Entry, IsBundle}
+use Rattle.mp_bundle.specs.Bundle.{TokenEntry, IsBundle}
 use Rattle.mp_bundle.proofs.Search.{less}
 use Rattle.mp_rules.specs.FirstFault.{same_bytes, is_carried}
 use Rattle.mp_rules.specs.Laws.{IsLeastUncarried}
@@ -40,14 +40,14 @@ carried_Decides : (scripts : List (List ℕ)) (policy : List ℕ) → Decides (i
 carried_Decides scripts policy = (is_there scripts policy, λ h. stands scripts policy h.0 h.1 h.2)
 
 -- whether the script of an entry's policy is carried
-abbrev pub IsCarried : List (List ℕ) → Entry → Type 0
+abbrev pub IsCarried : List (List ℕ) → TokenEntry → Type 0
 IsCarried scripts e = Contains (map sha256 scripts) e.0.policy
 
-abbrev pub uncarried : List (List ℕ) → Entry → Bool
+abbrev pub uncarried : List (List ℕ) → TokenEntry → Bool
 uncarried scripts e = not (is_carried scripts e.0.policy)
 
 pub uncarried_refutes : (scripts : List (List ℕ)) → Refutes (uncarried scripts) (IsCarried scripts)
-uncarried_refutes scripts = refutes (λ (e : Entry). is_carried scripts e.0.policy) (IsCarried scripts) (λ e. carried_Decides scripts e.0.policy)
+uncarried_refutes scripts = refutes (λ (e : TokenEntry). is_carried scripts e.0.policy) (IsCarried scripts) (λ e. carried_Decides scripts e.0.policy)
 
 -- ---- the first has the least policy
 
@@ -61,16 +61,16 @@ policies_rise a b lt gt =
     let e = ap (λ o. ordering_then o (slice_cmp nat_cmp a.name b.name)) back in
     Prim.cc
 
-module _ (Good : Entry → Type 0) where
+module _ (Good : TokenEntry → Type 0) where
   -- the entries with a lesser policy are good
-  abbrev AreGoodBelow : List ℕ → List Entry → Type 0
+  abbrev AreGoodBelow : List ℕ → List TokenEntry → Type 0
   AreGoodBelow policy es = AllByRecursion (λ e. slice_cmp nat_cmp e.0.policy policy ≡ Less → Good e) es
 
-  none_lesser : (x : Token) (es : List Entry) → below_all token_cmp x es ≡ true → AreGoodBelow x.policy es
+  none_lesser : (x : Token) (es : List TokenEntry) → below_all token_cmp x es ≡ true → AreGoodBelow x.policy es
   none_lesser x [] below = tt
   none_lesser x (e ∷ es) below = (λ lt. absurd (policies_rise x e.0 (less _ (first_so _ _ below)) lt), none_lesser x es (second_so _ _ below))
 
-  least_policy : (p : Entry → Bool) → Refutes p Good → (es : List Entry) (x : Entry) → is_sorted token_cmp es ≡ true → find p es ≡ Some x → AreGoodBelow x.0.policy es
+  least_policy : (p : TokenEntry → Bool) → Refutes p Good → (es : List TokenEntry) (x : TokenEntry) → is_sorted token_cmp es ≡ true → find p es ≡ Some x → AreGoodBelow x.0.policy es
   least_policy p tells [] x rising e = tt
   least_policy p tells (y ∷ es) x rising e = elim (p y) as (λ v. p y ≡ v → cond v (Some y) (find p es) ≡ Some x → AreGoodBelow x.0.policy (y ∷ es)) [
     | true ↦ λ h e.
@@ -79,12 +79,12 @@ module _ (Good : Entry → Type 0) where
     | false ↦ λ h e. (λ lt. tells.good y h, least_policy p tells es x (second_so _ _ rising) e)
   ] refl e
 
-pub is_least : (scripts : List (List ℕ)) (forge : List Entry) (x : Entry) → IsBundle forge → find (uncarried scripts) forge ≡ Some x → IsLeastUncarried scripts forge x.0.policy
+pub is_least : (scripts : List (List ℕ)) (forge : List TokenEntry) (x : TokenEntry) → IsBundle forge → find (uncarried scripts) forge ≡ Some x → IsLeastUncarried scripts forge x.0.policy
 is_least scripts forge x is e =
     let at = first_found (uncarried scripts) (IsCarried scripts) (uncarried_refutes scripts) forge x e in
     let lt = at.first.within in
     record {
-      forged = (at.place, omega (arith, lt, length-map forge (λ (y : Entry). y.0.policy)), get_or-map (λ (y : Entry). y.0.policy) forge at.place x x.0.policy lt ∙ ap (λ (y : Entry). y.0.policy) (at.stands x));
+      forged = (at.place, omega (arith, lt, length-map forge (λ (y : TokenEntry). y.0.policy)), get_or-map (λ (y : TokenEntry). y.0.policy) forge at.place x x.0.policy lt ∙ ap (λ (y : TokenEntry). y.0.policy) (at.stands x));
       absent = subst (λ y. IsCarried scripts y → ⊥) (at.stands x) (at.first.bad x);
       least = All-from_recursion _ forge (least_policy (IsCarried scripts) (uncarried scripts) (uncarried_refutes scripts) forge x is.rising e);
     }

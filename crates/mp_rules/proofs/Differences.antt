@@ -2,14 +2,14 @@
 use Rattle.std.proofs.Common.{◌≡◌, List, sym, ap, ◌∙◌}
 use Rattle.std.specs.Prelude.{None, Some, option_map}
 use Rattle.mp_bundle.specs.declared.token.Token.{Token}
-use Rattle.mp_bundle.specs.Bundle.{Entry}
+use Rattle.mp_bundle.specs.Bundle.{TokenEntry}
 use Rattle.mp_bundle.specs.Sum.{Sum, total_of, total_over, IsSumOf, AreAlike, IsFirstDifference}
 use Rattle.mp_rules.specs.declared.invalid.Invalid.{Invalid}
 use Rattle.mp_rules.specs.declared.invalid.Invalid.TheVariants as rule
 use Rattle.mp_rules.specs.FirstFault.{first_unbalanced, token_unbalanced}
 use Rattle.mp_rules.proofs.Totals.{alike, differ}
 
-module _ (taken paid : List (List Entry)) (a b : Sum) (all_taken : IsSumOf taken a) (all_paid : IsSumOf paid b) where
+module _ (taken paid : List (List TokenEntry)) (a b : Sum) (all_taken : IsSumOf taken a) (all_paid : IsSumOf paid b) where
   pub none_differs : AreAlike a b → None ≡ option_map (token_unbalanced taken paid) (first_unbalanced taken paid)
   none_differs same = ap (option_map (token_unbalanced taken paid)) (sym (alike taken paid a b all_taken all_paid same))
 

@@ -7,7 +7,7 @@ use Rattle.std.proofs.lemmas.Int.{ints}
 use Rattle.std.proofs.lemmas.Bool.Decides.{nat_tests}
 use Rattle.sha2.specs.Sha256.{sha256}
 use Rattle.mp_bundle.specs.declared.token.Token.{Token}
-use Rattle.mp_bundle.specs.Bundle.{Entry, IsBundle}
+use Rattle.mp_bundle.specs.Bundle.{TokenEntry, IsBundle}
 use Rattle.mp_tx.specs.declared.input.Input.{Input}
 use Rattle.mp_tx.specs.declared.output.Output.{Output}
 use Rattle.mp_tx.specs.declared.reference.OutRef.{OutRef}
@@ -20,8 +20,8 @@ use Rattle.mp_rules.specs.declared.invalid.Invalid.TheVariants as rule
 use Rattle.mp_rules.specs.Verifier.{Accepts}
 use Rattle.mp_rules.specs.Resolved.{resolve, spendings, values}
 use Rattle.mp_rules.specs.Scripts.{validator_accepts, policy_accepts}
-use Rattle.mp_rules.specs.Validity.{Rule, HasInput, InInterval, PaysNoDebt, InputsThere, ReferencesThere, AddressesMatch, DataMatch, OutputsFresh, PoliciesCarried, Balanced, SignaturesAccepted, ValidatorsAccept, PoliciesAccept, rules, IsNonnegative, Holds}
-use Rattle.mp_rules.specs.FirstFault.{same_bytes, has_debt, first_unbalanced, token_unbalanced, no_inputs, outside_interval, negative_output, input_missing, reference_missing, address_mismatch, datum_mismatch, output_taken, forge_without_policy, unbalanced, bad_signature, validator_refused, policy_refused, fault_of, rule_of}
+use Rattle.mp_rules.specs.Validity.{Rule, HasInput, InInterval, OutputsNonnegative, InputsThere, ReferencesThere, AddressesMatch, DataMatch, OutputsFresh, PoliciesCarried, Balanced, SignaturesAccepted, ValidatorsAccept, PoliciesAccept, rules, IsNonnegative, Holds}
+use Rattle.mp_rules.specs.FirstFault.{same_bytes, is_negative, first_unbalanced, token_unbalanced, no_inputs, outside_interval, negative_output, input_missing, reference_missing, address_mismatch, datum_mismatch, output_taken, forge_without_policy, unbalanced, bad_signature, validator_refused, policy_refused, fault_of, rule_of}
 use Rattle.mp_rules.specs.Laws.{IsFirstBad, IsBroken}
 use Rattle.mp_rules.proofs.Searching.{unmapped, mapped, Refutes, refutes, all_good, none_bad, first_bad, all_good_found, none_found, first_found, each_below, all_below, first_number, any_refutes}
 use Rattle.mp_rules.proofs.Carried.{IsCarried, uncarried, uncarried_refutes, is_least}
@@ -69,10 +69,10 @@ owed n e h = grind (arith, ints)
 not_owed : (n : ℤ) → int_lt n (pos 0) ≡ false → pos 0 ≤ℤ n
 not_owed n e = grind (arith, ints)
 
-debt_refutes : Refutes (λ (o : Output). has_debt o.value) IsNonnegative
+debt_refutes : Refutes (λ (o : Output). is_negative o.value) IsNonnegative
 debt_refutes =
-    let each : Refutes (λ (e : Entry). int_lt e.1 (pos 0)) (λ (e : Entry). pos 0 ≤ℤ e.1) = record { bad = λ e. owed e.1; good = λ e. not_owed e.1 } in
-    let all = any_refutes (λ (e : Entry). int_lt e.1 (pos 0)) (λ (e : Entry). pos 0 ≤ℤ e.1) each in
+    let each : Refutes (λ (e : TokenEntry). int_lt e.1 (pos 0)) (λ (e : TokenEntry). pos 0 ≤ℤ e.1) = record { bad = λ e. owed e.1; good = λ e. not_owed e.1 } in
+    let all = any_refutes (λ (e : TokenEntry). int_lt e.1 (pos 0)) (λ (e : TokenEntry). pos 0 ≤ℤ e.1) each in
     record { bad = λ o. all.bad o.value; good = λ o. all.good o.value }
 
 taken_refutes : (u : Unspent) (t : Transaction) → Refutes (λ k. is_some (u (own_ref t k))) (λ k. u (own_ref t k) ≡ None)
@@ -148,7 +148,7 @@ module _ (accepts : Accepts) (u : Unspent) (tick : ℕ) (t : Transaction) where
       by_test (nat_lt tick t.from || nat_lt t.to tick) rule.OutsideInterval _ _ (inside t.from t.to tick) (not_outside t.from t.to tick)
       (λ e is. record { broken = outside t.from t.to tick e; is_of = refl })
 
-  pays_no_debt : IsTold PaysNoDebt
+  pays_no_debt : IsTold OutputsNonnegative
   unfolding negative_output
   pays_no_debt = by_place _ IsNonnegative debt_refutes t.outputs _ rule.NegativeOutput (λ k first is. record { broken = first; is_of = refl })
 
@@ -239,7 +239,7 @@ module _ (accepts : Accepts) (u : Unspent) (tick : ℕ) (t : Transaction) where
   pub each_rule : (r : Rule) → IsTold r
   each_rule HasInput = has_input
   each_rule InInterval = in_interval
-  each_rule PaysNoDebt = pays_no_debt
+  each_rule OutputsNonnegative = pays_no_debt
   each_rule InputsThere = inputs_there
   each_rule ReferencesThere = references_there
   each_rule AddressesMatch = addresses_match
@@ -255,7 +255,7 @@ module _ (accepts : Accepts) (u : Unspent) (tick : ℕ) (t : Transaction) where
 pub of_each : (P : Rule → Type 0) → AllByRecursion P rules → (r : Rule) → P r
 of_each P all HasInput = all.0
 of_each P all InInterval = all.1.0
-of_each P all PaysNoDebt = all.1.1.0
+of_each P all OutputsNonnegative = all.1.1.0
 of_each P all InputsThere = all.1.1.1.0
 of_each P all ReferencesThere = all.1.1.1.1.0
 of_each P all AddressesMatch = all.1.1.1.1.1.0

@@ -1,22 +1,20 @@
 -- A transaction that finds what it found when it was valid is valid.
 use Rattle.std.proofs.Common.{◌≡◌, ℕ, List, [], ◌∷◌, map, refl, sym, ap, subst, ◌∙◌}
-use Rattle.std.specs.Prelude.{Option, None, Some, IsSome, IfSome, All, IsTrue}
+use Rattle.std.specs.Prelude.{Option, None, Some, IsSome, IfSome, All}
 use Rattle.std.specs.Borrow.{Bor}
 use Rattle.std.specs.List.{filter_map, cons_option}
 use Rattle.std.proofs.lemmas.List.Elements.{All-nil, All-cons, All-head, All-tail}
-use Rattle.sha2.specs.Sha256.{sha256}
 use Rattle.mp_tx.specs.declared.output.Output.{Output}
 use Rattle.mp_tx.specs.Transaction.{Transaction}
 use Rattle.mp_utxo.specs.Apply.{Unspent}
 use Rattle.mp_rules.specs.Verifier.{Accepts}
-use Rattle.mp_rules.specs.Resolved.{Resolved, resolve, spendings}
-use Rattle.mp_rules.specs.Scripts.{validator_accepts, policy_accepts}
-use Rattle.mp_rules.specs.Validity.{HasInput, InInterval, PaysNoDebt, InputsThere, ReferencesThere, AddressesMatch, DataMatch, OutputsFresh, PoliciesCarried, Balanced, SignaturesAccepted, ValidatorsAccept, PoliciesAccept, IsBalanced, Holds, IsValid}
+use Rattle.mp_rules.specs.Resolved.{Resolved, resolve}
+use Rattle.mp_rules.specs.Validity.{InInterval, InputsThere, ReferencesThere, OutputsFresh, SignaturesAccepted, ValidatorsAccept, PoliciesAccept, Condition, OfTransaction, AtTick, OfResolved, OnMap, OfVerifier, row, Meets, Holds, IsValid}
 use Rattle.mp_rules.specs.FirstFault.{validator_refused, policy_refused, first_of, first_fault}
 use Rattle.mp_rules.specs.Checked.{script_refused, IsSigned, ScriptsAccept, WasValid}
 use Rattle.mp_rules.specs.Laws.{ValidityIsLocal}
 use Rattle.mp_rules.specs.Inside.Unmoved.{LeadTo, IsUnmoved}
-use Rattle.mp_rules.proofs.Faults.{each_rule}
+use Rattle.mp_rules.proofs.Faults.{each_rule, of_each}
 use Rattle.mp_rules.proofs.Valid.{valid, faultless}
 
 module _ {X : Type 0} (found : X → Option Output) where
@@ -55,23 +53,27 @@ there_alike f g (x ∷ xs) a h =
     All-cons (λ x. IsSome (g x)) x xs (subst IsSome (All-head (λ x. f x ≡ g x) x xs a) (All-head (λ x. IsSome (f x)) x xs h))
     (there_alike f g xs (All-tail (λ x. f x ≡ g x) x xs a) (All-tail (λ x. IsSome (f x)) x xs h))
 
--- A valid transaction, on another map and at another tick, still satisfies the rules about neither its outputs nor its
--- own parts.
+-- A valid transaction, for another verifier, on another map, and at another tick.
 module _ (accepts other : Accepts) (u v : Unspent) (tick later : ℕ) (t : Transaction) (valid : IsValid accepts u tick t) (same : resolve u t ≡ resolve v t) where
+  -- what must be shown of a condition; those on the transaction and on what it spends and reads still hold
+  abbrev Anew : Condition → Type 0
+  Anew (OfTransaction Is) = Unit {0}
+  Anew (AtTick Is) = Is later t
+  Anew (OfResolved Is) = Unit {0}
+  Anew (OnMap Is) = Is v t
+  Anew (OfVerifier Is) = Is other t
+
+  met : (asks : Condition) → Meets accepts u tick t asks → Anew asks → Meets other v later t asks
+  met (OfTransaction Is) was anew = was
+  met (AtTick Is) was anew = anew
+  met (OfResolved Is) was anew = subst (Is t) same was
+  met (OnMap Is) was anew = anew
+  met (OfVerifier Is) was anew = anew
+
   pub still : Holds other v later t InInterval → Holds other v later t InputsThere → Holds other v later t ReferencesThere → Holds other v later t OutputsFresh → Holds other v later t SignaturesAccepted → IsValid other v later t
-  still interval inputs references fresh signed HasInput = valid HasInput
-  still interval inputs references fresh signed InInterval = interval
-  still interval inputs references fresh signed PaysNoDebt = valid PaysNoDebt
-  still interval inputs references fresh signed InputsThere = inputs
-  still interval inputs references fresh signed ReferencesThere = references
-  still interval inputs references fresh signed AddressesMatch = subst (λ x. All (λ p. sha256 p.0.validator ≡ p.1.address) (spendings t x)) same (valid AddressesMatch)
-  still interval inputs references fresh signed DataMatch = subst (λ x. All (λ p. sha256 p.0.datum ≡ p.1.datum_hash) (spendings t x)) same (valid DataMatch)
-  still interval inputs references fresh signed OutputsFresh = fresh
-  still interval inputs references fresh signed PoliciesCarried = valid PoliciesCarried
-  still interval inputs references fresh signed Balanced = subst (IsBalanced t) same (valid Balanced)
-  still interval inputs references fresh signed SignaturesAccepted = signed
-  still interval inputs references fresh signed ValidatorsAccept = subst (λ x. All (λ p. IsTrue (validator_accepts t x p)) (spendings t x)) same (valid ValidatorsAccept)
-  still interval inputs references fresh signed PoliciesAccept = subst (λ x. All (λ s. IsTrue (policy_accepts t x s)) t.scripts) same (valid PoliciesAccept)
+  still interval inputs references fresh signed rule =
+      met (row rule).asks (valid rule)
+      (of_each (λ r. Anew (row r).asks) (tt, (interval, (tt, (inputs, (references, (tt, (tt, (fresh, (tt, (tt, (signed, (tt, (tt, tt))))))))))))) rule)
 
 pub validity_is_local : ValidityIsLocal
 validity_is_local accepts u v tick later t finds valid from to =

@@ -3,13 +3,13 @@ use Rattle.std.proofs.Common.{◌≡◌, ℕ, ◌+◌, ◌<◌, ◌≤◌, List,
 use Rattle.std.specs.Prelude.{Option, None, Some}
 use Rattle.std.specs.List.{filter_map, cons_option}
 use Rattle.std.proofs.lemmas.List.{take_more, map-append}
-use Rattle.mp_bundle.specs.Bundle.{Entry}
+use Rattle.mp_bundle.specs.Bundle.{TokenEntry}
 use Rattle.mp_bundle.specs.Sum.{Sum, Adds, AddsAll}
 use Rattle.mp_tx.specs.declared.output.Output.{Output}
 use Rattle.mp_rules.specs.Resolved.{values}
 
 -- one more bundle, the last
-pub AddsAll-push : (bundles : List (List Entry)) (bundle : List Entry) (a b c : Sum) → AddsAll a bundles b → Adds b bundle c → AddsAll a (bundles ++ bundle ∷ []) c
+pub AddsAll-push : (bundles : List (List TokenEntry)) (bundle : List TokenEntry) (a b c : Sum) → AddsAll a bundles b → Adds b bundle c → AddsAll a (bundles ++ bundle ∷ []) c
 AddsAll-push [] bundle a b c none one = (c, subst (λ s. Adds s bundle c) none one, refl)
 AddsAll-push (x ∷ bundles) bundle a b c all one = (all.0, all.1, AddsAll-push bundles bundle all.0 b c all.2 one)
 

@@ -10,7 +10,7 @@ use Rattle.std.specs.declared.cmp.Ordering.{Ordering}
 use Rattle.std.specs.declared.cmp.Ordering.TheVariants.{Less, Equal, Greater}
 use Rattle.mp_bundle.specs.declared.token.Token.{Token}
 use Rattle.mp_bundle.specs.Token.{token_cmp}
-use Rattle.mp_bundle.specs.Bundle.{Entry, quantity_of}
+use Rattle.mp_bundle.specs.Bundle.{TokenEntry, quantity_of}
 use Rattle.mp_bundle.specs.Sum.{Sum, total_over, AreAlike, IsSumOf, IsFirstDifference}
 use Rattle.mp_bundle.proofs.Tokens.{token_total, token_exact}
 use Rattle.mp_bundle.proofs.Search.{equal}
@@ -36,28 +36,28 @@ among-append (x ∷ xs) ys q e =
     let rest = among-append xs ys q h.1 in
     (ap (λ b. b || is_among xs q) h.0 ∙ rest.0, rest.1)
 
-absent : (es : List Entry) (q : Token) → is_among (map (λ e. e.0) es) q ≡ false → quantity_of es q ≡ pos 0
+absent : (es : List TokenEntry) (q : Token) → is_among (map (λ e. e.0) es) q ≡ false → quantity_of es q ≡ pos 0
 absent es q h = ap (λ o. unwrap_or o (pos 0)) (none es h)
   where
-    none : (es : List Entry) → is_among (map (λ e. e.0) es) q ≡ false → find token_cmp q es ≡ None
+    none : (es : List TokenEntry) → is_among (map (λ e. e.0) es) q ≡ false → find token_cmp q es ≡ None
     none [] h = refl
     none (e ∷ es) h =
         let both = either (eq_by_cmp token_cmp q e.0) _ h in
         ap (λ b. cond b (Some e.1) (find token_cmp q es)) both.0 ∙ none es both.1
 
-no_total : (bundles : List (List Entry)) (q : Token) → is_among (tokens bundles) q ≡ false → total_over bundles q ≡ pos 0
+no_total : (bundles : List (List TokenEntry)) (q : Token) → is_among (tokens bundles) q ≡ false → total_over bundles q ≡ pos 0
 no_total [] q h = refl
 no_total (es ∷ bundles) q h =
     let both = among-append (map (λ e. e.0) es) (tokens bundles) q h in
     ap (λ n. n +ℤ total_over bundles q) (absent es q both.0) ∙ ap (λ n. pos 0 +ℤ n) (no_total bundles q both.1)
 
-tokens-append : (xs ys : List (List Entry)) → tokens (xs ++ ys) ≡ tokens xs ++ tokens ys
+tokens-append : (xs ys : List (List TokenEntry)) → tokens (xs ++ ys) ≡ tokens xs ++ tokens ys
 tokens-append [] ys = refl
 tokens-append (x ∷ xs) ys =
     ap (λ ts. map (λ e. e.0) x ++ ts) (tokens-append xs ys) ∙ sym (append_assoc (map (λ e. e.0) x) (tokens xs) (tokens ys))
 
 -- a token whose totals differ occurs in a bundle
-differs_among : (taken paid : List (List Entry)) (q : Token) → (total_over taken q ≢ total_over paid q) → (b : Bool) → is_among (tokens (taken ++ paid)) q ≡ b → b ≡ true
+differs_among : (taken paid : List (List TokenEntry)) (q : Token) → (total_over taken q ≢ total_over paid q) → (b : Bool) → is_among (tokens (taken ++ paid)) q ≡ b → b ≡ true
 differs_among taken paid q differs true e = refl
 differs_among taken paid q differs false e =
     let both = among-append (tokens taken) (tokens paid) q (sym (ap (λ ts. is_among ts q) (tokens-append taken paid)) ∙ e) in
@@ -173,30 +173,30 @@ module _ (p : Token → Bool) where
 -- ---- sums
 
 -- whether the totals of a token differ
-abbrev unlike : List (List Entry) → List (List Entry) → Token → Bool
+abbrev unlike : List (List TokenEntry) → List (List TokenEntry) → Token → Bool
 unlike taken paid q = not (int_eq (total_over taken q) (total_over paid q))
 
-same_unlike : (taken paid : List (List Entry)) (q : Token) → total_over taken q ≡ total_over paid q → unlike taken paid q ≡ false
+same_unlike : (taken paid : List (List TokenEntry)) (q : Token) → total_over taken q ≡ total_over paid q → unlike taken paid q ≡ false
 same_unlike taken paid q e = ap not ((signed_Decides (total_over taken q) (total_over paid q)).1 e)
 
-differs_unlike : (taken paid : List (List Entry)) (q : Token) → (total_over taken q ≢ total_over paid q) → unlike taken paid q ≡ true
+differs_unlike : (taken paid : List (List TokenEntry)) (q : Token) → (total_over taken q ≢ total_over paid q) → unlike taken paid q ≡ true
 differs_unlike taken paid q h = ap not (not_true _ (λ e. h ((signed_Decides (total_over taken q) (total_over paid q)).0 e)))
 
 -- all totals are equal
-pub balanced : (taken paid : List (List Entry)) → ((q : Token) → total_over taken q ≡ total_over paid q) → first_unbalanced taken paid ≡ None
+pub balanced : (taken paid : List (List TokenEntry)) → ((q : Token) → total_over taken q ≡ total_over paid q) → first_unbalanced taken paid ≡ None
 balanced taken paid same = none_least (unlike taken paid) (λ q. same_unlike taken paid q (same q)) (tokens (taken ++ paid))
 
 -- the token is the least whose totals differ
-pub least_unbalanced : (taken paid : List (List Entry)) (d : Token) → (total_over taken d ≢ total_over paid d) → ((q : Token) → token_cmp q d ≡ Less → total_over taken q ≡ total_over paid q) → first_unbalanced taken paid ≡ Some d
+pub least_unbalanced : (taken paid : List (List TokenEntry)) (d : Token) → (total_over taken d ≢ total_over paid d) → ((q : Token) → token_cmp q d ≡ Less → total_over taken q ≡ total_over paid q) → first_unbalanced taken paid ≡ Some d
 least_unbalanced taken paid d differs before =
     least_is (unlike taken paid) d (differs_unlike taken paid d differs) (λ q lt. same_unlike taken paid q (before q lt)) (tokens (taken ++ paid))
     (differs_among taken paid d differs (is_among (tokens (taken ++ paid)) d) refl)
 
-same_totals : (taken paid : List (List Entry)) (q : Token) → unlike taken paid q ≡ false → total_over taken q ≡ total_over paid q
+same_totals : (taken paid : List (List TokenEntry)) (q : Token) → unlike taken paid q ≡ false → total_over taken q ≡ total_over paid q
 same_totals taken paid q h = (signed_Decides (total_over taken q) (total_over paid q)).0 (so _ h)
 
 -- a token whose totals differ occurs in a bundle, so what holds of those holds of it
-everywhere : (taken paid : List (List Entry)) (P : Token → Type 0) (q : Token) → AllByRecursion P (tokens (taken ++ paid)) → (P q → unlike taken paid q ≡ false) → total_over taken q ≡ total_over paid q
+everywhere : (taken paid : List (List TokenEntry)) (P : Token → Type 0) (q : Token) → AllByRecursion P (tokens (taken ++ paid)) → (P q → unlike taken paid q ≡ false) → total_over taken q ≡ total_over paid q
 everywhere taken paid P q all then =
     elim (unlike taken paid q) as (λ v. unlike taken paid q ≡ v → total_over taken q ≡ total_over paid q) [
       | true ↦ λ h.
@@ -206,12 +206,12 @@ everywhere taken paid P q all then =
     ] refl
 
 -- if none is named, all totals are equal
-pub none_unbalanced : (taken paid : List (List Entry)) → first_unbalanced taken paid ≡ None → (q : Token) → total_over taken q ≡ total_over paid q
+pub none_unbalanced : (taken paid : List (List TokenEntry)) → first_unbalanced taken paid ≡ None → (q : Token) → total_over taken q ≡ total_over paid q
 none_unbalanced taken paid e q =
     everywhere taken paid (λ t. unlike taken paid t ≡ false) q (none_passes (unlike taken paid) (tokens (taken ++ paid)) e) (λ h. h)
 
 -- the one that is named is the least whose totals differ
-pub is_unbalanced : (taken paid : List (List Entry)) (d : Token) → first_unbalanced taken paid ≡ Some d → IsLeastUnbalanced taken paid d
+pub is_unbalanced : (taken paid : List (List TokenEntry)) (d : Token) → first_unbalanced taken paid ≡ Some d → IsLeastUnbalanced taken paid d
 is_unbalanced taken paid d e = record {
   differs = λ same.
       let fails = same_unlike taken paid d same in
@@ -220,10 +220,10 @@ is_unbalanced taken paid d e = record {
   least = λ q lt. everywhere taken paid (λ t. token_cmp t d ≡ Less → unlike taken paid t ≡ false) q (first_passing (unlike taken paid) (tokens (taken ++ paid)) d e) (λ h. h lt);
 }
 
-pub alike : (taken paid : List (List Entry)) (a b : Sum) → IsSumOf taken a → IsSumOf paid b → AreAlike a b → first_unbalanced taken paid ≡ None
+pub alike : (taken paid : List (List TokenEntry)) (a b : Sum) → IsSumOf taken a → IsSumOf paid b → AreAlike a b → first_unbalanced taken paid ≡ None
 alike taken paid a b is_a is_b same = balanced taken paid (λ q. sym (is_a.totals q) ∙ same q ∙ is_b.totals q)
 
-pub differ : (taken paid : List (List Entry)) (a b : Sum) (d : Token) → IsSumOf taken a → IsSumOf paid b → IsFirstDifference a b d → first_unbalanced taken paid ≡ Some d
+pub differ : (taken paid : List (List TokenEntry)) (a b : Sum) (d : Token) → IsSumOf taken a → IsSumOf paid b → IsFirstDifference a b d → first_unbalanced taken paid ≡ Some d
 differ taken paid a b d is_a is_b first =
     least_unbalanced taken paid d (λ same. first.differs (is_a.totals d ∙ same ∙ sym (is_b.totals d)))
     (λ q lt. sym (is_a.totals q) ∙ first.least q lt ∙ is_b.totals q)

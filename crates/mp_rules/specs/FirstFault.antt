@@ -6,7 +6,7 @@ use Rattle.std.specs.Cmp.Lexicographic.{pointwise}
 use Rattle.sha2.specs.Sha256.{sha256}
 use Rattle.mp_bundle.specs.declared.token.Token.{Token}
 use Rattle.mp_bundle.specs.Token.{token_cmp}
-use Rattle.mp_bundle.specs.Bundle.{Entry}
+use Rattle.mp_bundle.specs.Bundle.{TokenEntry}
 use Rattle.mp_bundle.specs.Sum.{total_over}
 use Rattle.mp_tx.specs.Transaction.{Transaction}
 use Rattle.mp_tx.specs.Spelling.{id_of}
@@ -16,7 +16,7 @@ use Rattle.mp_rules.specs.declared.invalid.Invalid.TheVariants as rule
 use Rattle.mp_rules.specs.Verifier.{Accepts}
 use Rattle.mp_rules.specs.Resolved.{Resolved, resolve, spendings, values}
 use Rattle.mp_rules.specs.Scripts.{validator_accepts, policy_accepts}
-use Rattle.mp_rules.specs.Validity.{Rule, HasInput, InInterval, PaysNoDebt, InputsThere, ReferencesThere, AddressesMatch, DataMatch, OutputsFresh, PoliciesCarried, Balanced, SignaturesAccepted, ValidatorsAccept, PoliciesAccept, rules}
+use Rattle.mp_rules.specs.Validity.{Rule, HasInput, InInterval, OutputsNonnegative, InputsThere, ReferencesThere, AddressesMatch, DataMatch, OutputsFresh, PoliciesCarried, Balanced, SignaturesAccepted, ValidatorsAccept, PoliciesAccept, rules}
 
 abbrev pub same_bytes : List ℕ → List ℕ → Bool
 same_bytes a b = pointwise nat_eq a b
@@ -28,11 +28,11 @@ unfoldable pub outside_interval : ℕ → Transaction → Option Invalid
 outside_interval tick t = if nat_lt tick t.from || nat_lt t.to tick then Some rule.OutsideInterval else None
 
 -- whether a quantity is negative
-abbrev pub has_debt : List Entry → Bool
-has_debt entries = list_any (λ e. int_lt e.1 (pos 0)) entries
+abbrev pub is_negative : List TokenEntry → Bool
+is_negative entries = list_any (λ e. int_lt e.1 (pos 0)) entries
 
 unfoldable pub negative_output : Transaction → Option Invalid
-negative_output t = option_map rule.NegativeOutput (position (λ o. has_debt o.value) t.outputs)
+negative_output t = option_map rule.NegativeOutput (position (λ o. is_negative o.value) t.outputs)
 
 unfoldable pub input_missing : Unspent → Transaction → Option Invalid
 input_missing u t = option_map rule.InputMissing (position (λ i. is_none (u i.from)) t.inputs)
@@ -71,16 +71,16 @@ least [] = None
 least (token ∷ tokens) = Some (lesser token (least tokens))
 
 -- the tokens that bundles have
-abbrev pub tokens : List (List Entry) → List Token
+abbrev pub tokens : List (List TokenEntry) → List Token
 tokens bundles = flat_map (map (λ e. e.0)) bundles
 
 -- the least token for which the quantity forged and spent differs from the quantity paid
-abbrev pub first_unbalanced : List (List Entry) → List (List Entry) → Option Token
+abbrev pub first_unbalanced : List (List TokenEntry) → List (List TokenEntry) → Option Token
 first_unbalanced taken paid =
     least (filter (λ token. not (int_eq (total_over taken token) (total_over paid token))) (tokens (taken ++ paid)))
 
 -- the fault of a token, with its totals
-abbrev pub token_unbalanced : List (List Entry) → List (List Entry) → Token → Invalid
+abbrev pub token_unbalanced : List (List TokenEntry) → List (List TokenEntry) → Token → Invalid
 token_unbalanced taken paid token =
     rule.Unbalanced token.policy token.name (total_over taken token) (total_over paid token)
 
@@ -112,7 +112,7 @@ first_of (Some fault ∷ others) = Some fault
 abbrev pub fault_of : Accepts → Unspent → ℕ → Transaction → Rule → Option Invalid
 fault_of accepts u tick t HasInput = no_inputs t
 fault_of accepts u tick t InInterval = outside_interval tick t
-fault_of accepts u tick t PaysNoDebt = negative_output t
+fault_of accepts u tick t OutputsNonnegative = negative_output t
 fault_of accepts u tick t InputsThere = input_missing u t
 fault_of accepts u tick t ReferencesThere = reference_missing u t
 fault_of accepts u tick t AddressesMatch = address_mismatch t (resolve u t)
@@ -129,7 +129,7 @@ abbrev pub rule_of : Invalid → Option Rule
 rule_of rule.NoMemory = None
 rule_of rule.NoInputs = Some HasInput
 rule_of rule.OutsideInterval = Some InInterval
-rule_of (rule.NegativeOutput place) = Some PaysNoDebt
+rule_of (rule.NegativeOutput place) = Some OutputsNonnegative
 rule_of (rule.InputMissing place) = Some InputsThere
 rule_of (rule.ReferenceMissing place) = Some ReferencesThere
 rule_of (rule.AddressMismatch place) = Some AddressesMatch

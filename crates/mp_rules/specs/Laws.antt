@@ -6,7 +6,7 @@ use Rattle.std.specs.declared.cmp.Ordering.TheVariants.{Less}
 use Rattle.sha2.specs.Sha256.{sha256}
 use Rattle.mp_bundle.specs.declared.token.Token.{Token}
 use Rattle.mp_bundle.specs.Token.{token, token_cmp}
-use Rattle.mp_bundle.specs.Bundle.{Entry, IsBundle}
+use Rattle.mp_bundle.specs.Bundle.{TokenEntry, IsBundle}
 use Rattle.mp_bundle.specs.Sum.{total_over}
 use Rattle.mp_tx.specs.Transaction.{Transaction}
 use Rattle.mp_tx.specs.Spelling.{id_of}
@@ -28,13 +28,13 @@ pub record IsFirstBad {X : Type 0} (Good : X → Type 0) (xs : List X) (place : 
   pub before : All Good (take place xs)
 
 -- of a bundle's policies, the least without a script among these
-pub record IsLeastUncarried (scripts : List (List ℕ)) (forge : List Entry) (policy : List ℕ) : Type 0 where
+pub record IsLeastUncarried (scripts : List (List ℕ)) (forge : List TokenEntry) (policy : List ℕ) : Type 0 where
   pub forged : Contains (map (λ e. e.0.policy) forge) policy
   pub absent : Contains (map sha256 scripts) policy → ⊥
   pub least : All (λ e. slice_cmp nat_cmp e.0.policy policy ≡ Less → Contains (map sha256 scripts) e.0.policy) forge
 
 -- the least token whose totals differ
-pub record IsLeastUnbalanced (taken paid : List (List Entry)) (token : Token) : Type 0 where
+pub record IsLeastUnbalanced (taken paid : List (List TokenEntry)) (token : Token) : Type 0 where
   pub differs : total_over taken token ≢ total_over paid token
   pub least : (other : Token) → token_cmp other token ≡ Less → total_over taken other ≡ total_over paid other
 

@@ -1,7 +1,7 @@
 -- The outputs that a transaction names.
 use Rattle.std.specs.Prelude.{List, map}
 use Rattle.std.specs.List.{filter_map, zip}
-use Rattle.mp_bundle.specs.Bundle.{Entry}
+use Rattle.mp_bundle.specs.Bundle.{TokenEntry}
 use Rattle.mp_tx.specs.declared.input.Input.{Input}
 use Rattle.mp_tx.specs.declared.output.Output.{Output}
 use Rattle.mp_tx.specs.Transaction.{Transaction, spent_refs}
@@ -22,5 +22,5 @@ abbrev pub spendings : Transaction → Resolved → List (Input × Output)
 spendings t r = zip t.inputs r.spent
 
 -- the bundles of outputs
-abbrev pub values : List Output → List (List Entry)
+abbrev pub values : List Output → List (List TokenEntry)
 values outputs = map (λ o. o.value) outputs

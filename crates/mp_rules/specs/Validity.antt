@@ -24,7 +24,7 @@ IsBalanced t r =
 pub data Rule : Type 0 where
   HasInput : Rule
   InInterval : Rule
-  PaysNoDebt : Rule
+  OutputsNonnegative : Rule
   InputsThere : Rule
   ReferencesThere : Rule
   AddressesMatch : Rule
@@ -41,7 +41,7 @@ abbrev pub rules : List Rule
 rules =
     HasInput
     ∷ InInterval
-    ∷ PaysNoDebt
+    ∷ OutputsNonnegative
     ∷ InputsThere
     ∷ ReferencesThere
     ∷ AddressesMatch
@@ -54,50 +54,86 @@ rules =
     ∷ PoliciesAccept
     ∷ []
 
--- The numbers of the rules. They don't give the order: 14 is checked sixth, right after 5.
-abbrev pub rule_number : Rule → ℕ
-rule_number HasInput = 2
-rule_number InInterval = 3
-rule_number PaysNoDebt = 4
-rule_number InputsThere = 5
-rule_number ReferencesThere = 14
-rule_number AddressesMatch = 6
-rule_number DataMatch = 7
-rule_number OutputsFresh = 8
-rule_number PoliciesCarried = 9
-rule_number Balanced = 10
-rule_number SignaturesAccepted = 11
-rule_number ValidatorsAccept = 12
-rule_number PoliciesAccept = 13
+-- What a rule asks for.
+pub data Condition : Type 1 where
+  -- something of the transaction alone
+  OfTransaction : (Transaction → Type 0) → Condition
+  -- something of it at a tick
+  AtTick : (ℕ → Transaction → Type 0) → Condition
+  -- something of it, given the outputs that it spends and reads
+  OfResolved : (Transaction → Resolved → Type 0) → Condition
+  -- something of it on the map of the outputs that can be spent
+  OnMap : (Unspent → Transaction → Type 0) → Condition
+  -- something of it for a verifier
+  OfVerifier : (Accepts → Transaction → Type 0) → Condition
+
+-- A row of the table of rules.
+pub record Row : Type 1 where
+  -- the numbers follow the order of the checks; 1 is an allocation failure
+  pub number : ℕ
+  pub asks : Condition
+
+-- The table of rules.
+abbrev pub row : Rule → Row
+-- there is an input
+row HasInput = record { number = 2; asks = OfTransaction (λ t. t.inputs ≢ []) }
+-- the tick is neither before the first nor after the last tick of its validity interval
+row InInterval = record { number = 3; asks = AtTick (λ tick t. (t.from ≤ tick) × (tick ≤ t.to)) }
+-- no output has a negative quantity of a token
+row OutputsNonnegative = record { number = 4; asks = OfTransaction (λ t. All IsNonnegative t.outputs) }
+-- each input leads to an output that can be spent
+row InputsThere = record { number = 5; asks = OnMap (λ u t. All (λ i. IsSome (u i.from)) t.inputs) }
+-- each reference leads to an output that can be spent
+row ReferencesThere = record { number = 6; asks = OnMap (λ u t. All (λ r. IsSome (u r)) t.references) }
+-- the address of each input's output is the hash of the input's validator
+row AddressesMatch = record {
+  number = 7;
+  asks = OfResolved (λ t r. All (λ p. sha256 p.0.validator ≡ p.1.address) (spendings t r));
+}
+-- the datum hash of each input's output is the hash of the input's datum
+row DataMatch = record {
+  number = 8;
+  asks = OfResolved (λ t r. All (λ p. sha256 p.0.datum ≡ p.1.datum_hash) (spendings t r));
+}
+-- none of its own outputs is there yet
+row OutputsFresh = record {
+  number = 9;
+  asks = OnMap (λ u t. (k : ℕ) → k < length t.outputs → u (own_ref t k) ≡ None);
+}
+-- the policy script of each forged token is carried
+row PoliciesCarried = record {
+  number = 10;
+  asks = OfTransaction (λ t. All (λ e. Contains (map sha256 t.scripts) e.0.policy) t.forge);
+}
+-- it pays exactly what it spends and forges
+row Balanced = record { number = 11; asks = OfResolved IsBalanced }
+-- the verifier accepts each signature
+row SignaturesAccepted = record {
+  number = 12;
+  asks = OfVerifier (λ accepts t. All (λ s. IsTrue (accepts s.key (id_of t) s.sig)) t.signatures);
+}
+-- each validator accepts
+row ValidatorsAccept = record {
+  number = 13;
+  asks = OfResolved (λ t r. All (λ p. IsTrue (validator_accepts t r p)) (spendings t r));
+}
+-- each carried policy script accepts, even if its policy forges nothing
+row PoliciesAccept = record {
+  number = 14;
+  asks = OfResolved (λ t r. All (λ s. IsTrue (policy_accepts t r s)) t.scripts);
+}
+
+-- a condition holds of a transaction, for a verifier, at a tick, on the outputs that can be spent
+abbrev pub Meets : Accepts → Unspent → ℕ → Transaction → Condition → Type 0
+Meets accepts u tick t (OfTransaction Is) = Is t
+Meets accepts u tick t (AtTick Is) = Is tick t
+Meets accepts u tick t (OfResolved Is) = Is t (resolve u t)
+Meets accepts u tick t (OnMap Is) = Is u t
+Meets accepts u tick t (OfVerifier Is) = Is accepts t
 
 -- A rule holds of a transaction, for a verifier, at a tick, on the outputs that can be spent.
 abbrev pub Holds : Accepts → Unspent → ℕ → Transaction → Rule → Type 0
--- there is an input
-Holds accepts u tick t HasInput = t.inputs ≢ []
--- the tick is neither before the first nor after the last tick of its validity interval
-Holds accepts u tick t InInterval = (t.from ≤ tick) × (tick ≤ t.to)
--- no output has a negative quantity of a token
-Holds accepts u tick t PaysNoDebt = All IsNonnegative t.outputs
--- each input leads to an output that can be spent
-Holds accepts u tick t InputsThere = All (λ i. IsSome (u i.from)) t.inputs
--- each reference leads to an output that can be spent
-Holds accepts u tick t ReferencesThere = All (λ r. IsSome (u r)) t.references
--- the address of each input's output is the hash of the input's validator
-Holds accepts u tick t AddressesMatch = All (λ p. sha256 p.0.validator ≡ p.1.address) (spendings t (resolve u t))
--- the datum hash of each input's output is the hash of the input's datum
-Holds accepts u tick t DataMatch = All (λ p. sha256 p.0.datum ≡ p.1.datum_hash) (spendings t (resolve u t))
--- none of its own outputs is there yet
-Holds accepts u tick t OutputsFresh = (k : ℕ) → k < length t.outputs → u (own_ref t k) ≡ None
--- the policy script of each forged token is carried
-Holds accepts u tick t PoliciesCarried = All (λ e. Contains (map sha256 t.scripts) e.0.policy) t.forge
--- it pays exactly what it spends and forges
-Holds accepts u tick t Balanced = IsBalanced t (resolve u t)
--- the verifier accepts each signature
-Holds accepts u tick t SignaturesAccepted = All (λ s. IsTrue (accepts s.key (id_of t) s.sig)) t.signatures
--- each validator accepts
-Holds accepts u tick t ValidatorsAccept = All (λ p. IsTrue (validator_accepts t (resolve u t) p)) (spendings t (resolve u t))
--- each carried policy script accepts, even if its policy forges nothing
-Holds accepts u tick t PoliciesAccept = All (λ s. IsTrue (policy_accepts t (resolve u t) s)) t.scripts
+Holds accepts u tick t rule = Meets accepts u tick t (row rule).asks
 
 -- all rules hold
 abbrev pub IsValid : Accepts → Unspent → ℕ → Transaction → Type 0

@@ -63,7 +63,7 @@ pub enum Invalid {
 }
 
 impl Invalid {
-    /// The number of the rule: 1 to 14. The numbers don't give the order: 14 is checked sixth, right after 5.
+    /// The number of the rule, from 2 to 14, in the order of the checks. 1 is `NoMemory`.
     pub const fn number(&self) -> u64
         ensures { result ≡ invalid.number self.now }
     {
@@ -73,15 +73,15 @@ impl Invalid {
             Invalid::OutsideInterval => 3,
             Invalid::NegativeOutput(_) => 4,
             Invalid::InputMissing(_) => 5,
-            Invalid::AddressMismatch(_) => 6,
-            Invalid::DatumMismatch(_) => 7,
-            Invalid::OutputTaken(_) => 8,
-            Invalid::ForgeWithoutPolicy(_) => 9,
-            Invalid::Unbalanced { .. } => 10,
-            Invalid::BadSignature(_) => 11,
-            Invalid::ValidatorRefused(_) => 12,
-            Invalid::PolicyRefused(_) => 13,
-            Invalid::ReferenceMissing(_) => 14,
+            Invalid::ReferenceMissing(_) => 6,
+            Invalid::AddressMismatch(_) => 7,
+            Invalid::DatumMismatch(_) => 8,
+            Invalid::OutputTaken(_) => 9,
+            Invalid::ForgeWithoutPolicy(_) => 10,
+            Invalid::Unbalanced { .. } => 11,
+            Invalid::BadSignature(_) => 12,
+            Invalid::ValidatorRefused(_) => 13,
+            Invalid::PolicyRefused(_) => 14,
         }
     }
 }

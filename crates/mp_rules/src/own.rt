@@ -2,30 +2,30 @@
 
 ghost use Rattle.std.specs.Prelude.{◌≡◌, not, option_copied};
 ghost use Rattle.std.specs.List.{position, find};
-ghost use Rattle.mp_rules.specs.FirstFault.{has_debt, is_carried, forge_without_policy};
+ghost use Rattle.mp_rules.specs.FirstFault.{is_negative, is_carried, forge_without_policy};
 ghost use Rattle.mp_rules.specs.Inside.Groups.{own_fault};
 
 use crate::invalid::Invalid;
-use mp_bundle::{Bundle, COIN, Entry};
+use mp_bundle::{Bundle, COIN, TokenEntry};
 use mp_tx::{Output, PolicyId, Script, Tx};
 
-fn is_any_negative(entries: &[Entry]) -> bool
-    ensures { result ≡ has_debt entries.now }
+fn is_any_negative(entries: &[TokenEntry]) -> bool
+    ensures { result ≡ is_negative entries.now }
 {
     entries.iter().any(|entry| entry.1 < 0)
 }
 
-fn has_debt(bundle: &Bundle) -> bool
-    ensures { result ≡ has_debt bundle.now }
+fn is_negative(bundle: &Bundle) -> bool
+    ensures { result ≡ is_negative bundle.now }
 {
     let others = bundle.others();
     bundle.coin() < 0 || is_any_negative(others)
 }
 
 fn place_of_debt(outputs: &[Output]) -> Option<usize>
-    ensures { result ≡ position (λ o. has_debt o.value) outputs.now }
+    ensures { result ≡ position (λ o. is_negative o.value) outputs.now }
 {
-    outputs.iter().position(|output| has_debt(&output.value))
+    outputs.iter().position(|output| is_negative(&output.value))
 }
 
 /// The first fault of the rules that need no map: no input, a tick outside of the interval, a negative quantity.
@@ -51,7 +51,7 @@ fn is_carried(scripts: &[Script], policy: &PolicyId) -> bool
     scripts.iter().any(|script| *script.hash() == *policy)
 }
 
-fn uncarried<'a>(scripts: &[Script], forged: &'a [Entry]) -> Option<&'a Entry>
+fn uncarried<'a>(scripts: &[Script], forged: &'a [TokenEntry]) -> Option<&'a TokenEntry>
     ensures { option_copied result ≡
         find (λ e. not (is_carried scripts.now e.0.policy)) forged.now }
 {

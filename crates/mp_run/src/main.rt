@@ -11,7 +11,7 @@ ghost use Rattle.mp_signatures.specs.declared.scheme.Scheme.TheVariants.{Trial};
 ghost use Rattle.mp_run.specs.Status.{status_of, EndsAs};
 
 use mp_memory::{Memory, NoMemory};
-use mp_session::{Fault, run};
+use mp_session::{RunFault, run};
 use mp_signatures::{Scheme, Signatures};
 use std::io::{Read, Write};
 use std::process::ExitCode;
@@ -51,7 +51,7 @@ fn run_input(rt: &HostRuntime) -> ExitCode {
             &mut rt.stdin(),
             &mut rt.stdout(),
         ),
-        Err(NoMemory) => end(rt, Err(Fault::NoMemory)),
+        Err(NoMemory) => end(rt, Err(RunFault::NoMemory)),
     }
 }
 
@@ -79,7 +79,7 @@ fn run_over<R: Read, W: Write>(
 }
 
 // After the answers: 0, or 1 and the fault's line.
-fn end(rt: &HostRuntime, ended: Result<(), Fault>) -> ExitCode
+fn end(rt: &HostRuntime, ended: Result<(), RunFault>) -> ExitCode
     ensures { exit_status result ≡ status_of ended }
 {
     match ended {

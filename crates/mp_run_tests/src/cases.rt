@@ -5,7 +5,9 @@ ghost use Rattle.mp_signatures.specs.Scheme.{accepted_by};
 
 use mp_history::{NewName, PoolName};
 use mp_memory::Memory;
-use mp_race::{Fault, Gate, History, Raced, Report, Scenario, audit_history, race, text_if_legal};
+use mp_race::{
+    Gate, RaceFault, Raced, RecordedHistory, Report, Scenario, audit_history, race, text_if_legal,
+};
 use mp_signatures::{Scheme, Signatures};
 use std::marker::Brand;
 use std::sync::Wait;
@@ -19,10 +21,10 @@ pub type Numbers = [u64; 7];
 pub type Ended = Result<Numbers, (u64, u64)>;
 
 /// The fault's number, and its line, its place or 0.
-pub fn number_of(fault: &Fault) -> (u64, u64) {
+pub fn number_of(fault: &RaceFault) -> (u64, u64) {
     match fault {
-        Fault::BadLine(line) => (fault.number(), *line),
-        Fault::MissingEntry(place) => (fault.number(), *place),
+        RaceFault::BadLine(line) => (fault.number(), *line),
+        RaceFault::MissingEntry(place) => (fault.number(), *place),
         _ => (fault.number(), 0),
     }
 }
@@ -46,12 +48,12 @@ fn retell(
     scenario: &Scenario,
     signatures: &Signatures,
     raced: &Raced,
-) -> Result<bool, Fault>
+) -> Result<bool, RaceFault>
     requires some { 1 ≤ raced.now.history.workers }
     requires most { raced.now.history.workers ≤ 64 }
 {
     let text = text_if_legal(memory, scenario, signatures, &raced.history)?;
-    let history = History::read(memory, &mut text.as_slice())?;
+    let history = RecordedHistory::read(memory, &mut text.as_slice())?;
     audit_history(memory, scenario, signatures, &history)?;
     Ok(
         history.told.len() as u64 == raced.report.entries
@@ -126,7 +128,7 @@ pub fn race_text<R: Threads + Wait + Sync, G: Gate>(
         return Err((0, 0));
     }
     let Ok(signatures) = Signatures::new(memory, Scheme::Trial) else {
-        return Err(number_of(&Fault::NoMemory));
+        return Err(number_of(&RaceFault::NoMemory));
     };
     match Scenario::read(memory, &mut text) {
         Ok(scenario) => race_new(rt, memory, &scenario, workers, &signatures, gate),

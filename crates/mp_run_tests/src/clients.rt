@@ -9,7 +9,7 @@ use crate::ways::{Holder, Way, converse};
 use mp_clients::Close;
 use mp_memory::Memory;
 use mp_serve::{Device, Turn};
-use mp_testing::{FailingReader, MAX_GROWTHS, Seen, count};
+use mp_testing::{Ending, FailingReader, MAX_GROWTHS, Seen, count};
 use mp_text::{LineRead, ReadFault, WriteFault};
 use std::alloc::Global;
 use std::fs::File;
@@ -380,13 +380,13 @@ fn is_front(told: &[u8], answers: &[u8]) -> bool {
         && (told.is_empty() || told.ends_with(b"\n"))
 }
 
-/// Whether these are the answers, or those before a line whose answer is lost.
-pub fn is_right(answers: &[u8], told: &Told, is_met: bool) -> bool {
+// These must be the answers, or those before a line whose answer is lost.
+fn ending(answers: &[u8], told: &Told) -> Ending {
     match told {
-        Some((0, told)) => told.as_slice() == answers,
-        Some((LOST, told)) => is_met && is_front(told, answers),
-        Some(_) => false,
-        None => is_met,
+        Some((0, told)) => Ending::of(told.as_slice() == answers, false),
+        Some((LOST, told)) => Ending::of(false, is_front(told, answers)),
+        Some(_) => Ending::Wrong,
+        None => Ending::NoMemory,
     }
 }
 
@@ -408,8 +408,8 @@ pub const NONE_FAILED: Failed = Failed {
     before: None,
 };
 
-/// One more conversation.
-pub fn after(failed: Failed, told: &Told) -> Failed {
+// One more conversation.
+fn after(failed: Failed, told: &Told) -> Failed {
     let Some((fault, told)) = told else {
         let outside = failed.outside.saturating_add(1);
         return Failed { outside, ..failed };
@@ -425,6 +425,12 @@ pub fn after(failed: Failed, told: &Told) -> Failed {
     }
 }
 
+/// How one more conversation ended. It is counted if an allocation failed.
+pub fn count_in(failed: &mut Failed, answers: &[u8], told: &Told) -> Ending {
+    *failed = after(*failed, told);
+    ending(answers, told)
+}
+
 // Each allocation fails once: whether there are many, at how many lines the answer is lost, and whether few are outside of the
 // answers. None if an answer isn't right.
 fn see_growths<R: Threads + Wait + Sync>(
@@ -438,7 +444,12 @@ fn see_growths<R: Threads + Wait + Sync>(
         let told = hold_patiently(rt, memory, alloc, None, talk.lines, nth);
         let is_met = !memory.waits();
         memory.refuse(0);
-        if !is_right(talk.answers, &told, is_met) {
+        let is_right = match count_in(&mut failed, talk.answers, &told) {
+            Ending::Usual => true,
+            Ending::NoMemory => is_met,
+            Ending::Wrong => false,
+        };
+        if !is_right {
             return None;
         }
         if !is_met {
@@ -446,7 +457,6 @@ fn see_growths<R: Threads + Wait + Sync>(
             let are_few = u64::from(failed.outside <= MOST_OUTSIDE);
             return Some([are_many, failed.lost, are_few, 0, 0, 0]);
         }
-        failed = after(failed, &told);
     }
     None
 }

@@ -2,7 +2,7 @@
 use crate::cases::number_of;
 use mp_memory::Memory;
 use mp_race::{Report, Scenario};
-use mp_testing::{FailingReader, FailingWriter, MAX_GROWTHS};
+use mp_testing::{Ending, FailingReader, FailingWriter, Failures, fail_each};
 use std::alloc::Global;
 use std::io;
 
@@ -94,25 +94,17 @@ fn held_writes(
     Ok(held)
 }
 
-// Whether nothing is written when this allocation fails, and everything afterwards; none if there is no such allocation.
-fn stands_refused(memory: Memory, alloc: Global, nth: u64) -> Option<bool> {
+// Nothing is written if an allocation fails, and everything otherwise.
+fn write_refused(memory: Memory, alloc: Global, nth: u64) -> Ending {
     memory.refuse(nth);
-    let (fault, written) = write_failing(memory, alloc, 4096, 0);
-    let is_met = !memory.waits();
-    memory.refuse(0);
-    let all = write_failing(memory, alloc, 4096, 0);
-    let stands = fault == 1 && written == Some(0) && all == (0, Some(TEXT.len() as u64));
-    is_met.then_some(stands)
+    let seen = write_failing(memory, alloc, 4096, 0);
+    Ending::of(seen == (0, Some(TEXT.len() as u64)), seen == (1, Some(0)))
 }
 
-// How many allocations the writing of a report makes. Each fails once.
 fn held_growths(rt: &impl Print, memory: Memory, alloc: Global) -> io::Result<u64> {
-    for nth in 1..MAX_GROWTHS {
-        match stands_refused(memory, alloc, nth) {
-            Some(true) => {}
-            None if nth > 1 => return Ok(1),
-            _ => break,
-        }
+    match fail_each(&memory, |nth| write_refused(memory, alloc, nth)) {
+        Some(Failures { all, unnoticed: 0 }) if all > 0 => return Ok(1),
+        _ => {}
     }
     let what = "a report at refused growths";
     println!(rt; "{what}: one isn't told, or something is written")?;
@@ -121,7 +113,6 @@ fn held_growths(rt: &impl Print, memory: Memory, alloc: Global) -> io::Result<u6
 
 /// How many cases hold. The scenario has 48 bytes, and one more read finds its end. The report has 85. One read and one write
 /// more than these don't occur.
-/// than these take don't come.
 pub fn held(rt: &impl Print, memory: Memory, alloc: Global) -> io::Result<u64> {
     let reads = held_reads(rt, memory, 11, 7)?;
     let bytes_read = held_reads(rt, memory, 1, 50)?;

@@ -1,9 +1,9 @@
 //! The file of a pool's history: one that keeps nothing, one that can't be written, and allocations that fail.
 
-use crate::clients::{CHANGES, FEWEST, NONE_FAILED, Told, after, hold_patiently, is_right};
+use crate::clients::{CHANGES, FEWEST, NONE_FAILED, Told, count_in, hold_patiently};
 use crate::holding::LOST;
 use mp_memory::Memory;
-use mp_testing::{MAX_GROWTHS, Seen, count};
+use mp_testing::{Seen, count, fail_each};
 use std::alloc::Global;
 use std::fs::{File, OpenOptions};
 use std::io;
@@ -51,21 +51,13 @@ fn see_growths<R: Threads + Wait + Sync>(
     alloc: Global,
 ) -> Option<Seen> {
     let mut failed = NONE_FAILED;
-    for nth in 1..MAX_GROWTHS {
+    let failures = fail_each(&memory, |nth| {
         let told = hold(host, rt, memory, alloc, NOWHERE, nth);
-        let is_met = !memory.waits();
-        memory.refuse(0);
-        if !is_right(CHANGES.answers, &told, is_met) {
-            return None;
-        }
-        if !is_met {
-            let are_many = u64::from(FEWEST < nth);
-            let are_outside = u64::from(failed.outside > 0);
-            return Some([are_many, failed.lost, are_outside, 0, 0, 0]);
-        }
-        failed = after(failed, &told);
-    }
-    None
+        count_in(&mut failed, CHANGES.answers, &told)
+    })?;
+    let are_many = u64::from(FEWEST <= failures.all);
+    let are_outside = u64::from(failed.outside > 0);
+    Some([are_many, failed.lost, are_outside, 0, 0, 0])
 }
 
 /// How many cases hold. It prints the others.

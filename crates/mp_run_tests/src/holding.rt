@@ -5,7 +5,7 @@ ghost use Rattle.mp_signatures.specs.Scheme.{accepted_by};
 ghost use Rattle.mp_clients.specs.Beginning.{IsBefore};
 
 use crate::talks::MOST_NAMES;
-use mp_clients::{Close, Fault, Finished, Service, begin, open, refuse, serve};
+use mp_clients::{ClientFault, Close, Finished, Service, begin, open, refuse, serve};
 use mp_history::{NewName, PoolName};
 use mp_memory::{Memory, NoMemory};
 use mp_serve as alone;
@@ -32,24 +32,24 @@ pub type Held<D> = Option<Vec<Ended<D>, Global>>;
 /// The number of the fault of an answer that was lost.
 pub const LOST: u64 = 7;
 
-fn number_of(ended: Result<(), Fault>) -> u64 {
+fn number_of(ended: Result<(), ClientFault>) -> u64 {
     match ended {
         Ok(()) => 0,
-        Err(Fault::NoMemory) => 1,
-        Err(Fault::ReadFault) => 3,
-        Err(Fault::WriteFault) => 4,
-        Err(Fault::ManyLines) => 5,
-        Err(Fault::Foreign) => 6,
-        Err(Fault::Untold) => LOST,
+        Err(ClientFault::NoMemory) => 1,
+        Err(ClientFault::ReadFault) => 3,
+        Err(ClientFault::WriteFault) => 4,
+        Err(ClientFault::ManyLines) => 5,
+        Err(ClientFault::Foreign) => 6,
+        Err(ClientFault::Untold) => LOST,
     }
 }
 
-fn number_before(fault: alone::Fault) -> u64 {
+fn number_before(fault: alone::ConversationFault) -> u64 {
     match fault {
-        alone::Fault::NoMemory => 1,
-        alone::Fault::ReadFault => 3,
-        alone::Fault::WriteFault => 4,
-        alone::Fault::ManyLines => 5,
+        alone::ConversationFault::NoMemory => 1,
+        alone::ConversationFault::ReadFault => 3,
+        alone::ConversationFault::WriteFault => 4,
+        alone::ConversationFault::ManyLines => 5,
     }
 }
 

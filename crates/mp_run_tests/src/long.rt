@@ -1,13 +1,12 @@
 //! Races of many commands, and histories of many lines and many tickets.
 use crate::cases::{Numbers, number_of, race_text};
 use mp_memory::{Memory, NoMemory};
-use mp_race::{Fault, History, NoGate};
+use mp_race::{NoGate, RaceFault, RecordedHistory};
 use mp_seqpool::Reply;
+use mp_text::Text;
 use std::io;
 use std::sync::Wait;
 use std::thread::Threads;
-
-type Text = Vec<u8, Memory>;
 
 // A scenario with its first lines, lines of some forms for each number from 1 on, and its last lines; the number of workers, and
 // the report.
@@ -98,11 +97,11 @@ fn held_races<R: Print + Threads + Wait + Sync>(rt: &R, memory: Memory) -> io::R
 }
 
 // The fault's number and its line or place, if this line follows 5,000 entries of a history.
-fn fault_behind(memory: Memory, last: &[u8]) -> Result<(u64, u64), Fault> {
+fn fault_behind(memory: Memory, last: &[u8]) -> Result<(u64, u64), RaceFault> {
     let mut text = Vec::from_slice(memory, b"workers 1 entries 9000\n")?;
     put_lines(memory, &mut text, b"entry @ 0 @ kept dropped\n", 5_000)?;
     text.extend_from_slice(last)?;
-    match History::parse(memory, &text) {
+    match RecordedHistory::parse(memory, &text) {
         Ok(_) => Ok((0, 0)),
         Err(fault) => Ok(number_of(&fault)),
     }
@@ -132,14 +131,14 @@ fn held_faults(rt: &impl Print, memory: Memory) -> io::Result<u64> {
 const TICKETS: u32 = 2_300_000;
 
 // How many tickets are read from a history whose one entry keeps this many.
-fn tickets_read(memory: Memory) -> Result<u64, Fault> {
+fn tickets_read(memory: Memory) -> Result<u64, RaceFault> {
     let mut text = Vec::from_slice(memory, b"workers 1 entries 1\nentry 0 0 0 kept")?;
     put_lines(memory, &mut text, b" #", TICKETS)?;
     text.extend_from_slice(b" dropped\n")?;
     if text.len() <= 1 << 24 {
         return Ok(0);
     }
-    let history = History::read(memory, &mut text.as_slice())?;
+    let history = RecordedHistory::read(memory, &mut text.as_slice())?;
     match history.told.first() {
         Some(told) => match &told.reply {
             Reply::Synced { kept, .. } => Ok(kept.as_slice().len() as u64),

@@ -2,10 +2,10 @@
 
 use crate::talks::MOST_NAMES;
 use mp_memory::Memory;
-use mp_replay::{Fault, replay};
+use mp_replay::{ReplayFault, replay};
 use mp_serve::Conversation;
 use mp_signatures::{Scheme, Signatures};
-use mp_testing::MAX_GROWTHS;
+use mp_testing::{Ending, Failures, fail_each};
 use mp_tx::Salt;
 use std::io;
 
@@ -77,14 +77,14 @@ const FEWEST: u64 = 20;
 
 const NO_MEMORY: Ended = Err((Kind::NoMemory, 0));
 
-fn ended(fault: Fault<'_>) -> Ended {
+fn ended(fault: ReplayFault<'_>) -> Ended {
     match fault {
-        Fault::NoMemory => NO_MEMORY,
-        Fault::BadLine(number, _) => Err((Kind::BadLine, number)),
-        Fault::NoAnswer(number) => Err((Kind::NoAnswer, number)),
-        Fault::WrongAnswer(number) => Err((Kind::WrongAnswer, number)),
-        Fault::WrongPlace(number) => Err((Kind::WrongPlace, number)),
-        Fault::BadCaller(number) => Err((Kind::BadCaller, number)),
+        ReplayFault::NoMemory => NO_MEMORY,
+        ReplayFault::BadLine(number, _) => Err((Kind::BadLine, number)),
+        ReplayFault::NoAnswer(number) => Err((Kind::NoAnswer, number)),
+        ReplayFault::WrongAnswer(number) => Err((Kind::WrongAnswer, number)),
+        ReplayFault::WrongPlace(number) => Err((Kind::WrongPlace, number)),
+        ReplayFault::BadCaller(number) => Err((Kind::BadCaller, number)),
     }
 }
 
@@ -101,38 +101,27 @@ fn replay_text(memory: Memory, text: &[u8]) -> Ended {
     }
 }
 
-// How many allocations a replay makes, each of which fails once; none if it ends in another way.
-fn growths_of(memory: Memory, case: Case) -> Option<u64> {
+fn run_case(memory: Memory, case: Case, nth: u64) -> Ending {
     let (text, wanted) = case;
-    for nth in 1..MAX_GROWTHS {
-        memory.refuse(nth);
-        let seen = replay_text(memory, text);
-        let is_met = !memory.waits();
-        memory.refuse(0);
-        if seen != wanted && seen != NO_MEMORY {
-            return None;
-        }
-        if !is_met {
-            return (seen == wanted).then_some(nth - 1);
-        }
-    }
-    None
+    memory.refuse(nth);
+    let seen = replay_text(memory, text);
+    Ending::of(seen == wanted, seen == NO_MEMORY)
 }
 
 /// How many cases hold.
 pub fn held(rt: &impl Print, memory: Memory) -> io::Result<u64> {
     let mut held: u64 = 0;
     for case in CASES {
-        let growths = growths_of(memory, case);
-        let are_many = match growths {
-            Some(number) => FEWEST <= number || case.0 != LEGAL,
+        let failures = fail_each(&memory, |nth| run_case(memory, case, nth));
+        let are_many = match failures {
+            Some(Failures { all, .. }) => FEWEST <= all || case.0 != LEGAL,
             None => false,
         };
         if are_many {
             held = held.saturating_add(1);
         } else {
             let what = "a replay at refused growths";
-            println!(rt; "{what}: found {growths:?}, wanted {:?}", case.1)?;
+            println!(rt; "{what}: found {failures:?}, wanted {:?}", case.1)?;
         }
     }
     Ok(held)

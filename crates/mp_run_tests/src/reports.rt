@@ -2,7 +2,7 @@
 use crate::cases::{Ended, Numbers, race_text};
 use mp_memory::{Memory, NoMemory};
 use mp_race::NoGate;
-use mp_testing::MAX_GROWTHS;
+use mp_testing::{Ending, Failures, fail_each};
 use std::io;
 use std::sync::Wait;
 use std::thread::Threads;
@@ -112,43 +112,27 @@ fn held_independent<R: Print + Threads + Wait + Sync>(rt: &R, memory: Memory) ->
 // The least number of allocations of a race.
 const FEWEST: u64 = 20;
 
-// If an allocation failed, the race ends with that; or the allocation was only for an early check.
-fn is_right(seen: Ended, wanted: Ended) -> bool {
-    seen == wanted || seen == Err((1, 0))
-}
-
-// How many allocations a race makes, each of which fails once; none if a race ends in another way.
-fn growths_of<R: Threads + Wait + Sync>(rt: &R, memory: Memory, case: Case) -> Option<u64> {
+fn run_case<R: Threads + Wait + Sync>(rt: &R, memory: Memory, case: Case, nth: u64) -> Ending {
     let (text, workers, wanted) = case;
-    for nth in 1..MAX_GROWTHS {
-        memory.refuse(nth);
-        let seen = race_text(rt, memory, text, workers, &NoGate);
-        let is_met = !memory.waits();
-        memory.refuse(0);
-        if !is_right(seen, wanted) {
-            return None;
-        }
-        if !is_met {
-            return Some(nth - 1);
-        }
-    }
-    None
+    memory.refuse(nth);
+    let seen = race_text(rt, memory, text, workers, &NoGate);
+    Ending::of(seen == wanted, seen == Err((1, 0)))
 }
 
 fn held_refusals<R: Print + Threads + Wait + Sync>(rt: &R, memory: Memory) -> io::Result<u64> {
     let mut held: u64 = 0;
     for case in CASES {
         let (text, _, wanted) = case;
-        let growths = growths_of(rt, memory, case);
-        let are_many = match growths {
-            Some(number) => FEWEST <= number || text.is_empty() || wanted.is_err(),
+        let failures = fail_each(&memory, |nth| run_case(rt, memory, case, nth));
+        let are_many = match failures {
+            Some(Failures { all, .. }) => FEWEST <= all || text.is_empty() || wanted.is_err(),
             None => false,
         };
         if are_many {
             held = held.saturating_add(1);
         } else {
             let what = "a race at refused growths";
-            println!(rt; "{what}: found {growths:?}")?;
+            println!(rt; "{what}: found {failures:?}")?;
         }
     }
     Ok(held)

@@ -1,8 +1,8 @@
 //! Runs of scenarios: devices that fail, the most bytes of an input, and allocations that fail.
 use mp_memory::Memory;
-use mp_session::{Fault, run};
+use mp_session::{RunFault, run};
 use mp_signatures::{Scheme, Signatures};
-use mp_testing::{FailingReader, FailingWriter, MAX_GROWTHS, Seen, count};
+use mp_testing::{Ending, FailingReader, FailingWriter, Seen, count, fail_each};
 use std::alloc::Global;
 use std::io;
 
@@ -45,11 +45,11 @@ type Ended = Result<(), (u64, u64)>;
 
 fn run_new<R: io::Read, W: io::Write>(memory: Memory, reader: &mut R, writer: &mut W) -> Ended {
     let Ok(signatures) = Signatures::new(memory, Scheme::Trial) else {
-        return Err((Fault::NoMemory.number(), 0));
+        return Err((RunFault::NoMemory.number(), 0));
     };
     match run(memory, &signatures, reader, writer) {
         Ok(()) => Ok(()),
-        Err(Fault::BadLine(line)) => Err((2, line)),
+        Err(RunFault::BadLine(line)) => Err((2, line)),
         Err(fault) => Err((fault.number(), 0)),
     }
 }
@@ -233,38 +233,21 @@ fn are_whole_lines(text: &[u8]) -> bool {
     }
 }
 
-// If an allocation failed, the answers to some first lines are written. The failure of an allocation for an early check stops
-// nothing.
-fn is_right(ended: Ended, written: &[u8], text: &[u8]) -> bool {
+// If an allocation failed, the answers to some first lines are written.
+fn ending(ended: Ended, written: &[u8], text: &[u8]) -> Ending {
     match ended {
-        Ok(()) => written == text,
-        Err((1, _)) => are_whole_lines(written) && text.starts_with(written),
-        Err(_) => false,
+        Ok(()) => Ending::of(written == text, false),
+        Err((1, _)) => Ending::of(false, are_whole_lines(written) && text.starts_with(written)),
+        Err(_) => Ending::Wrong,
     }
 }
 
-fn is_right_run(memory: Memory, alloc: Global, case: Case) -> bool {
+fn run_case(memory: Memory, alloc: Global, case: Case, nth: u64) -> Ending {
     let mut writer = FailingWriter::new(alloc);
     let mut reader = FailingReader::of(case.scenario);
+    memory.refuse(nth);
     let ended = run_new(memory, &mut reader, &mut writer);
-    is_right(ended, &writer.taken, case.text)
-}
-
-// How many allocations the case makes, each of which fails once; none if a run isn't right.
-fn growths_of(memory: Memory, alloc: Global, case: Case) -> Option<u64> {
-    for nth in 1..MAX_GROWTHS {
-        memory.refuse(nth);
-        let right = is_right_run(memory, alloc, case);
-        let is_met = !memory.waits();
-        memory.refuse(0);
-        if !right {
-            return None;
-        }
-        if !is_met {
-            return Some(nth - 1);
-        }
-    }
-    None
+    ending(ended, &writer.taken, case.text)
 }
 
 // The case without a failure, and with each one.
@@ -274,7 +257,8 @@ fn see_case(memory: Memory, alloc: Global, case: Case) -> Option<Seen> {
     let ended = run_new(memory, &mut reader, &mut writer);
     let [fault, ..] = see(ended, &writer.taken, case.text);
     let is_whole = u64::from(writer.taken.as_slice() == case.text);
-    let are_many = u64::from(FEWEST <= growths_of(memory, alloc, case)?);
+    let failures = fail_each(&memory, |nth| run_case(memory, alloc, case, nth))?;
+    let are_many = u64::from(FEWEST <= failures.all);
     Some([fault, is_whole, are_many, 0, 0, 0])
 }
 

@@ -3,22 +3,22 @@ use crate::streams::{Fails, NEVER, held_failures, streams, written};
 use crate::talks::MOST_NAMES;
 use crate::ways::{Holder, Way};
 use mp_memory::Memory;
-use mp_serve::{Fault, serve};
+use mp_serve::{ConversationFault, serve};
 use mp_signatures::{Scheme, Signatures};
-use mp_testing::{FailingReader, MAX_GROWTHS, Seen, count};
+use mp_testing::{Ending, FailingReader, Failures, Seen, count, fail_each};
 use mp_tx::Salt;
 use std::alloc::Global;
 use std::io;
 use std::sync::Wait;
 use std::thread::Threads;
 
-fn number_of(ended: Result<(), Fault>) -> u64 {
+fn number_of(ended: Result<(), ConversationFault>) -> u64 {
     match ended {
         Ok(()) => 0,
-        Err(Fault::NoMemory) => 1,
-        Err(Fault::ReadFault) => 3,
-        Err(Fault::WriteFault) => 4,
-        Err(Fault::ManyLines) => 5,
+        Err(ConversationFault::NoMemory) => 1,
+        Err(ConversationFault::ReadFault) => 3,
+        Err(ConversationFault::WriteFault) => 4,
+        Err(ConversationFault::ManyLines) => 5,
     }
 }
 
@@ -82,39 +82,26 @@ fn lost(told: &[u8], wanted: &[&[u8]]) -> Option<u64> {
     (places == wanted.len()).then_some(lost)
 }
 
-// Whether each failed allocation is reported: at the beginning by a fault, with nothing written, and later by the answer to one
-// line. None if there is no such allocation.
-fn is_told(memory: Memory, alloc: Global, nth: u64) -> Option<bool> {
+// A failed allocation is reported: at the beginning by a fault, with nothing written, and later by the answer to one line.
+fn hold_apart(memory: Memory, alloc: Global, nth: u64) -> Ending {
     let (fault, written) = hold(memory, alloc, FailingReader::of(APART), 11, NEVER, nth);
-    let is_met = !memory.waits();
-    memory.refuse(0);
-    let is_begun = fault == 0 && lost(&written, &APART_ANSWERS) == Some(u64::from(is_met));
-    let stands = is_begun || (is_met && fault == 1 && written.is_empty());
-    if is_met || !stands {
-        Some(stands)
-    } else {
-        None
+    match (fault, lost(&written, &APART_ANSWERS)) {
+        (0, Some(0)) => Ending::Usual,
+        (0, Some(1)) => Ending::NoMemory,
+        (1, _) if written.is_empty() => Ending::NoMemory,
+        _ => Ending::Wrong,
     }
-}
-
-// How many allocations the conversation makes, each of which fails once; none if a failure isn't reported.
-fn growths(memory: Memory, alloc: Global) -> Option<u64> {
-    for nth in 1..MAX_GROWTHS {
-        match is_told(memory, alloc, nth) {
-            Some(true) => {}
-            Some(false) => return None,
-            None => return Some(nth - 1),
-        }
-    }
-    None
 }
 
 // The least number of allocations of the conversation.
 const FEWEST: u64 = 20;
 
 fn held_growths(rt: &impl Print, memory: Memory, alloc: Global) -> io::Result<u64> {
-    let made = growths(memory, alloc).unwrap_or(0);
-    let seen = [u64::from(FEWEST <= made), 0, 0, 0, 0, 0];
+    let are_told = match fail_each(&memory, |nth| hold_apart(memory, alloc, nth)) {
+        Some(Failures { all, unnoticed: 0 }) => FEWEST <= all,
+        _ => false,
+    };
+    let seen = [u64::from(are_told), 0, 0, 0, 0, 0];
     count(
         rt,
         "a conversation at refused growths",
@@ -123,7 +110,7 @@ fn held_growths(rt: &impl Print, memory: Memory, alloc: Global) -> io::Result<u6
     )
 }
 
-// A line that goes on for `filler` bytes: the fault, how much is written, and how many allocations there are, or 0 for too many.
+// A line that goes on for `filler` bytes: the fault, how much is written, and whether the report of the line ends it.
 fn see_long(memory: Memory, alloc: Global, filler: usize) -> Seen {
     let (fault, written) = hold(memory, alloc, long_line(filler), 4096, NEVER, 0);
     let ends = written.ends_with(b"\nbad 2: a line has at most 4096 bytes\n");
@@ -136,17 +123,18 @@ fn long_line(filler: usize) -> FailingReader {
     lines
 }
 
-// How many allocations there are if a line goes on for `filler` bytes.
+// It may end in any way.
+fn hold_long(memory: Memory, alloc: Global, filler: usize, nth: u64) -> Ending {
+    let _ = hold(memory, alloc, long_line(filler), 4096, NEVER, nth);
+    Ending::Usual
+}
+
+// How many allocations there are if a line goes on for `filler` bytes, or 0 for too many.
 fn growths_of_long(memory: Memory, alloc: Global, filler: usize) -> u64 {
-    for nth in 1..MAX_GROWTHS {
-        let _ = hold(memory, alloc, long_line(filler), 4096, NEVER, nth);
-        let is_met = !memory.waits();
-        memory.refuse(0);
-        if !is_met {
-            return nth - 1;
-        }
+    match fail_each(&memory, |nth| hold_long(memory, alloc, filler, nth)) {
+        Some(failures) => failures.all,
+        None => 0,
     }
-    0
 }
 
 // A line that is too long is reported, and no more of it is kept than of a shorter one.

@@ -4,7 +4,7 @@ use mp_memory::{Memory, NoMemory};
 use mp_names::LineFault;
 use mp_serve::Conversation;
 use mp_signatures::{Scheme, Signatures};
-use mp_testing::{MAX_GROWTHS, count};
+use mp_testing::{Ending, count, fail_each};
 use mp_tx::Salt;
 use std::alloc::Global;
 use std::io;
@@ -288,36 +288,27 @@ fn hold(memory: Memory, alloc: Global, talk: Talk) -> Option<Vec<u8, Global>> {
     Some(told)
 }
 
-fn is_right(memory: Memory, alloc: Global, talk: Talk) -> bool {
+// What failed is repeated, so all answers are as usual.
+fn run_talk(memory: Memory, alloc: Global, talk: Talk, nth: u64) -> Ending {
+    memory.refuse(nth);
     match hold(memory, alloc, talk) {
-        Some(told) => told.as_slice() == talk.answers,
-        None => false,
+        Some(told) => Ending::of(told.as_slice() == talk.answers, false),
+        None => Ending::Wrong,
     }
 }
 
-// How many allocations the conversation makes, each of which fails once; none if an answer isn't right.
-fn growths_of(memory: Memory, alloc: Global, talk: Talk) -> Option<u64> {
-    for nth in 1..MAX_GROWTHS {
-        memory.refuse(nth);
-        let right = is_right(memory, alloc, talk);
-        let is_met = !memory.waits();
-        memory.refuse(0);
-        if !right {
-            return None;
-        }
-        if !is_met {
-            return Some(nth - 1);
-        }
+fn has_many(memory: Memory, alloc: Global, talk: Talk) -> bool {
+    match fail_each(&memory, |nth| run_talk(memory, alloc, talk, nth)) {
+        Some(failures) => FEWEST <= failures.all,
+        None => false,
     }
-    None
 }
 
 /// How many cases hold.
 pub fn held(rt: &impl Print, memory: Memory, alloc: Global) -> io::Result<u64> {
     let mut held: u64 = 0;
     for talk in TALKS {
-        let growths = growths_of(memory, alloc, talk).unwrap_or(0);
-        let seen = [u64::from(FEWEST <= growths), 0, 0, 0, 0, 0];
+        let seen = [u64::from(has_many(memory, alloc, talk)), 0, 0, 0, 0, 0];
         held = held.saturating_add(count(rt, talk.name, Some(seen), [1, 0, 0, 0, 0, 0])?);
     }
     Ok(held)

@@ -1,31 +1,39 @@
 //! The numbers and texts of faults.
 use mp_history::AuditFault;
-use mp_race::Fault;
+use mp_race::RaceFault;
 use std::alloc::Global;
 use std::io;
 
 // Of runs.
-const RUNS: [(mp_session::Fault, u64, &str); 4] = [
-    (mp_session::Fault::NoMemory, 1, "fault: no memory"),
-    (mp_session::Fault::BadLine(7), 2, "fault: bad line 7"),
-    (mp_session::Fault::ReadFault, 3, "fault: read"),
-    (mp_session::Fault::WriteFault, 4, "fault: write"),
+const RUNS: [(mp_session::RunFault, u64, &str); 4] = [
+    (mp_session::RunFault::NoMemory, 1, "fault: no memory"),
+    (mp_session::RunFault::BadLine(7), 2, "fault: bad line 7"),
+    (mp_session::RunFault::ReadFault, 3, "fault: read"),
+    (mp_session::RunFault::WriteFault, 4, "fault: write"),
 ];
 
 // Of races.
-const RACES: [(Fault, u64, &str); 8] = [
-    (Fault::NoMemory, 1, "fault: no memory"),
-    (Fault::BadLine(7), 2, "fault: bad line 7"),
-    (Fault::ReadFault, 3, "fault: read"),
-    (Fault::WriteFault, 4, "fault: write"),
-    (Fault::Audit(AuditFault::NoMemory), 5, "fault: no memory"),
-    (Fault::Audit(AuditFault::WrongReply(3)), 5, "fault: audit 3"),
+const RACES: [(RaceFault, u64, &str); 8] = [
+    (RaceFault::NoMemory, 1, "fault: no memory"),
+    (RaceFault::BadLine(7), 2, "fault: bad line 7"),
+    (RaceFault::ReadFault, 3, "fault: read"),
+    (RaceFault::WriteFault, 4, "fault: write"),
     (
-        Fault::Audit(AuditFault::StrangeCaller(4)),
+        RaceFault::Audit(AuditFault::NoMemory),
+        5,
+        "fault: no memory",
+    ),
+    (
+        RaceFault::Audit(AuditFault::WrongReply(3)),
+        5,
+        "fault: audit 3",
+    ),
+    (
+        RaceFault::Audit(AuditFault::StrangeCaller(4)),
         5,
         "fault: audit 4",
     ),
-    (Fault::MissingEntry(9), 6, "fault: missing entry 9"),
+    (RaceFault::MissingEntry(9), 6, "fault: missing entry 9"),
 ];
 
 fn is_text<F: ToString>(alloc: Global, fault: &F, text: &str) -> bool {

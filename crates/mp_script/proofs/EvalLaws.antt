@@ -151,6 +151,3 @@ ended s t zero waiting [] f e g = alone_ends s t waiting e
 ended s t (suc room) waiting [] f e g = alone_ends s t waiting e
 ended s t zero waiting (code ∷ rest) f e g = absurd (no_next (operator_read (code ∷ rest)) f _ t g e)
 ended s t (suc room) waiting (code ∷ rest) f e g = absurd (no_next (operator_read (code ∷ rest)) f _ t g e)
-
-pub stands_alone : (s : View) (t : Tree) (rest : List ℕ) (values : List Value) (f : ScriptFault) → Stands s t rest values → operator_read rest ≡ Err f → values ≡ value s t ∷ []
-stands_alone s t rest values f stands e = stands.same ∙ ended s t stands.room stands.waiting rest f stands.reading e

@@ -7,7 +7,7 @@ use Rattle.std.specs.List.{list_any}
 use Rattle.std.specs.Option.{option_map, option_and_then}
 use Rattle.mp_bundle.specs.declared.token.Token.{Token}
 use Rattle.mp_bundle.specs.Token.{token}
-use Rattle.mp_bundle.specs.Bundle.{Entry, quantity_of}
+use Rattle.mp_bundle.specs.Bundle.{TokenEntry, quantity_of}
 use Rattle.mp_script.specs.declared.operator.Leaf.{Leaf}
 use Rattle.mp_script.specs.declared.operator.Leaf.TheVariants as code
 use Rattle.mp_script.specs.declared.operator.Unary.{Unary}
@@ -118,7 +118,7 @@ abbrev pub amount : Option Token → (Token → ℤ) → Value
 amount t quantity = on t (λ t. whole (quantity t))
 
 -- the quantity of a token in a bundle
-abbrev pub bundle_quantity : List Entry → Value → Value → Value
+abbrev pub bundle_quantity : List TokenEntry → Value → Value → Value
 bundle_quantity bundle p n = amount (token_in p n) (quantity_of bundle)
 
 -- the quantity of a token that an output pays to an address

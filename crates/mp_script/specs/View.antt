@@ -2,7 +2,7 @@
 use Rattle.std.specs.Prelude.{ℕ, ℤ, List, map, Option}
 use Rattle.std.specs.Option.{option_map}
 use Rattle.mp_bundle.specs.declared.token.Token.{Token}
-use Rattle.mp_bundle.specs.Bundle.{Entry}
+use Rattle.mp_bundle.specs.Bundle.{TokenEntry}
 use Rattle.mp_bundle.specs.Sum.{total_of}
 use Rattle.mp_script.specs.declared.view.PaidTo as paid_to_code
 use Rattle.mp_script.specs.declared.view.Referred as referred_code
@@ -13,13 +13,13 @@ use Rattle.mp_script.specs.DataReading.{tree_of}
 -- an output of the transaction
 pub record PaidTo : Type 0 where
   pub address : List ℕ
-  pub bundle : List Entry
+  pub bundle : List TokenEntry
 
 -- an output that a reference input names (CIP-31)
 pub record Referred : Type 0 where
   pub address : List ℕ
   pub datum_hash : List ℕ
-  pub bundle : List Entry
+  pub bundle : List TokenEntry
 
 -- the transaction, and the script's own part in it
 pub record View : Type 0 where
@@ -28,7 +28,7 @@ pub record View : Type 0 where
   -- of the output that the script locks; a policy script has none of these three
   pub datum : Option Datum
   pub redeemer : Option Datum
-  pub own_value : Option (List Entry)
+  pub own_value : Option (List TokenEntry)
   -- the first and the last tick of the validity interval
   pub from : ℕ
   pub to : ℕ
@@ -36,7 +36,7 @@ pub record View : Type 0 where
   pub keys : List (List ℕ)
   -- the total of each token over all outputs that are spent
   pub spent : Token → ℤ
-  pub forge : List Entry
+  pub forge : List TokenEntry
   pub outputs : List PaidTo
   pub references : List Referred
 

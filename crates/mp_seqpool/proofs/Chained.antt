@@ -11,7 +11,7 @@ use Rattle.mp_rules.specs.Checked.{IsSigned}
 use Rattle.mp_rules.proofs.Faults.{each_rule}
 use Rattle.mp_rules.proofs.Meeting.{still}
 use Rattle.mp_rules.proofs.Valid.{faultless}
-use Rattle.mp_seqpool.specs.Keep.{transactions, is_valid, keep_upon, dropped_upon}
+use Rattle.mp_seqpool.specs.Keep.{transactions, is_valid, keep_upon}
 use Rattle.mp_seqpool.specs.Inside.Chained.{all_accepted}
 
 module _ (accepts : Accepts) where
@@ -49,10 +49,3 @@ module _ (accepts : Accepts) where
   all_kept u tick (i ∷ is) chain =
       ap (λ b. cond b (i ∷ keep_upon accepts (apply i.1 u) tick is) (keep_upon accepts u tick is)) (clear u tick i.1 chain.0)
       ∙ ap (λ l. i ∷ l) (all_kept (apply i.1 u) tick is chain.1)
-
-  -- and nothing dropped
-  pub none_dropped : (u : Unspent) (tick : ℕ) (items : List (ℕ × Transaction)) → Chain accepts u tick (transactions items) → dropped_upon accepts u tick items ≡ []
-  none_dropped u tick [] chain = refl
-  none_dropped u tick (i ∷ is) chain =
-      ap (λ b. cond b (dropped_upon accepts (apply i.1 u) tick is) (i.0 ∷ dropped_upon accepts u tick is)) (clear u tick i.1 chain.0)
-      ∙ none_dropped (apply i.1 u) tick is chain.1

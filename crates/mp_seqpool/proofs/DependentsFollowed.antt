@@ -110,10 +110,6 @@ module _ (ids : List (List ℕ)) where
   named_from P [] id a e = absurd (true≢false (sym e))
   named_from P (i ∷ is) id a e = step_from P (is_named ids i.1) i (named ids is) id a.0 (named_from P is id a.1) e
 
--- the reference has this id
-with_id : (r : OutRef) (t : Transaction) → r.id ≡ id_of t → r ≡ own_ref t r.index
-with_id r t e = λ k. record { id = e k; index = r.index }
-
 module _ (accepts : Accepts) (tick : ℕ) (ids : List (List ℕ)) where
   -- u is what can be spent after all so far, and v after those that stay; these ids are gone, and these items remain.
   record Stands (u v : Unspent) (gone : List (List ℕ)) (items : Items) : Type 0 where

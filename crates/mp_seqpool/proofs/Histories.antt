@@ -221,9 +221,6 @@ module _ (accepts : Accepts) where
   pub signed : (p : Pool) → IsLawful accepts p → AreSigned accepts p
   signed p law = signed-chain accepts (get p.ledger.utxo) p.ledger.tick (transactions p.items) law.chained
 
-  pub signed-after : (limit last : ℕ) (ledger : LedgerState) (cs : List Command) → AreSigned accepts (pool_after accepts (empty_pool limit last ledger) cs)
-  signed-after limit last ledger cs = signed (pool_after accepts (empty_pool limit last ledger) cs) (lawful-after (empty_pool limit last ledger) cs (lawful-empty limit last ledger))
-
   -- a lawful pool may open again with its content
   pub lawful-renewed : (limit : ℕ) (p : Pool) → IsLawful accepts p → IsLawful accepts (renewed limit p)
   lawful-renewed limit p law = record { chained = law.chained; rising = law.rising; above_zero = law.above_zero; given = law.given; distinct = law.distinct }

@@ -15,7 +15,7 @@ use Rattle.mp_tickets.specs.Tickets.{IsRisingFrom, IsRising, has_ticket, item_at
 use Rattle.mp_tickets.proofs.Rising.{rising_after, not_after, without-none, rising_without}
 use Rattle.mp_seqpool.specs.ValidatedTx.{ValidatedTx, ticketed}
 use Rattle.mp_seqpool.specs.Keep.{transactions, tickets}
-use Rattle.mp_seqpool.specs.declared.command.Reply.TheVariants.{Accepted, Removed, Synced}
+use Rattle.mp_seqpool.specs.declared.command.Reply.TheVariants.{Removed, Synced}
 use Rattle.mp_seqpool.specs.Prepared.{apart}
 use Rattle.mp_seqpool.specs.Inside.Leaving.{bytes_in, AreKnown, lacking, TakesOut, Leaves}
 use Rattle.mp_seqpool.proofs.Keeping.{All-unmap, AllPairs-map, AllPairs-unmap}
@@ -174,9 +174,6 @@ given_left : (p : ℕ → Bool) (items : Items) (n : ℕ) → All (λ k. k ≤ n
 given_left p items n a =
     subst (λ l. All (λ k. k ≤ n) (tickets l)) (sym (filtered p items))
     (All-map (λ k. k ≤ n) (λ i. i.0) (filter (λ i. p i.0) (ticketed items)) (All-filter (λ i. p i.0) (λ i. i.0 ≤ n) (ticketed items) (All-unmap (λ i. i.0) (λ k. k ≤ n) (ticketed items) a)))
-
-pub none_told : (ticket : ℕ) (items : Items) → AreKnown items → Leaves (Accepted ticket) items items 0
-none_told ticket items known = record { items = refl; known = known; bytes = no_more (bytes_in items); valid = λ a. a; given = λ n a. a }
 
 left_apart : (gone : List ℕ) (old new : Items) → new ≡ lacking gone old → ticketed new ≡ apart gone (ticketed old)
 left_apart gone old new is = ap ticketed is ∙ filtered (λ n. not (has_ticket gone n)) old

@@ -10,7 +10,6 @@ use Rattle.mp_tx.specs.Ledger.{LedgerState}
 use Rattle.mp_seqpool.specs.Keep.{keep}
 use Rattle.mp_seqpool.specs.declared.refusal.Refusal.{Refusal}
 use Rattle.mp_seqpool.specs.declared.command.Reply.{Reply}
-use Rattle.mp_seqpool.specs.Command.{Command}
 use Rattle.mp_seqpool.specs.Command as commands
 use Rattle.mp_seqpool.specs.Pool.{Pool}
 use Rattle.mp_seqpool.specs.SlowPool.{answer, next}

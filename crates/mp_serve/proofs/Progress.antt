@@ -1,12 +1,12 @@
 -- How far a conversation has come.
-use Rattle.std.proofs.Common.{◌≡◌, ℕ, suc, ◌+◌, List, [], ◌∷◌, ◌++◌, ◌-◌, ◌^◌, length, take, refl, sym, ap, subst, ◌∙◌, arith, append_assoc, append-nil, length-append}
+use Rattle.std.proofs.Common.{◌≡◌, ℕ, ◌+◌, List, [], ◌∷◌, ◌++◌, ◌-◌, ◌^◌, length, take, refl, sym, ap, subst, ◌∙◌, arith, append_assoc, append-nil, length-append}
 use Rattle.std.specs.Prelude.{Option, None, Some, IfSome, Ok, Err}
 use Rattle.std.specs.Io.KnownBytes.{Appends, IsAtEnd}
 use Rattle.std.specs.Io.BufRead.{drop_through, DropsThrough}
 use Rattle.std.proofs.Math.Seq.{take-append_seam, take-append-add}
 use Rattle.mp_text.specs.Lines.{lines_of}
 use Rattle.mp_answers.proofs.Appending.{Appends-nothing, Appends-more}
-use Rattle.mp_serve.specs.declared.fault.Fault.TheVariants.{ReadFault, WriteFault, ManyLines}
+use Rattle.mp_serve.specs.declared.fault.ConversationFault.TheVariants.{ReadFault, WriteFault, ManyLines}
 use Rattle.mp_serve.specs.declared.conversation.Conversation.{Conversation}
 use Rattle.mp_text.specs.declared.line_input.LineRead.{LineRead}
 use Rattle.mp_text.specs.declared.line_input.LineRead.TheVariants.{Whole, TooLong, Lost, End}

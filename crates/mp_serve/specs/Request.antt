@@ -27,7 +27,7 @@ use Rattle.mp_serve.specs.Refused.{one_more, counted_if}
 use Rattle.mp_serve.specs.Texts.{stats_text, block_refused_text, back_refused_text}
 
 -- a block's transactions, and the tick and block bytes after it
-pub record Block : Type 0 where
+pub record ResolvedBlock : Type 0 where
   pub tick : ℕ
   pub block_bytes : ℕ
   pub txs : List Transaction
@@ -100,13 +100,13 @@ extend names p txs (Ok l) = go_on names p l
 extend names p txs (Err refused) = (record p { refused = one_adopt_more p.refused }, block_refused_text names txs refused.0 refused.1)
 
 -- the ledger state after the block, or the first of its transactions that isn't valid after those before it
-abbrev pub after_block : ServedPool → Block → Result LedgerState (ℕ × Invalid)
+abbrev pub after_block : ServedPool → ResolvedBlock → Result LedgerState (ℕ × Invalid)
 after_block p b = apply_block (accepted_by p.signatures) p.pool.ledger b.tick b.block_bytes b.txs
 
-abbrev pub adopt_block : Names → ServedPool → Block → Response
+abbrev pub adopt_block : Names → ServedPool → ResolvedBlock → Response
 adopt_block names p b = extend names p b.txs (after_block p b)
 
-abbrev pub is_adopted : ServedPool → Block → Bool
+abbrev pub is_adopted : ServedPool → ResolvedBlock → Bool
 is_adopted p b = is_ok (after_block p b)
 
 -- a former ledger state, with those before it; or it isn't kept, which is counted

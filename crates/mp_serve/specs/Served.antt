@@ -5,8 +5,8 @@ use Rattle.mp_text.specs.Lines.{lines_of}
 use Rattle.mp_serve.specs.Texts.{no_memory_text, bad_text}
 use Rattle.mp_serve.specs.declared.conversation.Conversation.{Conversation}
 use Rattle.mp_serve.specs.Talk.{Step, line_step, counted}
-use Rattle.mp_serve.specs.declared.fault.Fault.{Fault}
-use Rattle.mp_serve.specs.declared.fault.Fault.TheVariants.{NoMemory, ReadFault, WriteFault, ManyLines}
+use Rattle.mp_serve.specs.declared.fault.ConversationFault.{ConversationFault}
+use Rattle.mp_serve.specs.declared.fault.ConversationFault.TheVariants.{NoMemory, ReadFault, WriteFault, ManyLines}
 
 -- the answer to the bad line with this number says why it is bad
 abbrev pub IsBadLine : ℕ → List ℕ → Type 0
@@ -42,7 +42,7 @@ WasCut start old new lines =
     (k : ℕ) × (text : List ℕ) × (t : Conversation) × AreAnswers start (take k lines) text t × AppendsUpTo old new text
 
 -- how a conversation ends: at the end of the input, when a device fails, or before it begins
-abbrev pub Ended : Conversation → List ℕ → Option (List ℕ) → Option (List ℕ) → Result (Unit {0}) Fault → Type 0
+abbrev pub Ended : Conversation → List ℕ → Option (List ℕ) → Option (List ℕ) → Result (Unit {0}) ConversationFault → Type 0
 Ended start bytes old new (Ok u) = WereAnswered start old new (lines_of bytes)
 Ended start bytes old new (Err WriteFault) = WasCut start old new (lines_of bytes)
 Ended start bytes old new (Err ReadFault) = (k : ℕ) × WereAnswered start old new (take k (lines_of bytes))

@@ -31,7 +31,7 @@ use Rattle.mp_serve.specs.TxWord.{TxWord, tx_meant, put_meant}
 use Rattle.mp_serve.specs.declared.used.Used.TheVariants.{Txs, Outputs}
 use Rattle.mp_serve.specs.Staged.{Staged, no_outputs, nothing_staged, add_txs, add_read, add_output, staged_ledger}
 use Rattle.mp_serve.specs.Staged as staged
-use Rattle.mp_serve.specs.Request.{Block, Request, Response, Plain, Return, Check, Give, Count, do_command, respond, adopt_block, is_adopted, answer_to, reported_if}
+use Rattle.mp_serve.specs.Request.{ResolvedBlock, Request, Response, Plain, Return, Check, Give, Count, do_command, respond, adopt_block, is_adopted, answer_to, reported_if}
 use Rattle.mp_serve.specs.Texts.{ok_text, bytes_text, show_text, forgotten_text}
 
 -- before the first line
@@ -161,15 +161,15 @@ abbrev pub check : Conversation → TxWord → Step
 check c word = option_map (λ t. ask c (Check t)) (tx_meant c.session.stage word)
 
 -- without block bytes in the line, the setting applies
-abbrev pub block_at : Settings → NewBlock → List Transaction → Block
+abbrev pub block_at : Settings → NewBlock → List Transaction → ResolvedBlock
 block_at g b txs = record { tick = b.tick; block_bytes = unwrap_or b.block_bytes (block_bytes_of g); txs = txs }
 
 -- the pool adopts the ledger state after the block, if it has one
-abbrev pub adopt : Conversation → Block → Conversation × List ℕ
+abbrev pub adopt : Conversation → ResolvedBlock → Conversation × List ℕ
 adopt c b = with_response c (adopt_block c.session.names (served_in c) b)
 
 -- the same for the block of all staged transactions, which then aren't staged any more
-abbrev pub adopt_staged : Conversation → Block → Conversation × List ℕ
+abbrev pub adopt_staged : Conversation → ResolvedBlock → Conversation × List ℕ
 adopt_staged c b =
     adopt (with_staged c (if is_adopted (served_in c) b then staged.without c.staged Txs else c.staged)) b
 
@@ -178,7 +178,7 @@ abbrev pub block_txs : Staged → Stage ServedPool → List TxWord → Option (L
 block_txs s stage [] = Some s.txs
 block_txs s stage (word ∷ words) = put_meant stage [] (word ∷ words)
 
-abbrev pub adopt_by : Conversation → List TxWord → Block → Conversation × List ℕ
+abbrev pub adopt_by : Conversation → List TxWord → ResolvedBlock → Conversation × List ℕ
 adopt_by c [] b = adopt_staged c b
 adopt_by c (word ∷ words) b = adopt c b
 

@@ -12,11 +12,11 @@ ghost use Rattle.mp_serve.specs.Inside.Pool.{IsReady};
 
 use crate::former::{Former, Formers, earliest};
 use crate::obeying::obey;
-use crate::texts::Text;
 use mp_memory::{Memory, NoMemory};
 use mp_names::Names;
 use mp_seqpool::{Command, SeqPool};
 use mp_signatures::Signatures;
+use mp_text::Text;
 use mp_tx::Ledger;
 
 // How many former ledger states are kept.

@@ -1,6 +1,7 @@
 //! The answer to a line.
 
-use crate::texts::{NO_MEMORY, OK, Text};
+use crate::texts::{NO_MEMORY, OK};
+use mp_text::Text;
 
 /// The answer to a line.
 #[derive(Drop)]

@@ -22,15 +22,15 @@ pub struct NewBlock {
 }
 
 /// A block's transactions, with the tick and the block bytes (1 to 2^39) of the ledger state after it.
-pub struct Block {
+pub struct ResolvedBlock {
     tick: u64,
     block_bytes: u64,
     txs: Txs,
 }
 
-impl Drop for Block {
+impl Drop for ResolvedBlock {
     fn drop(self) {
-        let Block {
+        let ResolvedBlock {
             tick: _,
             block_bytes: _,
             txs: _,
@@ -38,33 +38,38 @@ impl Drop for Block {
     }
 }
 
-impl Model for Block {
+impl Model for ResolvedBlock {
     ghost use Rattle.mp_serve.specs.Request as told;
     ghost use Rattle.mp_serve.specs.Inside.Block.{block_of};
     ghost use Rattle.mp_tx.specs.Ledger.{HasBlockBytes};
 
-    ghost Value = { told.Block };
+    ghost Value = { told.ResolvedBlock };
 
     ghost view = { block_of };
 
     ghost invariant = { λ b. HasBlockBytes b.block_bytes };
 }
 
-impl Block {
+impl ResolvedBlock {
     ghost use Rattle.std.specs.Prelude.{◌≡◌, map, unwrap_or};
     ghost use Rattle.std.specs.Arc.{arc_value};
     ghost use Rattle.mp_tx.specs.Ledger.{HasBlockBytes};
     ghost use Rattle.mp_session.specs.Settings.{block_bytes_of};
 
     /// A block of these transactions. Without block bytes in the line, the setting applies.
-    pub fn at(settings: &Settings, tick: u64, block_bytes: &Option<BlockBytes>, txs: Txs) -> Block
+    pub fn at(
+        settings: &Settings,
+        tick: u64,
+        block_bytes: &Option<BlockBytes>,
+        txs: Txs,
+    ) -> ResolvedBlock
         ensures { result ≡ record {
           tick = tick;
           block_bytes = unwrap_or block_bytes.now (block_bytes_of settings.now);
           txs = map arc_value txs.items;
         } }
     {
-        Block {
+        ResolvedBlock {
             tick,
             block_bytes: block_bytes_at(settings, block_bytes),
             txs,

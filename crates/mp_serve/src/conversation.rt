@@ -9,12 +9,12 @@ ghost use Rattle.mp_serve.specs.Inside.Request.{to_request};
 
 use crate::answer::Answer;
 use crate::ask::Ask;
-use crate::block::{Block, NewBlock};
+use crate::block::{NewBlock, ResolvedBlock};
 use crate::forgetting::names_to_go;
 use crate::pool::{Adopted, ServedPool};
 use crate::request::Request;
 use crate::staged::{Staged, no_outputs};
-use crate::texts::{Text, forgotten_line, read_line, show_line, undecodable_line};
+use crate::texts::{forgotten_line, read_line, show_line, undecodable_line};
 use crate::tx_word::{TxWord, tx_meant, txs_meant};
 use crate::used::Used;
 use mp_lines::Line;
@@ -24,6 +24,7 @@ use mp_seqpool::Command;
 use mp_session as session;
 use mp_session::{Beginning, Session, Settings, Stage};
 use mp_signatures::Signatures;
+use mp_text::Text;
 use mp_tx::{OutRef, Output, Salt, Tx, TxFault};
 use std::sync::Arc;
 
@@ -89,7 +90,7 @@ fn open_onto(
     signatures: &Signatures,
     settings: &Settings,
     beginning: &Beginning,
-    block: &Block,
+    block: &ResolvedBlock,
 ) -> Result<(ServedPool, Adopted), NoMemory>
     ensures ok { IfOk result (λ r. adopt_block names.now
         (opened signatures.now settings.now beginning.now) block.now
@@ -286,7 +287,7 @@ impl Conversation {
     }
 
     // Lets the pool adopt the ledger state after the block. The pool opens with the first request.
-    fn adopt(&mut self, memory: Memory, block: &Block) -> Result<Adopted, NoMemory>
+    fn adopt(&mut self, memory: Memory, block: &ResolvedBlock) -> Result<Adopted, NoMemory>
         ensures ok { IfOk result (λ r. adopt self.old block.now ≡ (self.new, r.0.items)) }
         ensures adopted { IfOk result (λ r. r.1 ≡ is_adopted (served_in self.old) block.now) }
         ensures err { OnErr result (self.new ≡ self.old) }
@@ -314,7 +315,7 @@ impl Conversation {
     }
 
     // The same for the block of all staged transactions, which then aren't staged any more.
-    fn adopt_staged(&mut self, memory: Memory, block: &Block) -> Result<Text, NoMemory>
+    fn adopt_staged(&mut self, memory: Memory, block: &ResolvedBlock) -> Result<Text, NoMemory>
         ensures ok { IfOk result (λ text.
             adopt_staged self.old block.now ≡ (self.new, text.items)) }
         ensures err { OnErr result (self.new ≡ self.old) }
@@ -339,7 +340,7 @@ impl Conversation {
         ensures err { OnErr result (self.new ≡ self.old) }
     {
         let txs = self.staged.txs(memory)?;
-        let block = Block::at(&self.session.settings, tick, block_bytes, txs);
+        let block = ResolvedBlock::at(&self.session.settings, tick, block_bytes, txs);
         self.adopt_staged(memory, &block)
     }
 
@@ -359,7 +360,7 @@ impl Conversation {
             return Ok(self.extend_staged(memory, tick, &block_bytes)?);
         }
         let txs = txs_meant(memory, &self.session.stage, txs)?;
-        let block = Block::at(&self.session.settings, tick, &block_bytes, txs);
+        let block = ResolvedBlock::at(&self.session.settings, tick, &block_bytes, txs);
         let (text, _) = self.adopt(memory, &block)?;
         Ok(text)
     }

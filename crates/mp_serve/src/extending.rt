@@ -5,12 +5,13 @@ ghost use Rattle.mp_rules.specs.Block.{apply_block};
 ghost use Rattle.mp_signatures.specs.Scheme.{accepted_by};
 ghost use Rattle.mp_serve.specs.Inside.Extended.{IsExtended};
 
-use crate::block::Block;
-use crate::texts::{Text, block_refused_line};
+use crate::block::ResolvedBlock;
+use crate::texts::block_refused_line;
 use mp_memory::{Memory, NoMemory};
 use mp_names::Names;
 use mp_rules::{AppliedBlock, BlockRefusal, apply_block};
 use mp_signatures::Signatures;
+use mp_text::Text;
 use mp_tx::Ledger;
 
 /// The result of applying a block.
@@ -28,7 +29,7 @@ pub fn extend(
     names: &Names,
     signatures: &Signatures,
     ledger: &Ledger,
-    block: &Block,
+    block: &ResolvedBlock,
 ) -> Result<Extended, NoMemory>
     ensures { IfOk result (IsExtended names.now ledger.now block.now.txs
         (apply_block (accepted_by signatures.now) ledger.now block.now.tick block.now.block_bytes

@@ -1,10 +1,11 @@
 //! Why a conversation ends before its input does.
 
+use mp_session::{MANY_LINES_FAULT, NO_MEMORY_FAULT, READ_FAULT, WRITE_FAULT};
 use std::fmt;
 
 /// Why a conversation ends before its input does. The program prints its text.
 #[derive(Clone, Copy, Debug, PartialEq, Eq)]
-pub enum Fault {
+pub enum ConversationFault {
     /// An allocation failed before the first line.
     NoMemory,
     ReadFault,
@@ -13,13 +14,13 @@ pub enum Fault {
     ManyLines,
 }
 
-impl fmt::Display for Fault {
+impl fmt::Display for ConversationFault {
     fn fmt<W: fmt::Write>(&self, f: &mut fmt::Formatter<W>) -> fmt::Result {
         f.write_str(match self {
-            Fault::NoMemory => "fault: no memory",
-            Fault::ReadFault => "fault: read",
-            Fault::WriteFault => "fault: write",
-            Fault::ManyLines => "fault: lines",
+            ConversationFault::NoMemory => NO_MEMORY_FAULT,
+            ConversationFault::ReadFault => READ_FAULT,
+            ConversationFault::WriteFault => WRITE_FAULT,
+            ConversationFault::ManyLines => MANY_LINES_FAULT,
         })
     }
 }

@@ -14,12 +14,12 @@ ghost use Rattle.mp_serve.specs.Request.{counted_anew, reported_as, reported_if}
 ghost use Rattle.mp_serve.specs.Inside.Pool.{IsReady};
 ghost use Rattle.mp_serve.specs.Inside.KeepsLedger.{KeepsLedger};
 
-use crate::texts::Text;
 use mp_answers::{answer_line, given_refused_line, given_reply_line, reply_line};
 use mp_memory::{Memory, NoMemory};
 use mp_names::{Name, Names};
 use mp_seqpool::{Command, Prepared, Refusal, SeqPool};
 use mp_signatures::Signatures;
+use mp_text::Text;
 use mp_tx::{Tx, TxId};
 use std::sync::Arc;
 

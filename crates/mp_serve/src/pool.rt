@@ -1,13 +1,13 @@
 //! The pool of a conversation.
 
 use crate::adopting::{go_back, go_on};
-use crate::block::Block;
+use crate::block::ResolvedBlock;
 use crate::extending::{Extended, extend};
 use crate::former::{Former, Formers};
 use crate::obeying::{check, give, obey, submit};
 use crate::refused::{Counts, count_if_refused, count_one, none_counted};
 use crate::request::Request;
-use crate::texts::{Text, back_refused_line, stats_line};
+use crate::texts::{back_refused_line, stats_line};
 use mp_answers::{kept_line, query_line};
 use mp_lines::Query;
 use mp_memory::{Memory, NoMemory};
@@ -17,6 +17,7 @@ use mp_seqpool::{Command, Config, SeqPool};
 use mp_session as session;
 use mp_session::{Beginning, Settings};
 use mp_signatures::Signatures;
+use mp_text::Text;
 use mp_tx::{Ledger, Tx, TxId};
 use std::marker::Model;
 use std::sync::Arc;
@@ -212,7 +213,7 @@ impl ServedPool {
         &mut self,
         memory: Memory,
         names: &Names,
-        block: &Block,
+        block: &ResolvedBlock,
     ) -> Result<Adopted, NoMemory>
         ensures ok { IfOk result (λ r.
             adopt_block names.now self.old block.now ≡ (self.new, r.0.items)) }

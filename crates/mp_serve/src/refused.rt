@@ -3,10 +3,10 @@
 ghost use Rattle.std.specs.Prelude.{◌≡◌, ◌<◌, ◌≤◌, ◌++◌, length, map, OnOk};
 ghost use Rattle.mp_serve.specs.Refused.{none_counted, one_more, counted, counted_if, count_text, texts, counts_text};
 
-use crate::texts::Text;
 use mp_answers::{REFUSAL_WORDS, REFUSALS, put_number, put_word, refusal_place};
 use mp_memory::{Memory, NoMemory};
 use mp_seqpool::Refusal;
+use mp_text::Text;
 
 /// How often each kind of refusal was answered. A count that reaches 2^64 - 1 stays there.
 #[derive(Clone, Copy)]

@@ -9,7 +9,7 @@ use crate::answering::{answer, tell};
 use crate::ask::MAX_LINE_BYTES;
 use crate::conversation::Conversation;
 use crate::device::{Device, Turn};
-use crate::fault::Fault;
+use crate::fault::ConversationFault;
 use mp_memory::Memory;
 use mp_signatures::Signatures;
 use mp_text::LineRead;
@@ -21,7 +21,7 @@ fn answer_all<D: Device>(
     conversation: &mut Conversation,
     line: &mut Vec<u8, Memory>,
     device: &mut D,
-) -> Result<(), Fault>
+) -> Result<(), ConversationFault>
     requires { D.turn device.old ≡ Turn.Listens }
     ensures answers { IfSome (D.input device.old)
         (λ bytes. Ended conversation.old bytes
@@ -32,16 +32,16 @@ fn answer_all<D: Device>(
         let found = match device.read_line(line, MAX_LINE_BYTES) {
             Ok(LineRead::End) => return Ok(()),
             Ok(found) => found,
-            Err(_) => return Err(Fault::ReadFault),
+            Err(_) => return Err(ConversationFault::ReadFault),
         };
         let number = conversation.line;
         let answer = answer(conversation, memory, number, found, line);
         match tell(device, &answer) {
             Ok(()) => conversation.count_line(),
-            Err(_) => return Err(Fault::WriteFault),
+            Err(_) => return Err(ConversationFault::WriteFault),
         }
     }
-    Err(Fault::ManyLines)
+    Err(ConversationFault::ManyLines)
 }
 
 /// Answers each line of the input as it comes, until the input ends. The next line is read once the answer is written and
@@ -56,7 +56,7 @@ pub fn serve<D: Device>(
     salt: Salt,
     most_names: u64,
     device: &mut D,
-) -> Result<(), Fault>
+) -> Result<(), ConversationFault>
     requires { D.turn device.old ≡ Turn.Listens }
     ensures answers { IfSome (D.input device.old) (λ bytes.
         Ended (new_conversation signatures salt most_names) bytes
@@ -68,6 +68,6 @@ pub fn serve<D: Device>(
             let mut line = Vec::new(memory);
             answer_all(memory, &mut conversation, &mut line, device)
         }
-        Err(_) => Err(Fault::NoMemory),
+        Err(_) => Err(ConversationFault::NoMemory),
     }
 }

@@ -5,11 +5,12 @@ ghost use Rattle.std.specs.Arc.{arc_value};
 ghost use Rattle.mp_serve.specs.Staged.{no_outputs};
 
 use crate::block::Txs;
-use crate::texts::{Text, staged_line, undecodable_line};
+use crate::texts::{staged_line, undecodable_line};
 use crate::used::Used;
 use mp_memory::{Memory, NoMemory};
 use mp_names::{BlockBytes, LineFault, Reason};
 use mp_session::{Settings, add_all, block_bytes_at, make_ledger, put_in};
+use mp_text::Text;
 use mp_tx::{Ledger, OutRef, Output, Salt, Tx, TxFault};
 use std::marker::Model;
 use std::sync::Arc;

@@ -11,11 +11,9 @@ use mp_answers::{put_id, put_number, put_refusal, put_tx_name, put_word};
 use mp_memory::{Memory, NoMemory};
 use mp_names::{Names, Reason};
 use mp_seqpool::{Invalid, Refusal, SeqPool};
+use mp_text::Text;
 use mp_tx::{Tx, TxFault};
 use std::sync::Arc;
-
-/// One line of text.
-pub type Text = Vec<u8, Memory>;
 
 /// The answer if there is nothing to report.
 pub const OK: &[u8] = b"ok\n";

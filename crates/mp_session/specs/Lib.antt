@@ -7,4 +7,4 @@ pub mod Inside
 pub mod Pool
 pub mod Scene
 pub mod Ending
-pub mod Fault
+pub mod RunFault

@@ -1,13 +1,14 @@
 //! Why a run fails.
 
 ghost use Rattle.std.specs.Prelude.{◌≡◌};
-ghost use Rattle.mp_session.specs.Fault as run_fault;
+ghost use Rattle.mp_session.specs.RunFault as run_fault;
 
+use crate::fault_text::{NO_MEMORY_FAULT, READ_FAULT, WRITE_FAULT, put_bad_line};
 use std::fmt;
 
 /// Why a run ended before its input. `Display` writes the line that the program prints.
 #[derive(Clone, Copy, Debug, PartialEq, Eq)]
-pub enum Fault {
+pub enum RunFault {
     NoMemory,
     /// The number of the line, from 1.
     BadLine(u64),
@@ -15,27 +16,27 @@ pub enum Fault {
     WriteFault,
 }
 
-impl Fault {
+impl RunFault {
     /// The number of the fault: 1 to 4.
     pub fn number(&self) -> u64
         ensures { result ≡ run_fault.number self.now }
     {
         match self {
-            Fault::NoMemory => 1,
-            Fault::BadLine(_) => 2,
-            Fault::ReadFault => 3,
-            Fault::WriteFault => 4,
+            RunFault::NoMemory => 1,
+            RunFault::BadLine(_) => 2,
+            RunFault::ReadFault => 3,
+            RunFault::WriteFault => 4,
         }
     }
 }
 
-impl fmt::Display for Fault {
+impl fmt::Display for RunFault {
     fn fmt<W: fmt::Write>(&self, f: &mut fmt::Formatter<W>) -> fmt::Result {
         match self {
-            Fault::NoMemory => write!(f, "fault: no memory"),
-            Fault::BadLine(line) => write!(f, "fault: bad line {line}"),
-            Fault::ReadFault => write!(f, "fault: read"),
-            Fault::WriteFault => write!(f, "fault: write"),
+            RunFault::NoMemory => f.write_str(NO_MEMORY_FAULT),
+            RunFault::BadLine(line) => put_bad_line(f, *line),
+            RunFault::ReadFault => f.write_str(READ_FAULT),
+            RunFault::WriteFault => f.write_str(WRITE_FAULT),
         }
     }
 }

@@ -14,10 +14,8 @@ use mp_memory::{Memory, NoMemory};
 use mp_names::Names;
 use mp_seqpool::{Answer, Command, Config, SeqPool};
 use mp_signatures::Signatures;
+use mp_text::Text;
 use std::marker::Model;
-
-/// What a line writes: nothing, or one line of text.
-pub type Text = Vec<u8, Memory>;
 
 /// The pool of a scenario, which one thread has. It opened empty, and commands led to its content.
 pub struct ScenarioPool {

@@ -4,9 +4,9 @@ ghost use Rattle.std.specs.Prelude.{◌≡◌, ◌≤◌, length, IfSome};
 ghost use Rattle.mp_session.specs.Scene.{empty_scene};
 ghost use Rattle.mp_session.specs.Ending.{stop_of, AreAnswers, Ended};
 
-use crate::fault::Fault;
+use crate::fault::RunFault;
 use crate::scene::Scene;
-use crate::stop::Stop;
+use crate::stop::RunStop;
 use mp_memory::Memory;
 use mp_names::LineFault;
 use mp_signatures::Signatures;
@@ -14,12 +14,12 @@ use mp_text::{InputFault, MAX_BYTES, first_line, read_all, write_all};
 use std::io::{Read, Write};
 
 // Why the line with this number isn't answered.
-fn stop_at(number: u64, fault: LineFault<'_>) -> Stop<'_>
+fn stop_at(number: u64, fault: LineFault<'_>) -> RunStop<'_>
     ensures { result ≡ stop_of number fault.entry }
 {
     match fault {
-        LineFault::NoMemory => Stop::NoMemory,
-        LineFault::Bad(reason) => Stop::BadLine(number, reason),
+        LineFault::NoMemory => RunStop::NoMemory,
+        LineFault::Bad(reason) => RunStop::BadLine(number, reason),
     }
 }
 
@@ -29,7 +29,7 @@ fn answer_from<'a, W: Write>(
     scene: &mut Scene,
     text: &'a [u8],
     writer: &mut W,
-) -> Result<(), Stop<'a>>
+) -> Result<(), RunStop<'a>>
     requires empty { scene.old ≡ empty_scene scene.old.signatures }
     requires short { length text.now ≤ MAX_BYTES }
     ensures { AreAnswers scene.old.signatures text.now
@@ -41,7 +41,7 @@ fn answer_from<'a, W: Write>(
         match scene.read_line(memory, line) {
             Ok(answer) => match write_all(writer, &answer) {
                 Ok(()) => {}
-                Err(_) => return Err(Stop::Write),
+                Err(_) => return Err(RunStop::Write),
             },
             Err(fault) => return Err(stop_at(number, fault)),
         }
@@ -62,14 +62,14 @@ pub fn answer_text<'a, W: Write>(
     signatures: &Signatures,
     text: &'a [u8],
     writer: &mut W,
-) -> Result<(), Stop<'a>>
+) -> Result<(), RunStop<'a>>
     requires { length text.now ≤ MAX_BYTES }
     ensures { AreAnswers signatures.now text.now
         (W.contents writer.old) (W.contents writer.new) result }
 {
     match Scene::new(memory, signatures) {
         Ok(mut scene) => answer_from(memory, &mut scene, text, writer),
-        Err(_) => Err(Stop::NoMemory),
+        Err(_) => Err(RunStop::NoMemory),
     }
 }
 
@@ -85,7 +85,7 @@ pub fn run<R: Read, W: Write>(
     signatures: &Signatures,
     reader: &mut R,
     writer: &mut W,
-) -> Result<(), Fault>
+) -> Result<(), RunFault>
     ensures { IfSome (R.remaining reader.old) (λ bytes. Ended signatures.now bytes
         (W.contents writer.old) (W.contents writer.new) result) }
 {
@@ -95,8 +95,8 @@ pub fn run<R: Read, W: Write>(
             Err(stop) => Err(stop.to_fault()),
         },
         Err(fault) => match fault {
-            InputFault::NoMemory => Err(Fault::NoMemory),
-            InputFault::Read => Err(Fault::ReadFault),
+            InputFault::NoMemory => Err(RunFault::NoMemory),
+            InputFault::Read => Err(RunFault::ReadFault),
         },
     }
 }

@@ -4,7 +4,7 @@ ghost use Rattle.std.specs.Prelude.{◌≡◌, OnOk};
 ghost use Rattle.mp_session.specs.Scene.{pool_at};
 ghost use Rattle.mp_session.specs.declared.session.Stage.TheVariants.{Open};
 
-use crate::pool::{ScenarioPool, Text};
+use crate::pool::ScenarioPool;
 use crate::request::Request;
 use crate::session::{Session, Stage};
 use crate::settings::Settings;
@@ -12,6 +12,7 @@ use mp_lines::Line;
 use mp_memory::{Memory, NoMemory};
 use mp_names::LineFault;
 use mp_signatures::Signatures;
+use mp_text::Text;
 
 /// The state of a scenario.
 #[derive(Drop)]

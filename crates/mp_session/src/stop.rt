@@ -3,37 +3,37 @@
 ghost use Rattle.std.specs.Prelude.{◌≡◌};
 ghost use Rattle.mp_session.specs.Ending.{bad_line_of, fault_of};
 
-use crate::fault::Fault;
+use crate::fault::RunFault;
 use mp_names::Reason;
 
 /// Why the answers to a text end early.
 #[derive(Clone, Copy)]
-pub enum Stop<'a> {
+pub enum RunStop<'a> {
     NoMemory,
     /// The number of the bad line, from 1, and what is wrong with it.
     BadLine(u64, Reason<'a>),
     Write,
 }
 
-impl<'a> Stop<'a> {
+impl<'a> RunStop<'a> {
     /// The number of the bad line and what is wrong with it, if that is the reason.
     pub fn bad_line(&self) -> Option<(u64, Reason<'a>)>
         ensures { result ≡ bad_line_of self.now }
     {
         match self {
-            Stop::BadLine(number, reason) => Some((*number, *reason)),
+            RunStop::BadLine(number, reason) => Some((*number, *reason)),
             _ => None,
         }
     }
 
     /// The fault of a run that ends like this.
-    pub fn to_fault(&self) -> Fault
+    pub fn to_fault(&self) -> RunFault
         ensures { result ≡ fault_of self.now }
     {
         match self {
-            Stop::NoMemory => Fault::NoMemory,
-            Stop::BadLine(number, _) => Fault::BadLine(*number),
-            Stop::Write => Fault::WriteFault,
+            RunStop::NoMemory => RunFault::NoMemory,
+            RunStop::BadLine(number, _) => RunFault::BadLine(*number),
+            RunStop::Write => RunFault::WriteFault,
         }
     }
 }

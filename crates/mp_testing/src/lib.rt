@@ -4,6 +4,7 @@
 
 mod audited;
 pub mod commands;
+mod failures;
 mod reader;
 mod rows;
 mod samples;
@@ -13,6 +14,7 @@ mod verifier;
 mod writer;
 
 pub use audited::{tell, tell_handover};
+pub use failures::{Ending, Failures, fail_each, fail_first};
 use mp_seqpool::Config;
 pub use reader::FailingReader;
 pub use rows::count;

@@ -1,7 +1,7 @@
 //! Observed answers, as plain data.
 use crate::trial::Seen;
 use mp_history::AuditFault;
-use mp_seqpool::{Answer, Invalid, Refusal, Reply};
+use mp_seqpool::{Answer, Invalid, Refusal, Reply, SeqPool};
 
 /// An observed answer. Tickets are the digits of a number: 1 and 2 are 12, and 0 is none.
 #[derive(Clone, Copy)]
@@ -97,6 +97,22 @@ pub fn read_answer(answer: &Answer) -> Told {
         Ok(reply) => read_reply(reply),
         Err(refusal) => read_refusal(refusal),
     }
+}
+
+/// The pool's tickets as the digits of a number, its bytes, the last ticket and the number of changes.
+pub fn read_pool(pool: &SeqPool) -> Seen {
+    let mut tickets = 0;
+    for (ticket, _) in pool.contents() {
+        tickets = with_digit(tickets, ticket);
+    }
+    [
+        tickets,
+        pool.bytes(),
+        pool.last_ticket(),
+        pool.changes(),
+        0,
+        0,
+    ]
 }
 
 /// The observed fault of an audit.

@@ -1,6 +1,6 @@
 -- The value of digits.
 use Rattle.std.proofs.Common.{◌≡◌, ℕ, ◌+◌, ◌-◌, ◌*◌, ◌^◌, ◌<◌, ◌≤◌, List, [], ◌∷◌, Some, None, true, length, drop, get_or, arith, ◌∙◌, ap, subst, nat_lt}
-use Rattle.std.proofs.Math.Nat.{pow-suc, add-mul, mul_assoc, mul_comm, mul-one, le-mul_of_pos_right, one-le-pow}
+use Rattle.std.proofs.Math.Nat.{pow-suc, add-mul, mul_assoc, mul_comm, le-mul_of_pos_right, one-le-pow}
 use Rattle.std.proofs.lemmas.Option.{cond_some}
 use Rattle.std.proofs.lemmas.List.{drop_more}
 use Rattle.std.proofs.lemmas.Bool.Decides.{nat_tests}
@@ -16,9 +16,6 @@ regroup n x t v = omega (arith, add-mul (n * 10) x t, mul_assoc n 10 t, mul_comm
 
 pub completed-next : (n digit : ℕ) (digits : List ℕ) → completed n (digit ∷ digits) ≡ completed (n * 10 + (digit - 48)) digits
 completed-next n digit digits = rw (pow-suc 10 (length digits)) (regroup n (digit - 48) (10 ^ length digits) (value_of_digits digits))
-
-pub completed-end : (n : ℕ) → completed n [] ≡ n
-completed-end n = omega (arith, mul-one n)
 
 pub completed-ge : (n : ℕ) (digits : List ℕ) → n ≤ completed n digits
 completed-ge n digits = omega (arith, le-mul_of_pos_right n (one-le-pow (length digits) 10 (omega arith)))

@@ -13,7 +13,7 @@ use Rattle.std.specs.Io.{StartsWith}
 use Rattle.std.specs.Io.KnownBytes.{Consumes, Keeps, IsAtEnd}
 use Rattle.std.specs.Io.BufRead.{take_through, drop_through, DropsThrough, ends_with_byte, strip_last}
 use Rattle.mp_text.specs.declared.line_input.LineRead.{LineRead}
-use Rattle.mp_text.specs.declared.line_input.LineRead.TheVariants.{End, Whole, TooLong, Lost}
+use Rattle.mp_text.specs.declared.line_input.LineRead.TheVariants.{Whole, TooLong, Lost}
 use Rattle.mp_text.specs.LineInput.{first_line, IsLine}
 use Rattle.mp_text.specs.Inside.LineInput.{Adds}
 
@@ -144,14 +144,6 @@ kept-end limit (Some xs) (Some ys) (Some zs) line kept keeps ended =
       ap Some (keeps ∙ ended ∙ sym (ap (drop_through 10) (kept.read ∙ ap (λ l. line ++ l) ended) ∙ drop_through-append 10 line [] kept.clear)),
       (all, ap first_line all ∙ first-all line kept.clear),
     )
-
-no_length : (xs : List ℕ) → length xs ≡ 0 → xs ≡ []
-no_length [] e = refl
-no_length (x ∷ xs) e = absurd (omega arith)
-
-pub end-none : (limit : ℕ) (first : Option (List ℕ)) (line new : List ℕ) → new ≡ line → length new ≡ 0 → IfSome first (λ bytes. (bytes ≡ line) × (first_line bytes ≡ line)) → IfSome first (λ bytes. IsLine limit bytes End new)
-end-none limit None line new same none is = tt
-end-none limit (Some xs) line new same none is = is.0 ∙ sym same ∙ no_length new none
 
 pub end-some : (limit : ℕ) (first : Option (List ℕ)) (line new : List ℕ) → new ≡ line → (length new ≡ 0 → ⊥) → length line ≤ limit → IfSome first (λ bytes. (bytes ≡ line) × (first_line bytes ≡ line))
     → IfSome first (λ bytes. IsLine limit bytes Whole new)

@@ -84,9 +84,6 @@ module _ {T : Type 0} (o : Chain T) (chained : IsChained o) (ticket : ℕ) where
   abbrev pub k : ℕ
   k = ticket % m
 
-  pub looks_first : (at : Option NodePtr) → at ≡ bucket_back_at o.bucket_backs.items k → Looks m ticket o.nodes.cells None at
-  looks_first at e = (o.nodes.cells, [], sym (append-nil o.nodes.cells), e ∙ chained.bucket_backs k (mod_below ticket m chained.some), refl, tt)
-
   pub record Stands (bucket_next : Option NodePtr) (p : NodePtr) : Type 0 where
     pub us : List (StoredNode T)
     pub c : StoredNode T

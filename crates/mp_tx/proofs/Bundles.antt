@@ -8,7 +8,7 @@ use Rattle.std.specs.Option.{option_or}
 use Rattle.std.proofs.lemmas.Int.{ints}
 use Rattle.mp_bundle.specs.declared.token.Token.{Token}
 use Rattle.mp_bundle.specs.declared.fault.BundleFault.{BundleFault}
-use Rattle.mp_bundle.specs.Bundle.{Entry, IsWithin}
+use Rattle.mp_bundle.specs.Bundle.{TokenEntry, IsWithin}
 use Rattle.mp_bundle.specs.BundleFault.{entry_fault, fault_after}
 use Rattle.mp_bundle.proofs.Faults.{fine, first_none, bundle_from_none, none_from_bundle}
 use Rattle.mp_bytes.specs.Fields.{number_at, run_at}
@@ -46,7 +46,7 @@ assoc4 a b c d r = append_assoc (a ++ b ++ c) d r ∙ assoc3 a b c (d ++ r)
 
 -- ---- entries
 
-abbrev pub IsGood : Option Token → Entry → Type 0
+abbrev pub IsGood : Option Token → TokenEntry → Type 0
 IsGood before e = (entry_fault before e ≡ None) × (length e.0.policy ≡ 32)
 
 pub byte_was : (bytes : List ℕ) (x : ℕ × List ℕ) → IsBytes bytes → byte_read bytes ≡ Ok x → Takes bytes (x.0 ∷ []) x.1
@@ -79,9 +79,9 @@ entry_was before bytes x fits e =
     let m = run_takes short.0.0 short.0.1 name.0.0 name.0.1 ls.rest_fits (or_fault_ok Truncated _ name.0 name.1) in
     let quantity = bind_ok (field (number_at name.0.1)) _ x name.2 in
     let q = number_takes name.0.1 quantity.0.0 quantity.0.1 m.0.rest_fits (or_fault_ok Truncated _ quantity.0 quantity.1) in
-    let entry : Entry × List ℕ = ((record { policy = policy.0.0; name = name.0.0 }, quantity.0.0), quantity.0.1) in
+    let entry : TokenEntry × List ℕ = ((record { policy = policy.0.0; name = name.0.0 }, quantity.0.0), quantity.0.1) in
     let r = require_ok (is_none (entry_fault before entry.0)) BadBundle entry x quantity.2 in
-    subst (λ (y : Entry × List ℕ). Takes bytes (entry_bytes y.0) y.1 × IsGood before y.0) r.1
+    subst (λ (y : TokenEntry × List ℕ). Takes bytes (entry_bytes y.0) y.1 × IsGood before y.0) r.1
     (put_together bytes policy.0.0 policy.0.1 short.0.0 short.0.1 name.0.0 name.0.1 quantity.0.0 quantity.0.1 p.0 ls m.0 m.1 q.0, (none_is _ r.0, p.1))
 
 signed : (n : ℤ) → IsWithin (2 ^ 63 - 1) n → FitsSigned w64 n
@@ -108,26 +108,26 @@ entry_again before e rest good =
 
 -- ---- bundles
 
-each_faultless : (before : Option Token) (es : List Entry) → EachAfter (λ e. e.0) IsGood before es → fault_after before es ≡ None
+each_faultless : (before : Option Token) (es : List TokenEntry) → EachAfter (λ e. e.0) IsGood before es → fault_after before es ≡ None
 each_faultless before [] each = refl
 each_faultless before (e ∷ es) each = ap (λ (o : Option BundleFault). option_or o (fault_after (Some e.0) es)) each.0.0 ∙ each_faultless (Some e.0) es each.1
 
-each_policy : (before : Option Token) (es : List Entry) → EachAfter (λ e. e.0) IsGood before es → AllByRecursion (λ e. length e.0.policy ≡ 32) es
+each_policy : (before : Option Token) (es : List TokenEntry) → EachAfter (λ e. e.0) IsGood before es → AllByRecursion (λ e. length e.0.policy ≡ 32) es
 each_policy before [] each = tt
 each_policy before (e ∷ es) each = (each.0.1, each_policy (Some e.0) es each.1)
 
-each_good : (before : Option Token) (es : List Entry) → fault_after before es ≡ None → AllByRecursion (λ e. length e.0.policy ≡ 32) es → EachAfter (λ e. e.0) IsGood before es
+each_good : (before : Option Token) (es : List TokenEntry) → fault_after before es ≡ None → AllByRecursion (λ e. length e.0.policy ≡ 32) es → EachAfter (λ e. e.0) IsGood before es
 each_good before [] none all = tt
 each_good before (e ∷ es) none all =
     let n = first_none (entry_fault before e) (fault_after (Some e.0) es) none in
     ((n.0, all.0), each_good (Some e.0) es n.1 all.1)
 
-pub bundle_was : (bytes : List ℕ) (x : List Entry × List ℕ) → IsBytes bytes → bundle_read bytes ≡ Ok x → Takes bytes (bundle_bytes x.0) x.1 × IsValue x.0
+pub bundle_was : (bytes : List ℕ) (x : List TokenEntry × List ℕ) → IsBytes bytes → bundle_read bytes ≡ Ok x → Takes bytes (bundle_bytes x.0) x.1 × IsValue x.0
 unfolding bundle_read bundle_bytes
 bundle_was bytes x fits e =
     let c = counted_were (λ e. e.0) entry_read entry_bytes IsGood entry_was bytes x fits e in
     (c.takes, record { bundle = bundle_from_none x.0 (each_faultless None x.0 c.good); few = c.few; policies = each_policy None x.0 c.good })
 
-pub bundle_again : (es : List Entry) (rest : List ℕ) → IsValue es → bundle_read (bundle_bytes es ++ rest) ≡ Ok (es, rest)
+pub bundle_again : (es : List TokenEntry) (rest : List ℕ) → IsValue es → bundle_read (bundle_bytes es ++ rest) ≡ Ok (es, rest)
 unfolding bundle_read bundle_bytes
 bundle_again es rest is = counted_again (λ e. e.0) entry_read entry_bytes IsGood entry_again es rest is.few (each_good None es (none_from_bundle es is.bundle) is.policies)

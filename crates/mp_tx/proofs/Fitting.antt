@@ -5,7 +5,7 @@ use Rattle.std.specs.Int.{w16, w64, to_be_bytes, cast_unsigned}
 use Rattle.std.specs.List.{All, AllByRecursion}
 use Rattle.std.proofs.lemmas.List.{length-append}
 use Rattle.std.proofs.lemmas.List.Elements.{All-nil, All-cons, All-head, All-tail, recursion_from_All}
-use Rattle.mp_bundle.specs.Bundle.{Entry}
+use Rattle.mp_bundle.specs.Bundle.{TokenEntry}
 use Rattle.mp_bytes.specs.Spelling.{sized, counted}
 use Rattle.mp_script.specs.Script.{IsScript}
 use Rattle.mp_tx.specs.declared.input.Input.{Input}
@@ -76,15 +76,15 @@ some policy name rest n =
     let b = length-append policy (n ∷ name) in
     omega arith
 
-entry_some : (e : Entry) → 1 ≤ length (entry_bytes e)
+entry_some : (e : TokenEntry) → 1 ≤ length (entry_bytes e)
 unfolding entry_bytes
 entry_some e = some e.0.policy e.0.name (to_be_bytes w64 (cast_unsigned w64 e.1)) (length e.0.name)
 
-each_entry_some : (es : List Entry) → All (λ e. 1 ≤ length (entry_bytes e)) es
+each_entry_some : (es : List TokenEntry) → All (λ e. 1 ≤ length (entry_bytes e)) es
 each_entry_some [] = All-nil (λ e. 1 ≤ length (entry_bytes e))
 each_entry_some (e ∷ es) = All-cons (λ e. 1 ≤ length (entry_bytes e)) e es (entry_some e) (each_entry_some es)
 
-value_fits : (es : List Entry) → IsTypedValue es → length (bundle_bytes es) ≤ 16384 → IsValue es
+value_fits : (es : List TokenEntry) → IsTypedValue es → length (bundle_bytes es) ≤ 16384 → IsValue es
 unfolding bundle_bytes
 value_fits es is le =
     let few = few_items entry_bytes es (each_entry_some es) in

@@ -27,9 +27,6 @@ behind-none : {X : Type 0} (more : Read (List X)) → behind [] more ≡ more
 behind-none (Ok m) = refl
 behind-none (Err e) = refl
 
-pub sets_out : {K X : Type 0} (key : X → K) (read : Option K → List ℕ → Read X) (n : ℕ) (bytes : List ℕ) → IsOnTheWay key read n (items_read key read None n bytes) [] None bytes
-sets_out key read n bytes = record { last = refl; same = behind-none (items_read key read None n bytes) }
-
 after-first : {X : Type 0} (done : List X) (x : X) (more : Read (List X)) → behind done (more >>= λ m. Ok (x ∷ m.0, m.1)) ≡ behind (done ++ x ∷ []) more
 after-first done x (Ok m) = ap (λ xs. Ok (xs, m.1)) (sym (append_assoc done (x ∷ []) m.0))
 after-first done x (Err e) = refl
@@ -60,14 +57,6 @@ nothing done rest = ap (λ xs. Ok (xs, rest)) (append-nil done)
     append-nil : {X : Type 0} (xs : List X) → xs ++ [] ≡ xs
     append-nil [] = refl
     append-nil (x ∷ xs) = ap (λ ys. x ∷ ys) (append-nil xs)
-
--- all items were read
-pub arrives : {K X : Type 0} (key : X → K) (read : Option K → List ℕ → Read X) (n k : ℕ) (all : Read (List X)) (done : List X) (before : Option K) (rest : List ℕ) → ¬ (k < n) → IsOnTheWay key read (n - k) all done before rest → all ≡ Ok (done, rest)
-arrives key read n k all done before rest past way =
-    sym way.same ∙ ap (λ m. behind done (items_read key read before m rest)) (none_left n k past) ∙ nothing done rest
-  where
-    none_left : (n k : ℕ) → ¬ (k < n) → n - k ≡ 0
-    none_left n k past = omega arith
 
 last_of : {X : Type 0} (before : Option X) (x : X) (xs : List X) → last_key itself before (x ∷ xs) ≡ slice_get (x ∷ xs) (length xs)
 last_of before x [] = refl

@@ -1,11 +1,11 @@
 -- What is read as a transaction has this spelling, and a transaction with this spelling is read.
 use Rattle.std.proofs.lemmas.List.{take_at, length-append}
 use Rattle.std.proofs.Common.{take, ◌-◌, ◌≡◌, ◌⊎◌, ℕ, ◌<◌, ◌≤◌, ◌^◌, arith, Bool, true, false, List, [], ◌∷◌, ◌++◌, length, Option, None, Result, Ok, Err, refl, sym, ap, subst, ◌∙◌, append_assoc, nat_lt, nat_eq, inl, inr, cond}
-use Rattle.std.specs.Prelude.{not, map, IsTrue}
+use Rattle.std.specs.Prelude.{not, map}
 use Rattle.std.specs.Int.{w16, to_be_bytes}
 use Rattle.std.specs.List.{AllByRecursion}
 use Rattle.std.specs.declared.cmp.Ordering.{Ordering}
-use Rattle.mp_bundle.specs.Bundle.{Entry}
+use Rattle.mp_bundle.specs.Bundle.{TokenEntry}
 use Rattle.mp_bytes.specs.Spelling.{sized, counted}
 use Rattle.mp_bytes.specs.Fields.{count_at}
 use Rattle.mp_bytes.specs.Reading.{◌>>=◌}
@@ -131,7 +131,7 @@ pub record BodyWas (bytes : List ℕ) (x : Transaction × List ℕ) : Type 0 whe
   pub scripts : EachAfter itself (Comes script_cmp itself (IsSized IsScript)) None x.0.scripts
   pub few_scripts : length x.0.scripts < 2 ^ 16
 
-body_takes : (bytes r0 : List ℕ) (inputs : List Input) (r1 : List ℕ) (refs : List OutRef) (r2 : List ℕ) (outputs : List Output) (r3 : List ℕ) (i : ℕ × ℕ) (r4 : List ℕ) (forge : List Entry) (r5 : List ℕ) (scripts : List (List ℕ)) (r6 : List ℕ) → Takes bytes (version_of refs ∷ []) r0 → Takes r0 (counted input_bytes inputs) r1 → Takes r1 (references_bytes refs) r2 → Takes r2 (counted output_bytes outputs) r3 → Takes r3 (interval_bytes i) r4 → Takes r4 (bundle_bytes forge) r5 → Takes r5 (counted sized scripts) r6 → Takes bytes (body (record { inputs = inputs; references = refs; outputs = outputs; from = i.0; to = i.1; forge = forge; scripts = scripts; signatures = [] })) r6
+body_takes : (bytes r0 : List ℕ) (inputs : List Input) (r1 : List ℕ) (refs : List OutRef) (r2 : List ℕ) (outputs : List Output) (r3 : List ℕ) (i : ℕ × ℕ) (r4 : List ℕ) (forge : List TokenEntry) (r5 : List ℕ) (scripts : List (List ℕ)) (r6 : List ℕ) → Takes bytes (version_of refs ∷ []) r0 → Takes r0 (counted input_bytes inputs) r1 → Takes r1 (references_bytes refs) r2 → Takes r2 (counted output_bytes outputs) r3 → Takes r3 (interval_bytes i) r4 → Takes r4 (bundle_bytes forge) r5 → Takes r5 (counted sized scripts) r6 → Takes bytes (body (record { inputs = inputs; references = refs; outputs = outputs; from = i.0; to = i.1; forge = forge; scripts = scripts; signatures = [] })) r6
 unfolding body
 body_takes bytes r0 inputs r1 refs r2 outputs r3 i r4 forge r5 scripts r6 v t1 t2 t3 t4 t5 t6 =
     let a = Takes-then bytes (version_of refs ∷ []) r0 (counted input_bytes inputs) r1 v t1 in

@@ -3,7 +3,6 @@ use Rattle.std.proofs.Common.{◌≤◌, length-append, ◌≡◌, ℕ, zero, su
 use Rattle.std.specs.Prelude.{Option, None, Some, is_some, if◌then◌else◌}
 use Rattle.std.specs.List.{list_any, IsDistinct, AllByRecursion, flat_map}
 use Rattle.std.specs.FinMap.{get, insert, remove, get-insert, get-remove}
-use Rattle.std.proofs.lemmas.Grind.{flat_map-append}
 use Rattle.std.proofs.lemmas.List.Folds.{list_any-append}
 use Rattle.mp_tx.specs.declared.reference.OutRef.{OutRef}
 use Rattle.mp_tx.specs.declared.output.Output.{Output}
@@ -265,12 +264,6 @@ all-free u v ks once = found-free u (without v (leading v ks)) ks once (none_lef
 
 one : {X : Type 0} (f : OutRef → List X) (k : OutRef) → flat_map f (k ∷ []) ≡ f k
 one f k = append-nil (f k)
-
-pub found-push : (u : Utxo) (ks : List OutRef) (k : OutRef) → found u ks ++ entry_of k (get u k) ≡ found u (ks ++ k ∷ [])
-found-push u ks k = sym (flat_map-append (λ r. entry_of r (get u r)) ks (k ∷ []) ∙ ap (λ es. found u ks ++ es) (one (λ r. entry_of r (get u r)) k))
-
-pub leading-push : (v : Utxo) (ks : List OutRef) (k : OutRef) → leading v ks ++ (if is_some (get v k) then k ∷ [] else []) ≡ leading v (ks ++ k ∷ [])
-leading-push v ks k = sym (flat_map-append (λ r. if is_some (get v r) then r ∷ [] else []) ks (k ∷ []) ∙ ap (λ rs. leading v ks ++ rs) (one (λ r. if is_some (get v r) then r ∷ [] else []) k))
 
 -- ---- all references that were noted
 

@@ -1,7 +1,7 @@
 -- Which parts a transaction may have, and which bytes spell one.
 use Rattle.std.specs.Prelude.{◌≡◌, ℕ, ◌<◌, ◌≤◌, ◌^◌, List, length, IsTrue}
 use Rattle.std.specs.List.{AllByRecursion}
-use Rattle.mp_bundle.specs.Bundle.{Entry, IsBundle}
+use Rattle.mp_bundle.specs.Bundle.{TokenEntry, IsBundle}
 use Rattle.mp_script.specs.Datum.{IsDatum}
 use Rattle.mp_script.specs.Script.{IsScript}
 use Rattle.mp_tx.specs.declared.reference.OutRef.{OutRef}
@@ -30,7 +30,7 @@ pub record IsInput (i : Input) : Type 0 where
   pub redeemer : IsSized IsDatum i.redeemer
 
 -- a bundle whose number of entries fits 2 bytes, each with a policy of 32 bytes
-pub record IsValue (entries : List Entry) : Type 0 where
+pub record IsValue (entries : List TokenEntry) : Type 0 where
   pub bundle : IsBundle entries
   pub few : length entries < 2 ^ 16
   pub policies : AllByRecursion (λ e. length e.0.policy ≡ 32) entries

@@ -3,7 +3,7 @@ use Rattle.std.specs.Prelude.{◌≡◌, ◌≢◌, ℕ, zero, suc, Bool, not, L
 use Rattle.mp_bytes.specs.Fields.{number_at, unsigned_at, count_at, run_at, sized_at}
 use Rattle.mp_bytes.specs.Reading.{◌>>=◌, or_fault}
 use Rattle.mp_bundle.specs.declared.token.Token.{Token}
-use Rattle.mp_bundle.specs.Bundle.{Entry}
+use Rattle.mp_bundle.specs.Bundle.{TokenEntry}
 use Rattle.mp_bundle.specs.BundleFault.{entry_fault}
 use Rattle.mp_script.specs.DataReading.{datum_of}
 use Rattle.mp_script.specs.ScriptReading.{script_of}
@@ -104,7 +104,7 @@ byte_read [] = Err Truncated
 byte_read (b ∷ bytes) = Ok (b, bytes)
 
 -- a name that is too long is reported before it is read, and everything else after the whole entry
-unfoldable pub entry_read : Option Token → List ℕ → Read Entry
+unfoldable pub entry_read : Option Token → List ℕ → Read TokenEntry
 entry_read before bytes = do
   policy ← field (run_at 32 bytes)
   len ← byte_read policy.1
@@ -114,7 +114,7 @@ entry_read before bytes = do
   require (is_none (entry_fault before (record { policy = policy.0; name = name.0 }, quantity.0))) BadBundle
       ((record { policy = policy.0; name = name.0 }, quantity.0), quantity.1)
 
-unfoldable pub bundle_read : List ℕ → Read (List Entry)
+unfoldable pub bundle_read : List ℕ → Read (List TokenEntry)
 bundle_read bytes = counted_read (λ e. e.0) entry_read bytes
 
 -- outputs may have any order

@@ -2,7 +2,7 @@
 use Rattle.std.specs.Prelude.{ℕ, List, [], ◌∷◌, ◌++◌, length}
 use Rattle.std.specs.Int.{w16, w64, to_be_bytes, cast_unsigned}
 use Rattle.sha2.specs.Sha256.{sha256}
-use Rattle.mp_bundle.specs.Bundle.{Entry}
+use Rattle.mp_bundle.specs.Bundle.{TokenEntry}
 use Rattle.mp_bytes.specs.Spelling.{sized, counted}
 use Rattle.mp_tx.specs.declared.reference.OutRef.{OutRef}
 use Rattle.mp_tx.specs.declared.input.Input.{Input}
@@ -17,10 +17,10 @@ unfoldable pub input_bytes : Input → List ℕ
 input_bytes i = ref_bytes i.from ++ sized i.validator ++ sized i.datum ++ sized i.redeemer
 
 -- the policy, the length of the name, the name, and the quantity in two's complement
-unfoldable pub entry_bytes : Entry → List ℕ
+unfoldable pub entry_bytes : TokenEntry → List ℕ
 entry_bytes e = e.0.policy ++ length e.0.name ∷ e.0.name ++ to_be_bytes w64 (cast_unsigned w64 e.1)
 
-unfoldable pub bundle_bytes : List Entry → List ℕ
+unfoldable pub bundle_bytes : List TokenEntry → List ℕ
 bundle_bytes entries = counted entry_bytes entries
 
 unfoldable pub output_bytes : Output → List ℕ

@@ -4,7 +4,7 @@ use Rattle.std.specs.List.{list_all, list_any}
 use Rattle.std.specs.Ordering.{nat_cmp, ordering_then}
 use Rattle.std.specs.Cmp.Lexicographic.{slice_cmp}
 use Rattle.std.specs.declared.cmp.Ordering.{Ordering}
-use Rattle.mp_bundle.specs.Bundle.{Entry}
+use Rattle.mp_bundle.specs.Bundle.{TokenEntry}
 use Rattle.mp_tx.specs.declared.reference.OutRef.{OutRef}
 use Rattle.mp_tx.specs.declared.input.Input.{Input}
 use Rattle.mp_tx.specs.declared.output.Output.{Output}
@@ -22,7 +22,7 @@ pub record Transaction : Type 0 where
   pub from : ℕ
   pub to : ℕ
   -- what it forges; a negative quantity burns
-  pub forge : List Entry
+  pub forge : List TokenEntry
   -- the bytes of the policy scripts that it carries, in strictly increasing order
   pub scripts : List (List ℕ)
   -- its signatures, in strictly increasing order

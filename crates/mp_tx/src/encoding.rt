@@ -12,7 +12,7 @@ use crate::output::Output;
 use crate::parts::Parts;
 use crate::reference::OutRef;
 use crate::signature::Signature;
-use mp_bundle::{Bundle, Entry, Token};
+use mp_bundle::{Bundle, Token, TokenEntry};
 use mp_memory::{Memory, NoMemory};
 use mp_script::Script;
 
@@ -88,7 +88,7 @@ fn put_references(out: &mut Vec<u8, Memory>, references: &[OutRef]) -> Result<()
 }
 
 #[tactic(auto, unfolding(crate::specs::Spelling::entry_bytes))]
-fn put_entry(out: &mut Vec<u8, Memory>, entry: &Entry) -> Result<(), NoMemory>
+fn put_entry(out: &mut Vec<u8, Memory>, entry: &TokenEntry) -> Result<(), NoMemory>
     ensures { OnOk result (out.new.items ≡ out.old.items ++ entry_bytes entry.now) }
 {
     let (token, quantity) = entry;
@@ -122,7 +122,7 @@ fn put_coin(out: &mut Vec<u8, Memory>, quantity: i64, others: usize) -> Result<(
     put_entry(out, &(Token::COIN, quantity))
 }
 
-fn put_entries(out: &mut Vec<u8, Memory>, entries: &[Entry]) -> Result<(), NoMemory>
+fn put_entries(out: &mut Vec<u8, Memory>, entries: &[TokenEntry]) -> Result<(), NoMemory>
     ensures { OnOk result (out.new.items ≡ out.old.items ++ flat_map entry_bytes entries.now) }
 {
     for entry in entries {

@@ -14,7 +14,7 @@ struct Lone<T> {
 }
 
 #[derive(Debug, Drop)]
-enum Kept<T> {
+enum Stored<T> {
     One(Lone<T>),
     Several(Vec<T, Memory>),
 }
@@ -22,7 +22,7 @@ enum Kept<T> {
 /// A list of fixed length. A single item is stored in the list itself, and takes no memory. Contracts see the items.
 #[derive(Debug)]
 pub struct Few<T> {
-    kept: Kept<T>,
+    kept: Stored<T>,
 }
 
 impl<T: Drop> Drop for Few<T> {
@@ -41,17 +41,17 @@ impl<T> Model for Few<T> {
     ghost view = { λ f. those f.kept };
 }
 
-fn keep_exact<T: Drop>(items: Vec<T, Memory>) -> Kept<T>
+fn keep_exact<T: Drop>(items: Vec<T, Memory>) -> Stored<T>
     ensures { those result ≡ items.items }
 {
     let mut items = items;
     if items.len() == 1 {
         if let Some(only) = items.pop() {
-            return Kept::One(Lone { item: [only] });
+            return Stored::One(Lone { item: [only] });
         }
     }
     items.shrink_to_fit();
-    Kept::Several(items)
+    Stored::Several(items)
 }
 
 impl<T: Drop> Few<T> {
@@ -69,8 +69,8 @@ impl<T: Drop> Few<T> {
         ensures { result.now ≡ self.now }
     {
         match &self.kept {
-            Kept::One(only) => &only.item,
-            Kept::Several(items) => items,
+            Stored::One(only) => &only.item,
+            Stored::Several(items) => items,
         }
     }
 }

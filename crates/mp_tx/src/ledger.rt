@@ -25,7 +25,7 @@ use std::marker::Model;
 pub const MAX_BLOCK_BYTES: u64 = 1 << 39;
 
 /// An output with its reference.
-type Entry = (OutRef, Output);
+type Unspent = (OutRef, Output);
 
 /// A ledger state: a tick, the block bytes, and a finite map from references to outputs. Several owners may share the
 /// map. A look-up doesn't iterate over the outputs. The map is a hash table that depends on a salt. A state that blocks
@@ -72,7 +72,7 @@ fn is_in_range(block_bytes: u64) -> bool
 
 // Puts outputs into an empty map, up to the first whose reference occurs before. Its index is then the length of the
 // map.
-fn put_outputs(map: &mut Base, outputs: Vec<Entry, Memory>) -> Result<(), LedgerFault>
+fn put_outputs(map: &mut Base, outputs: Vec<Unspent, Memory>) -> Result<(), LedgerFault>
     requires { map.old.entries ≡ [] }
     ensures all { OnOk result (map.new.entries ≡ outputs.items) }
     ensures salt { OnOk result (hasher_of map.new ≡ hasher_of map.old) }
@@ -88,7 +88,7 @@ fn put_outputs(map: &mut Base, outputs: Vec<Entry, Memory>) -> Result<(), Ledger
 }
 
 // The entries of a table.
-fn entries_of(memory: Memory, table: Base) -> Result<Vec<Entry, Memory>, NoMemory>
+fn entries_of(memory: Memory, table: Base) -> Result<Vec<Unspent, Memory>, NoMemory>
     ensures { IfOk result (λ o. o.items ≡ table.entries) }
 {
     let mut outputs = Vec::with_capacity(memory, table.len())?;
@@ -117,7 +117,7 @@ impl Ledger {
         salt: Salt,
         tick: u64,
         block_bytes: u64,
-        outputs: Vec<Entry, Memory>,
+        outputs: Vec<Unspent, Memory>,
     ) -> Result<Ledger, LedgerFault>
         ensures ok { IfOk result (λ l. l ≡ ledger_of salt tick block_bytes outputs.items) }
         ensures block_bytes { OnOk result (HasBlockBytes block_bytes) }
@@ -150,7 +150,7 @@ impl Ledger {
         tick: u64,
         block_bytes: u64,
         spent: &[OutRef],
-        made: Vec<Entry, Memory>,
+        made: Vec<Unspent, Memory>,
     ) -> Result<Ledger, BlockFault>
         ensures ok { IfOk result
             (λ l. l ≡ ledger_after self.now tick block_bytes spent.now made.items) }
@@ -200,7 +200,7 @@ impl Ledger {
     }
 
     /// All outputs with their references, in an order that isn't said. It takes time and memory in proportion to them.
-    pub fn outputs(&self, memory: Memory) -> Result<Vec<Entry, Memory>, NoMemory>
+    pub fn outputs(&self, memory: Memory) -> Result<Vec<Unspent, Memory>, NoMemory>
         ensures { IfOk result (λ o. from_entries o.items ≡ self.now.utxo) }
     {
         entries_of(memory, self.outputs.settled(memory)?)

@@ -11,7 +11,7 @@ use crate::output::Output;
 use crate::parts::Parts;
 use crate::reference::OutRef;
 use crate::signature::Signature;
-use mp_bundle::{Bundle, Entry};
+use mp_bundle::{Bundle, TokenEntry};
 use mp_script::Script;
 
 fn look_at_index(index: u16)
@@ -58,13 +58,13 @@ fn look_at_inputs(inputs: &[Input])
     }
 }
 
-fn look_at_entry(entry: &Entry)
+fn look_at_entry(entry: &TokenEntry)
     ensures { length entry.now.0.policy ≡ 32 }
 {
     let _policy: &[u8] = &entry.0.policy;
 }
 
-fn look_at_entries(entries: &[Entry])
+fn look_at_entries(entries: &[TokenEntry])
     ensures { All (λ e. length e.0.policy ≡ 32) entries.now }
 {
     for entry in entries {

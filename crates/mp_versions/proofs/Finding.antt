@@ -45,9 +45,6 @@ found low t (x ∷ xs) p r = found_step (nat_lt (t - 1) x.0) t x xs refl p r.1 (
 
 -- ---- bytes
 
-pub no_bytes : bytes_of [] ≡ 0
-no_bytes = refl
-
 less_step : (c : Bool) (x : ℕ × Transaction) (ys xs : List (ℕ × Transaction)) → bytes_of ys ≤ bytes_of xs → bytes_of (cond c (x ∷ ys) ys) ≤ bytes_of (x ∷ xs)
 less_step true x ys xs h = let m = more_bytes x ys in let n = more_bytes x xs in omega arith
 less_step false x ys xs h = let n = more_bytes x xs in omega arith

@@ -14,4 +14,10 @@ pub mod Lengths
 pub mod Parting
 pub mod Parts
 pub mod Withins
+pub mod Beginnings
+pub mod Fronts
+pub mod Rising
+pub mod Rounds
+pub mod Sharing
+pub mod Turns
 mod Trying

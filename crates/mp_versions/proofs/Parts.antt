@@ -1,5 +1,5 @@
 -- Lists, their prefixes and their suffixes.
-use Rattle.std.proofs.Common.{◌≡◌, ℕ, zero, suc, ◌<◌, ◌≤◌, Bool, true, false, List, [], ◌∷◌, ◌++◌, length, take, drop, map, get_or, refl, ap, ◌∙◌, arith}
+use Rattle.std.proofs.Common.{◌≡◌, ℕ, zero, suc, ◌<◌, ◌≤◌, Bool, true, false, List, [], ◌∷◌, ◌++◌, length, take, drop, get_or, refl, ap, ◌∙◌, arith}
 use Rattle.std.specs.List.{AllByRecursion, AllWithin, flat_map}
 use Rattle.std.specs.List.Sorted.{IsNonDecreasingBy}
 use Rattle.std.proofs.lemmas.List.{append-nil}
@@ -15,10 +15,6 @@ module _ {T : Type 0} where
   pub last_by-append : (f : T → ℕ) (n : ℕ) (xs ys : List T) → last_by f n (xs ++ ys) ≡ last_by f (last_by f n xs) ys
   last_by-append f n [] ys = refl
   last_by-append f n (x ∷ xs) ys = last_by-append f (f x) xs ys
-
-  pub last_by-map : {U : Type 0} (f : T → ℕ) (v : U → T) (n : ℕ) (xs : List U) → last_by f n (map v xs) ≡ last_by (λ x. f (v x)) n xs
-  last_by-map f v n [] = refl
-  last_by-map f v n (x ∷ xs) = last_by-map f v (f (v x)) xs
 
   -- each number is at least the one before it
   abbrev pub Climbs : (T → ℕ) → ℕ → List T → Type 0

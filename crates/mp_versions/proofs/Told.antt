@@ -1,12 +1,10 @@
 -- What a prepared step says about the pool, by its command and its reply.
-use Rattle.std.proofs.Common.{◌≡◌, ℕ, ◌+◌, ◌≤◌, ◌^◌, List, sym, ap, subst, ◌∙◌, arith}
+use Rattle.std.proofs.Common.{◌≡◌, ℕ, ◌+◌, ◌≤◌, ◌^◌, sym, ap, subst, ◌∙◌, arith}
 use Rattle.mp_tx.specs.Transaction.{Transaction}
 use Rattle.mp_tx.specs.Spelling.{size_of}
-use Rattle.mp_tx.specs.Ledger.{LedgerState}
-use Rattle.mp_seqpool.specs.Command.{Submit, Remove, Sync}
 use Rattle.mp_seqpool.specs.Pool.{Pool, Holding}
-use Rattle.mp_seqpool.specs.SlowPool.{HasPlace, bytes_held, pool_with, pool_upon}
-use Rattle.mp_seqpool.specs.Prepared.{Prepared, Effect, Append, Keep, TakeOut, Adopt, changed, left_by, leads_to, told, CanChange, IsPrepared}
+use Rattle.mp_seqpool.specs.SlowPool.{HasPlace, bytes_held, pool_with}
+use Rattle.mp_seqpool.specs.Prepared.{Effect, Append, Keep, TakeOut, Adopt, changed, CanChange}
 use Rattle.mp_versions.proofs.ByteSums.{sum-last}
 
 not_itself : (n : ℕ) → n + 1 ≡ n → ⊥
@@ -21,15 +19,3 @@ place h (Append item) t can e =
 place h (Keep overlay kept) t can e = absurd (not_itself h.pool.last (sym (ap (λ (q : Pool). q.last) e)))
 place h (TakeOut gone) t can e = absurd (not_itself h.pool.last (sym (ap (λ (q : Pool). q.last) e)))
 place h (Adopt ledger gone) t can e = absurd (not_itself h.pool.last (sym (ap (λ (q : Pool). q.last) e)))
-
--- a step that adds a transaction has room for it
-pub submit_tells : (h : Holding) (q : Prepared) (t : Transaction) → q.command ≡ Submit t → IsPrepared h q → HasPlace h.pool t × (leads_to h.pool q ≡ pool_with h.pool t)
-submit_tells h q t command is =
-    let leads : leads_to h.pool q ≡ pool_with h.pool t = is.tells ∙ ap (λ c. told h.pool c q.reply) command in
-    (place h q.effect t is.fits leads, leads)
-
-pub remove_tells : (h : Holding) (q : Prepared) (ids : List (List ℕ)) → q.command ≡ Remove ids → IsPrepared h q → leads_to h.pool q ≡ pool_upon h.pool h.pool.ledger (left_by q.reply h.pool.items)
-remove_tells h q ids command is = is.tells ∙ ap (λ c. told h.pool c q.reply) command
-
-pub sync_tells : (h : Holding) (q : Prepared) (ledger : LedgerState) → q.command ≡ Sync ledger → IsPrepared h q → leads_to h.pool q ≡ pool_upon h.pool ledger (left_by q.reply h.pool.items)
-sync_tells h q ledger command is = is.tells ∙ ap (λ c. told h.pool c q.reply) command

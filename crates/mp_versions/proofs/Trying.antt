@@ -20,7 +20,7 @@ use Rattle.mp_seqpool.proofs.KeptLast.{kept_last}
 use Rattle.mp_versions.proofs.ByteSums.{sum-last}
 use Rattle.mp_seqpool.specs.declared.item.Item.{Item}
 use Rattle.mp_seqpool.specs.Item.{shown}
-use Rattle.mp_versions.specs.declared.kept_items.Kept.{Kept}
+use Rattle.mp_versions.specs.declared.kept_items.Keeping.{Keeping}
 use Rattle.mp_versions.specs.Inside.KeptItems.{Keeps, KeepsOrStays, Tries, HasTried}
 
 abbrev Items : Type 0
@@ -64,18 +64,18 @@ module _ (accepts : Accepts) where
 
   module _ (ledger : LedgerState) where
     -- there is room for the bytes of the next item
-    room : (xs rest : Items) (i : ℕ × Transaction) (t : Kept) (most : ℕ) → bytes_of (xs ++ i ∷ rest) ≤ most → HasTried accepts ledger xs t → t.bytes + size_of i.1 ≤ most
+    room : (xs rest : Items) (i : ℕ × Transaction) (t : Keeping) (most : ℕ) → bytes_of (xs ++ i ∷ rest) ≤ most → HasTried accepts ledger xs t → t.bytes + size_of i.1 ≤ most
     room xs rest i t most h is =
         let all : bytes_of (xs ++ i ∷ rest) ≡ bytes_of xs + (size_of i.1 + bytes_of rest) = bytes-append xs (i ∷ rest) ∙ ap (λ n. bytes_of xs + n) (bytes-cons i rest) in
         let less : bytes_of (keep accepts ledger xs) ≤ bytes_of xs = kept_less ledger.tick (get ledger.utxo) xs in
         let size : t.bytes ≡ bytes_of (keep accepts ledger xs) = is.size in
         omega arith
 
-    pub room_in_turn : (all s t u : Items) (xs : List (Bor Item)) (r : Option (Bor Item)) (x : Bor Item) (k : Kept) (most : ℕ) → s ≡ all → Yields (TakesFirst shown) s xs t → r ≡ Some x → TakesFirst shown t r u
+    pub room_in_turn : (all s t u : Items) (xs : List (Bor Item)) (r : Option (Bor Item)) (x : Bor Item) (k : Keeping) (most : ℕ) → s ≡ all → Yields (TakesFirst shown) s xs t → r ≡ Some x → TakesFirst shown t r u
         → bytes_of all ≤ most → HasTried accepts ledger (map shown xs) k → k.bytes + size_of (shown x).1 ≤ most
     room_in_turn all s t u xs r x k most start y is step h tried = room (map shown xs) u (shown x) k most (subst (λ l. bytes_of l ≤ most) (turn all s t u xs r x start y is step) h) tried
 
-    valid_there : (xs : Items) (t : Transaction) (old : Kept) (b : Bool) → HasTried accepts ledger xs old
+    valid_there : (xs : Items) (t : Transaction) (old : Keeping) (b : Bool) → HasTried accepts ledger xs old
         → is_valid accepts (after (get old.overlay.ledger.utxo) old.overlay.applied) old.overlay.ledger.tick t ≡ b
         → is_valid accepts (after (get ledger.utxo) (transactions (keep accepts ledger xs))) ledger.tick t ≡ b
     valid_there xs t old b k h =
@@ -83,7 +83,7 @@ module _ (accepts : Accepts) where
         ∙ ap (λ ts. is_valid accepts (after (get ledger.utxo) ts) ledger.tick t) k.applied)
         ∙ h
 
-    stayed : (xs : Items) (i : ℕ × Transaction) (old new : Kept) → keep accepts ledger (xs ++ i ∷ []) ≡ keep accepts ledger xs ++ i ∷ [] → HasTried accepts ledger xs old → Keeps old i new → HasTried accepts ledger (xs ++ i ∷ []) new
+    stayed : (xs : Items) (i : ℕ × Transaction) (old new : Keeping) → keep accepts ledger (xs ++ i ∷ []) ≡ keep accepts ledger xs ++ i ∷ [] → HasTried accepts ledger xs old → Keeps old i new → HasTried accepts ledger (xs ++ i ∷ []) new
     stayed xs i old new more k p =
         let kept : Items = keep accepts ledger xs in
         record {
@@ -93,7 +93,7 @@ module _ (accepts : Accepts) where
           size = p.size ∙ ap (λ n. n + size_of i.1) k.size ∙ sym (sum-last kept i) ∙ ap bytes_of (sym more);
         }
 
-    fell : (xs : Items) (i : ℕ × Transaction) (old new : Kept) → keep accepts ledger (xs ++ i ∷ []) ≡ keep accepts ledger xs → HasTried accepts ledger xs old → new ≡ old → HasTried accepts ledger (xs ++ i ∷ []) new
+    fell : (xs : Items) (i : ℕ × Transaction) (old new : Keeping) → keep accepts ledger (xs ++ i ∷ []) ≡ keep accepts ledger xs → HasTried accepts ledger xs old → new ≡ old → HasTried accepts ledger (xs ++ i ∷ []) new
     fell xs i old new same k e = subst (HasTried accepts ledger (xs ++ i ∷ [])) (sym e) (record {
       base = k.base;
       applied = k.applied ∙ ap transactions (sym same);
@@ -101,12 +101,12 @@ module _ (accepts : Accepts) where
       size = k.size ∙ ap bytes_of (sym same);
     })
 
-    tried : (v : Bool) (xs : Items) (i : ℕ × Transaction) (old new : Kept) → HasTried accepts ledger xs old
+    tried : (v : Bool) (xs : Items) (i : ℕ × Transaction) (old new : Keeping) → HasTried accepts ledger xs old
         → is_valid accepts (after (get old.overlay.ledger.utxo) old.overlay.applied) old.overlay.ledger.tick i.1 ≡ v
         → KeepsOrStays v old i new → HasTried accepts ledger (xs ++ i ∷ []) new
     tried true xs i old new k e h = stayed xs i old new (kept_last accepts ledger.tick true (get ledger.utxo) xs i (valid_there xs i.1 old true k e)) k h
     tried false xs i old new k e h = fell xs i old new (kept_last accepts ledger.tick false (get ledger.utxo) xs i (valid_there xs i.1 old false k e)) k h
 
     -- an item that is tried after those before it
-    pub one_more : (xs : Items) (i : ℕ × Transaction) (old new : Kept) → HasTried accepts ledger xs old → Tries accepts old i new → HasTried accepts ledger (xs ++ i ∷ []) new
+    pub one_more : (xs : Items) (i : ℕ × Transaction) (old new : Keeping) → HasTried accepts ledger xs old → Tries accepts old i new → HasTried accepts ledger (xs ++ i ∷ []) new
     one_more xs i old new k h = tried (is_valid accepts (after (get old.overlay.ledger.utxo) old.overlay.applied) old.overlay.ledger.tick i.1) xs i old new k refl h

@@ -4,3 +4,5 @@ pub mod Version
 pub mod Layout
 pub mod Pages
 pub mod Reading
+pub mod Blocks
+pub mod Offers

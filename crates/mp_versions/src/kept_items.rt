@@ -26,17 +26,17 @@ pub struct KeptItems {
 
 // What has been kept so far: the ledger state with it applied, the items, and the number of their bytes.
 #[derive(Drop)]
-struct Kept {
+struct Keeping {
     overlay: Overlay,
     items: Vec<Item, Memory>,
     bytes: u64,
 }
 
 // The ledger state without items.
-fn begin(memory: Memory, ledger: &Ledger) -> Result<Kept, NoMemory>
+fn begin(memory: Memory, ledger: &Ledger) -> Result<Keeping, NoMemory>
     ensures { IfOk result (IsBegun ledger.now) }
 {
-    Ok(Kept {
+    Ok(Keeping {
         overlay: Overlay::over(memory, ledger)?,
         items: Vec::new(memory),
         bytes: 0,
@@ -44,7 +44,7 @@ fn begin(memory: Memory, ledger: &Ledger) -> Result<Kept, NoMemory>
 }
 
 // Applies the item and appends it.
-fn keep(kept: &mut Kept, item: &Item) -> Result<(), NoMemory>
+fn keep(kept: &mut Keeping, item: &Item) -> Result<(), NoMemory>
     requires { kept.old.bytes + size_of (item_of item.now).1 ≤ 2 ^ 40 }
     ensures { OnOk result (Keeps kept.old (item_of item.now) kept.new) }
 {
@@ -58,7 +58,7 @@ fn keep(kept: &mut Kept, item: &Item) -> Result<(), NoMemory>
 // Keeps the item if it is valid after those that were kept, and else leaves it out.
 fn try_item<V: Verifier>(
     memory: Memory,
-    kept: &mut Kept,
+    kept: &mut Keeping,
     item: &Item,
     verifier: &V,
 ) -> Result<(), NoMemory>
@@ -80,7 +80,7 @@ fn try_all<V: Verifier>(
     items: Run<'_>,
     ledger: &Ledger,
     verifier: &V,
-) -> Result<Kept, NoMemory>
+) -> Result<Keeping, NoMemory>
     requires signed { All (IsSigned (V.accepts verifier.now)) (transactions items) }
     requires most { bytes_of items ≤ 2 ^ 40 }
     ensures { IfOk result (HasTried (V.accepts verifier.now) ledger.now items.entry) }

@@ -4,12 +4,12 @@ use Rattle.std.specs.Ordering.{is_lt}
 use Rattle.mp_bundle.specs.declared.sum.Sum.TheInside.{Inside}
 use Rattle.mp_bundle.specs.declared.token.Token.{Token}
 use Rattle.mp_bundle.specs.Token.{coin, token_cmp}
-use Rattle.mp_bundle.specs.Bundle.{Entry, IsWithin, quantity_of}
+use Rattle.mp_bundle.specs.Bundle.{TokenEntry, IsWithin, quantity_of}
 use Rattle.mp_bundle.specs.Sum.{Sum}
 use Rattle.mp_bundle.specs.Inside.Totals.{nonzero_of}
 
 -- the total of coin, and the others
-abbrev pub totals_of : Inside → List Entry
+abbrev pub totals_of : Inside → List TokenEntry
 totals_of s = (coin, s.coin) ∷ s.totals.entries
 
 abbrev pub sum_of : Inside → Sum

@@ -5,17 +5,17 @@ use Rattle.std.specs.Ordering.{eq_by_cmp, int_eq, is_lt}
 use Rattle.std.specs.BTreeMap.{BTreeMap, ContainsKey}
 use Rattle.mp_bundle.specs.declared.token.Token.{Token}
 use Rattle.mp_bundle.specs.Token.{token_cmp}
-use Rattle.mp_bundle.specs.Bundle.{Entry, IsWithin, quantity_of}
+use Rattle.mp_bundle.specs.Bundle.{TokenEntry, IsWithin, quantity_of}
 
 -- the totals that aren't zero, as a map
-abbrev pub nonzero_of : List Entry → FinMap token_cmp ℤ
+abbrev pub nonzero_of : List TokenEntry → FinMap token_cmp ℤ
 nonzero_of [] = empty
 nonzero_of (e ∷ es) =
     if int_eq e.1 (pos 0) then remove (nonzero_of es) e.0
     else insert (nonzero_of es) e.0 e.1
 
 -- there is a total for the token of each entry
-abbrev pub HasRoom : BTreeMap Token ℤ → List Entry → Type 0
+abbrev pub HasRoom : BTreeMap Token ℤ → List TokenEntry → Type 0
 HasRoom totals entries = All (λ e. ContainsKey token_cmp totals e.0) entries
 
 -- each key of old is one of new
@@ -35,19 +35,19 @@ RaisesAt old token by new =
     ≡ quantity_of old.entries other +ℤ (if eq_by_cmp token_cmp token other then by else pos 0)
 
 -- new is old with each quantity of the entries added
-abbrev pub RaisesAll : BTreeMap Token ℤ → List Entry → BTreeMap Token ℤ → Type 0
+abbrev pub RaisesAll : BTreeMap Token ℤ → List TokenEntry → BTreeMap Token ℤ → Type 0
 RaisesAll old entries new =
     (token : Token) → quantity_of new.entries token
     ≡ quantity_of old.entries token +ℤ quantity_of entries token
 
 -- with each quantity of the entries added, each total fits 128 bits
-abbrev pub HasSpan : BTreeMap Token ℤ → List Entry → Type 0
+abbrev pub HasSpan : BTreeMap Token ℤ → List TokenEntry → Type 0
 HasSpan totals entries =
     (token : Token)
     → IsWithin (2 ^ 127 - 1) (quantity_of totals.entries token +ℤ quantity_of entries token)
 
 -- the first token whose total differs in the others
-abbrev pub first_unlike : List Entry → List Entry → Option Token
+abbrev pub first_unlike : List TokenEntry → List TokenEntry → Option Token
 first_unlike [] others = None
 first_unlike (e ∷ es) others =
     if not (int_eq (quantity_of others e.0) e.1) then Some e.0 else first_unlike es others

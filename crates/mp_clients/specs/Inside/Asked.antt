@@ -3,20 +3,20 @@ use Rattle.std.specs.Prelude.{◌≡◌, Result, Ok, Err}
 use Rattle.mp_seqpool.specs.declared.refusal.Refusal.{Refusal}
 use Rattle.mp_seqpool.specs.declared.command.Reply.{Reply}
 use Rattle.mp_mempool.specs.declared.read.receipt.Receipt.{Receipt}
-use Rattle.mp_clients.specs.declared.stop.Stop.{Stop}
-use Rattle.mp_clients.specs.declared.stop.Stop.TheVariants.{NoMemory, Untold}
+use Rattle.mp_clients.specs.declared.stop.ClientStop.{ClientStop}
+use Rattle.mp_clients.specs.declared.stop.ClientStop.TheVariants.{NoMemory, Untold}
 
 abbrev pub answer_in : Result Receipt Refusal → Result Reply Refusal
 answer_in (Ok receipt) = Ok receipt.entry.reply
 answer_in (Err refusal) = Err refusal
 
 -- why there is no line of the answer
-abbrev pub IsUnanswered : Result Reply Refusal → Stop → Type 0
+abbrev pub IsUnanswered : Result Reply Refusal → ClientStop → Type 0
 IsUnanswered (Ok reply) stop = stop ≡ Untold
 IsUnanswered (Err refusal) stop = stop ≡ NoMemory
 
 -- no change was made
-abbrev pub IsBefore : Stop → Type 0
+abbrev pub IsBefore : ClientStop → Type 0
 IsBefore Untold = ⊥
 IsBefore stop = Unit {0}
 

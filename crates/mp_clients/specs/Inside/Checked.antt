@@ -1,6 +1,5 @@
 -- What a submit would be answered, given the result of the rules.
 use Rattle.std.specs.Prelude.{◌≡◌}
-use Rattle.mp_tx.specs.Transaction.{Transaction}
 use Rattle.mp_seqpool.specs.Keep.{transactions}
 use Rattle.mp_utxo.specs.Overlay.{Overlay}
 use Rattle.mp_seqpool.specs.Pool.{Pool}

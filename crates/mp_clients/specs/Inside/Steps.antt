@@ -5,12 +5,12 @@ use Rattle.mp_rules.specs.Verifier.{Accepts}
 use Rattle.mp_tx.specs.Transaction.{Transaction}
 use Rattle.mp_names.specs.Names.{Names}
 use Rattle.mp_serve.specs.Ask.{NewBlock}
-use Rattle.mp_serve.specs.Request.{Request, Block, respond}
+use Rattle.mp_serve.specs.Request.{Request, ResolvedBlock, respond}
 use Rattle.mp_clients.specs.declared.conversation.Conversation.{Conversation}
 use Rattle.mp_serve.specs.declared.conversation.Conversation as alone
 use Rattle.mp_serve.specs.Talk.{Step, block_at, block_txs}
-use Rattle.mp_clients.specs.declared.stop.Stop.{Stop}
-use Rattle.mp_clients.specs.declared.stop.Stop.TheVariants.{NoMemory, Untold, Foreign}
+use Rattle.mp_clients.specs.declared.stop.ClientStop.{ClientStop}
+use Rattle.mp_clients.specs.declared.stop.ClientStop.TheVariants.{NoMemory, Untold, Foreign}
 use Rattle.mp_clients.specs.Client.{Client, served_at}
 use Rattle.mp_clients.specs.Alone.{alone_at, stage_of}
 use Rattle.mp_clients.specs.Answers.{IsUnchanged}
@@ -35,14 +35,14 @@ abbrev pub IsBadAlone : {N : Type 0} → Accepts → Conversation N → (alone.C
 IsBadAlone accepts c does = does (alone_at accepts c c.client.pass.front) ≡ None
 
 -- With that pool, the block of the line is this one.
-abbrev pub IsMeantBlock : {N : Type 0} → Accepts → Conversation N → NewBlock → Block → Type 0
+abbrev pub IsMeantBlock : {N : Type 0} → Accepts → Conversation N → NewBlock → ResolvedBlock → Type 0
 IsMeantBlock accepts c b block =
     (txs : List Transaction) × (block_txs c.staged (stage_of accepts c.client) b.txs ≡ Some txs) × (block ≡ block_at (arc_value c.settings) b txs)
 
 module _ {N : Type 0} (accepts : Accepts) (callers : ℕ) where
   -- After an allocation failure nothing has changed but what the conversation has seen; or the change was made, and only its answer
   -- and its name are lost.
-  abbrev pub IsStopped : (List ℕ → Conversation N → Type 0) → Conversation N → Conversation N → Stop → Type 0
+  abbrev pub IsStopped : (List ℕ → Conversation N → Type 0) → Conversation N → Conversation N → ClientStop → Type 0
   IsStopped Does c u NoMemory = IsUnchanged accepts callers c u
   IsStopped Does c u Untold =
       (text : List ℕ) × (v : Conversation N) × Does text v × (u ≡ record v { names = c.names })

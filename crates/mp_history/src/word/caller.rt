@@ -60,7 +60,7 @@ impl<N: PoolName> Caller<N> {
     }
 
     /// The place of its last entry, if it has made one.
-    pub fn last(&self) -> Option<u64>
+    pub fn last_place(&self) -> Option<u64>
         ensures { result ≡ self.now.last }
     {
         self.last

@@ -11,7 +11,10 @@ use clap::error::ErrorKind;
 use clap::{Arg, ArgAction, Command, Error, value_parser};
 use std::alloc::{AllocError, Global};
 
-const VERSION: &str = "0.1.0";
+// `tools/package` writes the commit and the kit into a packed program, over the text after these words.
+const VERSION: &str = "0.1.0\n\
+    commit unknown                                         \n\
+    kit unknown                                         ";
 
 // The last is another word for the first.
 const SIGNATURES: &[&str] = &["trial", "checked", "ed25519", "scenarios"];

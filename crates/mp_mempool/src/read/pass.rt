@@ -135,11 +135,11 @@ impl<N: PoolName> Pass<N> {
     }
 
     /// The place of the last entry that the caller made. It is the caller's, and is in the pass's front.
-    pub fn last(&self) -> Option<u64>
+    pub fn last_place(&self) -> Option<u64>
         ensures last { result ≡ self.now.last }
         ensures own { IsOwn self.now }
     {
-        self.caller.last()
+        self.caller.last_place()
     }
 
     /// The front of what the caller has seen.

@@ -246,7 +246,7 @@ impl<N: PoolName> Locked<N> {
             → last_of pass.now.caller self.new.log.entries ≢ pass.now.last }
     {
         self.right.covers(pass.front());
-        self.last_of(pass.token()) == pass.last()
+        self.last_of(pass.token()) == pass.last_place()
     }
 
     // Owners of the version after the step that the entry records.

@@ -102,7 +102,7 @@ fn keep<N: PoolName>(
 }
 
 fn read_last<N: PoolName>(pass: &Pass<N>) -> Heard {
-    match pass.last() {
+    match pass.last_place() {
         Some(place) => Heard::Last(place),
         None => Heard::NoLast,
     }
@@ -170,7 +170,7 @@ fn learn_from<N: PoolName>(
 }
 
 fn is_fresh<N: PoolName>(place: usize, pass: &Pass<N>) -> bool {
-    pass.caller() as usize == place && pass.last().is_none() && pass.front().len() == 0
+    pass.caller() as usize == place && pass.last_place().is_none() && pass.front().len() == 0
 }
 
 // Whether these are the passes of the callers 0, 1, .. before any change.

@@ -2,12 +2,12 @@
 //! answered.
 use crate::mempool::calls::Call;
 use crate::mempool::heard::{Heard, NO_MEMORY};
-use crate::mempool::pools::{LONG, Line, MAX_GROWTHS, Played, play};
+use crate::mempool::pools::{LONG, Line, Played, play};
 use mp_testing::commands::{
     ALL, CHAINED, EVEN, MERGED, PART, REMOVE_SECOND, RIVAL, SIGNED, Samples,
 };
 use mp_testing::told::Told;
-use mp_testing::{Seen, count};
+use mp_testing::{Ending, Seen, count, fail_each};
 use std::io;
 use std::sync::Wait;
 
@@ -72,16 +72,14 @@ static ROWS: [(&str, Case, bool); 5] = [
     ),
 ];
 
-// The call is answered although that allocation fails. If there is no such allocation, the answer of the last line
-// differs.
+// The call is answered although that allocation fails, or because there is no such allocation.
 fn answered(rt: &impl Wait, samples: &Samples, case: Case, nth: u64) -> Played {
     let (call, wanted, _) = case;
-    let lines: [Line; 5] = [
+    let lines: [Line; 4] = [
         (0, Call::Ask(1), Heard::Entered(0, Told::Accepted(1))),
         (0, Call::Ask(CHAINED), Heard::Entered(1, Told::Accepted(2))),
         (0, Call::Refuse(nth), Heard::Done),
         (0, call, wanted),
-        (0, Call::Met, Heard::Met(true)),
     ];
     play(rt, samples, 2, LONG, &lines)
 }
@@ -104,57 +102,44 @@ fn refused(rt: &impl Wait, samples: &Samples, case: Case, nth: u64) -> Played {
     play(rt, samples, 2, LONG, &lines)
 }
 
-// The outcome of a failing allocation.
-#[derive(Clone, Copy)]
-enum Outcome {
-    // There is no such allocation.
-    Unmet,
-    Answered,
-    Refused,
-    Wrong,
-}
-
-fn try_growth(rt: &impl Wait, samples: &Samples, case: Case, nth: u64) -> Outcome {
-    match answered(rt, samples, case, nth) {
-        Played::Otherwise(4, Heard::Met(false)) => Outcome::Unmet,
-        Played::AsTold => Outcome::Answered,
-        _ if refused(rt, samples, case, nth).is_as_told() => Outcome::Refused,
-        _ => Outcome::Wrong,
+fn try_growth(rt: &impl Wait, samples: &Samples, case: Case, nth: u64) -> Ending {
+    if answered(rt, samples, case, nth).is_as_told() {
+        return Ending::Usual;
     }
+    Ending::of(false, refused(rt, samples, case, nth).is_as_told())
 }
 
-// How many allocations fail, up to the expected five, and whether the call is answered although some fail. Returns
+// How many calls are refused, up to the expected five, and whether some are answered although an allocation fails. Returns
 // `None` if a trial goes wrong.
 fn try_all(rt: &impl Wait, samples: &Samples, case: Case) -> Option<Seen> {
-    let mut refused: u64 = 0;
-    let mut answered: u64 = 0;
-    for nth in 1..MAX_GROWTHS {
-        match try_growth(rt, samples, case, nth) {
-            Outcome::Unmet => return Some([refused.min(5), answered.min(1), 0, 0, 0, 0]),
-            Outcome::Answered => answered = answered.saturating_add(1),
-            Outcome::Refused => refused = refused.saturating_add(1),
-            Outcome::Wrong => return None,
-        }
-    }
-    None
+    let failures = fail_each(&samples.memory, |nth| try_growth(rt, samples, case, nth))?;
+    let refused = failures.all.saturating_sub(failures.unnoticed);
+    Some([refused.min(5), failures.unnoticed.min(1), 0, 0, 0, 0])
 }
 
-// The number of allocations of a submit that spends both outputs of another, which is in the pool. 0 if it goes wrong.
-fn growths_of(rt: &impl Wait, samples: &Samples, parent: usize, child: usize) -> u64 {
-    for nth in 1..MAX_GROWTHS {
-        let lines: [Line; 4] = [
-            (0, Call::Ask(parent), Heard::Entered(0, Told::Accepted(1))),
-            (0, Call::Refuse(nth), Heard::Done),
-            (0, Call::Ask(child), Heard::Entered(1, Told::Accepted(2))),
-            (0, Call::Met, Heard::Met(true)),
-        ];
-        match play(rt, samples, 1, LONG, &lines) {
-            Played::Otherwise(3, Heard::Met(false)) => return nth,
-            Played::AsTold | Played::Otherwise(2, _) => {}
-            _ => return 0,
-        }
+// A submit that spends both outputs of another, which is in the pool.
+fn spend_both(rt: &impl Wait, samples: &Samples, parent: usize, child: usize, nth: u64) -> Ending {
+    let lines: [Line; 3] = [
+        (0, Call::Ask(parent), Heard::Entered(0, Told::Accepted(1))),
+        (0, Call::Refuse(nth), Heard::Done),
+        (0, Call::Ask(child), Heard::Entered(1, Told::Accepted(2))),
+    ];
+    match play(rt, samples, 1, LONG, &lines) {
+        Played::AsTold => Ending::Usual,
+        Played::Otherwise(2, _) => Ending::NoMemory,
+        _ => Ending::Wrong,
     }
-    0
+}
+
+// The number of its allocations. 0 if it goes wrong.
+fn growths_of(rt: &impl Wait, samples: &Samples, parent: usize, child: usize) -> u64 {
+    match fail_each(
+        &samples.memory,
+        |nth| spend_both(rt, samples, parent, child, nth),
+    ) {
+        Some(failures) => failures.all,
+        None => 0,
+    }
 }
 
 // The check before the lock finds each named output, in order, so scripts don't run again under the lock. It makes no
@@ -164,7 +149,7 @@ fn see_scripts(rt: &impl Wait, samples: &Samples) -> Seen {
     let even = growths_of(rt, samples, EVEN, EVEN + 1);
     [
         differing.wrapping_sub(even),
-        u64::from(differing > 1),
+        u64::from(differing > 0),
         0,
         0,
         0,

@@ -4,9 +4,9 @@ use crate::peers::growths::{Trial, try_call};
 use crate::peers::seen::{see_block, see_offer};
 use mp_history::PoolName;
 use mp_mempool::{Mempool, Pass, Reader};
-use mp_peer::PeerReader;
 use mp_testing::commands::Samples;
 use mp_testing::{AcceptsAll, Seen};
+use mp_versions::PeerReader;
 use std::sync::Wait;
 
 /// A call.

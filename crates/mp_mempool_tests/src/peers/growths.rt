@@ -2,9 +2,9 @@
 use crate::peers::seen::{owners, see_block, see_offer};
 use mp_history::PoolName;
 use mp_mempool::Pass;
-use mp_peer::PeerReader;
 use mp_testing::commands::Samples;
 use mp_testing::{Call, Seen, under_each_refusal};
+use mp_versions::PeerReader;
 
 /// The call that is tried.
 #[derive(Clone, Copy)]

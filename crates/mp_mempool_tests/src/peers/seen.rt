@@ -1,13 +1,12 @@
 //! Observed offers and blocks, as numbers.
 use crate::mempool::count_owners;
 use mp_history::PoolName;
-use mp_peer::{PeerReader, forge};
 use mp_seqpool::Command;
 use mp_testing::Seen;
 use mp_testing::commands::Samples;
 use mp_testing::told::with_digit;
 use mp_tx::TxId;
-use mp_versions::{Item, Snapshot};
+use mp_versions::{Item, PeerReader, Snapshot, forge};
 
 // The number of samples that are submitted, from the first on: a list of all of them takes more than one allocation.
 const SUBMITTED: usize = 6;

@@ -3,7 +3,7 @@ use crate::history::entries::{Entries, Telling, three_entries};
 use mp_history::Entry;
 use mp_testing::commands::{PART, Samples};
 use mp_testing::told::Told;
-use mp_testing::{CONFIG, Seen, count, tell_handover};
+use mp_testing::{CONFIG, Ending, Failures, Seen, count, fail_each, tell_handover};
 use std::io;
 
 // How many changes the successor may make.
@@ -64,9 +64,6 @@ static ROWS: [Row; 6] = [
     ),
 ];
 
-// An audit makes fewer allocations.
-const MAX_ALLOCATIONS: u64 = 1_000;
-
 // The result of the audits of the three entries, with this number of them before the handover.
 fn tell_split(samples: &Samples, entries: &[Entry], number: usize, limit: Limit) -> Option<Told> {
     let ledger = samples.ledger(PART)?;
@@ -89,32 +86,31 @@ fn tell_row(samples: &Samples, row: &Row) -> Option<Seen> {
     Some(tell_split(samples, &entries, number, limit)?.seen())
 }
 
-// The result once no allocation fails, if each that fails before is reported.
-fn tell_refused(samples: &Samples) -> Option<Seen> {
-    let entries = entries_with(samples, RIGHT)?;
-    for nth in 1..MAX_ALLOCATIONS {
-        samples.memory.refuse(nth);
-        let told = tell_split(samples, &entries, 1, Limit::Two);
-        let waits = samples.memory.waits();
-        samples.memory.refuse(0);
-        if waits {
-            return Some(told?.seen());
-        }
-        if told?.answered().is_some() {
-            return None;
-        }
+fn audit_refused(samples: &Samples, entries: &[Entry], nth: u64) -> Ending {
+    samples.memory.refuse(nth);
+    match tell_split(samples, entries, 1, Limit::Two) {
+        Some(Told::Legal(0, 2)) => Ending::Usual,
+        Some(Told::NoMemory) => Ending::NoMemory,
+        _ => Ending::Wrong,
     }
-    None
+}
+
+// Whether each failed allocation is reported.
+fn see_refused(samples: &Samples) -> Option<Seen> {
+    let entries = entries_with(samples, RIGHT)?;
+    let failures = fail_each(&samples.memory, |nth| audit_refused(samples, &entries, nth));
+    let are_told = matches!(failures, Some(Failures { unnoticed: 0, .. }));
+    Some([u64::from(are_told), 0, 0, 0, 0, 0])
 }
 
 /// The number of cases that hold.
 pub fn held_handovers(rt: &impl Print, samples: &Samples) -> io::Result<u64> {
-    let refused = tell_refused(samples);
+    let refused = see_refused(samples);
     let mut held = count(
         rt,
         "a handover at refused growths",
         refused,
-        Told::Legal(0, 2).seen(),
+        [1, 0, 0, 0, 0, 0],
     )?;
     for row in &ROWS {
         let seen = tell_row(samples, row);

@@ -1,6 +1,6 @@
 //! Reading a version that was made step by step. It has 129 transactions of 181 bytes each, without those with the
 //! tickets 64 and 65.
-use crate::versions::both::{Both, asked, step};
+use crate::versions::both::{Both, asked, look_at, step};
 use crate::versions::pages::chunk_len;
 use mp_memory::{Memory, NoMemory};
 use mp_seqpool::SeqPool;
@@ -61,14 +61,8 @@ fn seen(ends: Ends) -> Seen {
 }
 
 fn size(version: &Version) -> Seen {
-    [
-        version.len() as u64,
-        version.bytes(),
-        version.last_ticket(),
-        version.number(),
-        0,
-        0,
-    ]
+    let [len, bytes, last, number, ..] = look_at(version);
+    [len, bytes, last, number, 0, 0]
 }
 
 fn chunks(version: &Version) -> Seen {

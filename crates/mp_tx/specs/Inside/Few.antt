@@ -1,8 +1,8 @@
 -- What a list of few items stores.
 use Rattle.std.specs.Prelude.{List}
-use Rattle.mp_tx.specs.declared.few.Kept.{Kept}
-use Rattle.mp_tx.specs.declared.few.Kept.TheVariants.{One, Several}
+use Rattle.mp_tx.specs.declared.few.Stored.{Stored}
+use Rattle.mp_tx.specs.declared.few.Stored.TheVariants.{One, Several}
 
-abbrev pub those : {T : Type 0} → Kept T → List T
+abbrev pub those : {T : Type 0} → Stored T → List T
 those (One only) = only.item
 those (Several items) = items.items

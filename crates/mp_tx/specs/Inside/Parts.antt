@@ -1,7 +1,7 @@
 -- What the types of parts guarantee by themselves. Their numbers and lengths aren't among it.
 use Rattle.std.specs.Prelude.{◌≡◌, ◌<◌, ◌^◌, List, length}
 use Rattle.std.specs.List.{All}
-use Rattle.mp_bundle.specs.Bundle.{Entry, IsBundle}
+use Rattle.mp_bundle.specs.Bundle.{TokenEntry, IsBundle}
 use Rattle.mp_script.specs.Datum.{IsDatum}
 use Rattle.mp_script.specs.Script.{IsScript}
 use Rattle.mp_tx.specs.declared.input.Input.{Input}
@@ -15,7 +15,7 @@ pub record IsTypedInput (i : Input) : Type 0 where
   pub datum : IsDatum i.datum
   pub redeemer : IsDatum i.redeemer
 
-pub record IsTypedValue (entries : List Entry) : Type 0 where
+pub record IsTypedValue (entries : List TokenEntry) : Type 0 where
   pub bundle : IsBundle entries
   pub policies : All (λ e. length e.0.policy ≡ 32) entries
 

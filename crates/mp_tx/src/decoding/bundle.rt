@@ -6,7 +6,7 @@ ghost use Rattle.mp_tx.specs.Reading.{Reads, items_read, entry_read, bundle_read
 
 use super::field::read_byte;
 use crate::fault::TxFault;
-use mp_bundle::{Bundle, Entry, MAX_NAME_BYTES, Token, may_follow};
+use mp_bundle::{Bundle, MAX_NAME_BYTES, Token, TokenEntry, may_follow};
 use mp_bytes::{split_array, split_count, split_number, split_run};
 use mp_memory::Memory;
 
@@ -14,7 +14,7 @@ use mp_memory::Memory;
 const LEAST_ENTRY_BYTES: usize = 41;
 
 #[tactic(auto, unfolding(crate::specs::Reading::entry_read))]
-fn read_entry(before: Option<Token>, bytes: &[u8]) -> Result<(Entry, &[u8]), TxFault>
+fn read_entry(before: Option<Token>, bytes: &[u8]) -> Result<(TokenEntry, &[u8]), TxFault>
     ensures { seen (λ x. (x.0, x.1.now)) result ≡ entry_read before bytes.now }
 {
     let Some((policy, rest)) = split_array::<32>(bytes) else {
@@ -42,7 +42,7 @@ fn read_entry(before: Option<Token>, bytes: &[u8]) -> Result<(Entry, &[u8]), TxF
 
 // Puts this many entries into an empty vector, and returns the bytes after them.
 fn put_entries<'a>(
-    entries: &mut Vec<Entry, Memory>,
+    entries: &mut Vec<TokenEntry, Memory>,
     count: u16,
     bytes: &'a [u8],
 ) -> Result<&'a [u8], TxFault>

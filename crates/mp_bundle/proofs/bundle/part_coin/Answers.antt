@@ -1,11 +1,11 @@
-use Rattle.std.proofs.Common.{◌≡◌, true, ℤ, List, ◌∷◌, length, to_z, of_z, arith, refl, sym, ap, subst, ◌∙◌}
+use Rattle.std.proofs.Common.{◌≡◌, true, ℤ, ◌∷◌, length, to_z, of_z, arith, refl, sym, ap, subst, ◌∙◌}
 use Rattle.std.specs.Int.{w64}
 use Rattle.std.specs.FinMap.{is_sorted}
 use Rattle.std.specs.FinMap.Entries.{below_all}
 use Rattle.std.proofs.lemmas.Int.{ints}
 use Rattle.mp_bundle.specs.declared.token.Token.{Token}
 use Rattle.mp_bundle.specs.Token.{coin, token_cmp}
-use Rattle.mp_bundle.specs.Bundle.{Entry, IsBundle}
+use Rattle.mp_bundle.specs.Bundle.{TokenEntry, IsBundle}
 use Rattle.mp_bundle.specs.Inside.Bundle.{IsParted}
 use Rattle.mp_bundle.proofs.Coin.{is_coin, all_above}
 use Rattle.mp_bundle.proofs.Faults.{bundle_from_none}
@@ -33,7 +33,7 @@ returns-clause-parted c =
     let others = c.in-Some._others.now in
     let is : c.args.entries.items ≡ c.in-Some.first.now ∷ others = sym c.deref.ensures.value ∙ c.in-Some.ensures.cases.0 in
     let named : c.in-Some.first.now ≡ (coin, n) = ap (λ (t : Token). (t, n)) (is_coin c.in-Some.first.now.0 (sym c.is_coin.ensures.same ∙ c.if-is_coin.true)) in
-    let bundle : IsBundle ((coin, n) ∷ others) = subst (λ (e : Entry). IsBundle (e ∷ others)) named (subst IsBundle is (bundle_from_none c.args.entries.items c.requires)) in
+    let bundle : IsBundle ((coin, n) ∷ others) = subst (λ (e : TokenEntry). IsBundle (e ∷ others)) named (subst IsBundle is (bundle_from_none c.args.entries.items c.requires)) in
     let left : c.remove-first.new.self.items ≡ others = rw (c.remove-first.ensures.items, is) refl in
     let same : n ≡ to_z w64 (of_z w64 n) = omega (arith, ints) in
     subst (λ (m : ℤ). IsParted m c.remove-first.new.self.items) same (subst (IsParted n) (sym left) (parted_first n others bundle))

@@ -1,6 +1,6 @@
 use Rattle.std.proofs.Common.{arith, ap, sym, subst, ◌∙◌, ◌≡◌, ◌+ℤ◌, pos, cond, to_z, of_z}
 use Rattle.std.proofs.lemmas.Int.{ints}
-use Rattle.mp_bundle.specs.Bundle.{Entry, quantity_of}
+use Rattle.mp_bundle.specs.Bundle.{TokenEntry, quantity_of}
 use Rattle.mp_bundle.specs.Token.{token_cmp}
 use Rattle.std.specs.Ordering.{eq_by_cmp}
 use Rattle.std.specs.BTreeMap.{ContainsKey}
@@ -12,7 +12,7 @@ use Rattle.mp_bundle.proofs.totals.raise_all.Goals as goal
 
 pub raise-requires-clause-room : goal.raise-requires-clause-room
 raise-requires-clause-room c =
-    subst (λ (e : Entry). ContainsKey token_cmp c.loop-token.totals e.0) (sym c.loop-token-item.is)
+    subst (λ (e : TokenEntry). ContainsKey token_cmp c.loop-token.totals e.0) (sym c.loop-token-item.is)
     (c.loop-token.invariant.room c.loop-token.token-index c.loop-token-item.result c.loop-token-test.true)
 
 pub raise-requires-clause-fits : goal.raise-requires-clause-fits

@@ -1,4 +1,4 @@
-use Rattle.std.proofs.Common.{refl, sym, subst}
+use Rattle.std.proofs.Common.{refl, subst}
 use Rattle.std.specs.Prelude.{false, true}
 use Rattle.std.proofs.Common.{◌≡◌}
 use Rattle.mp_serve.specs.Inside.Ask.{to_ask}

@@ -1,16 +1,16 @@
 use Rattle.std.proofs.Common.{◌≡◌, ℕ, ◌+◌, List, sym, subst, rules}
-use Rattle.std.specs.Prelude.{Option, IfSome, Ok, Err, true, false}
+use Rattle.std.specs.Prelude.{Option, IfSome, Err}
 use Rattle.std.specs.Io.BufRead.{DropsThrough}
 use Rattle.std.specs.Io.KnownBytes.{Appends}
 use Rattle.mp_text.specs.declared.line_input.LineRead.{LineRead}
 use Rattle.mp_text.specs.declared.line_input.LineRead.TheVariants.{End}
 use Rattle.mp_text.specs.LineInput.{IsLine}
 use Rattle.mp_serve.specs.declared.conversation.Conversation.{Conversation}
-use Rattle.mp_serve.specs.declared.fault.Fault.TheVariants.{ReadFault}
+use Rattle.mp_serve.specs.declared.fault.ConversationFault.TheVariants.{ReadFault}
 use Rattle.mp_serve.specs.Inside.Answer.{text_of}
 use Rattle.mp_serve.specs.Served.{AppendsUpTo, Ended}
 use Rattle.mp_serve.proofs.Progress.{Stands, no_line, fails, ends_counting, stands-more, stands-cut}
-use Rattle.mp_clients.specs.Beginning.{IsBefore, HasBegun, HasCome, AreAll}
+use Rattle.mp_clients.specs.Beginning.{IsBefore, HasCome, AreAll}
 use Rattle.mp_clients.proofs.Before.{all_told, has_come}
 use Rattle.mp_clients.proofs.beginning.begin.Goals as goal
 

@@ -1,7 +1,7 @@
 use Rattle.std.proofs.Common.{sym, ◌∙◌}
 use Rattle.std.proofs.lemmas.Map.Iter.{rest_more}
 use Rattle.mp_seqpool.specs.Item.{shown}
-use Rattle.mp_clients.proofs.Checks.{found_first, found_later}
+use Rattle.mp_clients.proofs.Checks.{found_later}
 use Rattle.mp_clients.proofs.checking.ticket_of.Goals as goal
 
 pub loop-item-preserved : goal.loop-item-preserved

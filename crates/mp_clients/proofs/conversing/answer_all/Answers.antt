@@ -8,7 +8,7 @@ use Rattle.mp_text.specs.LineInput.{IsLine}
 use Rattle.mp_serve.specs.Inside.Answer.{text_of}
 use Rattle.mp_serve.specs.Served.{AppendsUpTo}
 use Rattle.mp_serve.proofs.Progress.{no_line}
-use Rattle.mp_clients.specs.declared.fault.Fault.TheVariants.{ReadFault}
+use Rattle.mp_clients.specs.declared.fault.ClientFault.TheVariants.{ReadFault}
 use Rattle.mp_clients.specs.Answers.{IsTurn, IsBroken}
 use Rattle.mp_clients.specs.Told.{Ended}
 use Rattle.mp_clients.proofs.Progress.{ends, fails, breaks, ends_counting, stands-more, stands-cut}

@@ -7,7 +7,7 @@ use Rattle.mp_mempool.specs.Pass.{Pass}
 use Rattle.mp_mempool.specs.Answers.{IsForeign}
 use Rattle.mp_mempool.specs.Successor.{IsKnownTo}
 use Rattle.mp_mempool.proofs.Entries.{foreign_told}
-use Rattle.mp_clients.specs.Service.{HasSeenOf, KnowsAllOf, LacksOneOf}
+use Rattle.mp_clients.specs.Service.{HasSeenOf, KnowsAllOf}
 use Rattle.mp_clients.proofs.settling.know_all.Goals as goal
 use Rattle.mp_clients.proofs.settling.know_all.Goals.{then-is_known, else-is_known}
 

@@ -3,7 +3,7 @@ use Rattle.std.specs.Prelude.{Ok, Err}
 use Rattle.std.specs.Process.{exit_status}
 use Rattle.std.specs.declared.marker.Brand.{Brand}
 use Rattle.mp_serve.specs.declared.device.Turn.TheVariants.{Listens}
-use Rattle.mp_serve.specs.declared.fault.Fault.TheVariants.{WriteFault, ManyLines}
+use Rattle.mp_serve.specs.declared.fault.ConversationFault.TheVariants.{WriteFault, ManyLines}
 use Rattle.mp_signatures.specs.Scheme.{accepted_by}
 use Rattle.mp_main.specs.Held.{EndsHeld}
 use Rattle.mp_main.proofs.Holding.{before_on, cut_on, ends_early, ends_held, refused_on, stand_comes, stand_ends, stand_fails, stand_many, stands_new}

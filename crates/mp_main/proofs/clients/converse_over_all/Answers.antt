@@ -1,7 +1,7 @@
 use Rattle.std.proofs.Common.{◌∙◌, ◌+◌, ap, length}
 use Rattle.std.specs.Prelude.{Err}
 use Rattle.std.specs.declared.marker.Brand.{Brand}
-use Rattle.mp_serve.specs.declared.fault.Fault.TheVariants.{NoMemory}
+use Rattle.mp_serve.specs.declared.fault.ConversationFault.TheVariants.{NoMemory}
 use Rattle.mp_serve.specs.Talk.{new_conversation}
 use Rattle.mp_main.proofs.Holding.{ends_early, none_answered, same_start}
 use Rattle.mp_main.proofs.clients.converse_over_all.Goals as goal

@@ -1,6 +1,6 @@
 use Rattle.std.proofs.Common.{refl}
 use Rattle.std.specs.Prelude.{Ok, Err}
-use Rattle.mp_race.specs.declared.fault.Fault.TheVariants.{WriteFault}
+use Rattle.mp_race.specs.declared.fault.RaceFault.TheVariants.{WriteFault}
 use Rattle.mp_main.proofs.Ends.{keeps}
 use Rattle.mp_main.proofs.ending.end_audit.Goals as goal
 

@@ -3,7 +3,7 @@ use Rattle.mp_text.specs.Lines.{lines_of}
 use Rattle.mp_replay.specs.ServedHistory.{IsServedHistory}
 use Rattle.mp_replay.specs.ReplayFault.{IsReplayFault}
 use Rattle.mp_replay.proofs.Steps.{goes_on, legal, faulty, illegal, passed_on}
-use Rattle.mp_replay.specs.declared.fault.Fault.TheVariants as faults
+use Rattle.mp_replay.specs.declared.fault.ReplayFault.TheVariants as faults
 use Rattle.std.proofs.Common.{◌≡◌}
 use Rattle.mp_replay.proofs.replaying.replay.Goals as goal
 

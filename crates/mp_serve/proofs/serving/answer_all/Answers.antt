@@ -5,7 +5,7 @@ use Rattle.std.specs.Io.KnownBytes.{Appends}
 use Rattle.mp_text.specs.declared.line_input.LineRead.TheVariants.{End}
 use Rattle.mp_text.specs.LineInput.{IsLine}
 use Rattle.mp_serve.specs.declared.conversation.Conversation.{Conversation}
-use Rattle.mp_serve.specs.declared.fault.Fault.TheVariants.{ReadFault}
+use Rattle.mp_serve.specs.declared.fault.ConversationFault.TheVariants.{ReadFault}
 use Rattle.mp_serve.specs.Inside.Answer.{text_of}
 use Rattle.mp_serve.specs.Served.{AppendsUpTo, Ended}
 use Rattle.mp_serve.proofs.Progress.{Stands, no_line, ends, fails, ends_counting, stands-more, stands-cut}

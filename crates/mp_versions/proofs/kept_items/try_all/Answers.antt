@@ -1,9 +1,8 @@
-use Rattle.std.proofs.Common.{◌≤◌, ◌^◌, map, sym, ap, subst, ◌∙◌}
+use Rattle.std.proofs.Common.{◌≤◌, ◌^◌, map, sym, subst, ◌∙◌}
 use Rattle.std.proofs.lemmas.Map.Iter.{iter_end}
 use Rattle.std.proofs.lemmas.Map.Views.{All-turn}
 use Rattle.mp_seqpool.specs.Item.{shown}
 use Rattle.mp_rules.specs.Checked.{IsSigned}
-use Rattle.mp_seqpool.specs.Keep.{bytes_of}
 use Rattle.mp_versions.specs.Inside.KeptItems.{HasTried}
 use Rattle.mp_versions.proofs.Trying.{each_signed, one_more, room_in_turn, shown-last}
 use Rattle.mp_versions.proofs.kept_items.try_all.Goals as goal

@@ -1,5 +1,5 @@
-use Rattle.std.proofs.Common.{◌≡◌, rules, List, sym, ap, subst, ◌∙◌}
-use Rattle.mp_bundle.specs.Bundle.{Entry, with_coin}
+use Rattle.std.proofs.Common.{◌≡◌, rules, sym, ap, subst, ◌∙◌}
+use Rattle.mp_bundle.specs.Bundle.{with_coin}
 use Rattle.mp_bundle.specs.Inside.Bundle.{entries_in, IsParted}
 use Rattle.mp_bundle.proofs.Parted.{whole_again, split_again}
 use Rattle.mp_bundle.proofs.bundle.Bundle.others.Goals as goal

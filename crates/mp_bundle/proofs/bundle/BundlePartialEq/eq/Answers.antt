@@ -5,7 +5,6 @@ use Rattle.std.proofs.lemmas.Bool.Decides.{Decides-at, nat_tests}
 use Rattle.std.proofs.lemmas.Int.{ints}
 use Rattle.mp_bundle.specs.Token.{coin}
 use Rattle.mp_bundle.specs.Bundle.{quantity_of}
-use Rattle.mp_bundle.specs.Same.{same_entries}
 use Rattle.mp_bundle.proofs.Same.{same_entries-Decides}
 use Rattle.mp_bundle.proofs.Parted.{coin_in, agree, one_of_parts, parts_of_one}
 use Rattle.mp_bundle.proofs.bundle.BundlePartialEq.eq.Goals as goal

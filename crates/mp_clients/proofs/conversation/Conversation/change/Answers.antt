@@ -1,10 +1,9 @@
 use Rattle.std.proofs.Common.{refl, ap}
 use Rattle.mp_seqpool.specs.Inside.Command.{command_of}
-use Rattle.mp_answers.specs.AnswerText.{answer_text, given_text}
+use Rattle.mp_answers.specs.AnswerText.{answer_text}
 use Rattle.mp_serve.proofs.Answers.{on_ok, on_err}
-use Rattle.mp_clients.specs.declared.conversation.Conversation.{Conversation}
 use Rattle.mp_clients.specs.Client.{Client}
-use Rattle.mp_clients.specs.Answers.{moved, gone_on, gone_back, same_names, same_staged}
+use Rattle.mp_clients.specs.Answers.{moved, same_names, same_staged}
 use Rattle.mp_clients.specs.Inside.Asked.{answer_in}
 use Rattle.mp_clients.proofs.Steps.{finished, stopped_before}
 use Rattle.mp_clients.proofs.conversation.Conversation.change.Goals as goal

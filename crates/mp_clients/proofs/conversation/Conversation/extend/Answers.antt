@@ -1,7 +1,7 @@
 use Rattle.std.proofs.Common.{◌≡◌, refl, rules}
 use Rattle.mp_serve.specs.Ask.{Extends}
 use Rattle.mp_serve.specs.Inside.Ask.{to_block}
-use Rattle.mp_serve.specs.Request.{Block}
+use Rattle.mp_serve.specs.Request.{ResolvedBlock}
 use Rattle.mp_clients.specs.Answers.{used_by}
 use Rattle.mp_clients.proofs.Steps.{looked_only}
 use Rattle.mp_clients.proofs.Heard.{extended_there, heard_bad, is_bad}
@@ -19,4 +19,4 @@ returns-in-Err-NoMemory-clause-err g c = looked_only g.N.PoolName.accepts g.N.Po
 
 pub returns-clause-ok : goal.returns-clause-ok
 returns-clause-ok g c =
-    heard_bad g.N.PoolName.accepts g.N.PoolName.callers c.args.self.now c.look.new.self c.look.ensures (Extends (to_block c.args.block)) _ _ (c.in-Err-Bad.ensures.bad (is_bad Block _ _ c.in-Err-Bad.field-0-is)) refl c.answer_bad.ensures
+    heard_bad g.N.PoolName.accepts g.N.PoolName.callers c.args.self.now c.look.new.self c.look.ensures (Extends (to_block c.args.block)) _ _ (c.in-Err-Bad.ensures.bad (is_bad ResolvedBlock _ _ c.in-Err-Bad.field-0-is)) refl c.answer_bad.ensures

@@ -34,8 +34,8 @@ returns-in-Ok-ledger_at-clause-err g c =
     let callers = g.N.PoolName.callers in
     let s = c.args.self.now in
     let same : c.in-Ok-ledger_at.ledger ≡ ledger_at (arc_value s.settings) c.in-Sync.ledger = search rules in
-    let made = subst (λ (l : LedgerState). IfErr c.go_on.result (IsStopped accepts callers (IsSynced accepts callers s l Nothing) s c.go_on.new.self)) same c.go_on.ensures.err in
-    subst (λ (l : code.Line). IfErr c.go_on.result (IsStopped accepts callers (IsTaken accepts callers s (Does (to_line l))) s c.go_on.new.self)) (sym c.in-Sync.is) made
+    let made = subst (λ (l : LedgerState). IfErr c.adopt.result (IsStopped accepts callers (IsSynced accepts callers s l Nothing) s c.adopt.new.self)) same c.adopt.ensures.err in
+    subst (λ (l : code.Line). IfErr c.adopt.result (IsStopped accepts callers (IsTaken accepts callers s (Does (to_line l))) s c.adopt.new.self)) (sym c.in-Sync.is) made
 
 pub returns-in-Ok-ledger_at-clause-ok : goal.returns-in-Ok-ledger_at-clause-ok
 returns-in-Ok-ledger_at-clause-ok g c =
@@ -43,5 +43,5 @@ returns-in-Ok-ledger_at-clause-ok g c =
     let callers = g.N.PoolName.callers in
     let s = c.args.self.now in
     let same : c.in-Ok-ledger_at.ledger ≡ ledger_at (arc_value s.settings) c.in-Sync.ledger = search rules in
-    let made = subst (λ (l : LedgerState). IfOk c.go_on.result (λ a. IsSynced accepts callers s l Nothing (text_of a) c.go_on.new.self)) same c.go_on.ensures.ok in
-    subst (λ (l : code.Line). IfOk c.go_on.result (λ a. IsTaken accepts callers s (Does (to_line l)) (text_of a) c.go_on.new.self)) (sym c.in-Sync.is) made
+    let made = subst (λ (l : LedgerState). IfOk c.adopt.result (λ a. IsSynced accepts callers s l Nothing (text_of a) c.adopt.new.self)) same c.adopt.ensures.ok in
+    subst (λ (l : code.Line). IfOk c.adopt.result (λ a. IsTaken accepts callers s (Does (to_line l)) (text_of a) c.adopt.new.self)) (sym c.in-Sync.is) made

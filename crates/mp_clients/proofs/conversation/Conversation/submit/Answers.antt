@@ -1,16 +1,13 @@
-use Rattle.std.proofs.Common.{◌≡◌, refl, ap, subst, rules}
+use Rattle.std.proofs.Common.{◌≡◌, refl, subst, rules}
 use Rattle.std.specs.Prelude.{OnOk}
 use Rattle.mp_tx.specs.Transaction.{Transaction}
 use Rattle.std.specs.Arc.{arc_value}
 use Rattle.mp_seqpool.specs.Command.{Submit}
 use Rattle.mp_answers.specs.AnswerText.{answer_text}
 use Rattle.mp_serve.specs.Request.{reported_if}
-use Rattle.mp_serve.proofs.Answers.{on_ok, on_err}
-use Rattle.mp_clients.specs.declared.conversation.Conversation.{Conversation}
-use Rattle.mp_clients.specs.Client.{Client}
-use Rattle.mp_clients.specs.Answers.{moved, gone_on, gone_back, same_staged}
+use Rattle.mp_clients.specs.Answers.{moved, same_staged}
 use Rattle.mp_clients.specs.Inside.Asked.{answer_in}
-use Rattle.mp_clients.proofs.Steps.{finished, stopped_before}
+use Rattle.mp_clients.proofs.Steps.{finished}
 use Rattle.mp_clients.proofs.conversation.Conversation.submit.Goals as goal
 
 pub returns-in-Ok-change : goal.returns-in-Ok-change

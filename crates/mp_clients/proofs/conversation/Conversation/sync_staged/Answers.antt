@@ -1,4 +1,4 @@
-use Rattle.std.proofs.Common.{◌≡◌, sym, subst, rules}
+use Rattle.std.proofs.Common.{◌≡◌, subst, rules}
 use Rattle.std.specs.Prelude.{IfOk, IfErr}
 use Rattle.std.specs.Arc.{arc_value}
 use Rattle.mp_tx.specs.Ledger.{LedgerState}
@@ -17,8 +17,8 @@ returns-clause-ok g c =
     let s = c.args.self.now in
     let same : c.in-Ok-ledger_at.ledger ≡ staged_ledger (arc_value s.settings) s.staged c.args.tick c.args.block_bytes.now = search rules in
     let none : c.in-Ok.none ≡ no_outputs (salt_of (arc_value s.settings)) = search rules in
-    subst (λ (n : LedgerState). IfOk c.go_on.result (λ a. IsSynced accepts callers s (staged_ledger (arc_value s.settings) s.staged c.args.tick c.args.block_bytes.now) (Outputs n) (text_of a) c.go_on.new.self)) none
-    (subst (λ (l : LedgerState). IfOk c.go_on.result (λ a. IsSynced accepts callers s l (Outputs c.in-Ok.none) (text_of a) c.go_on.new.self)) same c.go_on.ensures.ok)
+    subst (λ (n : LedgerState). IfOk c.adopt.result (λ a. IsSynced accepts callers s (staged_ledger (arc_value s.settings) s.staged c.args.tick c.args.block_bytes.now) (Outputs n) (text_of a) c.adopt.new.self)) none
+    (subst (λ (l : LedgerState). IfOk c.adopt.result (λ a. IsSynced accepts callers s l (Outputs c.in-Ok.none) (text_of a) c.adopt.new.self)) same c.adopt.ensures.ok)
 
 pub returns-clause-err : goal.returns-clause-err
 returns-clause-err g c =
@@ -27,5 +27,5 @@ returns-clause-err g c =
     let s = c.args.self.now in
     let same : c.in-Ok-ledger_at.ledger ≡ staged_ledger (arc_value s.settings) s.staged c.args.tick c.args.block_bytes.now = search rules in
     let none : c.in-Ok.none ≡ no_outputs (salt_of (arc_value s.settings)) = search rules in
-    subst (λ (n : LedgerState). IfErr c.go_on.result (IsStopped accepts callers (IsSynced accepts callers s (staged_ledger (arc_value s.settings) s.staged c.args.tick c.args.block_bytes.now) (Outputs n)) s c.go_on.new.self)) none
-    (subst (λ (l : LedgerState). IfErr c.go_on.result (IsStopped accepts callers (IsSynced accepts callers s l (Outputs c.in-Ok.none)) s c.go_on.new.self)) same c.go_on.ensures.err)
+    subst (λ (n : LedgerState). IfErr c.adopt.result (IsStopped accepts callers (IsSynced accepts callers s (staged_ledger (arc_value s.settings) s.staged c.args.tick c.args.block_bytes.now) (Outputs n)) s c.adopt.new.self)) none
+    (subst (λ (l : LedgerState). IfErr c.adopt.result (IsStopped accepts callers (IsSynced accepts callers s l (Outputs c.in-Ok.none)) s c.adopt.new.self)) same c.adopt.ensures.err)

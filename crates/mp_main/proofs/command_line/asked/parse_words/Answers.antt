@@ -1,4 +1,4 @@
-use Rattle.std.proofs.Common.{◌∙◌, ◌≤◌, length, map, sym, subst}
+use Rattle.std.proofs.Common.{◌∙◌, ◌≤◌, map, sym, subst}
 use Rattle.clap.specs.Kinds.{HasKind}
 use Rattle.mp_main.specs.CommandLine as spec
 use Rattle.mp_main.specs.Inside.Taken.{IsTaken}

@@ -1,4 +1,4 @@
-use Rattle.std.proofs.Common.{◌≡◌, ap, sym, ◌∙◌, fold, List, []}
+use Rattle.std.proofs.Common.{◌≡◌, ap, ◌∙◌, fold, List, []}
 use Rattle.std.specs.Arc.{arc_value}
 use Rattle.std.specs.FinMap.{from_entries}
 use Rattle.mp_tx.specs.Reference.{ref_cmp}

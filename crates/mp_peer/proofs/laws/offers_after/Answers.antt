@@ -1,5 +1,0 @@
-use Rattle.mp_peer.proofs.Rounds.{offered_after}
-use Rattle.mp_peer.proofs.laws.offers_after.Goals as goal
-
-pub returns : goal.returns
-returns c = offered_after
