@@ -8,11 +8,12 @@ import signal
 import socket
 import sys
 import threading
+import unittest
 from pathlib import Path
 from typing import Any
 from unittest import mock
 
-from keltuvar_gateway import keeper
+from keltuvar_gateway import keeper, program
 from keltuvar_gateway.gateway import Gateway, NoStart
 from keltuvar_gateway.state import BadFile, State, read_state, write_state
 
@@ -36,6 +37,15 @@ case $(wc -l < {folder}/starts) in
   2) mkfifo {folder}/lines; exec 3<&0; sed -u {lines}q <&3 >{folder}/lines & exec {program} "$@" <{folder}/lines 3<&- ;;
   3) while [ ! -e {folder}/go ]; do sleep 0.1; done ;;
 esac
+exec {program} "$@"
+"""
+# Until there is room, its files may have 40 blocks of 512 bytes the first time, and then 30.
+FULL = """#!/bin/sh
+case "$*" in *--help) exec {program} "$@" ;; esac
+blocks=40
+[ ! -e {folder}/first ] || blocks=30
+touch {folder}/first
+[ -e {folder}/room ] || {{ trap '' XFSZ; ulimit -f $blocks; }}
 exec {program} "$@"
 """
 
@@ -149,6 +159,49 @@ class Restarts(GatewayCase):
         self.assertEqual(await self.held(), before)
         self.assertEqual((await self.get("/mempool"))["tick"], 8)
         await self.accept(pay(4))
+
+    @unittest.skipUnless("KELTUVAR" in os.environ, "the model records no history")
+    async def test_histories(self) -> None:
+        """Each process of the pool has a file, which an audit finds legal."""
+        folder = Path(self.folder, "new", "histories")
+        gateway = await self.start("--history", str(folder))
+        await self.accept(pay(0), pay(1))
+        await self.operate(f"adopt 8 #{id_of(pay(1))}")
+        kill_pool(gateway)
+        await self.comes_back(gateway)
+        await self.accept(pay(2))
+        self.assertTrue(await gateway.end())
+        found = []
+        for history in sorted(folder.iterdir()):
+            words = (PROGRAM, "audit", "--signatures", "checked", str(history))
+            audit = await asyncio.create_subprocess_exec(
+                *words, stdout=asyncio.subprocess.PIPE, stderr=asyncio.subprocess.STDOUT
+            )
+            told, _ = await audit.communicate()
+            found.append((told.decode("ascii"), audit.returncode))
+        self.assertEqual(found, [("audit legal\n", 0)] * 2)
+        has_new = [pay(2).hex() in one.read_text() for one in sorted(folder.iterdir())]
+        self.assertEqual(has_new, [False, True])
+
+    @unittest.skipUnless("KELTUVAR" in os.environ, "the model records no history")
+    async def test_a_history_on_a_full_disk(self) -> None:
+        script = Path(self.folder, "program")
+        script.write_text(FULL.format(folder=self.folder, program=PROGRAM))
+        script.chmod(0o755)
+        with mock.patch.object(program, "_SILENCE", 1.0):
+            words = ("--history", f"{self.folder}/histories", "--clients", "2")
+            gateway = await self.start(*words, program=str(script))
+            got = [(await self.post(pay(place)))[0] for place in range(OUTPUTS)]
+            accepted = [id_of(pay(place)) for place in range(OUTPUTS) if got[place] == 202]
+            self.assertTrue(0 < len(accepted) < OUTPUTS)
+            await asyncio.sleep(3)
+            await self.get("/health", 503)
+            Path(self.folder, "room").touch()
+            await self.comes_back(gateway)
+        held = await self.held()
+        self.assertEqual(held[: len(accepted)], accepted)
+        self.assertLessEqual(len(held), len(accepted) + 1)
+        self.assertEqual(len(os.listdir(f"{self.folder}/histories")), 2)
 
     async def comes_back(self, gateway: Gateway) -> None:
         """Waits until the pool's second process takes transactions."""

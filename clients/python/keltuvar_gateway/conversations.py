@@ -5,10 +5,12 @@ from __future__ import annotations
 import asyncio
 import contextlib
 import logging
+import os
 from collections import Counter, deque
 from collections.abc import Callable, Iterable, Iterator, Sequence
 from dataclasses import replace
-from itertools import chain, islice
+from datetime import UTC, datetime
+from itertools import chain, count, islice
 from typing import Any, NamedTuple, TypeVar
 
 from keltuvar import KeltuvarError, Refused, Stats, answers, error_in
@@ -51,10 +53,17 @@ class Conversations(Backend):
     """
 
     def __init__(
-        self, command: Sequence[str], state: State, most_waiting: int, clients: int = 0
+        self,
+        command: Sequence[str],
+        state: State,
+        most_waiting: int,
+        clients: int = 0,
+        histories: str | None = None,
     ) -> None:
         self.answers: Counter[str] = Counter()
         self._command, self._clients = command, clients
+        # The folder of the histories, and the numbers of the processes.
+        self._histories, self._numbers = histories, count(1)
         self._most_waiting = most_waiting
         self._ledger = Ledger(state.tick, state.block, state.outputs)
         self._limit, self._last = state.limit, state.last
@@ -78,7 +87,9 @@ class Conversations(Backend):
         self._is_open, self._holdings = False, Holdings()
         self._missing = dict.fromkeys(state.transactions)
         self._ledger.forget_former()
-        self._program = program = await Program.start(self._command, self._clients)
+        history = self._name_history()
+        words = ["--history", history] if history else []
+        self._program = program = await Program.start([*self._command, *words], self._clients)
         try:
             # The last line opens the pool.
             last = ["ids", "stats"]
@@ -92,10 +103,22 @@ class Conversations(Backend):
             program.forget_pipes()
         except BaseException:
             program.kill("it couldn't be given what it is to begin with")
+            if history:
+                # Nobody was answered by this process.
+                with contextlib.suppress(OSError):
+                    os.unlink(history)
             raise
         self._free = list(program.clients)
         self._is_open = True
         return program
+
+    def _name_history(self) -> str | None:
+        """Returns the file in which the next process is to record its changes."""
+        if self._histories is None:
+            return None
+        os.makedirs(self._histories, mode=0o700, exist_ok=True)
+        name = f"{datetime.now(UTC):%Y%m%dT%H%M%SZ}-{os.getpid()}-{next(self._numbers)}"
+        return os.path.join(self._histories, name)
 
     async def _ask_each(self, conversation: Conversation, lines: Iterator[str]) -> None:
         """Sends the lines of a start."""

@@ -44,7 +44,9 @@ class Gateway:
         self._options = options
         clients = options.clients if knows_clients(options.command) else 0
         first = _read_first(options)
-        self._pool = Conversations(options.command, first, options.most_waiting, clients)
+        self._pool = Conversations(
+            options.command, first, options.most_waiting, clients, options.history
+        )
         self._keeper = Keeper(self._pool, options.state)
         self._guards = Guards(options.limits)
         self._tasks: list[asyncio.Task[None]] = []

@@ -28,6 +28,7 @@ class Options:
     ledger: str | None
     state: str | None
     save_seconds: float
+    history: str | None
     most_waiting: int
     clients: int
     limits: Limits
@@ -92,6 +93,8 @@ def _make_parser() -> argparse.ArgumentParser:
     add(
         "--save-seconds", metavar="N", type=_rate, default=0.0, help="saves so often; 0: at the end"
     )
+    histories = "where each process of the pool records its changes, for 'keltuvar audit'"
+    add("--history", metavar="FOLDER", help=histories)
     add("--waiting", metavar="N", type=_count, default=1024, help="submits that wait for the pool")
     clients = "conversations for submits and the client socket, 2 to 63; 0: only the operator's"
     add("--clients", metavar="N", type=_clients, default=8, help=clients)
@@ -122,6 +125,7 @@ def read_options(arguments: Sequence[str]) -> Options:
         ledger=found.ledger,
         state=found.state,
         save_seconds=found.save_seconds,
+        history=found.history,
         most_waiting=found.waiting,
         clients=found.clients,
         limits=limits,

@@ -16,6 +16,8 @@ _ERROR_BYTES = 4096
 _CHUNK = 1 << 16
 # How many seconds a process has to end once it has closed a stream.
 _GRACE = 1.0
+# How many seconds a process may leave a line unanswered, in each of its conversations.
+_SILENCE = 30.0
 # How many seconds a process has to print its help.
 _HELP = 10.0
 
@@ -35,6 +37,9 @@ class Conversation:
         self._unfinished: list[bytes] = []
         self._input: asyncio.WriteTransport | None = None
         self._is_lost = False
+        # How many lines were answered, and how many at the last look while others waited.
+        self._answered = 0
+        self._seen: int | None = None
 
     def connect(self, lines: asyncio.WriteTransport) -> None:
         """Sends lines by the transport from now on."""
@@ -44,6 +49,11 @@ class Conversation:
     def waiting(self) -> int:
         """How many lines wait for an answer."""
         return len(self._waiting)
+
+    def look(self) -> bool:
+        """Returns whether a line has waited for its answer since the last look."""
+        before, self._seen = self._seen, self._answered if self._waiting else None
+        return before is not None and before == self._seen
 
     def send(
         self,
@@ -112,6 +122,7 @@ class Conversation:
             self._kill("it wrote an answer without a line")
             return
         take, future = self._waiting.popleft()
+        self._answered += 1
         text = answer.decode("ascii", "backslashreplace")
         try:
             take(text)
@@ -152,7 +163,8 @@ class _Client(asyncio.Protocol):
 class Program(asyncio.SubprocessProtocol):
     """A process that holds a conversation with the operator, and one with each of some clients.
 
-    `ended` is done once the process has ended, and says how.
+    One that leaves a line unanswered for long is killed: it keeps the operator's output open also
+    when that conversation has ended. `ended` is done once the process has ended, and says how.
     """
 
     def __init__(self) -> None:
@@ -164,6 +176,7 @@ class Program(asyncio.SubprocessProtocol):
         self._error_end = b""
         self._fault = ""
         self._is_ending = self._is_lost = False
+        self._watching: asyncio.Task[None] | None = None
 
     @classmethod
     async def start(cls, command: Sequence[str], clients: int = 0) -> Program:
@@ -178,6 +191,7 @@ class Program(asyncio.SubprocessProtocol):
             _, program = await loop.subprocess_exec(cls, *command, *words, start_new_session=True)
             stack.pop_all()
         program._pipes = pipes
+        program._watching = asyncio.create_task(program._watch())
         try:
             for pair in pipes:
                 await program._connect(pair)
@@ -188,6 +202,13 @@ class Program(asyncio.SubprocessProtocol):
             program.forget_pipes()
             program._fail_all(program.ended.result())
         return program
+
+    async def _watch(self) -> None:
+        """Kills the process if it leaves a line unanswered for long."""
+        while not self.ended.done():
+            await asyncio.sleep(_SILENCE)
+            if any([one.look() for one in (self.operator, *self.clients)]):
+                self.kill("it left a line unanswered")
 
     async def _connect(self, pipes: Pipes) -> None:
         """Begins a client's conversation."""
@@ -277,6 +298,8 @@ class Program(asyncio.SubprocessProtocol):
         status = self._transport.get_returncode()
         self._transport.close()
         self.forget_pipes()
+        if self._watching:
+            self._watching.cancel()
         details = [self._fault, self._error_end.decode("utf-8", "backslashreplace").strip()]
         reason = ": ".join(
             [f"the pool's process ended with status {status}", *filter(None, details)]
