@@ -1,16 +1,12 @@
 //! The state of a conversation, line by line.
 
-ghost use Rattle.std.specs.Prelude.{◌≡◌, map};
-ghost use Rattle.mp_serve.specs.Inside.Ask.{to_tx_word};
-ghost use Rattle.mp_clients.specs.Answers.{used_by};
-
 use crate::allowed::{is_alone, is_note};
 use crate::asking::{GIVEN_ROOM, ROOM};
 use crate::bad::answer_bad;
 use crate::client::Client;
 use crate::finishing::{finish, finish_given, finish_submit, forget_used};
 use crate::forgetting::names_to_go;
-use crate::meaning::{tx_meant, txs_meant};
+use crate::meaning::{tx_meant, txs_meant, used_by};
 use crate::recorded::Change;
 use crate::shared::Shared;
 use crate::stop::ClientStop;
@@ -28,25 +24,6 @@ use mp_session::{Settings, ledger_at};
 use mp_text::Text;
 use mp_tx::{Ledger, OutRef, Output, Tx, TxFault};
 use std::sync::{Arc, Wait};
-
-// What a block uses: without words, the staged transactions.
-fn used_by(words: &[TxWord]) -> Used
-    ensures { result ≡ used_by (map to_tx_word words.now) }
-{
-    if words.is_empty() {
-        Used::Txs
-    } else {
-        Used::Nothing
-    }
-}
-
-// What the adoption of a ledger state asks.
-fn adopting<'a>(ledger: &'a Ledger, block: Option<&'a ResolvedBlock>) -> Change<'a> {
-    match block {
-        Some(block) => Change::Block(block),
-        None => Change::State(ledger),
-    }
-}
 
 /// The state of a conversation once the pool is open.
 #[derive(Drop)]
@@ -236,7 +213,7 @@ impl<N: PoolName> Conversation<N> {
         ensures err { IfErr result (IsStopped N.accepts N.callers (IsSynced N.accepts N.callers
             self.old ledger used) self.old self.new) }
     {
-        let Ok(room) = shared.prepare(memory, ROOM, adopting(&ledger, block)) else {
+        let Ok(room) = shared.prepare(memory, ROOM, Change::to(&ledger, block)) else {
             return Err(ClientStop::NoMemory);
         };
         match self.client.go_on(rt, &shared.pool, ledger, former) {

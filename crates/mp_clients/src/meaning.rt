@@ -6,12 +6,13 @@ ghost use Rattle.mp_names.specs.Fault.{Gives};
 ghost use Rattle.mp_serve.specs.TxWord.{tx_meant, put_meant};
 ghost use Rattle.mp_serve.specs.Inside.Ask.{to_tx_word};
 ghost use Rattle.mp_clients.specs.Alone.{stage_of};
+ghost use Rattle.mp_clients.specs.Answers.{used_by};
 
 use crate::client::Client;
 use mp_history::PoolName;
 use mp_memory::Memory;
 use mp_names::{LineFault, Reason};
-use mp_serve::{TxWord, Txs};
+use mp_serve::{TxWord, Txs, Used};
 use mp_tx::Tx;
 use std::sync::Arc;
 
@@ -52,4 +53,15 @@ pub fn txs_meant<'a, N: PoolName>(
         txs.push(tx_meant(client, word)?)?;
     }
     Ok(txs)
+}
+
+/// What a block uses: without words, the staged transactions.
+pub fn used_by(words: &[TxWord]) -> Used
+    ensures { result ≡ used_by (map to_tx_word words.now) }
+{
+    if words.is_empty() {
+        Used::Txs
+    } else {
+        Used::Nothing
+    }
 }

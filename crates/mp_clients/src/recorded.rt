@@ -37,6 +37,14 @@ impl<'a> Change<'a> {
             Command::Sync(ledger) => Change::State(ledger),
         }
     }
+
+    /// What the adoption of a ledger state asks. Without a block it has nothing to do with the one before.
+    pub fn to(ledger: &'a Ledger, block: Option<&'a ResolvedBlock>) -> Change<'a> {
+        match block {
+            Some(block) => Change::Block(block),
+            None => Change::State(ledger),
+        }
+    }
 }
 
 // The transaction's bytes, each as two digits.
