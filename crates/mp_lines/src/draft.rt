@@ -1,16 +1,17 @@
 //! Drafts of transactions.
 
-ghost use Rattle.std.specs.Prelude.{◌≡◌, [], ◌∷◌, ◌++◌, Ok, Some, None, option_and_then, unwrap_or, IfOk, IfErr, OnOk};
+ghost use Rattle.std.specs.Prelude.{◌≡◌, [], ◌∷◌, ◌++◌, Ok, Some, None, map, option_and_then, IfOk, IfErr, OnOk};
 ghost use Rattle.mp_names.specs.declared.fault.LineFault.TheVariants as line_faults;
 ghost use Rattle.std.specs.Arc.{arc_value};
 ghost use Rattle.mp_text.specs.Words.{words_of};
-ghost use Rattle.mp_tx.specs.TxFault.{parts_of};
+ghost use Rattle.mp_tx.specs.Spelling.{id_of};
+ghost use Rattle.mp_tx.specs.Transaction.{Transaction};
+ghost use Rattle.mp_tx.specs.TxFault.{IsPartsFault, parts_of};
+ghost use Rattle.mp_names.specs.Payments.{output_of};
 ghost use Rattle.mp_names.specs.Rising.{insert_rising};
 ghost use Rattle.mp_lines.specs.Draft.{empty_draft, draft_of, transaction_of, if_fits, signatures_of, signed, declared_of};
 ghost use Rattle.mp_names.specs.Fault.{Reads, Gives, IsBad};
-ghost use Rattle.mp_lines.specs.Inside.Draft.{bare_of};
 
-use crate::copies::{copy_inputs, copy_scripts, put_outputs};
 use crate::fields::{Field, Signer, field_of};
 use crate::signing::put_signatures;
 use crate::subjects::repeat_in;
@@ -19,13 +20,9 @@ use mp_memory::{Memory, NoMemory};
 use mp_names::{DeclaredTx, LineFault, Names, Payment, Reason, Rising, insert_rising, set_once};
 use mp_script::Script;
 use mp_text::first_word;
-use mp_tx::{Input, OutRef, Tx, TxFault, TxId, TxParts};
+use mp_tx::{Input, OutRef, Output, Tx, TxFault, TxParts};
 use std::marker::Model;
-use std::mem;
 use std::sync::Arc;
-
-// Nothing is signed yet, so no id is needed.
-const NO_ID: TxId = [0; 32];
 
 /// The fields of a transaction so far. Inputs, references and policy scripts are strictly increasing. Payments and
 /// signers keep their order.
@@ -84,10 +81,25 @@ fn put_rising<'a, T: Rising + Drop>(
     Ok(())
 }
 
+// The outputs of the payments.
+fn outputs_of(
+    memory: Memory,
+    payments: &[Payment],
+) -> Result<Vec<Output, Memory>, NoMemory>
+    ensures { IfOk result (λ outputs. outputs.items ≡ map output_of payments.now) }
+{
+    let mut outputs = Vec::with_capacity(memory, payments.len())?;
+    for payment in payments {
+        outputs.push(payment.to_output()?)?;
+    }
+    Ok(outputs)
+}
+
 impl Draft {
-    ghost use Rattle.std.specs.Prelude.{◌≡◌, [], ◌∷◌, ◌++◌, Some, None, option_map, option_copied, OnOk};
+    ghost use Rattle.std.specs.Prelude.{◌≡◌, [], ◌∷◌, ◌++◌, Some, None, option_map, option_copied, IfOk, OnOk};
     ghost use Rattle.mp_names.specs.Fault.{IsBad};
-    ghost use Rattle.mp_lines.specs.Draft.{empty_draft, with_field};
+    ghost use Rattle.mp_tx.specs.TxFault.{parts_of};
+    ghost use Rattle.mp_lines.specs.Draft.{empty_draft, transaction_of, with_field};
 
     /// A draft without fields.
     pub fn new(memory: Memory) -> Draft
@@ -122,6 +134,38 @@ impl Draft {
             Field::Signs(signer) => put_last(&mut self.signers, signer),
         }
     }
+
+    // The parts of its unsigned transaction, its payments, and its signers.
+    fn into_parts(
+        self,
+        memory: Memory,
+    ) -> Result<(TxParts, Vec<Payment, Memory>, Vec<Signer, Memory>), NoMemory>
+        ensures parts { IfOk result (λ r. parts_of r.0 ≡ transaction_of self []) }
+        ensures payments { IfOk result (λ r. r.1.items ≡ self.payments) }
+        ensures signers { IfOk result (λ r. r.2.items ≡ self.signers) }
+    {
+        let Draft {
+            inputs,
+            references,
+            payments,
+            from,
+            to,
+            forge,
+            scripts,
+            signers,
+        } = self;
+        let parts = TxParts {
+            inputs,
+            references,
+            outputs: outputs_of(memory, &payments)?,
+            from: from.unwrap_or(0),
+            to: to.unwrap_or(u64::MAX),
+            forge: forge.unwrap_or(Bundle::empty()),
+            scripts,
+            signatures: Vec::new(memory),
+        };
+        Ok((parts, payments, signers))
+    }
 }
 
 // The reason for a word that may occur once, until it is known which earlier word means the same.
@@ -153,55 +197,12 @@ fn fill<'a>(
     Ok(())
 }
 
-fn forge_of(draft: &Draft) -> Result<Bundle, NoMemory>
-    ensures { IfOk result (λ b. b ≡ unwrap_or draft.now.forge []) }
+// The transaction, or what is wrong with the line if its parts make none.
+fn line_result<'a>(made: Result<Tx, TxFault>) -> Result<Tx, LineFault<'a>>
+    ensures { (t : Transaction) → IfOk made.entry (λ tx. if_fits t ≡ Some tx)
+        → IfErr made.entry (IsPartsFault t) → Reads (if_fits t) result }
 {
-    match &draft.forge {
-        Some(forge) => forge.share(),
-        None => Ok(Bundle::empty()),
-    }
-}
-
-// The parts that take no memory.
-fn bare_parts(memory: Memory, draft: &Draft) -> TxParts
-    ensures { parts_of result ≡ bare_of draft.now }
-{
-    TxParts {
-        inputs: Vec::new(memory),
-        references: Vec::new(memory),
-        outputs: Vec::new(memory),
-        from: draft.from.unwrap_or(0),
-        to: draft.to.unwrap_or(u64::MAX),
-        forge: Bundle::empty(),
-        scripts: Vec::new(memory),
-        signatures: Vec::new(memory),
-    }
-}
-
-// Adds copies of the others, and the signatures of the id by these signers.
-fn put_others(
-    parts: &mut TxParts,
-    memory: Memory,
-    draft: &Draft,
-    id: &TxId,
-    signers: &[Signer],
-) -> Result<(), NoMemory>
-    requires { parts_of parts.old ≡ bare_of draft.now }
-    ensures { OnOk result (parts_of parts.new
-        ≡ transaction_of draft.now (signatures_of id.now [] signers.now)) }
-{
-    parts.forge = forge_of(draft)?;
-    parts.references = Vec::from_slice(memory, &draft.references)?;
-    copy_inputs(&mut parts.inputs, &draft.inputs)?;
-    put_outputs(&mut parts.outputs, &draft.payments)?;
-    copy_scripts(&mut parts.scripts, &draft.scripts)?;
-    put_signatures(&mut parts.signatures, id, signers)
-}
-
-fn put_together<'a>(memory: Memory, parts: TxParts) -> Result<Tx, LineFault<'a>>
-    ensures { Reads (if_fits (parts_of parts)) result }
-{
-    match Tx::of_parts(memory, parts) {
+    match made {
         Ok(tx) => Ok(tx),
         Err(TxFault::NoMemory) => Err(LineFault::NoMemory),
         Err(TxFault::BadInterval) => Err(LineFault::Bad(Reason::Interval)),
@@ -209,62 +210,50 @@ fn put_together<'a>(memory: Memory, parts: TxParts) -> Result<Tx, LineFault<'a>>
     }
 }
 
-// The transaction, with the signatures of the id by these signers.
-fn make_tx<'a>(
+fn put_together<'a>(memory: Memory, parts: TxParts) -> Result<Tx, LineFault<'a>>
+    ensures { Reads (if_fits (parts_of parts)) result }
+{
+    line_result(Tx::of_parts(memory, parts))
+}
+
+// A signer needs the id, so the signatures come last.
+fn sign<'a>(memory: Memory, unsigned: Tx, signers: &[Signer]) -> Result<Tx, LineFault<'a>>
+    ensures { Reads (if_fits (record unsigned {
+      signatures = signatures_of (id_of unsigned) [] signers.now;
+    })) result }
+{
+    let mut signatures = Vec::with_capacity(memory, signers.len())?;
+    put_signatures(&mut signatures, unsigned.id(), signers)?;
+    line_result(unsigned.with_signatures(signatures))
+}
+
+// The transaction of these parts with the signatures of its id, in one allocation.
+fn make_shared<'a>(
     memory: Memory,
-    draft: &Draft,
-    id: &TxId,
+    parts: TxParts,
     signers: &[Signer],
-) -> Result<Tx, LineFault<'a>>
-    ensures { Reads (if_fits
-        (transaction_of draft.now (signatures_of id.now [] signers.now))) result }
+) -> Result<Arc<Tx, Memory>, LineFault<'a>>
+    ensures { Gives arc_value (option_and_then (λ t. if_fits (record t {
+      signatures = signatures_of (id_of t) [] signers.now;
+    })) (if_fits (parts_of parts))) result }
 {
-    let mut parts = bare_parts(memory, draft);
-    put_others(&mut parts, memory, draft, id, signers)?;
-    put_together(memory, parts)
-}
-
-fn make_unsigned<'a>(memory: Memory, draft: &Draft) -> Result<Tx, LineFault<'a>>
-    ensures { Reads (if_fits (transaction_of draft.now [])) result }
-{
-    make_tx(memory, draft, &NO_ID, &[])
-}
-
-// A signer needs the id, so a signed transaction is made twice.
-fn sign<'a>(memory: Memory, draft: &Draft, unsigned: Tx) -> Result<Tx, LineFault<'a>>
-    requires { if_fits (transaction_of draft.now []) ≡ Some unsigned }
-    ensures { Reads (signed draft.now unsigned) result }
-{
-    if draft.signers.is_empty() {
-        return Ok(unsigned);
-    }
-    make_tx(memory, draft, unsigned.id(), &draft.signers)
-}
-
-fn make_signed<'a>(memory: Memory, draft: &Draft) -> Result<Tx, LineFault<'a>>
-    ensures { Reads
-        (option_and_then (signed draft.now) (if_fits (transaction_of draft.now []))) result }
-{
-    let unsigned = make_unsigned(memory, draft)?;
-    sign(memory, draft, unsigned)
-}
-
-fn make_shared<'a>(memory: Memory, draft: &Draft) -> Result<Arc<Tx, Memory>, LineFault<'a>>
-    ensures { Gives arc_value
-        (option_and_then (signed draft.now) (if_fits (transaction_of draft.now []))) result }
-{
-    let tx = make_signed(memory, draft)?;
+    let unsigned = put_together(memory, parts)?;
+    let tx = if signers.is_empty() {
+        unsigned
+    } else {
+        sign(memory, unsigned, signers)?
+    };
     Ok(Arc::new(memory, tx)?)
 }
 
 // The transaction of the draft, with its payments.
 #[tactic(auto, unfolding(crate::specs::Draft::declared_of))]
-fn declared_of<'a>(memory: Memory, draft: &mut Draft) -> Result<DeclaredTx, LineFault<'a>>
-    ensures { Reads (declared_of draft.old) result }
+fn declared_of<'a>(memory: Memory, draft: Draft) -> Result<DeclaredTx, LineFault<'a>>
+    ensures { Reads (declared_of draft) result }
 {
-    let tx = make_shared(memory, draft)?;
-    let mut payments = mem::replace(&mut draft.payments, Vec::new(memory));
+    let (parts, mut payments, signers) = draft.into_parts(memory)?;
     payments.shrink_to_fit();
+    let tx = make_shared(memory, parts, &signers)?;
     Ok(DeclaredTx::of(tx, payments))
 }
 
@@ -278,7 +267,7 @@ fn make_declared<'a>(
 {
     let mut draft = Draft::new(memory);
     fill(&mut draft, memory, names, words)?;
-    declared_of(memory, &mut draft)
+    declared_of(memory, draft)
 }
 
 /// The transaction of the fields in these words.

@@ -1,6 +1,6 @@
 //! The fields of a transaction's line.
 
-ghost use Rattle.std.specs.Prelude.{◌≡◌, Ok, None, Some, option_copied, option_map};
+ghost use Rattle.std.specs.Prelude.{◌≡◌, Ok, None, Some, option_copied, option_map, IfOk};
 ghost use Rattle.std.specs.Result.{result_ok};
 ghost use Rattle.mp_text.specs.Numbers.{number_of};
 ghost use Rattle.mp_lines.specs.declared.fields.Field.TheVariants as told;
@@ -11,9 +11,8 @@ ghost use Rattle.mp_names.specs.References.{ref_of};
 ghost use Rattle.mp_lines.specs.Fields.{validator_of, spent_datum_of, input_of, key_of, good_signer, bad_signer, witness_field, limit_field, field_by, field_of};
 ghost use Rattle.mp_names.specs.Fault.{Reads};
 
-use crate::copies::make_input;
 use mp_bundle::Bundle;
-use mp_memory::Memory;
+use mp_memory::{Memory, NoMemory};
 use mp_names::{
     LineFault, Names, Payment, Reason, any_number, bundle_of, datum_or_unit, lock_words, number_in,
     paid_at, payment_of, ref_of, script_or_yes, split_once,
@@ -71,6 +70,28 @@ fn spent_datum_of<'n, 'a>(
         (None, Some(payment)) => Ok(&payment.datum),
         _ => datum_or_unit(names, word),
     }
+}
+
+// The input that spends the reference with this validator, datum and redeemer, which are shared.
+fn make_input(
+    from: OutRef,
+    validator: &Script,
+    datum: &Data,
+    redeemer: &Data,
+) -> Result<Input, NoMemory>
+    ensures { IfOk result (λ i. i ≡ record {
+      from = from;
+      validator = validator.now;
+      datum = datum.now;
+      redeemer = redeemer.now;
+    }) }
+{
+    Ok(Input {
+        from,
+        validator: validator.share()?,
+        datum: datum.share()?,
+        redeemer: redeemer.share()?,
+    })
 }
 
 // REF, and after a colon the script, the datum and the redeemer.

@@ -2,7 +2,6 @@
 #![tactic(auto)]
 
 mod commands;
-mod copies;
 mod declarations;
 mod draft;
 mod fields;

@@ -101,7 +101,8 @@ fn scripts_rise(scripts: &[Script]) -> bool
     true
 }
 
-fn signatures_rise(signatures: &[Signature]) -> bool
+/// Whether each signature is greater than the one before it.
+pub fn signatures_rise(signatures: &[Signature]) -> bool
     ensures { result ≡ rises signature_cmp signatures.now }
 {
     let mut before = None;

@@ -1,6 +1,6 @@
 //! Transactions.
 
-ghost use Rattle.std.specs.Prelude.{◌≡◌, ◌&&◌, nat_le, length, IfOk, IfErr, OnOk};
+ghost use Rattle.std.specs.Prelude.{◌≡◌, ◌+◌, ◌*◌, ◌^◌, ◌<◌, ◌≤◌, ◌&&◌, nat_le, length, IfOk, IfErr, OnOk};
 ghost use Rattle.mp_tx.specs.Spelling.{id_of, size_of};
 ghost use Rattle.mp_tx.specs.Parts.{IsTransaction};
 ghost use Rattle.mp_tx.specs.TxFault.{IsPartsFault};
@@ -12,7 +12,7 @@ use crate::extras::{Extras, keep_apart};
 use crate::fault::TxFault;
 use crate::few::Few;
 use crate::input::Input;
-use crate::order::order_fault;
+use crate::order::{order_fault, signatures_rise};
 use crate::output::Output;
 use crate::parts::Parts;
 use crate::reference::{OutRef, TxId};
@@ -29,6 +29,9 @@ pub const MAX_PARTS: usize = 256;
 
 /// The greatest number of bytes of a transaction.
 pub const MAX_BYTES: usize = 16_384;
+
+// The bytes of a signature with its key.
+const SIGNATURE_BYTES: u64 = 96;
 
 /// The parts of a transaction. Inputs, references, policy scripts and signatures have to be strictly increasing.
 /// Outputs keep their order.
@@ -212,6 +215,15 @@ fn measure(memory: Memory, parts: &Parts<'_>) -> Result<(TxId, u64), TxFault>
     Ok((id, size))
 }
 
+// The size of a transaction, given its size with another number of signatures.
+fn resized(size: u64, before: usize, after: usize) -> u64
+    requires least { 96 * before ≤ size }
+    requires greatest { size + 96 * after < 2 ^ 64 }
+    ensures { result + 96 * before ≡ size + 96 * after }
+{
+    size - SIGNATURE_BYTES * before as u64 + SIGNATURE_BYTES * after as u64
+}
+
 impl Tx {
     ghost use Rattle.std.specs.Prelude.{◌≡◌, ◌≤◌, IfOk, IfErr};
     ghost use Rattle.mp_tx.specs.declared.fault.TxFault.TheVariants as faults;
@@ -235,6 +247,47 @@ impl Tx {
     {
         let (id, size) = measure(memory, &parts.lend())?;
         Ok(parts.keep(memory, id, size)?)
+    }
+
+    /// The same transaction with these signatures, and without those that it had. Signatures aren't hashed, so its id stays.
+    ///
+    /// # Errors
+    /// `NotRising`: a signature isn't greater than the one before it. `TooLarge`: there are more than 16,384 bytes.
+    pub fn with_signatures(self, signatures: Vec<Signature, Memory>) -> Result<Tx, TxFault>
+        ensures ok { IfOk result (λ t. t ≡ record self { signatures = signatures.items }) }
+        ensures fits { IfOk result IsTransaction }
+        ensures fault { IfErr result
+            (IsPartsFault (record self { signatures = signatures.items })) }
+    {
+        if !signatures_rise(&signatures) {
+            return Err(TxFault::NotRising);
+        }
+        let size = resized(self.size, self.signatures.len(), signatures.len());
+        if size > MAX_BYTES as u64 {
+            return Err(TxFault::TooLarge);
+        }
+        let Tx {
+            inputs,
+            outputs,
+            from,
+            to,
+            forge,
+            extras,
+            signatures: _,
+            id,
+            size: _,
+        } = self;
+        Ok(Tx {
+            inputs,
+            outputs,
+            from,
+            to,
+            forge,
+            extras,
+            signatures,
+            id,
+            size,
+        })
     }
 
     fn lend(&self) -> Parts<'_>
