@@ -123,7 +123,7 @@ pub fn reply_line(memory: Memory, reply: &Reply) -> Result<Text, NoMemory>
 pub fn answer_line(memory: Memory, names: &Names, answer: &Answer) -> Result<Text, NoMemory>
     ensures { IfOk result (λ text. text.items ≡ answer_text names.now answer.now) }
 {
-    let mut text = Vec::new(memory);
+    let mut text = Vec::with_capacity(memory, ACCEPTED_ROOM)?;
     put_answer(memory, &mut text, names, answer)?;
     text.push(b'\n')?;
     Ok(text)

@@ -1,3 +1,4 @@
 -- What only the crate's own clauses, views and invariants cite.
 pub mod Request
 pub mod Beginning
+pub mod Waiting
