@@ -1,16 +1,15 @@
 //! Bindings in the order of their declaration, found by name or id without a walk.
 
 ghost use Rattle.std.specs.Prelude.{◌≡◌, Some, option_and_then, option_copied, OnOk, OnErr};
-ghost use Rattle.std.specs.Ordering.{nat_cmp};
-ghost use Rattle.std.specs.BTreeMap.{get};
+ghost use Rattle.mp_tickets.specs.Tickets.{item_at};
 ghost use Rattle.mp_names.specs.Inside.NumberTable.{Puts, Takes, AreSame, IsNew};
 ghost use Rattle.mp_names.specs.Inside.BindingTable.{bound_id};
 
 use crate::names::{Binding, NamedBinding};
 use crate::number_table::{NumberTable, first_under, no_numbers, put, take};
 use mp_memory::{Memory, NoMemory};
+use mp_tickets::{TicketList, make_node};
 use mp_tx::{Salt, TxId};
-use std::collections::BTreeMap;
 use std::marker::Model;
 
 /// The numbers of bindings under their names, and under the ids of their transactions.
@@ -27,19 +26,21 @@ impl Drop for Numbers {
 
 /// Bindings with their names. Contracts see them as a list, in the order of their declaration.
 pub struct BindingTable {
-    // Bindings by number. Later declarations have greater numbers.
-    bindings: BTreeMap<u64, NamedBinding, Memory>,
-    // Greater than all numbers.
-    next: u64,
+    // Bindings by number, from 1. Later declarations have greater numbers.
+    bindings: TicketList<NamedBinding>,
+    // The last number that was given.
+    last: u64,
     numbers: Numbers,
+    memory: Memory,
 }
 
 impl Drop for BindingTable {
     fn drop(self) {
         let BindingTable {
             bindings: _,
-            next: _,
+            last: _,
             numbers: _,
+            memory: _,
         } = self;
     }
 }
@@ -52,9 +53,9 @@ impl Model for BindingTable {
 
     ghost Value = { List told.NamedBinding };
 
-    ghost view = { λ t. values_of t.bindings.entries };
+    ghost view = { λ t. values_of t.bindings };
 
-    ghost invariant = { λ t. AreNumbered t.bindings.entries t.next t.numbers.names.entries
+    ghost invariant = { λ t. AreNumbered t.bindings (t.last + 1) t.numbers.names.entries
         t.numbers.ids.entries };
 }
 
@@ -109,30 +110,31 @@ fn put_keys(numbers: &mut Numbers, named: &NamedBinding, number: u64) -> Result<
 }
 
 fn binding_at(
-    bindings: &BTreeMap<u64, NamedBinding, Memory>,
+    bindings: &TicketList<NamedBinding>,
     number: Option<u64>,
 ) -> Option<&NamedBinding>
-    ensures { option_copied result ≡ option_and_then (λ n. get nat_cmp bindings.now n) number }
+    ensures { option_copied result ≡ option_and_then (item_at bindings.now) number }
 {
-    bindings.get(&number?)
+    bindings.get(number?)
 }
 
 impl BindingTable {
-    ghost use Rattle.std.specs.Prelude.{◌≡◌, [], ◌∷◌, ◌++◌, length, find, filter, not, is_some, option_and_then, option_copied, OnOk, OnErr};
+    ghost use Rattle.std.specs.Prelude.{◌≡◌, [], ◌∷◌, ◌++◌, length, find, filter, not, is_some, option_and_then, option_copied, IfOk, OnOk, OnErr};
     ghost use Rattle.mp_names.specs.Inside.BindingTable.{has_name, has_tx_id, without_first};
 
     /// A table without bindings.
-    pub fn new(memory: Memory, salt: Salt) -> BindingTable
-        ensures { result ≡ [] }
+    pub fn new(memory: Memory, salt: Salt) -> Result<BindingTable, NoMemory>
+        ensures { IfOk result (λ t. t ≡ []) }
     {
-        BindingTable {
-            bindings: BTreeMap::new(memory),
-            next: 0,
+        Ok(BindingTable {
+            bindings: TicketList::new(memory)?,
+            last: 0,
             numbers: Numbers {
                 names: no_numbers(memory, salt),
                 ids: no_numbers(memory, salt),
             },
-        }
+            memory,
+        })
     }
 
     /// The first binding with this name.
@@ -165,18 +167,19 @@ impl BindingTable {
         ensures ok { OnOk result (self.new ≡ self.old ++ named ∷ []) }
         ensures err { OnErr result (self.new ≡ self.old) }
     {
-        let number = self.next;
-        if number == u64::MAX {
+        if self.last == u64::MAX {
             return Err(NoMemory);
         }
+        let number = self.last + 1;
+        self.bindings.reserve()?;
         put_keys(&mut self.numbers, &named, number)?;
-        match self.bindings.insert(number, named) {
-            Ok(_) => {
-                self.next = number + 1;
+        match make_node(self.memory, named) {
+            Ok(node) => {
+                self.bindings.push_node(number, node);
+                self.last = number;
                 Ok(())
             }
-            Err(refused) => {
-                let (_, named) = refused.value;
+            Err(named) => {
                 take_keys(&mut self.numbers, &named, number);
                 Err(NoMemory)
             }
@@ -191,7 +194,7 @@ impl BindingTable {
         let Some(number) = first_under(&self.numbers.names, word) else {
             return false;
         };
-        match self.bindings.remove(&number) {
+        match self.bindings.unlink(number) {
             Some(named) => {
                 take_keys(&mut self.numbers, &named, number);
                 true

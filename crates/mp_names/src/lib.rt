@@ -7,6 +7,7 @@ mod datum_table;
 mod declared_tx;
 mod fault;
 mod ids;
+mod key;
 mod names;
 mod new_ledger;
 mod number_table;

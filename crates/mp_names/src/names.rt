@@ -16,6 +16,7 @@ use mp_memory::{Memory, NoMemory};
 use mp_script::{Data, Script};
 use mp_text::is_name;
 use mp_tx::{OutRef, Salt, TxId};
+use smallvec::SmallVec;
 use std::marker::Model;
 
 /// The word for the policy of coin. It can't be the name of a script.
@@ -24,9 +25,9 @@ pub const COIN: &[u8] = b"coin";
 // How many names are declared from the start.
 const FIRST_NAMES: u128 = 3;
 
-/// A name.
+/// A name. At most 16 bytes take no memory.
 pub struct Name {
-    bytes: Vec<u8, Memory>,
+    bytes: SmallVec<u8, 16, Memory>,
 }
 
 impl Drop for Name {
@@ -52,7 +53,7 @@ impl Name {
         ensures { IfOk result (λ n. n ≡ word.now) }
     {
         Ok(Name {
-            bytes: Vec::from_slice(memory, word)?,
+            bytes: SmallVec::from_slice(memory, word)?,
         })
     }
 
@@ -60,14 +61,14 @@ impl Name {
     pub fn to_bytes(&self) -> Result<Vec<u8, Memory>, NoMemory>
         ensures { IfOk result (λ v. v.items ≡ self.now) }
     {
-        Ok(Vec::from_slice(*self.bytes.allocator(), &self.bytes)?)
+        Ok(Vec::from_slice(*self.bytes.allocator(), self.bytes.as_slice())?)
     }
 
     /// Its bytes.
     pub fn as_bytes(&self) -> &[u8]
         ensures { result.now ≡ self.now }
     {
-        &self.bytes
+        self.bytes.as_slice()
     }
 }
 
@@ -221,7 +222,7 @@ impl Names {
         let mut datums = DatumTable::new(memory, salt);
         put_first(&mut scripts, &mut datums, memory)?;
         Ok(Names {
-            bindings: BindingTable::new(memory, salt),
+            bindings: BindingTable::new(memory, salt)?,
             reported: ReportedNames::new(memory, salt),
             scripts,
             datums,

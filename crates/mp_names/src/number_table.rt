@@ -4,12 +4,17 @@ ghost use Rattle.std.specs.Prelude.{◌≡◌, [], ◌∷◌, Some, slice_get, I
 ghost use Rattle.std.specs.Bool.{OnTrue};
 ghost use Rattle.mp_names.specs.Inside.NumberTable.{numbers_at, without_number, Puts, Takes, AreSame};
 
+use crate::key::Key;
 use indexmap::IndexMap;
 use mp_memory::{Memory, NoMemory};
 use mp_tx::Salt;
+use smallvec::SmallVec;
+
+/// The numbers under a key. One number takes no memory.
+type Numbers = SmallVec<u64, 1, Memory>;
 
 /// Numbers under keys: names, or the ids of transactions. Those under one key are strictly increasing.
-pub type NumberTable = IndexMap<Vec<u8, Memory>, Vec<u64, Memory>, Salt, Memory>;
+pub type NumberTable = IndexMap<Key, Numbers, Salt, Memory>;
 
 /// A table without numbers.
 pub fn no_numbers(memory: Memory, salt: Salt) -> NumberTable
@@ -22,13 +27,13 @@ pub fn no_numbers(memory: Memory, salt: Salt) -> NumberTable
 pub fn first_under(table: &NumberTable, key: &[u8]) -> Option<u64>
     ensures { result ≡ slice_get (numbers_at table.now.entries key.now) 0 }
 {
-    table.get(key)?.first().copied()
+    table.get(key)?.as_slice().first().copied()
 }
 
-fn one_number(memory: Memory, number: u64) -> Result<Vec<u64, Memory>, NoMemory>
+fn one_number(memory: Memory, number: u64) -> Result<Numbers, NoMemory>
     ensures { IfOk result (λ numbers. numbers.items ≡ number ∷ []) }
 {
-    let mut numbers = Vec::new(memory);
+    let mut numbers = SmallVec::new(memory);
     numbers.push(number)?;
     Ok(numbers)
 }
@@ -41,7 +46,7 @@ fn put_first(table: &mut NumberTable, key: &[u8], number: u64) -> Result<(), NoM
 {
     let memory = *table.allocator();
     let numbers = one_number(memory, number)?;
-    let key = Vec::from_slice(memory, key)?;
+    let key = Key::of(memory, key)?;
     table.insert(key, numbers)?;
     Ok(())
 }
@@ -61,11 +66,11 @@ pub fn put(table: &mut NumberTable, key: &[u8], number: u64) -> Result<(), NoMem
 }
 
 // Removes the number. Returns whether none is left.
-fn take_out(numbers: &mut Vec<u64, Memory>, number: u64) -> bool
+fn take_out(numbers: &mut Numbers, number: u64) -> bool
     ensures left { numbers.new.items ≡ without_number number numbers.old.items }
     ensures none { OnTrue result (numbers.new.items ≡ []) }
 {
-    numbers.retain(|n| *n != number);
+    numbers.retain(|n: &mut u64| *n != number);
     numbers.is_empty()
 }
 
