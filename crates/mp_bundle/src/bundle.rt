@@ -73,7 +73,7 @@ fn to_shared(memory: Memory, entries: Vec<TokenEntry, Memory>) -> Result<Option<
 }
 
 impl Bundle {
-    ghost use Rattle.std.specs.Prelude.{◌≡◌, ◌==◌, [], length, IfOk, IfErr, OnOk, None};
+    ghost use Rattle.std.specs.Prelude.{◌≡◌, ◌==◌, [], ◌∷◌, length, IfOk, IfErr, OnOk, None};
     ghost use Rattle.mp_bundle.specs.Token.{token, coin};
     ghost use Rattle.mp_bundle.specs.Bundle.{quantity_of, with_coin, SplitsCoin, IsBundle};
     ghost use Rattle.mp_bundle.specs.BundleFault.{entries_of, fault_of, IsFaultOf};
@@ -84,6 +84,17 @@ impl Bundle {
     {
         Bundle {
             coin: 0,
+            others: None,
+        }
+    }
+
+    /// The bundle of this quantity of coin. It takes no memory.
+    pub fn of_coin(quantity: i64) -> Bundle
+        requires { fault_of ((coin, quantity) ∷ []) ≡ None }
+        ensures { result ≡ (coin, quantity) ∷ [] }
+    {
+        Bundle {
+            coin: quantity,
             others: None,
         }
     }

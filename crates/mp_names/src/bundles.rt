@@ -237,6 +237,9 @@ fn read_bundle<'a>(memory: Memory, names: &Names, word: &'a [u8]) -> Result<Bund
     if word == b"-".as_slice() {
         return Ok(Bundle::empty());
     }
+    if let Some(quantity) = read_quantity(word) {
+        return Ok(Bundle::of_coin(quantity));
+    }
     let entries = entries_of(memory, names, word)?;
     bundle_by(memory, entries, word)
 }
