@@ -15,7 +15,7 @@ use mp_bundle::Bundle;
 use mp_memory::{Memory, NoMemory};
 use mp_names::{
     LineFault, Names, Payment, Reason, any_number, bundle_of, datum_or_unit, lock_words, number_in,
-    paid_at, payment_of, ref_of, script_or_yes, split_once,
+    output_named, payment_of, ref_of, script_or_yes, split_once,
 };
 use mp_script::{Data, Script};
 use mp_tx::{Input, OutRef};
@@ -102,8 +102,7 @@ fn input_of<'a>(names: &Names, word: &'a [u8]) -> Result<Input, LineFault<'a>>
     let (reference, handed) = split_once(word, b':');
     let (validator, data) = lock_words(handed);
     let (datum, redeemer) = lock_words(data);
-    let from = ref_of(names, reference)?;
-    let spent = paid_at(names, reference);
+    let (from, spent) = output_named(names, reference)?;
     let validator = validator_of(names, validator, spent)?;
     let datum = spent_datum_of(names, datum, spent)?;
     let redeemer = datum_or_unit(names, redeemer)?;

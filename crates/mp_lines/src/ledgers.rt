@@ -13,7 +13,7 @@ use crate::forms::BLOCK;
 use mp_memory::Memory;
 use mp_names::{
     BlockBytes, Denoted, LineFault, Names, NewLedger, Outputs, Reason, any_number, first_repeat,
-    paid_at, ref_of, split_once,
+    output_named, split_once,
 };
 use mp_text::first_word;
 use mp_tx::OutRef;
@@ -35,8 +35,7 @@ fn put_output<'a>(outputs: &mut Outputs, names: &Names, word: &'a [u8]) -> Resul
     ensures bad { IsBad result
         → with_output outputs.old (ref_of names.now word.now) (paid_at names.now word.now) ≡ None }
 {
-    let reference = ref_of(names, word)?;
-    let Some(payment) = paid_at(names, word) else {
+    let (reference, Some(payment)) = output_named(names, word)? else {
         return Err(LineFault::Bad(Reason::NoOutput(word)));
     };
     let repeats = Reason::Repeats {
@@ -64,8 +63,8 @@ fn read_outputs<'a>(
 
 // Between two spaces there is no word.
 fn output_in(names: &Names, word: &[u8]) -> Denoted<OutRef> {
-    match (ref_of(names, word), paid_at(names, word)) {
-        (Ok(reference), Some(_)) => Denoted::Once(reference),
+    match output_named(names, word) {
+        Ok((reference, Some(_))) => Denoted::Once(reference),
         _ if word.is_empty() => Denoted::Anything,
         _ => Denoted::Bad,
     }

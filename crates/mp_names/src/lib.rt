@@ -36,7 +36,7 @@ pub use once::set_once;
 pub use payment::Payment;
 pub use payments::{datum_or_unit, lock_words, payment_of, script_or_yes};
 pub use reason::Reason;
-pub use references::{paid_at, ref_of};
+pub use references::{output_named, ref_of};
 pub use repeats::{Denoted, first_repeat};
 pub use rising::{Rising, insert_rising};
 pub use settings::{BlockBytes, Limit, Setting};
