@@ -22,6 +22,10 @@ use std::marker::Model;
 /// The word for the policy of coin. It can't be the name of a script.
 pub const COIN: &[u8] = b"coin";
 
+const YES_BYTES: [u8; 1] = [0x01];
+
+const UNIT_BYTES: [u8; 3] = [0x03, 0x00, 0x00];
+
 // How many names are declared from the start.
 const FIRST_NAMES: u128 = 3;
 
@@ -123,6 +127,9 @@ pub struct Names {
     reported: ReportedNames,
     scripts: ScriptTable,
     datums: DatumTable,
+    // Named so often that no look-up is made.
+    yes: Script,
+    unit: Data,
     by_id: bool,
     memory: Memory,
 }
@@ -134,6 +141,8 @@ impl Drop for Names {
             reported: _,
             scripts: _,
             datums: _,
+            yes: _,
+            unit: _,
             by_id: _,
             memory: _,
         } = self;
@@ -144,7 +153,7 @@ impl Model for Names {
     ghost use Rattle.std.specs.Coded.{codes};
     ghost use Rattle.std.specs.FinMap as finite;
     ghost use Rattle.mp_names.specs.Names as told;
-    ghost use Rattle.mp_names.specs.Inside.Names.{names_of};
+    ghost use Rattle.mp_names.specs.Inside.Names.{names_of, HasFirst};
     ghost use Rattle.mp_names.specs.Inside.Reported.{AreDeclared};
 
     ghost Value = { told.Names };
@@ -153,7 +162,8 @@ impl Model for Names {
 
     ghost view = { names_of };
 
-    ghost invariant = { λ n. AreDeclared n.bindings n.reported };
+    ghost invariant = { λ n. AreDeclared n.bindings n.reported
+        × HasFirst n.scripts n.datums n.yes n.unit };
 }
 
 fn script_of(memory: Memory, name: &[u8], bytes: &[u8]) -> Result<NamedScript, NoMemory>
@@ -184,9 +194,9 @@ fn put_first(
     ensures scripts { OnOk result (scripts.new ≡ first_names.scripts) }
     ensures datums { OnOk result (datums.new ≡ first_names.datums) }
 {
-    scripts.push(script_of(memory, b"yes", &[0x01])?)?;
+    scripts.push(script_of(memory, b"yes", &YES_BYTES)?)?;
     scripts.push(script_of(memory, b"no", &[0x00])?)?;
-    datums.push(datum_of(memory, b"unit", &[0x03, 0x00, 0x00])?)
+    datums.push(datum_of(memory, b"unit", &UNIT_BYTES)?)
 }
 
 // The transaction that the word denotes is no longer reported under it.
@@ -209,7 +219,7 @@ pub fn refused_name(word: &[u8]) -> Reason<'_> {
 }
 
 impl Names {
-    ghost use Rattle.std.specs.Prelude.{◌≡◌, ◌+◌, [], ◌∷◌, ◌++◌, length, IfOk, OnOk, OnErr, option_copied, option_map, unwrap_or};
+    ghost use Rattle.std.specs.Prelude.{◌≡◌, ◌+◌, [], ◌∷◌, ◌++◌, length, codes, Some, IfOk, OnOk, OnErr, option_copied, option_map, unwrap_or};
     ghost use Rattle.std.specs.Result.{result_ok};
     ghost use Rattle.mp_names.specs.Names.{first_names, binding_named, script_named, datum_named, tx_named, is_new_binding, is_new_script, is_new_datum, first_name_of, name_of, policy_name, has_many, with_binding, with_script, with_datum, with_reported, reporting_by_id, without_bindings};
     ghost use Rattle.mp_tx.specs.Spelling.{id_of};
@@ -226,6 +236,8 @@ impl Names {
             reported: ReportedNames::new(memory, salt),
             scripts,
             datums,
+            yes: Script::decode(memory, &YES_BYTES).or(Err(NoMemory))?,
+            unit: Data::decode(memory, &UNIT_BYTES).or(Err(NoMemory))?,
             by_id: false,
             memory,
         })
@@ -369,6 +381,20 @@ impl Names {
     {
         let found = self.bindings.get(word)?;
         Some(&found.binding)
+    }
+
+    /// The script `yes`.
+    pub fn yes(&self) -> &Script
+        ensures { script_named (codes "yes") self.now ≡ Some result.now }
+    {
+        &self.yes
+    }
+
+    /// The datum `unit`.
+    pub fn unit(&self) -> &Data
+        ensures { datum_named (codes "unit") self.now ≡ Some result.now }
+    {
+        &self.unit
     }
 
     /// The script that the word denotes, if there is one.

@@ -15,10 +15,6 @@ use mp_bundle::Bundle;
 use mp_memory::{Memory, NoMemory};
 use mp_script::{Data, Script};
 
-const YES: &[u8] = b"yes";
-
-const UNIT: &[u8] = b"unit";
-
 /// The script that a word names; `yes` without a word.
 pub fn script_or_yes<'n, 'a>(
     names: &'n Names,
@@ -29,7 +25,7 @@ pub fn script_or_yes<'n, 'a>(
 {
     match word {
         Some(word) => names.script(word),
-        None => names.script(YES),
+        None => Ok(names.yes()),
     }
 }
 
@@ -43,7 +39,7 @@ pub fn datum_or_unit<'n, 'a>(
 {
     match word {
         Some(word) => names.datum(word),
-        None => names.datum(UNIT),
+        None => Ok(names.unit()),
     }
 }
 
