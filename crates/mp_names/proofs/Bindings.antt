@@ -20,7 +20,7 @@ id_key n q = by n.binding
     by (Opening r p) = refl
     by (Made t) = refl
 
-module _ {Z : Type 0} (es : List (ℕ × NamedBinding)) (next : ℕ) (names ids : Numbered Z) (numbered : AreNumbered es next names ids) where
+module _ (es : List (ℕ × NamedBinding)) (next : ℕ) (names ids : Numbered) (numbered : AreNumbered es next names ids) where
   pub next_is_new : IsNew next names
   next_is_new q = ap (without_number next) (numbered.names q) ∙ lacks_next (has_name q) 0 es next numbered.between ∙ sym (numbered.names q)
 
@@ -28,7 +28,7 @@ module _ {Z : Type 0} (es : List (ℕ × NamedBinding)) (next : ℕ) (names ids 
   next_is_new_id q = ap (without_number next) (numbered.ids q) ∙ lacks_next (has_tx_id q) 0 es next numbered.between ∙ sym (numbered.ids q)
 
   -- one more binding
-  pub numbered-push : (n : NamedBinding) (new_es : List (ℕ × NamedBinding)) (new_names new_ids : Numbered Z) → new_es ≡ es ++ (next, n) ∷ []
+  pub numbered-push : (n : NamedBinding) (new_es : List (ℕ × NamedBinding)) (new_names new_ids : Numbered) → new_es ≡ es ++ (next, n) ∷ []
       → Puts names (Some n.name) next new_names → Puts ids (bound_id n.binding) next new_ids → AreNumbered new_es (next + 1) new_names new_ids
   numbered-push n new_es new_names new_ids is by_name by_id = subst (λ l. AreNumbered l (next + 1) new_names new_ids) (sym is) (record {
     between = between-push 0 es next n numbered.between;
@@ -39,7 +39,7 @@ module _ {Z : Type 0} (es : List (ℕ × NamedBinding)) (next : ℕ) (names ids 
   })
 
   -- nothing has changed if each key has the numbers that it had
-  pub numbered-same : (new_es : List (ℕ × NamedBinding)) (new_names new_ids : Numbered Z) → new_es ≡ es → AreSame names new_names → AreSame ids new_ids → AreNumbered new_es next new_names new_ids
+  pub numbered-same : (new_es : List (ℕ × NamedBinding)) (new_names new_ids : Numbered) → new_es ≡ es → AreSame names new_names → AreSame ids new_ids → AreNumbered new_es next new_names new_ids
   numbered-same new_es new_names new_ids is by_name by_id = subst (λ l. AreNumbered l next new_names new_ids) (sym is) (record {
     between = numbered.between;
     names = λ q. by_name q ∙ numbered.names q;
@@ -47,7 +47,7 @@ module _ {Z : Type 0} (es : List (ℕ × NamedBinding)) (next : ℕ) (names ids 
   })
 
   -- one binding less
-  pub numbered-without : (number : ℕ) (n : NamedBinding) (new_es : List (ℕ × NamedBinding)) (new_names new_ids : Numbered Z) → at es number ≡ Some n → new_es ≡ without es number
+  pub numbered-without : (number : ℕ) (n : NamedBinding) (new_es : List (ℕ × NamedBinding)) (new_names new_ids : Numbered) → at es number ≡ Some n → new_es ≡ without es number
       → Takes names (Some n.name) number new_names → Takes ids (bound_id n.binding) number new_ids → AreNumbered new_es next new_names new_ids
   numbered-without number n new_es new_names new_ids found is by_name by_id = subst (λ l. AreNumbered l next new_names new_ids) (sym is) (record {
     between = between-without 0 es next number numbered.between;

@@ -3,7 +3,7 @@ use Rattle.std.proofs.Common.{◌≡◌, ℕ, Bool, true, false, not, cond, List
 use Rattle.std.specs.Prelude.{option_map, unwrap_or, OnErr}
 use Rattle.std.specs.Map.{lookup, IsKeyTest, AreApart, KeepsOthers}
 use Rattle.std.specs.Cmp.Lexicographic.{pointwise, bytes_decides, nat_list_eq_equiv}
-use Rattle.std.specs.declared.vec.Vec.{Vec}
+use Rattle.smallvec.specs.SmallVec.{SmallVec}
 use Rattle.std.proofs.lemmas.List.Elements.{filter-append}
 use Rattle.std.proofs.lemmas.Bool.Decides.{nat_tests}
 use Rattle.mp_names.specs.Inside.NumberTable.{Numbered, numbers_at, without_number, is_key, Puts, Takes, AreSame, IsNew}
@@ -17,33 +17,33 @@ same_key q key is = (bytes_decides q key).0 is
 nat_eq-itself : (n : ℕ) → nat_eq n n ≡ true
 nat_eq-itself n = grind (arith, nat_tests)
 
-module _ {Z : Type 0} where
+module _ where
   -- whether the key has these bytes
-  abbrev pub has_bytes : List ℕ → Vec ℕ Z → Bool
-  has_bytes bytes key = pointwise nat_eq bytes key.items
+  abbrev pub has_bytes : List ℕ → List ℕ → Bool
+  has_bytes bytes key = pointwise nat_eq bytes key
 
-  abbrev pub numbers_in : Option (Vec ℕ Z) → List ℕ
+  abbrev pub numbers_in : Option (SmallVec ℕ) → List ℕ
   numbers_in numbers = unwrap_or (option_map (λ v. v.items) numbers) []
 
-  abbrev pub KeepsOtherKeys : List ℕ → Numbered Z → Numbered Z → Type 0
-  KeepsOtherKeys key old new = KeepsOthers (λ a b. pointwise nat_eq a.items b.items) (has_bytes key) old new
+  abbrev pub KeepsOtherKeys : List ℕ → Numbered → Numbered → Type 0
+  KeepsOtherKeys key old new = KeepsOthers (pointwise nat_eq) (has_bytes key) old new
 
-  others : (key : List ℕ) (old new : Numbered Z) → KeepsOtherKeys key old new → (other : Vec ℕ Z → Bool) → IsKeyTest (λ a b. pointwise nat_eq a.items b.items) other → AreApart (has_bytes key) other → lookup other new ≡ lookup other old
+  others : (key : List ℕ) (old new : Numbered) → KeepsOtherKeys key old new → (other : List ℕ → Bool) → IsKeyTest (pointwise nat_eq) other → AreApart (has_bytes key) other → lookup other new ≡ lookup other old
   unfolding KeepsOthers
   others key old new keeps = keeps
 
   -- the key has these numbers, and each other one has what it had
-  pub numbers_after : (old new : Numbered Z) (key : List ℕ) (numbers : Option (Vec ℕ Z)) → lookup (has_bytes key) new ≡ numbers → KeepsOtherKeys key old new
+  pub numbers_after : (old new : Numbered) (key : List ℕ) (numbers : Option (SmallVec ℕ)) → lookup (has_bytes key) new ≡ numbers → KeepsOtherKeys key old new
       → (q : List ℕ) → numbers_at new q ≡ cond (pointwise nat_eq q key) (numbers_in numbers) (numbers_at old q)
   numbers_after old new key numbers here keeps q = by (pointwise nat_eq q key) refl
     where
       by : (b : Bool) → pointwise nat_eq q key ≡ b → numbers_at new q ≡ cond b (numbers_in numbers) (numbers_at old q)
       by true same = ap (numbers_at new) ((bytes_decides q key).0 same) ∙ ap numbers_in here
       by false other =
-          ap numbers_in (others key old new keeps (has_bytes q) (λ a b. nat_list_eq_equiv.congr q a.items b.items) (λ k passes. apart q key k.items other passes))
+          ap numbers_in (others key old new keeps (has_bytes q) (λ a b. nat_list_eq_equiv.congr q a b) (λ k passes. apart q key k other passes))
 
   -- so the number is added
-  pub puts_after : (old new : Numbered Z) (key : List ℕ) (number : ℕ) (numbers : List ℕ) → numbers ≡ numbers_at old key ++ number ∷ []
+  pub puts_after : (old new : Numbered) (key : List ℕ) (number : ℕ) (numbers : List ℕ) → numbers ≡ numbers_at old key ++ number ∷ []
       → ((q : List ℕ) → numbers_at new q ≡ cond (pointwise nat_eq q key) numbers (numbers_at old q)) → Puts old (Some key) number new
   puts_after old new key number numbers is after q = after q ∙ by (pointwise nat_eq q key) refl
     where
@@ -52,7 +52,7 @@ module _ {Z : Type 0} where
       by false other = sym (append-nil (numbers_at old q))
 
   -- or removed
-  pub takes_after : (old new : Numbered Z) (key : List ℕ) (number : ℕ) (numbers : List ℕ) → numbers ≡ without_number number (numbers_at old key)
+  pub takes_after : (old new : Numbered) (key : List ℕ) (number : ℕ) (numbers : List ℕ) → numbers ≡ without_number number (numbers_at old key)
       → ((q : List ℕ) → numbers_at new q ≡ cond (pointwise nat_eq q key) numbers (numbers_at old q)) → Takes old (Some key) number new
   takes_after old new key number numbers is after q = after q ∙ by (pointwise nat_eq q key) refl
     where
@@ -61,7 +61,7 @@ module _ {Z : Type 0} where
       by false other = refl
 
   -- or nothing changes
-  pub same_after : (old new : Numbered Z) (key numbers : List ℕ) → numbers ≡ numbers_at old key → ((q : List ℕ) → numbers_at new q ≡ cond (pointwise nat_eq q key) numbers (numbers_at old q)) → AreSame old new
+  pub same_after : (old new : Numbered) (key numbers : List ℕ) → numbers ≡ numbers_at old key → ((q : List ℕ) → numbers_at new q ≡ cond (pointwise nat_eq q key) numbers (numbers_at old q)) → AreSame old new
   same_after old new key numbers is after q = after q ∙ by (pointwise nat_eq q key) refl
     where
       by : (b : Bool) → pointwise nat_eq q key ≡ b → cond b numbers (numbers_at old q) ≡ numbers_at old q
@@ -69,7 +69,7 @@ module _ {Z : Type 0} where
       by false other = refl
 
   -- two changes under one key
-  pub twice_after : (old mid new : Numbered Z) (key before numbers : List ℕ) → ((q : List ℕ) → numbers_at mid q ≡ cond (pointwise nat_eq q key) before (numbers_at old q))
+  pub twice_after : (old mid new : Numbered) (key before numbers : List ℕ) → ((q : List ℕ) → numbers_at mid q ≡ cond (pointwise nat_eq q key) before (numbers_at old q))
       → ((q : List ℕ) → numbers_at new q ≡ cond (pointwise nat_eq q key) numbers (numbers_at mid q)) → (q : List ℕ) → numbers_at new q ≡ cond (pointwise nat_eq q key) numbers (numbers_at old q)
   twice_after old mid new key before numbers first second q = second q ∙ ap (cond (pointwise nat_eq q key) numbers) (first q) ∙ by (pointwise nat_eq q key)
     where
@@ -78,7 +78,7 @@ module _ {Z : Type 0} where
       by false = refl
 
   -- adding a new number and then removing it leaves what was there
-  pub put-taken : (old mid new : Numbered Z) (key : Option (List ℕ)) (number : ℕ) → IsNew number old → Puts old key number mid → Takes mid key number new → AreSame old new
+  pub put-taken : (old mid new : Numbered) (key : Option (List ℕ)) (number : ℕ) → IsNew number old → Puts old key number mid → Takes mid key number new → AreSame old new
   put-taken old mid new key number is_new puts takes q = takes q ∙ by (is_key key q) refl
     where
       gone : without_number number (number ∷ []) ≡ []

@@ -32,7 +32,7 @@ abbrev pub AreBetween : {X : Type 0} → ℕ → List (ℕ × X) → ℕ → Typ
 AreBetween least [] next = least ≤ next
 AreBetween least (e ∷ es) next = (least ≤ e.0) × AreBetween (e.0 + 1) es next
 
-pub record AreNumbered {Z : Type 0} (bindings : List (ℕ × NamedBinding)) (next : ℕ) (by_name by_id : Numbered Z) : Type 0 where
+pub record AreNumbered (bindings : List (ℕ × NamedBinding)) (next : ℕ) (by_name by_id : Numbered) : Type 0 where
   pub between : AreBetween 0 bindings next
   pub names : (q : List ℕ) → numbers_at by_name q ≡ numbers_of (has_name q) bindings
   pub ids : (q : List ℕ) → numbers_at by_id q ≡ numbers_of (has_tx_id q) bindings

@@ -7,8 +7,8 @@ pub returns-clause-ok : goal.returns-clause-ok
 returns-clause-ok c =
     let old = c.args.table.now.entries in
     let new = c.insert.new.self.entries in
-    let key : List ℕ = c.in_ok-key.key.items in
-    let same : key ≡ c.args.key.now = c.in_ok-key.ensures.items in
+    let key : List ℕ = c.in_ok-key.key in
+    let same : key ≡ c.args.key.now = c.in_ok-key.ensures in
     let updates = c.in_ok-insert.ensures.updates in
     let none : numbers_at old key ≡ [] = ap (numbers_at old) same ∙ c.requires in
     subst (λ k. Puts old (Some k) c.args.number new) same
