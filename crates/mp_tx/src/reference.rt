@@ -24,10 +24,7 @@ impl Hash for OutRef {
     ghost respects_eq = { Prim.search (hashing, rules) };
 
     fn hash<H: Hasher>(&self, state: &mut H) {
-        state.write(&self.id[0..8]);
-        state.write(&self.id[8..16]);
-        state.write(&self.id[16..24]);
-        state.write(&self.id[24..32]);
+        state.write(&self.id);
         state.write_u16(self.index);
     }
 }
