@@ -30,6 +30,9 @@ pub const MAX_PARTS: usize = 256;
 /// The greatest number of bytes of a transaction.
 pub const MAX_BYTES: usize = 16_384;
 
+// Most transactions have fewer bytes.
+const USUAL_BYTES: usize = 1024;
+
 // The bytes of a signature with its key.
 const SIGNATURE_BYTES: u64 = 96;
 
@@ -204,7 +207,7 @@ fn measure(memory: Memory, parts: &Parts<'_>) -> Result<(TxId, u64), TxFault>
     if !has_few_parts(parts) {
         return Err(TxFault::TooLarge);
     }
-    let mut bytes = Vec::with_capacity(memory, MAX_BYTES)?;
+    let mut bytes = Vec::with_capacity(memory, USUAL_BYTES)?;
     put_body(&mut bytes, parts)?;
     let id = digest(&bytes);
     put_signatures(&mut bytes, parts.signatures)?;
