@@ -14,3 +14,4 @@ pub mod Blocks
 pub mod Changed
 pub mod Layering
 pub mod Undoing
+pub mod Signing

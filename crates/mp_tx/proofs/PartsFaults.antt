@@ -1,12 +1,14 @@
 -- Parts without a fault make a transaction, and those of a transaction have none.
 use Rattle.std.proofs.Common.{◌≡◌, ◌≢◌, ℕ, ◌≤◌, arith, Bool, true, false, ◌&&◌, length, Option, None, Some, refl, ap, subst, ◌∙◌, nat_lt, cond, ◌<◌}
-use Rattle.std.specs.Prelude.{not, nat_le}
+use Rattle.std.specs.Prelude.{not, nat_le, IsTrue}
 use Rattle.std.specs.Option.{option_or}
 use Rattle.std.specs.Cmp.{first_so, second_so}
 use Rattle.std.specs.Cmp.Derive.{both_true}
 use Rattle.mp_tx.specs.declared.fault.TxFault.{TxFault}
 use Rattle.mp_tx.specs.declared.fault.TxFault.TheVariants.{NoMemory, Truncated, Trailing, BadVersion, NotRising, BadBundle, BadScript, BadData, BadInterval, TooLarge, ReferenceSpent, NoReferences}
-use Rattle.mp_tx.specs.Transaction.{Transaction, spends_none}
+use Rattle.mp_tx.specs.Reference.{ref_cmp}
+use Rattle.mp_tx.specs.Rising.{rises}
+use Rattle.mp_tx.specs.Transaction.{Transaction, spent_refs, script_cmp, signature_cmp, spends_none}
 use Rattle.mp_tx.specs.Spelling.{size_of}
 use Rattle.mp_tx.specs.Parts.{IsTransaction}
 use Rattle.mp_tx.specs.TxFault.{all_rise, is_small, order_fault, parts_fault}
@@ -110,3 +112,10 @@ not_small t n e lt = few_but_long _ _ (above (size_of t) (subst (λ (k : ℕ). 1
 
 pub small_enough : (t : Transaction) (n : ℕ) → n ≡ size_of t → n ≤ 16384 → (nat_le (length t.inputs) 256 && nat_le (length t.references) 256 && nat_le (length t.outputs) 256) ≡ true → is_small t ≡ true
 small_enough t n e le few = both_true few (is_at_most (size_of t) 16384 (subst (λ (k : ℕ). k ≤ 16384) e le))
+
+-- ---- parts in order
+
+pub order_faultless : (t : Transaction) → IsTrue (rises ref_cmp (spent_refs t.inputs)) → IsTrue (rises ref_cmp t.references) → IsTrue (rises script_cmp t.scripts) → IsTrue (rises signature_cmp t.signatures)
+    → IsTrue (spends_none t.inputs t.references) → t.from ≤ t.to → order_fault t ≡ None
+order_faultless t inputs references scripts signatures unspent interval =
+    all_tests (all_rise t) (spends_none t.inputs t.references) (nat_lt t.to t.from) (both_true (both_true (both_true inputs references) scripts) signatures) unspent (is_not_below t.from t.to interval)

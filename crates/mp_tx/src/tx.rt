@@ -1,6 +1,6 @@
 //! Transactions.
 
-ghost use Rattle.std.specs.Prelude.{◌≡◌, ◌+◌, ◌*◌, ◌^◌, ◌<◌, ◌≤◌, ◌&&◌, nat_le, length, IfOk, IfErr, OnOk};
+ghost use Rattle.std.specs.Prelude.{◌≡◌, ◌+◌, ◌*◌, ◌≤◌, ◌&&◌, nat_le, length, IfOk, IfErr, OnOk};
 ghost use Rattle.mp_tx.specs.Spelling.{id_of, size_of};
 ghost use Rattle.mp_tx.specs.Parts.{IsTransaction};
 ghost use Rattle.mp_tx.specs.TxFault.{IsPartsFault};
@@ -17,7 +17,7 @@ use crate::output::Output;
 use crate::parts::Parts;
 use crate::reference::{OutRef, TxId};
 use crate::signature::Signature;
-use crate::typed::look_at;
+use crate::typed::{look_at, look_at_signatures};
 use mp_bundle::Bundle;
 use mp_bytes::digest;
 use mp_memory::{Memory, NoMemory};
@@ -218,13 +218,12 @@ fn measure(memory: Memory, parts: &Parts<'_>) -> Result<(TxId, u64), TxFault>
     Ok((id, size))
 }
 
-// The size of a transaction, given its size with another number of signatures.
-fn resized(size: u64, before: usize, after: usize) -> u64
-    requires least { 96 * before ≤ size }
-    requires greatest { size + 96 * after < 2 ^ 64 }
+// The size of a transaction with this many signatures, given its size with another number of them.
+fn resized(size: u64, before: usize, after: usize) -> u128
+    requires { 96 * before ≤ size }
     ensures { result + 96 * before ≡ size + 96 * after }
 {
-    size - SIGNATURE_BYTES * before as u64 + SIGNATURE_BYTES * after as u64
+    (size - SIGNATURE_BYTES * before as u64) as u128 + (SIGNATURE_BYTES as u128) * after as u128
 }
 
 impl Tx {
@@ -262,11 +261,13 @@ impl Tx {
         ensures fault { IfErr result
             (IsPartsFault (record self { signatures = signatures.items })) }
     {
+        look_at_signatures(&self.signatures);
+        look_at_signatures(&signatures);
         if !signatures_rise(&signatures) {
             return Err(TxFault::NotRising);
         }
         let size = resized(self.size, self.signatures.len(), signatures.len());
-        if size > MAX_BYTES as u64 {
+        if size > MAX_BYTES as u128 {
             return Err(TxFault::TooLarge);
         }
         let Tx {
@@ -289,7 +290,7 @@ impl Tx {
             extras,
             signatures,
             id,
-            size,
+            size: size as u64,
         })
     }
 

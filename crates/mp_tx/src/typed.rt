@@ -116,7 +116,8 @@ fn look_at_signature(signature: &Signature)
     let _sig: &[u8] = &signature.sig;
 }
 
-fn look_at_signatures(signatures: &[Signature])
+/// What the types of signatures guarantee.
+pub fn look_at_signatures(signatures: &[Signature])
     ensures { All IsSignature signatures.now }
 {
     for signature in signatures {
